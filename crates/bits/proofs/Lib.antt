@@ -1,0 +1,4 @@
+pub mod CellsLemmas
+pub mod ChangesLemmas
+pub mod FillLemmas
+pub mod StoredLemmas

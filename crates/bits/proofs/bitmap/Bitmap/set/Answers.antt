@@ -1,0 +1,30 @@
+-- The write changes the cell's bit, and no other.
+use Rattle.bits.proofs.StoredLemmas.{IsBitmap-cells_stored, IsStored_written, cells_stored_written}
+use Rattle.bits.proofs.bitmap.Bitmap.set.Goals as goal
+
+pub invariant_of-self : goal.invariant_of-self
+invariant_of-self c = IsStored_written {cells = c.args.self.now} {x = c.args.cell.x} {y = c.args.cell.y} record {
+  stored = c.self.invariant;
+  view_is = c.self.view_is;
+  inside = c.requires;
+  index_is = c.place_of-index.ensures.index;
+  place_is = c.place_of-index.ensures.place;
+  read = c.index.ensures;
+  here = c.with_bit.ensures.here;
+  others = c.with_bit.ensures.others;
+}
+
+pub returns-clause-written : goal.returns-clause-written
+returns-clause-written c = cells_stored_written {cells = c.args.self.now} {x = c.args.cell.x} {y = c.args.cell.y} record {
+  stored = c.self.invariant;
+  view_is = c.self.view_is;
+  inside = c.requires;
+  index_is = c.place_of-index.ensures.index;
+  place_is = c.place_of-index.ensures.place;
+  read = c.index.ensures;
+  here = c.with_bit.ensures.here;
+  others = c.with_bit.ensures.others;
+}
+
+pub returns-clause-bitmap : goal.returns-clause-bitmap
+returns-clause-bitmap c = IsBitmap-cells_stored _ _ _ (invariant_of-self c)

@@ -1,0 +1,54 @@
+-- What a contract sees of a bitmap: a size, and a set of cells, its obstacles.
+-- Source: pbm(5), the Netpbm manual's page of the PBM format. An obstacle is a black pixel; x counts columns from the left and y counts rows from the top, both from 0.
+use Rattle.std.specs.Prelude.{◌≡◌, ℕ, ◌<◌, ◌≤◌, ◌&&◌, ◌==◌, nat_lt, nat_le, Bool, true, false, List, [], slice_index_or, map, if◌then◌else◌}
+use Rattle.std.specs.List.{range_with_len}
+
+-- a size, and for each row the answers of its columns: is this cell an obstacle?
+pub record Cells : Type 0 where
+  pub width : ℕ
+  pub height : ℕ
+  pub rows : List (List Bool)
+
+-- whether the cell (x, y) is an obstacle; in a bitmap no cell outside is one
+unfoldable pub has : Cells → ℕ → ℕ → Bool
+has cells x y = slice_index_or (slice_index_or cells.rows y []) x false
+
+-- the answers of a test, row by row from the top
+unfoldable pub rows_where : ℕ → ℕ → (ℕ → ℕ → Bool) → List (List Bool)
+rows_where width height test = map (λ y. map (λ x. test x y) (range_with_len 0 width)) (range_with_len 0 height)
+
+-- the bitmap of this size whose obstacles are the cells that pass a test
+abbrev pub cells_where : ℕ → ℕ → (ℕ → ℕ → Bool) → Cells
+cells_where width height test = record { width = width; height = height; rows = rows_where width height test }
+
+-- a side of a bitmap is 1 to 4096 cells long
+pub record IsSide (count : ℕ) : Type 0 where
+  pub some : 1 ≤ count
+  pub few : count ≤ 4096
+
+-- a bitmap: both sides are as long as they may be, and there is an answer for each cell and no other
+pub record IsBitmap (cells : Cells) : Type 0 where
+  pub width_is : IsSide cells.width
+  pub height_is : IsSide cells.height
+  pub whole : cells.rows ≡ rows_where cells.width cells.height (has cells)
+
+-- the cell (x, y) lies in the bitmap
+pub record IsInside (cells : Cells) (x y : ℕ) : Type 0 where
+  pub column : x < cells.width
+  pub row : y < cells.height
+
+-- the cell (x, y) is an obstacle
+abbrev pub IsObstacle : Cells → ℕ → ℕ → Type 0
+IsObstacle cells x y = has cells x y ≡ true
+
+-- the bitmap with the value of one cell written anew
+abbrev pub with_cell : Cells → ℕ → ℕ → Bool → Cells
+with_cell cells x y value = cells_where cells.width cells.height (λ a b. if a == x && b == y then value else has cells a b)
+
+-- whether the cell (x, y) lies in the columns x0 to x1 - 1 and the rows y0 to y1 - 1
+abbrev pub is_within : ℕ → ℕ → ℕ → ℕ → ℕ → ℕ → Bool
+is_within x0 y0 x1 y1 x y = (nat_le x0 x && nat_lt x x1) && (nat_le y0 y && nat_lt y y1)
+
+-- the bitmap with the value of each cell of a rectangle written anew
+abbrev pub with_rect : Cells → ℕ → ℕ → ℕ → ℕ → Bool → Cells
+with_rect cells x0 y0 x1 y1 value = cells_where cells.width cells.height (λ a b. if is_within x0 y0 x1 y1 a b then value else has cells a b)

@@ -1,0 +1,4 @@
+pub mod Cells
+pub mod Changes
+pub mod Stored
+pub mod Words

@@ -1,0 +1,147 @@
+//! A bitmap of 1 to 4096 cells a side.
+
+ghost use Rattle.std.specs.Prelude.{◌≡◌, ℕ, ◌+◌, ◌*◌, ◌/◌, ◌%◌, ◌<◌, ◌≤◌, ◌↔◌, IsTrue, IfOk, IfErr, false};
+ghost use Rattle.bits.specs.Cells.{has, cells_where, with_cell, IsSide, IsBitmap, IsInside};
+ghost use Rattle.bits.specs.Words.{words_across, IsRowOf};
+ghost use Rattle.metric.specs.declared.refusal.Refusal.TheVariants.{Memory};
+
+use crate::word::{WORD_BITS, has_bit, with_bit};
+use metric::{Cell, Rect, Refusal};
+use std::alloc::Global;
+use std::marker::Model;
+
+/// A bitmap. Contracts see it as its size and its set of obstacles.
+///
+/// Its rows lie one after another, each in as many words as it needs; bit i of a row's word k is the cell of column 64 k + i.
+#[derive(Debug, Drop)]
+pub struct Bitmap {
+    width: u16,
+    height: u16,
+    words: Vec<u64>,
+}
+
+impl Model for Bitmap {
+    ghost use Rattle.bits.specs.Cells.{Cells};
+
+    ghost Value = { Cells };
+
+    ghost use Rattle.bits.specs.Stored.{cells_stored, IsStored};
+
+    ghost view = { λ b. cells_stored b.width b.height b.words.items };
+
+    ghost invariant = { λ b. IsStored b.width b.height b.words.items };
+}
+
+impl Bitmap {
+    /// The bitmap of this size without an obstacle. Refused for want of memory alone.
+    pub fn blank(alloc: Global, width: u16, height: u16) -> Result<Self, Refusal>
+        requires width { IsSide width }
+        requires height { IsSide height }
+        ensures blank { IfOk result (λ bitmap. bitmap ≡ cells_where width height (λ x y. false)) }
+        ensures memory { IfErr result (λ refusal. refusal ≡ Memory) }
+    {
+        let across = usize::from(width).div_ceil(WORD_BITS);
+        match vec![in alloc; 0u64; across * usize::from(height)] {
+            Ok(words) => Ok(Bitmap {
+                width,
+                height,
+                words,
+            }),
+            Err(_) => Err(Refusal::Memory),
+        }
+    }
+
+    /// How many columns there are.
+    pub fn width(&self) -> u16
+        ensures width { result ≡ self.now.width }
+        ensures bitmap { IsBitmap self.now }
+    {
+        self.width
+    }
+
+    /// How many rows there are.
+    pub fn height(&self) -> u16
+        ensures height { result ≡ self.now.height }
+        ensures bitmap { IsBitmap self.now }
+    {
+        self.height
+    }
+
+    /// Whether the cell lies in the bitmap.
+    pub fn holds(&self, cell: Cell) -> bool
+        ensures holds { IsTrue result ↔ IsInside self.now cell.x cell.y }
+        ensures bitmap { IsBitmap self.now }
+    {
+        cell.x < self.width && cell.y < self.height
+    }
+
+    /// Whether the rectangle lies wholly in the bitmap.
+    pub fn holds_rect(&self, rect: Rect) -> bool
+        ensures holds { IsTrue result ↔ ((rect.x1 ≤ self.now.width) × (rect.y1 ≤ self.now.height)) }
+        ensures bitmap { IsBitmap self.now }
+    {
+        rect.x1 <= self.width && rect.y1 <= self.height
+    }
+
+    /// Which word has the cell, and in which of its bits.
+    fn place_of(&self, cell: Cell) -> (usize, u32)
+        requires { IsInside self.now cell.x cell.y }
+        ensures index { result.0 ≡ cell.y * words_across self.now.width + cell.x / 64 }
+        ensures place { result.1 ≡ cell.x % 64 }
+    {
+        let index = usize::from(cell.y) * self.words_across() + usize::from(cell.x) / WORD_BITS;
+        (index, u32::from(cell.x) % 64)
+    }
+
+    /// How many words a row takes.
+    fn words_across(&self) -> usize
+        ensures words { result ≡ words_across self.now.width }
+        ensures few { result ≤ 64 }
+    {
+        usize::from(self.width).div_ceil(WORD_BITS)
+    }
+
+    /// Whether the cell is an obstacle.
+    pub fn get(&self, cell: Cell) -> bool
+        requires { IsInside self.now cell.x cell.y }
+        ensures { result ≡ has self.now cell.x cell.y }
+    {
+        let (index, place) = self.place_of(cell);
+        has_bit(self.words[index], place)
+    }
+
+    /// Makes the cell an obstacle, or free.
+    pub fn set(&mut self, cell: Cell, black: bool)
+        requires { IsInside self.old cell.x cell.y }
+        ensures written { self.new ≡ with_cell self.old cell.x cell.y black }
+        ensures bitmap { IsBitmap self.new }
+    {
+        let (index, place) = self.place_of(cell);
+        self.words[index] = with_bit(self.words[index], place, black);
+    }
+
+    /// The words of row `y`, as many as it needs. Bits past the edge are 0.
+    pub fn row_words(&self, y: u16) -> &[u64]
+        requires { y < self.now.height }
+        ensures { IsRowOf self.now y result.now }
+    {
+        let across = self.words_across();
+        let start = usize::from(y) * across;
+        &self.words[start..start + across]
+    }
+
+    /// A copy. Refused for want of memory alone.
+    pub fn try_copy(&self, alloc: Global) -> Result<Self, Refusal>
+        ensures copy { IfOk result (λ copy. copy ≡ self.now) }
+        ensures memory { IfErr result (λ refusal. refusal ≡ Memory) }
+    {
+        match Vec::from_slice(alloc, self.words.as_slice()) {
+            Ok(words) => Ok(Bitmap {
+                width: self.width,
+                height: self.height,
+                words,
+            }),
+            Err(_) => Err(Refusal::Memory),
+        }
+    }
+}

@@ -1,0 +1,10 @@
+//! Bitmaps: a size and a set of cells, kept as words of 64 bits.
+#![tactic(auto)]
+
+mod bitmap;
+mod fill;
+#[cfg(test)]
+mod tests;
+mod word;
+
+pub use bitmap::Bitmap;

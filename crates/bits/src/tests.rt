@@ -1,0 +1,85 @@
+//! What no clause says: that calls find memory, and how cells lie in words at the words' edges.
+
+use super::Bitmap;
+use metric::{Cell, Rect};
+use std::test::Fail;
+
+/// A width, how many words its rows take, and the first and the last word of a row whose first and last cell are obstacles.
+const ROWS: [(u16, usize, u64, u64); 5] = [
+    (1, 1, 1, 1),
+    (63, 1, 0x4000_0000_0000_0001, 0x4000_0000_0000_0001),
+    (64, 1, 0x8000_0000_0000_0001, 0x8000_0000_0000_0001),
+    (65, 2, 1, 1),
+    (4096, 64, 1, 0x8000_0000_0000_0000),
+];
+
+#[test]
+fn rows_lie_in_words(rt: HostRuntime) -> Result<(), Fail> {
+    for (width, words, first, last) in ROWS {
+        assert!(rt; 1 <= width && width <= 4096);
+        let mut bitmap = Bitmap::blank(rt.alloc(), width, 3)?;
+        assert!(rt;
+            bitmap.row_words(1).iter().all(|word| *word == 0),
+            "at width {width}"
+        );
+        for x in [0, width - 1] {
+            let cell = Cell { x, y: 1 };
+            assert!(rt; bitmap.holds(cell));
+            bitmap.set(cell, true);
+            assert!(rt; bitmap.get(cell), "at width {width}");
+        }
+        assert_eq!(rt; bitmap.height(), 3);
+        let row = bitmap.row_words(1);
+        assert_eq!(rt; row.len(), words, "at width {width}");
+        assert_eq!(rt; row.first(), Some(&first), "at width {width}");
+        assert_eq!(rt; row.last(), Some(&last), "at width {width}");
+        assert!(rt;
+            bitmap.row_words(0).iter().all(|word| *word == 0),
+            "at width {width}"
+        );
+        assert!(rt;
+            bitmap.row_words(2).iter().all(|word| *word == 0),
+            "at width {width}"
+        );
+    }
+    Ok(())
+}
+
+/// Rectangles as `(x0, y0, x1, y1)`, the value that they are filled with, and how many cells change.
+///
+/// They are filled one after another on a bitmap of 4 columns and 3 rows, where (1, 1) alone is an obstacle at first.
+const FILLS: [((u16, u16, u16, u16), bool, u32); 5] = [
+    ((0, 0, 3, 2), true, 5),
+    ((0, 0, 3, 2), true, 0),
+    ((1, 0, 4, 2), false, 4),
+    ((3, 2, 4, 3), true, 1),
+    ((0, 0, 4, 3), false, 3),
+];
+
+#[test]
+fn fill_counts_what_changes(rt: HostRuntime) -> Result<(), Fail> {
+    let mut bitmap = Bitmap::blank(rt.alloc(), 4, 3)?;
+    bitmap.set(Cell { x: 1, y: 1 }, true);
+    for ((x0, y0, x1, y1), black, changed) in FILLS {
+        let rect = Rect::new(x0, y0, x1, y1).ok_or("a rectangle without cells")?;
+        assert!(rt; bitmap.holds_rect(rect));
+        assert_eq!(rt;
+            bitmap.fill(rect, black),
+            changed,
+            "at ({x0}, {y0}) {black}"
+        );
+    }
+    Ok(())
+}
+
+#[test]
+fn copies_are_apart(rt: HostRuntime) -> Result<(), Fail> {
+    let mut bitmap = Bitmap::blank(rt.alloc(), 65, 2)?;
+    let cell = Cell { x: 64, y: 1 };
+    bitmap.set(cell, true);
+    let copy = bitmap.try_copy(rt.alloc())?;
+    bitmap.set(cell, false);
+    assert_eq!(rt; (copy.width(), copy.height()), (65, 2));
+    assert!(rt; copy.get(cell) && !bitmap.get(cell));
+    Ok(())
+}

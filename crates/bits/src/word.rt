@@ -1,0 +1,28 @@
+//! Single bits of a word.
+
+ghost use Rattle.std.specs.Prelude.{◌≡◌, ◌≢◌, ℕ, ◌<◌, Bool, IsTrue, ◌↔◌, cond};
+ghost use Rattle.std.specs.Int.{bit_at};
+
+/// How many cells a word holds.
+pub const WORD_BITS: usize = 64;
+
+/// Whether the bit at this place is 1.
+pub fn has_bit(word: u64, place: u32) -> bool
+    requires { place < 64 }
+    ensures { IsTrue result ↔ (bit_at word place ≡ 1) }
+{
+    (word >> place) & 1 == 1
+}
+
+/// The word with the bit at this place written anew.
+pub fn with_bit(word: u64, place: u32, bit: bool) -> u64
+    requires { place < 64 }
+    ensures here { bit_at result place ≡ cond bit 1 0 }
+    ensures others { (other : ℕ) → other < 64 → other ≢ place → bit_at result other ≡ bit_at word other }
+{
+    if bit {
+        word | (1 << place)
+    } else {
+        word & !(1 << place)
+    }
+}

@@ -1,0 +1,5 @@
+pub mod Answering
+pub mod CommandLines
+pub mod Decimals
+pub mod Lines
+pub mod Tables

@@ -1,0 +1,47 @@
+-- The text of a table, a row at a time.
+use Rattle.std.proofs.Common.{◌≡◌, ℕ, zero, suc, ◌+◌, ◌-◌, ◌*◌, ◌<◌, List, [], ◌∷◌, ◌++◌, Option, refl, ap, ◌∙◌, arith, zero-add, add-zero, one-add}
+use Rattle.std.specs.List.{range_with_len, slice_range, flat_map}
+use Rattle.std.proofs.lemmas.List.Concat.{flat_map-append}
+use Rattle.std.proofs.lemmas.List.{append-nil}
+use Rattle.metric.specs.Stream.{Appends, AppendsFront}
+use Rattle.metric.proofs.Appending.{AppendsFront-more}
+use Rattle.clearmap.specs.Table.{row_line, table_text}
+
+-- numbers from a on are those of a front and those behind it
+range_with_len-add : (a n m : ℕ) → range_with_len a (n + m) ≡ range_with_len a n ++ range_with_len (a + n) m
+range_with_len-add a zero m = rw (zero-add, add-zero) refl
+range_with_len-add a (suc n) m =
+    let counted : suc n + m ≡ suc (n + m) = omega arith in
+    let shifted : (a + 1) + n ≡ a + suc n = omega arith in
+    ap (range_with_len a) counted ∙ ap (λ t. a ∷ t) (range_with_len-add (a + 1) n m ∙ ap (λ k. range_with_len (a + 1) n ++ range_with_len k m) shifted)
+
+-- the line of the row y among the distances of rows of this width
+abbrev pub line_at : ℕ → List (Option ℕ) → ℕ → List ℕ
+line_at width distances y = row_line (slice_range distances (y * width) (y * width + width))
+
+-- a table is its first rows, the next row, and the rows behind it
+table_text-split : (width y later : ℕ) (distances : List (Option ℕ)) → table_text width (y + (1 + later)) distances ≡ table_text width y distances ++ (line_at width distances y ++ flat_map (line_at width distances) (range_with_len (y + 1) later))
+unfolding table_text
+table_text-split width y later distances =
+    ap (flat_map (line_at width distances)) (range_with_len-add 0 y (1 + later))
+    ∙ (flat_map-append (line_at width distances) (range_with_len 0 y) (range_with_len (0 + y) (1 + later))
+    ∙ ap (λ t. flat_map (line_at width distances) (range_with_len 0 y) ++ t) (next y later))
+  where
+    next : (y later : ℕ) → flat_map (line_at width distances) (range_with_len (0 + y) (1 + later)) ≡ line_at width distances y ++ flat_map (line_at width distances) (range_with_len (y + 1) later)
+    next y later = rw (zero-add, one-add) refl
+
+-- one row more
+pub table_text-more : (width y : ℕ) (distances : List (Option ℕ)) → table_text width (y + 1) distances ≡ table_text width y distances ++ line_at width distances y
+table_text-more width y distances = table_text-split width y 0 distances ∙ ap (λ t. table_text width y distances ++ t) (append-nil (line_at width distances y))
+
+-- where a row's line is written in part, a beginning of the table is written
+pub AppendsFront-table : (width y height : ℕ) (distances : List (Option ℕ)) (before between after : Option (List ℕ)) → y < height
+    → Appends before (table_text width y distances) between → AppendsFront between (line_at width distances y) after → AppendsFront before (table_text width height distances) after
+AppendsFront-table width y height distances before between after below rows line =
+    let behind : height ≡ y + (1 + (height - (y + 1))) = omega arith in
+    rw (behind, table_text-split width y (height - (y + 1)) distances) (AppendsFront-more before between after (table_text width y distances) (line_at width distances y) _ rows line)
+
+-- a table of no rows is empty
+pub table_text-none : (width : ℕ) (distances : List (Option ℕ)) → table_text width 0 distances ≡ []
+unfolding table_text
+table_text-none width distances = refl

@@ -1,0 +1,55 @@
+-- What `dist` answers to an image: this project's own rule.
+use Rattle.std.specs.Prelude.{◌≡◌, ◌≢◌, ℕ, List, [], ◌∷◌, ◌++◌, ◌⊎◌, Option, Err}
+use Rattle.metric.specs.declared.fault.PbmFault.{PbmFault}
+use Rattle.metric.specs.declared.fault.PbmFault.TheVariants as faults
+use Rattle.metric.specs.Distance.{euclid2}
+use Rattle.metric.specs.Refusal.{image_text}
+use Rattle.metric.specs.Stream.{AreAll, Appends, AppendsFront}
+use Rattle.bits.specs.Cells.{Cells}
+use Rattle.pbm.specs.Faults.{image}
+use Rattle.pbm.specs.Image.{Reads}
+use Rattle.field.specs.Rows.{AreDistances}
+use Rattle.clearmap.specs.Table.{table_text}
+
+-- the bytes read as an image, and the text is the lines of its rows: each cell's least distance to an obstacle
+pub record IsTable (bytes text : List ℕ) (status : ℕ) : Type 0 where
+  pub taken : ℕ
+  pub cells : Cells
+  pub distances : List (Option ℕ)
+  pub reads : Reads bytes taken cells
+  pub rows : AreDistances euclid2 cells 0 cells.height distances
+  pub text_is : text ≡ table_text cells.width cells.height distances
+  pub status_is : status ≡ 0
+
+-- the bytes don't read as an image, and this is their first fault
+pub record IsRefused (bytes : List ℕ) (fault : PbmFault) : Type 0 where
+  pub first : image bytes ≡ Err fault
+  pub none : (n : ℕ) (cells : Cells) → Reads bytes n cells → ⊥
+
+-- the text is the line of a fault that the bytes have, or of want of memory, which they needn't have
+pub record IsFault (bytes text : List ℕ) (status : ℕ) : Type 0 where
+  pub fault : PbmFault
+  pub true_of : fault ≢ faults.Memory → IsRefused bytes fault
+  pub text_is : text ≡ image_text fault ++ 10 ∷ []
+  pub status_is : status ≡ 1
+
+-- an answer to these bytes, with its status
+abbrev pub IsDistAnswer : List ℕ → List ℕ → ℕ → Type 0
+IsDistAnswer bytes text status = IsTable bytes text status ⊎ IsFault bytes text status
+
+-- an answer to all bytes that the reader had was written whole
+pub record Answers (unread held_before held_after : Option (List ℕ)) (status : ℕ) : Type 0 where
+  pub bytes : List ℕ
+  pub text : List ℕ
+  pub all : AreAll unread bytes
+  pub answer : IsDistAnswer bytes text status
+  pub written : Appends held_before text held_after
+
+-- a beginning of an answer to all bytes that the reader had was written
+pub record BeginsToAnswer (unread held_before held_after : Option (List ℕ)) : Type 0 where
+  pub bytes : List ℕ
+  pub text : List ℕ
+  pub status : ℕ
+  pub all : AreAll unread bytes
+  pub answer : IsDistAnswer bytes text status
+  pub written : AppendsFront held_before text held_after

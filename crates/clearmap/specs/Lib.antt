@@ -1,0 +1,4 @@
+pub mod CommandLine
+pub mod Dist
+pub mod Table
+pub mod Tabled

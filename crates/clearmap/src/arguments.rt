@@ -1,0 +1,63 @@
+//! What the command line can say.
+
+use clap::Error as ClapError;
+use clap::error::ErrorKind;
+use std::alloc::AllocError;
+use std::io;
+use thiserror::Error;
+
+/// What the program is to do.
+#[derive(Clone, Copy, Debug, PartialEq, Eq)]
+pub enum Options {
+    /// Print the distances of one image.
+    Dist(DistOptions),
+}
+
+/// How `dist` is to answer. There is nothing to choose yet.
+#[derive(Clone, Copy, Debug, PartialEq, Eq)]
+pub struct DistOptions {}
+
+/// Why the words aren't a command to run.
+#[derive(Debug, Drop, Error)]
+pub enum Fault {
+    /// A mistake in the words, or a wish for help or the version.
+    #[error("{0}")]
+    Words(ClapError),
+    /// No command was named.
+    #[error("no command was named")]
+    NoCommand,
+    /// The process's words couldn't be had, as where they aren't UTF-8.
+    #[error("the command line can't be read: {0}")]
+    Unreadable(io::Error),
+    /// There was no memory to read the words.
+    #[error("no memory to read the command line")]
+    Memory,
+}
+
+impl From<AllocError> for Fault {
+    fn from(_error: AllocError) -> Fault {
+        Fault::Memory
+    }
+}
+
+impl From<io::Error> for Fault {
+    fn from(error: io::Error) -> Fault {
+        match error.kind() {
+            io::ErrorKind::OutOfMemory => Fault::Memory,
+            _ => Fault::Unreadable(error),
+        }
+    }
+}
+
+impl From<ClapError> for Fault {
+    ghost use Rattle.clearmap.specs.CommandLine.{IsFaultOf};
+
+    ghost from_gives = { IsFaultOf };
+
+    fn from(error: ClapError) -> Fault {
+        match error.kind() {
+            ErrorKind::OutOfMemory => Fault::Memory,
+            _ => Fault::Words(error),
+        }
+    }
+}

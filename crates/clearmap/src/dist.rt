@@ -1,0 +1,116 @@
+//! The command `dist`: from the bytes of an image to the text of its distances.
+
+ghost use Rattle.std.specs.Prelude.{◌≡◌, ◌≢◌, ℕ, ◌+◌, ◌≤◌, ◌∷◌, ◌++◌, [], List, IfOk, OnOk, OnErr};
+ghost use Rattle.metric.specs.Refusal.{image_text};
+ghost use Rattle.metric.specs.Stream.{Appends, AppendsFront, Counts, CanFail};
+ghost use Rattle.clearmap.specs.Dist.{Answers, BeginsToAnswer, IsDistAnswer};
+ghost use Rattle.clearmap.specs.Table.{table_text};
+
+use crate::arguments::DistOptions;
+use crate::input::{InputStop, read_to_end};
+use crate::output::write_table;
+use crate::table::Table;
+use metric::{PbmFault, Sink, Source, WriteFault};
+use std::alloc::Global;
+
+/// The status of a run whose answer is the table.
+const DONE: u8 = 0;
+
+/// The status of a run that was refused, or whose reader or writer failed.
+const REFUSED: u8 = 1;
+
+/// Reads an image to the end of the reader, and writes the distances of its cells, a line a row. Answers the status.
+///
+/// A refused image, or want of memory, is one line instead, with status 1. All is computed before the first byte is written. Where a call of the reader or the writer fails, neither is called again, and the status is 1.
+pub fn dist_run<R: Source, W: Sink>(
+    alloc: Global,
+    options: &DistOptions,
+    reader: &mut R,
+    writer: &mut W,
+) -> u8
+    requires reader { CanFail (R.failed_reads reader.old) }
+    requires writer { CanFail (W.failed_writes writer.old) }
+
+    // Where no call failed, the answer is whole.
+    ensures answers { R.failed_reads reader.new ≡ R.failed_reads reader.old → W.failed_writes writer.new ≡ W.failed_writes writer.old
+        → Answers (R.rest reader.old) (W.held writer.old) (W.held writer.new) result }
+
+    // Where a read failed, nothing was written.
+    ensures failed_read { R.failed_reads reader.new ≢ R.failed_reads reader.old
+        → (W.held writer.new ≡ W.held writer.old) × (W.failed_writes writer.new ≡ W.failed_writes writer.old) × (result ≡ 1) }
+
+    // Where a write failed, a beginning of the answer was written.
+    ensures failed_write { W.failed_writes writer.new ≢ W.failed_writes writer.old
+        → BeginsToAnswer (R.rest reader.old) (W.held writer.old) (W.held writer.new) × (result ≡ 1) }
+    ensures one_failure { R.failed_reads reader.new + W.failed_writes writer.new ≤ R.failed_reads reader.old + W.failed_writes writer.old + 1 }
+{
+    let DistOptions {} = options;
+    match read_to_end(alloc, reader) {
+        Ok(bytes) => write_answer(alloc, bytes.as_slice(), writer).unwrap_or(REFUSED),
+        Err(InputStop::Memory) => write_fault(writer, PbmFault::Memory).unwrap_or(REFUSED),
+        Err(InputStop::Failed) => REFUSED,
+    }
+}
+
+/// Writes the answer to these bytes.
+fn write_answer<W: Sink>(alloc: Global, bytes: &[u8], writer: &mut W) -> Result<u8, WriteFault>
+    requires { CanFail (W.failed_writes writer.old) }
+    ensures whole { IfOk result (λ status. (text : List ℕ) × IsDistAnswer bytes.now text status × Appends (W.held writer.old) text (W.held writer.new)) }
+    ensures front { OnErr result ((text : List ℕ) × (status : ℕ) × IsDistAnswer bytes.now text status × AppendsFront (W.held writer.old) text (W.held writer.new)) }
+    ensures counts { Counts (W.failed_writes writer.old) result (W.failed_writes writer.new) }
+{
+    match Table::of(alloc, bytes) {
+        Ok(table) => write_rows(writer, table),
+        Err(fault) => write_fault(writer, fault),
+    }
+}
+
+/// Writes the table's lines.
+fn write_rows<W: Sink>(writer: &mut W, table: Table) -> Result<u8, WriteFault>
+    requires { CanFail (W.failed_writes writer.old) }
+    ensures status { IfOk result (λ status. status ≡ 0) }
+    ensures whole { OnOk result (Appends (W.held writer.old) (table_text table.width table.height table.distances.items) (W.held writer.new)) }
+    ensures front { OnErr result (AppendsFront (W.held writer.old) (table_text table.width table.height table.distances.items) (W.held writer.new)) }
+    ensures counts { Counts (W.failed_writes writer.old) result (W.failed_writes writer.new) }
+{
+    let Table {
+        width,
+        height,
+        distances,
+        mut line,
+    } = table;
+    write_table(writer, &mut line, width, height, distances.as_slice())?;
+    writer.flush()?;
+    Ok(DONE)
+}
+
+/// Writes the line of a refused image.
+fn write_fault<W: Sink>(writer: &mut W, fault: PbmFault) -> Result<u8, WriteFault>
+    requires { CanFail (W.failed_writes writer.old) }
+    ensures status { IfOk result (λ status. status ≡ 1) }
+    ensures whole { OnOk result (Appends (W.held writer.old) (image_text fault ++ 10 ∷ []) (W.held writer.new)) }
+    ensures front { OnErr result (AppendsFront (W.held writer.old) (image_text fault ++ 10 ∷ []) (W.held writer.new)) }
+    ensures counts { Counts (W.failed_writes writer.old) result (W.failed_writes writer.new) }
+{
+    writer.write_all(fault_line(fault).as_bytes())?;
+    writer.flush()?;
+    Ok(REFUSED)
+}
+
+/// The line of a refused image.
+fn fault_line(fault: PbmFault) -> &'static str
+    ensures { result.now ≡ image_text fault ++ 10 ∷ [] }
+{
+    match fault {
+        PbmFault::BadMagic => "ERR 15 BadImage BadMagic\n",
+        PbmFault::MissingSpace => "ERR 15 BadImage MissingSpace\n",
+        PbmFault::BadComment => "ERR 15 BadImage BadComment\n",
+        PbmFault::BadNumber => "ERR 15 BadImage BadNumber\n",
+        PbmFault::ZeroSize => "ERR 15 BadImage ZeroSize\n",
+        PbmFault::TooLarge => "ERR 15 BadImage TooLarge\n",
+        PbmFault::BadPixel => "ERR 15 BadImage BadPixel\n",
+        PbmFault::Truncated => "ERR 15 BadImage Truncated\n",
+        PbmFault::JunkNotSpaced => "ERR 15 BadImage JunkNotSpaced\n",
+        PbmFault::Memory => "ERR 5 Memory\n",
+    }
+}

@@ -1,0 +1,39 @@
+//! Reading all that a stream has.
+
+ghost use Rattle.std.specs.Prelude.{◌≡◌, ◌≢◌, ◌+◌, IfOk, IfErr, OnOk, Err};
+ghost use Rattle.metric.specs.Stream.{AreAll, CanFail};
+ghost use Rattle.clearmap.specs.declared.input.InputStop.TheVariants.{Failed, Memory};
+
+use metric::Source;
+use std::alloc::Global;
+
+/// Why the input wasn't read to its end.
+#[derive(Clone, Copy, Debug, PartialEq, Eq)]
+pub enum InputStop {
+    /// A read failed.
+    Failed,
+    /// There was no memory for what was read.
+    Memory,
+}
+
+/// Reads to the end.
+pub fn read_to_end<R: Source>(alloc: Global, reader: &mut R) -> Result<Vec<u8>, InputStop>
+    requires { CanFail (R.failed_reads reader.old) }
+    ensures all { IfOk result (λ bytes. AreAll (R.rest reader.old) bytes.items) }
+    ensures counts { result ≢ Err Failed → R.failed_reads reader.new ≡ R.failed_reads reader.old }
+    ensures failed { result ≡ Err Failed → R.failed_reads reader.new ≡ R.failed_reads reader.old + 1 }
+{
+    let mut bytes = Vec::new(alloc);
+    'bytes: for _ in 0..u64::MAX {
+        match reader.next_byte() {
+            Ok(Some(byte)) => {
+                if bytes.push(byte).is_err() {
+                    return Err(InputStop::Memory);
+                }
+            }
+            Ok(None) => return Ok(bytes),
+            Err(_) => return Err(InputStop::Failed),
+        }
+    }
+    unreachable!()
+}

@@ -1,0 +1,71 @@
+//! From the process's words and standard streams to the engine that they name.
+
+use crate::arguments::{DistOptions, Fault, Options};
+use crate::dist::dist_run;
+use crate::words::options;
+use metric::{ReaderSource, Refusal, WriterSink};
+use std::alloc::AllocError;
+use std::rt::Env;
+use std::{env, io};
+
+/// The status of a run that did what it was asked for.
+const DONE: u8 = 0;
+
+/// The status of a run that was refused, or whose standard streams failed.
+const REFUSED: u8 = 1;
+
+/// The status of a command line that was refused.
+const MISTAKEN: u8 = 2;
+
+/// Runs what the process's words name, and answers its exit status.
+pub fn run<R: Env + Input + Print + Eprint + AllocGlobal>(rt: &R) -> u8 {
+    match command_line(rt) {
+        Ok(Options::Dist(options)) => dist(rt, &options),
+        Err(fault) => report(rt, &fault),
+    }
+}
+
+/// What the process's words say.
+fn command_line<R: Env + AllocGlobal>(rt: &R) -> Result<Options, Fault> {
+    let alloc = rt.alloc();
+    let words: Vec<String> = env::args(rt)?.collect(alloc)?;
+    let mut texts: Vec<&str> = Vec::with_capacity(alloc, words.len())?;
+    for word in &words {
+        texts.push(word.as_str()).map_err(AllocError::from)?;
+    }
+    options(alloc, texts.as_slice())
+}
+
+/// Runs `dist` on the standard streams.
+fn dist<R: Input + Print + AllocGlobal>(rt: &R, options: &DistOptions) -> u8 {
+    let alloc = rt.alloc();
+    let Ok(mut reader) = ReaderSource::new(alloc, rt.reader()) else {
+        return refuse(rt);
+    };
+    let Ok(mut writer) = WriterSink::new(alloc, io::writer(rt)) else {
+        return refuse(rt);
+    };
+    dist_run(alloc, options, &mut reader, &mut writer)
+}
+
+/// Tells want of memory.
+fn refuse(rt: &impl Print) -> u8 {
+    let _ = rt.println(Refusal::Memory);
+    REFUSED
+}
+
+/// Tells why the words aren't a command to run, or what they asked to be told.
+fn report<R: Print + Eprint>(rt: &R, fault: &Fault) -> u8 {
+    match fault {
+        Fault::Memory => refuse(rt),
+        Fault::Words(error) => match error.print(rt) {
+            Err(_) => REFUSED,
+            Ok(()) if error.use_stderr() => MISTAKEN,
+            Ok(()) => DONE,
+        },
+        Fault::NoCommand | Fault::Unreadable(_) => {
+            let _ = eprintln!(rt; "clearmap: {fault}");
+            MISTAKEN
+        }
+    }
+}

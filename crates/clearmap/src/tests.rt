@@ -1,0 +1,131 @@
+//! The worked rows through the engine, streams that fail, and the command line.
+
+use crate::arguments::{DistOptions, Fault, Options};
+use crate::dist::dist_run;
+use crate::words::options;
+use metric::{MemorySink, MemorySource, Sink, Source};
+use std::process::Abort;
+use std::test::Fail;
+
+/// Images, what is written for them, and the status.
+const ANSWERS: [(&str, &str, u8); 14] = [
+    ("P1\n3 2\n100\n000\n", "0 1 4\n1 2 5\n", 0),
+    ("P1\n3 2\n000\n000\n", "- - -\n- - -\n", 0),
+    ("P1 5 1 1 0 0 0 1", "0 1 4 1 0\n", 0),
+    (
+        "P1\n12 1\n100000000000 and anything",
+        "0 1 4 9 16 25 36 49 64 81 100 121\n",
+        0,
+    ),
+    ("P1\n1 1\n11", "ERR 15 BadImage JunkNotSpaced\n", 1),
+    ("P1\n0 1\n", "ERR 15 BadImage ZeroSize\n", 1),
+    ("P1\n3#c\n1\n000", "ERR 15 BadImage BadComment\n", 1),
+    ("P1\n4097 1\n", "ERR 15 BadImage TooLarge\n", 1),
+    ("P1\n2 1\n1", "ERR 15 BadImage Truncated\n", 1),
+    ("P1\n2 1\n1x", "ERR 15 BadImage BadPixel\n", 1),
+    ("P1\nx", "ERR 15 BadImage BadNumber\n", 1),
+    ("P1x", "ERR 15 BadImage MissingSpace\n", 1),
+    ("GIF89a", "ERR 15 BadImage BadMagic\n", 1),
+    ("", "ERR 15 BadImage Truncated\n", 1),
+];
+
+/// The worked map of three columns and two rows.
+const ROOM: &[u8] = b"P1\n3 2\n100\n000\n";
+
+#[test]
+fn images_are_answered(rt: HostRuntime) {
+    for (image, want, status) in ANSWERS {
+        let mut reader = MemorySource::new(image.as_bytes());
+        let mut writer = MemorySink::new(rt.alloc());
+        let got = dist_run(rt.alloc(), &DistOptions {}, &mut reader, &mut writer);
+        assert_eq!(rt; got, status, "at {image:?}");
+        assert_eq!(rt; writer.bytes(), want.as_bytes(), "at {image:?}");
+        assert!(rt;
+            reader.left().is_empty(),
+            "the input is read to its end at {image:?}"
+        );
+    }
+}
+
+/// What a run writes whose reader fails at a read.
+fn written_after_failed_read<R: Abort + AllocGlobal>(rt: &R, read: u64) -> usize {
+    let mut reader = MemorySource::new(ROOM).failing_at(read);
+    let mut writer = MemorySink::new(rt.alloc());
+    let status = dist_run(rt.alloc(), &DistOptions {}, &mut reader, &mut writer);
+    assert_eq!(rt; status, 1, "at read {read}");
+    assert_eq!(rt; reader.failed_reads(), 1, "at read {read}");
+    writer.bytes().len()
+}
+
+#[test]
+fn a_failed_read_writes_nothing(rt: HostRuntime) {
+    for read in 1..16 {
+        assert_eq!(rt; written_after_failed_read(&rt, read), 0, "at read {read}");
+    }
+}
+
+#[test]
+fn a_failed_write_ends_the_run(rt: HostRuntime) {
+    // Two lines are written, and then all is flushed. A failing write leaves half of its line.
+    let beginnings: [&[u8]; 3] = [b"0 1", b"0 1 4\n1 2", b"0 1 4\n1 2 5\n"];
+    for (call, want) in (1u64..).zip(beginnings) {
+        let mut reader = MemorySource::new(ROOM);
+        let mut writer = MemorySink::new(rt.alloc()).failing_at(call);
+        let status = dist_run(rt.alloc(), &DistOptions {}, &mut reader, &mut writer);
+        assert_eq!(rt; status, 1, "at call {call}");
+        assert_eq!(rt; writer.bytes(), want, "at call {call}");
+        assert_eq!(rt; writer.failed_writes(), 1, "at call {call}");
+    }
+}
+
+#[test]
+fn dist_takes_no_words(rt: HostRuntime) -> Result<(), Fail> {
+    assert_eq!(rt;
+        options(rt.alloc(), &["clearmap", "dist"])?,
+        Options::Dist(DistOptions {})
+    );
+    Ok(())
+}
+
+/// Whether the words are refused, and what `clap` would have the program end with.
+fn status_of<R: AllocGlobal>(rt: &R, words: &[&str]) -> Option<i32> {
+    match options(rt.alloc(), words) {
+        Err(Fault::Words(error)) => Some(error.exit_code()),
+        _ => None,
+    }
+}
+
+#[test]
+fn mistakes_are_told_from_wishes(rt: HostRuntime) {
+    assert_eq!(rt;
+        status_of(&rt, &["clearmap"]),
+        Some(2),
+        "a command is wanted"
+    );
+    assert_eq!(rt;
+        status_of(&rt, &["clearmap", "dits"]),
+        Some(2),
+        "an unknown command"
+    );
+    assert_eq!(rt;
+        status_of(&rt, &["clearmap", "dist", "map.pbm"]),
+        Some(2),
+        "a word too many"
+    );
+    assert_eq!(rt;
+        status_of(&rt, &["clearmap", "dist", "--fast"]),
+        Some(2),
+        "an unknown flag"
+    );
+    assert_eq!(rt; status_of(&rt, &["clearmap", "--help"]), Some(0), "help");
+    assert_eq!(rt;
+        status_of(&rt, &["clearmap", "dist", "--help"]),
+        Some(0),
+        "help for dist"
+    );
+    assert_eq!(rt;
+        status_of(&rt, &["clearmap", "--version"]),
+        Some(0),
+        "the version"
+    );
+}

@@ -1,0 +1,29 @@
+-- The distances of rows, one row after another.
+use Rattle.std.proofs.Common.{◌≡◌, ℕ, ◌+◌, ◌-◌, ◌*◌, ◌<◌, ◌≤◌, inl, inr, List, ◌++◌, Option, None, length, arith, refl, length-append}
+use Rattle.std.proofs.Math.Nat.{mul-le-mul_left}
+use Rattle.std.proofs.lemmas.Bool.{cases_lt}
+use Rattle.std.proofs.lemmas.List.{get_or_append_left, get_or-append-add}
+use Rattle.bits.specs.Cells.{Cells}
+use Rattle.field.specs.Rows.{AreRowDistances, AreDistances}
+
+-- a place in a row above lies before all rows so far end
+place_above : (n m width x : ℕ) → n < m → x < width → n * width + x < m * width
+place_above n m width x above column = let rows : width * (n + 1) ≤ width * m = mul-le-mul_left width (omega arith) in omega (arith, rows)
+
+-- one row more
+pub AreDistances-more : (distance : ℕ → ℕ → ℕ) (cells : Cells) (y0 y : ℕ) (rows row : List (Option ℕ)) → y0 ≤ y
+    → AreDistances distance cells y0 y rows → AreRowDistances distance cells y cells.width row → AreDistances distance cells y0 (y + 1) (rows ++ row)
+AreDistances-more distance cells y0 y rows row ordered before here = record {
+  as_many =
+      let next : (y + 1) - y0 ≡ (y - y0) + 1 = omega arith in
+      rw (length-append rows row, before.as_many, here.as_many, next) (omega arith);
+  each = λ x b column low high. elim (cases_lt b y) [
+    | inl above ↦
+        let place : (b - y0) * cells.width + x < length rows = rw before.as_many (place_above (b - y0) (y - y0) cells.width x (omega arith) column) in
+        rw (get_or_append_left rows row None ((b - y0) * cells.width + x) place) (before.each x b column low above)
+    | inr below ↦
+        let same : b ≡ y = omega arith in
+        let place : (b - y0) * cells.width + x ≡ length rows + x = rw (same, before.as_many) refl in
+        rw (place, get_or-append-add rows row x None, same) (here.each x column)
+  ];
+}

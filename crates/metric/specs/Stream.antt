@@ -1,0 +1,40 @@
+-- What a contract sees of a stream of bytes: this project's own rule.
+-- A stream may tell its bytes, as `Some` of the bytes that are left to read or that were written, or tell nothing, as `None`. One that doesn't tell stays so.
+use Rattle.std.specs.Prelude.{◌≡◌, ℕ, ◌+◌, ◌<◌, ◌^◌, List, [], ◌∷◌, ◌++◌, Option, Some, None, Result, Ok, Err}
+
+-- what is left after one byte is taken from the front, or after the end is met
+abbrev pub TakesByte : Option (List ℕ) → Option ℕ → Option (List ℕ) → Type 0
+TakesByte None byte rest = rest ≡ None
+TakesByte (Some []) byte rest = (byte ≡ None) × (rest ≡ Some [])
+TakesByte (Some (b ∷ bytes)) byte rest = (byte ≡ Some b) × (rest ≡ Some bytes)
+
+-- the bytes are written behind those before
+abbrev pub Appends : Option (List ℕ) → List ℕ → Option (List ℕ) → Type 0
+Appends None bytes after = after ≡ None
+Appends (Some before) bytes after = after ≡ Some (before ++ bytes)
+
+-- a beginning of the bytes is written behind those before
+pub record AppendsFront (before : Option (List ℕ)) (bytes : List ℕ) (after : Option (List ℕ)) : Type 0 where
+  pub front : List ℕ
+  pub back : List ℕ
+  pub whole : bytes ≡ front ++ back
+  pub appended : Appends before front after
+
+-- a failed call is counted, and no other
+abbrev pub Counts : {T E : Type 0} → ℕ → Result T E → ℕ → Type 0
+Counts before (Ok value) after = after ≡ before
+Counts before (Err fault) after = after ≡ before + 1
+
+-- one more failed call can be counted
+abbrev pub CanFail : ℕ → Type 0
+CanFail count = count + 1 < 2 ^ 64
+
+-- the bytes were taken from the front of those that were left
+abbrev pub Takes : Option (List ℕ) → List ℕ → Option (List ℕ) → Type 0
+Takes None bytes rest = rest ≡ None
+Takes (Some told) bytes rest = (left : List ℕ) × (rest ≡ Some left) × (told ≡ bytes ++ left)
+
+-- all that the stream had left to read are these bytes
+abbrev pub AreAll : Option (List ℕ) → List ℕ → Type 0
+AreAll None bytes = Unit {0}
+AreAll (Some told) bytes = bytes ≡ told

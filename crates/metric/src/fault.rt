@@ -1,0 +1,59 @@
+//! What can be wrong with the text of an image.
+
+ghost use Rattle.std.specs.Prelude.{◌≡◌, Some, codes};
+ghost use Rattle.metric.specs.Fault.{fault_name};
+
+use std::fmt;
+
+/// Why an image was refused: the first fault from its front.
+#[derive(Clone, Copy, Debug, PartialEq, Eq)]
+pub enum PbmFault {
+    /// The first two bytes aren't a magic number.
+    BadMagic,
+    /// No whitespace stands directly after the magic number or a number.
+    MissingSpace,
+    /// A comment stands where none is read.
+    BadComment,
+    /// A number doesn't begin with a digit.
+    BadNumber,
+    /// The width or the height is 0.
+    ZeroSize,
+    /// The width or the height is over 4096.
+    TooLarge,
+    /// A byte of a plain raster is no pixel.
+    BadPixel,
+    /// The input ends too early.
+    Truncated,
+    /// A byte that isn't whitespace stands directly after the last pixel of a plain image.
+    JunkNotSpaced,
+    /// There was no memory for the bitmap.
+    Memory,
+}
+
+impl PbmFault {
+    /// The fault's name, as it is spelled in a refusal.
+    pub fn name(self) -> &'static str
+        ensures { result.now ≡ fault_name self }
+    {
+        match self {
+            PbmFault::BadMagic => "BadMagic",
+            PbmFault::MissingSpace => "MissingSpace",
+            PbmFault::BadComment => "BadComment",
+            PbmFault::BadNumber => "BadNumber",
+            PbmFault::ZeroSize => "ZeroSize",
+            PbmFault::TooLarge => "TooLarge",
+            PbmFault::BadPixel => "BadPixel",
+            PbmFault::Truncated => "Truncated",
+            PbmFault::JunkNotSpaced => "JunkNotSpaced",
+            PbmFault::Memory => "Memory",
+        }
+    }
+}
+
+impl fmt::Display for PbmFault {
+    ghost output = { λ fault. Some (fault_name fault) };
+
+    fn fmt<W: fmt::Write>(&self, f: &mut fmt::Formatter<W>) -> fmt::Result {
+        f.write_str(self.name())
+    }
+}

@@ -1,0 +1,28 @@
+//! Cells, rectangles, distances, refusals and streams of bytes: what every part of the clearance map shares.
+//!
+//! A cell is `(x, y)`: x counts columns from the left and y counts rows from the top, both from 0.
+#![tactic(auto)]
+
+mod cell;
+mod fault;
+mod gate;
+mod kind;
+mod measure;
+mod memory;
+mod rect;
+mod refusal;
+mod std_streams;
+mod stream;
+#[cfg(test)]
+mod tests;
+
+pub use cell::Cell;
+pub use fault::PbmFault;
+pub use gate::Gate;
+pub use kind::MetricKind;
+pub use measure::{Euclid2, Metric};
+pub use memory::{MemorySink, MemorySource, MemoryStream};
+pub use rect::Rect;
+pub use refusal::{Field, Refusal};
+pub use std_streams::{ReaderSource, WriterSink};
+pub use stream::{ReadFault, Sink, Source, Stream, WriteFault};

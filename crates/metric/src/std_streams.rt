@@ -1,0 +1,114 @@
+//! Readers and writers of std as streams, buffered. They tell nothing of their bytes.
+
+ghost use Rattle.std.specs.Prelude.{◌≡◌, ℕ, None, Err, IfOk, IfErr};
+ghost use Rattle.metric.specs.declared.refusal.Refusal.TheVariants.{Memory};
+
+use crate::refusal::Refusal;
+use crate::stream::{ReadFault, Sink, Source, WriteFault};
+use std::alloc::Global;
+use std::io::{BufReader, BufWriter, Read, Write};
+use std::marker::Model;
+
+/// A reader of std, read ahead by blocks. Contracts see how many reads have failed.
+#[derive(Drop)]
+pub struct ReaderSource<R: Read + Drop> {
+    reader: BufReader<R>,
+    failed: u64,
+}
+
+impl<R: Read + Drop> Model for ReaderSource<R> {
+    ghost Value = { ℕ };
+
+    ghost view = { λ s. s.failed };
+}
+
+impl<R: Read + Drop> ReaderSource<R> {
+    /// The reader with a buffer of its own. Refused for want of memory alone.
+    pub fn new(alloc: Global, reader: R) -> Result<Self, Refusal>
+        ensures fresh { IfOk result (λ source. source ≡ 0) }
+        ensures memory { IfErr result (λ refusal. refusal ≡ Memory) }
+    {
+        match BufReader::new(alloc, reader) {
+            Ok(reader) => Ok(ReaderSource { reader, failed: 0 }),
+            Err(_) => Err(Refusal::Memory),
+        }
+    }
+}
+
+impl<R: Read + Drop> Source for ReaderSource<R> {
+    ghost rest = { λ _. None };
+
+    ghost failed_reads = { λ s. s };
+
+    ghost written = { λ _. (None, 0) };
+
+    fn next_byte(&mut self) -> Result<Option<u8>, ReadFault> {
+        let mut byte = [0u8; 1];
+        match self.reader.read(&mut byte) {
+            Ok(0) => Ok(None),
+            Ok(_) => Ok(Some(byte[0])),
+            Err(_) => {
+                self.failed += 1;
+                Err(ReadFault)
+            }
+        }
+    }
+
+    fn failed_reads(&self) -> u64 {
+        self.failed
+    }
+}
+
+/// A writer of std, written to by blocks. Contracts see how many writes and flushes have failed.
+#[derive(Drop)]
+pub struct WriterSink<W: Write + Drop> {
+    writer: BufWriter<W>,
+    failed: u64,
+}
+
+impl<W: Write + Drop> Model for WriterSink<W> {
+    ghost Value = { ℕ };
+
+    ghost view = { λ s. s.failed };
+}
+
+impl<W: Write + Drop> WriterSink<W> {
+    /// The writer with a buffer of its own. Refused for want of memory alone.
+    pub fn new(alloc: Global, writer: W) -> Result<Self, Refusal>
+        ensures fresh { IfOk result (λ sink. sink ≡ 0) }
+        ensures memory { IfErr result (λ refusal. refusal ≡ Memory) }
+    {
+        match BufWriter::new(alloc, writer) {
+            Ok(writer) => Ok(WriterSink { writer, failed: 0 }),
+            Err(_) => Err(Refusal::Memory),
+        }
+    }
+}
+
+impl<W: Write + Drop> Sink for WriterSink<W> {
+    ghost held = { λ _. None };
+
+    ghost failed_writes = { λ s. s };
+
+    ghost unread = { λ _. (None, 0) };
+
+    fn write_all(&mut self, bytes: &[u8]) -> Result<(), WriteFault> {
+        if self.writer.write_all(bytes).is_err() {
+            self.failed += 1;
+            return Err(WriteFault);
+        }
+        Ok(())
+    }
+
+    fn flush(&mut self) -> Result<(), WriteFault> {
+        if self.writer.flush().is_err() {
+            self.failed += 1;
+            return Err(WriteFault);
+        }
+        Ok(())
+    }
+
+    fn failed_writes(&self) -> u64 {
+        self.failed
+    }
+}

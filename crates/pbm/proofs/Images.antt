@@ -1,0 +1,193 @@
+-- Images: what is read is an image, and an image is read.
+use Rattle.std.proofs.Common.{◌≡◌, ℕ, zero, suc, ◌+◌, ◌-◌, ◌*◌, ◌<◌, ◌≤◌, Bool, true, List, [], ◌∷◌, ◌++◌, length, Ok, Err, refl, sym, ap, subst, ◌∙◌, append_assoc, inl, inr, arith}
+use Rattle.std.specs.List.{list_all}
+use Rattle.std.proofs.lemmas.Bool.{and_from}
+use Rattle.std.proofs.lemmas.List.{append-nil, length-append}
+use Rattle.std.proofs.lemmas.List.Folds.{list_all-append}
+use Rattle.metric.specs.declared.fault.PbmFault.{PbmFault}
+use Rattle.metric.specs.declared.fault.PbmFault.TheVariants.{JunkNotSpaced}
+use Rattle.bits.specs.Cells.{Cells, IsSide}
+use Rattle.bits.proofs.CellsLemmas.{IsBitmap-cells_where}
+use Rattle.pbm.specs.Faults.{◌>>=◌, header, pixels, ended, cells_of, image}
+use Rattle.pbm.specs.Image.{is_whitespace, IsGap, IsBetween, IsRaster, pixels_of, IsPlain, IsEnd, Reads}
+use Rattle.pbm.proofs.Steps.{ok_is, bind_ok, chosen}
+use Rattle.pbm.proofs.Rasters.{RasterRead, pixels-read, pixels-again, gap-before_raster}
+use Rattle.pbm.proofs.Pixels.{place-below, length-pixels_of, cells_of-pixels_of, pixels_of-cells_of}
+use Rattle.pbm.proofs.Headers.{HeaderRead, header-read, header-again}
+
+-- a gap, and nothing or a gap behind it, are a gap
+IsGap-append : (text between : List ℕ) → IsGap text → IsBetween between → IsGap (text ++ between)
+IsGap-append text between is is_between =
+    elim is_between [
+      | inl nothing ↦
+          let P : List ℕ → Type 0 = λ t. IsGap t in
+          subst P (sym (append-nil text) ∙ ap (λ (t : List ℕ). text ++ t) (sym nothing)) is
+      | inr more ↦
+          let spaced : list_all is_whitespace between ≡ true = ap (list_all is_whitespace) more.is_text ∙ and_from (is_whitespace more.first) (list_all is_whitespace more.others) more.first_is more.others_are in
+          record {
+            first = is.first;
+            others = is.others ++ between;
+            is_text = ap (λ (t : List ℕ). t ++ between) is.is_text;
+            first_is = is.first_is;
+            others_are = list_all-append is_whitespace is.others between ∙ and_from (list_all is_whitespace is.others) (list_all is_whitespace between) is.others_are spaced;
+          }
+    ]
+
+-- what is accepted behind an image ends it
+ended-read : (bytes rest : List ℕ) → ended bytes ≡ Ok rest → (bytes ≡ rest) × IsEnd rest
+ended-read [] rest e = let same = ok_is [] rest e in (same, subst (λ (t : List ℕ). IsEnd t) same tt)
+ended-read (byte ∷ others) rest e =
+    elim (chosen (is_whitespace byte) (Ok (byte ∷ others)) (Err JunkNotSpaced) (Ok rest) e) [
+      | inl spaced ↦ let same = ok_is (byte ∷ others) rest spaced.1 in (same, subst (λ (t : List ℕ). IsEnd t) same spaced.0)
+      | inr junk ↦ absurd (let no = junk.1 in cc)
+    ]
+
+-- what ends an image is accepted behind it
+ended-again : (rest : List ℕ) → IsEnd rest → ended rest ≡ Ok rest
+ended-again [] end = refl
+ended-again (byte ∷ others) end = rw end refl
+
+-- some pixels that are read are a raster
+raster-read : (n : ℕ) (bytes : List ℕ) (found : List Bool × List ℕ) → 0 < n → pixels n bytes ≡ Ok found → RasterRead n bytes found
+raster-read zero bytes found some e = absurd (omega arith)
+raster-read (suc n) bytes found some e = pixels-read n bytes found e
+
+-- the parts of an image and what is behind it, where a gap was read in two parts
+regroup-two_gaps : (a b c d e f g rest : List ℕ) → (80 ∷ 49 ∷ (a ++ (b ++ (c ++ (d ++ ((e ++ f) ++ g)))))) ++ rest ≡ 80 ∷ 49 ∷ (a ++ (b ++ (c ++ (d ++ (e ++ (f ++ (g ++ rest)))))))
+regroup-two_gaps a b c d e f g rest = simp append_assoc
+
+-- the parts of an image and what is behind it
+regroup : (a b c d e g rest : List ℕ) → (80 ∷ 49 ∷ (a ++ (b ++ (c ++ (d ++ (e ++ g)))))) ++ rest ≡ 80 ∷ 49 ∷ (a ++ (b ++ (c ++ (d ++ (e ++ (g ++ rest))))))
+regroup a b c d e g rest = simp append_assoc
+
+-- an image was read from the bytes
+pub record ImageRead (bytes : List ℕ) (found : Cells × List ℕ) : Type 0 where
+  pub text : List ℕ
+  pub split : bytes ≡ text ++ found.1
+  pub is_plain : IsPlain text found.0
+  pub end : IsEnd found.1
+
+-- a header, a raster and an end are an image
+ImageRead-from : (bytes : List ℕ) (sides : ℕ × ℕ × List ℕ) (all : List Bool × List ℕ) → HeaderRead bytes sides → RasterRead (sides.0 * sides.1) sides.2 all → IsEnd all.1 → ImageRead bytes (cells_of sides.0 sides.1 all.0, all.1)
+ImageRead-from bytes sides all h r end =
+    record {
+      text = 80 ∷ 49 ∷ (h.before_width ++ (h.width ++ (h.before_height ++ (h.height ++ ((h.before_raster ++ r.between) ++ r.text)))));
+      split = h.split
+          ∙ ap (λ (t : List ℕ). 80 ∷ 49 ∷ (h.before_width ++ (h.width ++ (h.before_height ++ (h.height ++ (h.before_raster ++ t)))))) r.split
+          ∙ sym (regroup-two_gaps h.before_width h.width h.before_height h.height h.before_raster r.between r.text all.1);
+      is_plain = record {
+        bitmap = IsBitmap-cells_where sides.0 sides.1 _ h.width_side h.height_side;
+        gap_before_width = h.before_width;
+        width = h.width;
+        gap_before_height = h.before_height;
+        height = h.height;
+        gap_before_raster = h.before_raster ++ r.between;
+        raster = r.text;
+        gap_before_width_is = h.before_width_is;
+        width_is = h.width_is;
+        gap_before_height_is = h.before_height_is;
+        height_is = h.height_is;
+        gap_before_raster_is = IsGap-append h.before_raster r.between h.before_raster_is r.is_between;
+        raster_is = subst (λ (pixels_read : List Bool). IsRaster r.text pixels_read) (sym (pixels_of-cells_of sides.0 sides.1 all.0 h.width_side r.count)) r.is_raster;
+        is_text = refl;
+      };
+      end = end;
+    }
+
+-- an image has a pixel
+some_pixels : (width height : ℕ) → IsSide width → IsSide height → 0 < width * height
+some_pixels width height width_is height_is = omega (arith, place-below width height 0 0 width_is.some height_is.some)
+
+-- what comes behind a raster
+behind_raster : (bytes : List ℕ) (sides : ℕ × ℕ × List ℕ) (all : List Bool × List ℕ) (found : Cells × List ℕ) → HeaderRead bytes sides → RasterRead (sides.0 * sides.1) sides.2 all
+    → (ended all.1 >>= λ rest. Ok (cells_of sides.0 sides.1 all.0, rest)) ≡ Ok found → ImageRead bytes found
+behind_raster bytes sides all found h r e =
+    let d = bind_ok (ended all.1) (λ rest. Ok (cells_of sides.0 sides.1 all.0, rest)) found e in
+    let end = ended-read all.1 d.0 d.1 in
+    let end_is : IsEnd all.1 = subst (λ (t : List ℕ). IsEnd t) (sym end.0) end.1 in
+    let same : ◌≡◌ {A = Cells × List ℕ} (cells_of sides.0 sides.1 all.0, all.1) found = ap (λ (t : List ℕ). (cells_of sides.0 sides.1 all.0, t)) end.0 ∙ ok_is (cells_of sides.0 sides.1 all.0, d.0) found d.2 in
+    subst (λ (f : Cells × List ℕ). ImageRead bytes f) same (ImageRead-from bytes sides all h r end_is)
+
+-- what comes behind a header
+behind_header : (bytes : List ℕ) (sides : ℕ × ℕ × List ℕ) (found : Cells × List ℕ) → HeaderRead bytes sides
+    → (pixels (sides.0 * sides.1) sides.2 >>= λ all. ended all.1 >>= λ rest. Ok (cells_of sides.0 sides.1 all.0, rest)) ≡ Ok found → ImageRead bytes found
+behind_header bytes sides found h e =
+    let p = bind_ok (pixels (sides.0 * sides.1) sides.2) (λ all. ended all.1 >>= λ rest. Ok (cells_of sides.0 sides.1 all.0, rest)) found e in
+    behind_raster bytes sides p.0 found h (raster-read (sides.0 * sides.1) sides.2 p.0 (some_pixels sides.0 sides.1 h.width_side h.height_side) p.1) p.2
+
+-- an image that is read is an image
+pub image-read : (bytes : List ℕ) (found : Cells × List ℕ) → image bytes ≡ Ok found → ImageRead bytes found
+unfolding image
+image-read bytes found e =
+    let h = bind_ok (header bytes) (λ sides. pixels (sides.0 * sides.1) sides.2 >>= λ all. ended all.1 >>= λ rest. Ok (cells_of sides.0 sides.1 all.0, rest)) found e in
+    behind_header bytes h.0 found (header-read bytes h.0 h.1) h.2
+
+-- what is before the raster of an image is read
+header_of : (bytes text rest : List ℕ) (cells : Cells) → bytes ≡ text ++ rest → (is : IsPlain text cells) → HeaderRead bytes (cells.width, cells.height, is.raster ++ rest)
+header_of bytes text rest cells split is =
+    record {
+      before_width = is.gap_before_width;
+      width = is.width;
+      before_height = is.gap_before_height;
+      height = is.height;
+      before_raster = is.gap_before_raster;
+      before_width_is = is.gap_before_width_is;
+      width_is = is.width_is;
+      before_height_is = is.gap_before_height_is;
+      height_is = is.height_is;
+      before_raster_is = is.gap_before_raster_is;
+      width_side = is.bitmap.width_is;
+      height_side = is.bitmap.height_is;
+      split = split ∙ ap (λ (t : List ℕ). t ++ rest) is.is_text ∙ regroup is.gap_before_width is.width is.gap_before_height is.height is.gap_before_raster is.raster rest;
+    }
+
+-- an image is read
+pub image-again : (bytes text rest : List ℕ) (cells : Cells) → bytes ≡ text ++ rest → IsPlain text cells → IsEnd rest → image bytes ≡ Ok (cells, rest)
+unfolding image header_of
+image-again bytes text rest cells split is end =
+    let some = some_pixels cells.width cells.height is.bitmap.width_is is.bitmap.height_is in
+    let some_spelled : 0 < length (pixels_of cells) = omega (arith, some, length-pixels_of cells) in
+    let last = gap-before_raster (pixels_of cells) is.raster is.gap_before_raster rest some_spelled is.raster_is is.gap_before_raster_is in
+    let h : header bytes ≡ Ok (cells.width, cells.height, is.raster ++ rest) = header-again bytes (cells.width, cells.height, is.raster ++ rest) (header_of bytes text rest cells split is) last in
+    let p : pixels (cells.width * cells.height) (is.raster ++ rest) ≡ Ok (pixels_of cells, rest) = pixels-again (pixels_of cells) (cells.width * cells.height) is.raster rest (length-pixels_of cells) some is.raster_is in
+    rw (h, p, ended-again rest end) (ap (λ (c : Cells). Ok (c, rest)) (cells_of-pixels_of cells is.bitmap))
+
+-- what is left behind an image is no longer than the bytes
+pub image-shorter : (bytes : List ℕ) (found : Cells × List ℕ) → image bytes ≡ Ok found → length found.1 ≤ length bytes
+image-shorter bytes found e =
+    let r = image-read bytes found e in
+    omega (arith, length-append r.text found.1, ap length r.split)
+
+-- what is found is read, with that rest
+pub image-reads : (bytes rest : List ℕ) (cells : Cells) → image bytes ≡ Ok (cells, rest) → (found : Reads bytes (length bytes - length rest) cells) × (found.rest ≡ rest)
+image-reads bytes rest cells e =
+    let r = image-read bytes (cells, rest) e in (
+      record {
+        text = r.text;
+        rest = rest;
+        split = r.split;
+        taken = omega (arith, length-append r.text rest, ap length r.split);
+        image = r.is_plain;
+        end = r.end;
+      },
+      refl,
+    )
+
+-- what is read is found, with that rest
+pub reads-image : (bytes : List ℕ) (n : ℕ) (cells : Cells) (found : Reads bytes n cells) → image bytes ≡ Ok (cells, found.rest)
+reads-image bytes n cells found = image-again bytes found.text found.rest cells found.split found.image found.end
+
+-- what is left says how many bytes were taken
+taken-is : (bytes : List ℕ) (n : ℕ) (cells : Cells) (found : Reads bytes n cells) → n + length found.rest ≡ length bytes
+taken-is bytes n cells found = omega (arith, length-append found.text found.rest, ap length found.split, found.taken)
+
+-- at most one image is read from given bytes
+pub one_image-reads : (bytes : List ℕ) (m n : ℕ) (a b : Cells) → Reads bytes m a → Reads bytes n b → (m ≡ n) × (a ≡ b)
+one_image-reads bytes m n a b first second =
+    let same = ok_is (a, first.rest) (b, second.rest) (sym (reads-image bytes m a first) ∙ reads-image bytes n b second) in
+    let rests : length first.rest ≡ length second.rest = ap (λ (p : Cells × List ℕ). length p.1) same in
+    (omega (arith, taken-is bytes m a first, taken-is bytes n b second, rests), ap (λ (p : Cells × List ℕ). p.0) same)
+
+-- a fault means that no image is read
+pub fault-none : (bytes : List ℕ) (fault : PbmFault) → image bytes ≡ Err fault → (n : ℕ) (cells : Cells) → Reads bytes n cells → ⊥
+fault-none bytes fault e n cells found = let is = reads-image bytes n cells found in cc

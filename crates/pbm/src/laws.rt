@@ -1,0 +1,17 @@
+//! Laws of the format: what the first fault from the front has to do with the grammar.
+
+ghost use Rattle.std.specs.Prelude.{◌≡◌, ℕ, ◌-◌, List, length, Ok};
+ghost use Rattle.bits.specs.Cells.{Cells};
+ghost use Rattle.pbm.specs.Faults.{image};
+ghost use Rattle.pbm.specs.Image.{Reads};
+
+/// At most one image stands at the front of given bytes, and it takes one number of them.
+pub fn one_image()
+    ensures { (bytes : List ℕ) (m n : ℕ) (a b : Cells) → Reads bytes m a → Reads bytes n b → (m ≡ n) × (a ≡ b) }
+{}
+
+/// The fault table finds an image exactly where the grammar has one, and leaves what stands behind it.
+pub fn reads_what_is_found()
+    ensures found { (bytes rest : List ℕ) (cells : Cells) → image bytes ≡ Ok (cells, rest) → (read : Reads bytes (length bytes - length rest) cells) × (read.rest ≡ rest) }
+    ensures read { (bytes : List ℕ) (n : ℕ) (cells : Cells) (read : Reads bytes n cells) → image bytes ≡ Ok (cells, read.rest) }
+{}

@@ -1,0 +1,52 @@
+//! The numbers of an image: the sides of its bitmap, in cells.
+
+ghost use Rattle.std.specs.Prelude.{◌≡◌, Ok, Err, MatchResult};
+ghost use Rattle.pbm.specs.Faults.{digits, number, side};
+
+use metric::PbmFault;
+
+/// The longest side of a bitmap.
+const LONGEST: u16 = 4096;
+
+/// A side of this many cells, in front of these bytes.
+fn side_of(value: u16, rest: &[u8]) -> Result<(u16, &[u8]), PbmFault>
+    ensures { MatchResult result (λ found. side value rest.now ≡ Ok (found.0, found.1.now)) (λ fault. side value rest.now ≡ Err fault) }
+{
+    match value {
+        0 => Err(PbmFault::ZeroSize),
+        1..=LONGEST => Ok((value, rest)),
+        _ => Err(PbmFault::TooLarge),
+    }
+}
+
+/// The side whose first digits have this value.
+///
+/// Digits behind a value over the longest side are passed over: no more of them makes it good.
+#[tactic(auto, unfolding(crate::specs::Faults::digits))]
+fn read_digits(mut value: u16, bytes: &[u8]) -> Result<(u16, &[u8]), PbmFault>
+    ensures { MatchResult result (λ found. digits value bytes.now ≡ Ok (found.0, found.1.now)) (λ fault. digits value bytes.now ≡ Err fault) }
+{
+    let mut rest = bytes;
+    while let Some((byte, others)) = rest.split_first() {
+        if !byte.is_ascii_digit() {
+            break;
+        }
+        if value <= LONGEST {
+            value = 10 * value + u16::from(*byte - b'0');
+        }
+        rest = others;
+    }
+    side_of(value, rest)
+}
+
+/// The side that the digits at the front tell.
+#[tactic(auto, unfolding(crate::specs::Faults::number))]
+pub fn read_number(bytes: &[u8]) -> Result<(u16, &[u8]), PbmFault>
+    ensures { MatchResult result (λ found. number bytes.now ≡ Ok (found.0, found.1.now)) (λ fault. number bytes.now ≡ Err fault) }
+{
+    match bytes.split_first() {
+        None => Err(PbmFault::Truncated),
+        Some((digit @ b'0'..=b'9', rest)) => read_digits(u16::from(*digit - b'0'), rest),
+        Some(_) => Err(PbmFault::BadNumber),
+    }
+}

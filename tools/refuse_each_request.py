@@ -1,0 +1,76 @@
+#!/usr/bin/python3
+"""Refuses each request for memory in turn, and looks at what is answered.
+
+First the program: `dist` on a small image, its N-th request refused, for N from 1 until several runs in a row meet no
+refusal. Each run has to print the whole table with status 0, or the one line `ERR 5 Memory` with status 1.
+
+Then the tests of the crates that take memory, each test's N-th request refused: a test may fail there, since none expects
+it, but only by an answer that names want of memory.
+
+Nothing is proved here: `rt try` runs the code as it is. It takes some ten seconds a run.
+"""
+import pathlib
+import re
+import subprocess
+import sys
+
+TOP = pathlib.Path(__file__).resolve().parent.parent
+IMAGE = b"P1\n3 2\n100\n000\n"
+TABLE = b"0 1 4\n1 2 5\n"
+WANT = b"ERR 5 Memory\n"
+QUIET_RUNS = 3
+MOST = 400
+
+
+def refused(crate, n, words, given=b""):
+    command = ["rt", "try", "--fail-alloc", str(n)] + words
+    return subprocess.run(command, cwd=TOP / "crates" / crate, input=given, capture_output=True)
+
+
+def try_program():
+    """The program's runs: how many were refused, and those that answered neither the table nor want of memory."""
+    met, quiet, wrong = 0, 0, []
+    for n in range(1, MOST + 1):
+        run = refused("clearmap", n, ["--", "dist"], IMAGE)
+        if (run.stdout, run.returncode) == (TABLE, 0):
+            quiet += 1
+        elif (run.stdout, run.returncode) == (WANT, 1):
+            met, quiet = met + 1, 0
+        else:
+            wrong.append(f"dist, request {n}: status {run.returncode}, {run.stdout[:80]!r}")
+            quiet = 0
+        if quiet == QUIET_RUNS:
+            return met, wrong
+    return met, wrong + ["dist: requests were still met at the end"]
+
+
+def try_tests(crate):
+    """A crate's tests: how many numbers were met, and the failures that don't name want of memory."""
+    met, wrong = 0, []
+    for n in range(1, MOST + 1):
+        run = refused(crate, n, ["--test"])
+        text = (run.stdout + run.stderr).decode(errors="replace")
+        if "test result: ok" in text:
+            return met, wrong
+        met += 1
+        if not re.search(r"Memory|AllocError|AllocFailed|out of memory", text):
+            wrong.append(f"tests of {crate}, request {n}: {text[-400:]}")
+    return met, wrong + [f"tests of {crate}: requests were still met at the end"]
+
+
+def main():
+    crates = sys.argv[1:] or ["bits", "pbm", "field"]
+    met, wrong = try_program()
+    print(f"dist: {met} requests refused, each answered by want of memory alone" if not wrong else f"dist: {met} refused")
+    for crate in crates:
+        more, others = try_tests(crate)
+        print(f"{crate}: tests run with {more} requests refused in turn")
+        wrong += others
+    for line in wrong:
+        print("WRONG", line)
+    print(f"wrong: {len(wrong)}")
+    return 1 if wrong else 0
+
+
+if __name__ == "__main__":
+    sys.exit(main())
