@@ -6,6 +6,7 @@ use Rattle.metric.specs.declared.fault.PbmFault.TheVariants as faults
 use Rattle.metric.specs.declared.stream.WriteFault.{WriteFault}
 use Rattle.metric.specs.Refusal.{image_text}
 use Rattle.metric.specs.Stream.{AreAll, Appends, AppendsFront, Counts}
+use Rattle.clearmap.specs.declared.arguments.DistOptions.{DistOptions}
 use Rattle.clearmap.specs.declared.table.Table.{Table}
 use Rattle.clearmap.specs.Table.{table_text}
 use Rattle.clearmap.specs.Tabled.{IsTableOf}
@@ -23,36 +24,36 @@ AreAll-told None = tt
 AreAll-told (Some bytes) = refl
 
 -- where no write failed the answer is whole
-pub answered : (unread before after : Option (List ℕ)) (bytes : List ℕ) (written : Result ℕ WriteFault) (old new : ℕ)
+pub answered : (options : DistOptions) (unread before after : Option (List ℕ)) (bytes : List ℕ) (written : Result ℕ WriteFault) (old new : ℕ)
     → AreAll unread bytes
-    → IfOk written (λ status. (text : List ℕ) × IsDistAnswer bytes text status × Appends before text after)
-    → Counts old written new → new ≡ old → Answers unread before after (result_unwrap_or written 1)
-answered unread before after bytes (Ok status) old new all (text, answer, whole) counts same = record { bytes = bytes; text = text; all = all; answer = answer; written = whole }
-answered unread before after bytes (Err fault) old new all whole counts same = absurd (omega (arith, counts))
+    → IfOk written (λ status. (text : List ℕ) × IsDistAnswer options bytes text status × Appends before text after)
+    → Counts old written new → new ≡ old → Answers options unread before after (result_unwrap_or written 1)
+answered options unread before after bytes (Ok status) old new all (text, answer, whole) counts same = record { bytes = bytes; text = text; all = all; answer = answer; written = whole }
+answered options unread before after bytes (Err fault) old new all whole counts same = absurd (omega (arith, counts))
 
 -- where one failed a beginning of the answer is written, and the status is 1
-pub begun : (unread before after : Option (List ℕ)) (bytes : List ℕ) (written : Result ℕ WriteFault) (old new : ℕ)
+pub begun : (options : DistOptions) (unread before after : Option (List ℕ)) (bytes : List ℕ) (written : Result ℕ WriteFault) (old new : ℕ)
     → AreAll unread bytes
-    → OnErr written ((text : List ℕ) × (status : ℕ) × IsDistAnswer bytes text status × AppendsFront before text after)
-    → Counts old written new → new ≢ old → BeginsToAnswer unread before after × (result_unwrap_or written 1 ≡ 1)
-begun unread before after bytes (Ok status) old new all front counts other = absurd (other counts)
-begun unread before after bytes (Err fault) old new all (text, status, answer, front) counts other =
+    → OnErr written ((text : List ℕ) × (status : ℕ) × IsDistAnswer options bytes text status × AppendsFront before text after)
+    → Counts old written new → new ≢ old → BeginsToAnswer options unread before after × (result_unwrap_or written 1 ≡ 1)
+begun options unread before after bytes (Ok status) old new all front counts other = absurd (other counts)
+begun options unread before after bytes (Err fault) old new all (text, status, answer, front) counts other =
     (record { bytes = bytes; text = text; status = status; all = all; answer = answer; written = front }, refl)
 
 -- the line of a fault that is true of the bytes is an answer to them
-pub answer_of_fault : (bytes : List ℕ) (fault : PbmFault) (status : ℕ) → (fault ≢ faults.Memory → IsRefused bytes fault) → status ≡ 1 → IsDistAnswer bytes (image_text fault ++ 10 ∷ []) status
-answer_of_fault bytes fault status true_of one = inr (record { fault = fault; true_of = true_of; text_is = refl; status_is = one })
+pub answer_of_fault : (options : DistOptions) (bytes : List ℕ) (fault : PbmFault) (status : ℕ) → (fault ≢ faults.Memory → IsRefused bytes fault) → status ≡ 1 → IsDistAnswer options bytes (image_text fault ++ 10 ∷ []) status
+answer_of_fault options bytes fault status true_of one = inr (record { fault = fault; true_of = true_of; text_is = refl; status_is = one })
 
 -- want of memory is an answer to any bytes
-pub answer_of_memory : (bytes : List ℕ) (status : ℕ) → status ≡ 1 → IsDistAnswer bytes (image_text faults.Memory ++ 10 ∷ []) status
-answer_of_memory bytes status one = answer_of_fault bytes faults.Memory status (λ other. absurd (other refl)) one
+pub answer_of_memory : (options : DistOptions) (bytes : List ℕ) (status : ℕ) → status ≡ 1 → IsDistAnswer options bytes (image_text faults.Memory ++ 10 ∷ []) status
+answer_of_memory options bytes status one = answer_of_fault options bytes faults.Memory status (λ other. absurd (other refl)) one
 
 -- the lines of a table are an answer to the bytes that it is the table of
-pub answer_of_table : (bytes : List ℕ) (table : Table) → IsTableOf bytes table → IsDistAnswer bytes (table_text table.width table.height table.distances.items) 0
-answer_of_table bytes table of = inl (record {
+pub answer_of_table : (options : DistOptions) (bytes : List ℕ) (table : Table) → IsTableOf options.metric bytes table → IsDistAnswer options bytes (table_text options.nearest table.width table.height table.nears.items) 0
+answer_of_table options bytes table of = inl (record {
   taken = of.taken;
   cells = of.cells;
-  distances = table.distances.items;
+  nears = table.nears.items;
   reads = of.reads;
   rows = of.rows;
   text_is = rw (of.width_is, of.height_is) refl;
@@ -60,8 +61,8 @@ answer_of_table bytes table of = inl (record {
 })
 
 -- the line of want of memory, written whole, is an answer to any bytes
-pub memory_whole : (bytes : List ℕ) (before after : Option (List ℕ)) (written : Result ℕ WriteFault) → IfOk written (λ status. status ≡ 1)
+pub memory_whole : (options : DistOptions) (bytes : List ℕ) (before after : Option (List ℕ)) (written : Result ℕ WriteFault) → IfOk written (λ status. status ≡ 1)
     → OnOk written (Appends before (image_text faults.Memory ++ 10 ∷ []) after)
-    → IfOk written (λ status. (text : List ℕ) × IsDistAnswer bytes text status × Appends before text after)
-memory_whole bytes before after (Ok status) one whole = (image_text faults.Memory ++ 10 ∷ [], answer_of_memory bytes status one, whole)
-memory_whole bytes before after (Err fault) one whole = tt
+    → IfOk written (λ status. (text : List ℕ) × IsDistAnswer options bytes text status × Appends before text after)
+memory_whole options bytes before after (Ok status) one whole = (image_text faults.Memory ++ 10 ∷ [], answer_of_memory options bytes status one, whole)
+memory_whole options bytes before after (Err fault) one whole = tt

@@ -1,21 +1,28 @@
 -- What the words `dist` alone say.
-use Rattle.std.proofs.Common.{◌≡◌, ℕ, List, [], ◌∷◌, Option, Some, None, refl, ap, ◌∙◌, true, codes}
-use Rattle.std.specs.Prelude.{option_map}
-use Rattle.clap.specs.Words.{HasMatchesOf, Row, Text, is_simple, takes, subcommand_of, subcommand_rows_of}
+use Rattle.std.proofs.Common.{◌≡◌, ℕ, List, [], ◌∷◌, Option, Some, None, Bool, refl, ap, ap₂, sym, ◌∙◌, true, false, codes}
+use Rattle.std.specs.Prelude.{option_map, option_and_then}
+use Rattle.clap.specs.Words.{HasMatchesOf, Row, Text, first_of, one_of, is_simple, takes, subcommand_of, subcommand_rows_of}
 use Rattle.clap.specs.Matches.{subcommand_name_of}
 use Rattle.clap.specs.declared.parser.matches.ArgMatches.{ArgMatches}
 use Rattle.clap.proofs.OnLiterals.{clap_on_literals}
-use Rattle.clearmap.specs.CommandLine.{program_app}
+use Rattle.metric.specs.declared.kind.MetricKind.{MetricKind}
+use Rattle.metric.specs.declared.kind.MetricKind.TheVariants.{Euclid2}
+use Rattle.clearmap.specs.declared.arguments.DistOptions.{DistOptions}
+use Rattle.clearmap.specs.CommandLine.{AreDistOptions, default_options, metric_named, program_app}
+
+-- what the words say of the subcommand and its flags
+abbrev pub read_of : Option (Text × List Row) → Option (Text × Option Text × Option Text)
+read_of found = option_map (λ p. (p.0, first_of (codes "metric") p.1, one_of (codes "nearest") p.1)) found
 
 -- the words are taken, whatever the program is called
 pub takes_dist : (name : List ℕ) → takes program_app (name ∷ codes "dist" ∷ []) ≡ true
 unfolding clap_on_literals
 takes_dist name = refl
 
--- they name the subcommand `dist`
-pub subcommand_of_dist : (name : List ℕ) → subcommand_of program_app (name ∷ codes "dist" ∷ []) ≡ Some (codes "dist", [])
+-- they name the subcommand `dist`, and its flags have their defaults
+pub read_of_dist : (name : List ℕ) → read_of (subcommand_of program_app (name ∷ codes "dist" ∷ [])) ≡ Some (codes "dist", Some (codes "euclid2"), Some (codes "false"))
 unfolding clap_on_literals
-subcommand_of_dist name = refl
+read_of_dist name = refl
 
 -- the program's commands and flags are simple ones
 pub program_is_simple : is_simple program_app ≡ true
@@ -27,8 +34,47 @@ first_of_pair : {X A B : Type 0} (f : X → A) (g : X → B) (o : Option X) → 
 first_of_pair f g None = refl
 first_of_pair f g (Some x) = refl
 
+-- the first part of what is read is the subcommand's name
+name_of_read : (found : Option (Text × List Row)) (name : Text) (metric nearest : Option Text) → read_of found ≡ Some (name, metric, nearest) → option_map (λ (p : Text × List Row). p.0) found ≡ Some name
+name_of_read None name metric nearest e = absurd (cc)
+name_of_read (Some p) name metric nearest e = let same : read_of (Some p) ≡ Some (name, metric, nearest) = e in ap (option_map (λ (t : Text × Option Text × Option Text). t.0)) same
+
 -- a parse whose words name the subcommand `dist` has met it
 pub named_dist : (name : List ℕ) (texts : List (List ℕ)) (matches : ArgMatches) → texts ≡ name ∷ codes "dist" ∷ [] → HasMatchesOf program_app texts matches → subcommand_name_of matches ≡ Some (codes "dist")
 named_dist name texts matches words found =
-    let met : subcommand_rows_of matches ≡ Some (codes "dist", []) = (found program_is_simple).1 ∙ (ap (subcommand_of program_app) words ∙ subcommand_of_dist name) in
-    first_of_pair _ _ _ ∙ ap (option_map (λ (p : Text × List Row). p.0)) met
+    let met : subcommand_rows_of matches ≡ subcommand_of program_app (name ∷ codes "dist" ∷ []) = (found program_is_simple).1 ∙ ap (subcommand_of program_app) words in
+    first_of_pair _ _ _ ∙ (ap (option_map (λ (p : Text × List Row). p.0)) met
+    ∙ name_of_read (subcommand_of program_app (name ∷ codes "dist" ∷ [])) (codes "dist") (Some (codes "euclid2")) (Some (codes "false")) (read_of_dist name))
+
+-- the flags that were read are those of the subcommand's rows
+read_rows : (found : Option (Text × List Row)) (rows : List Row) (name : Text) (metric nearest : Option Text) → option_map (λ (p : Text × List Row). p.1) found ≡ Some rows
+    → read_of found ≡ Some (name, metric, nearest) → (first_of (codes "metric") rows ≡ metric) × (one_of (codes "nearest") rows ≡ nearest)
+read_rows None rows name metric nearest these read = absurd (cc)
+read_rows (Some p) rows name metric nearest these read =
+    let same : p.1 ≡ rows = cc in
+    let first : Some (first_of (codes "metric") p.1) ≡ Some metric = ap (option_map (λ (t : Text × Option Text × Option Text). t.1)) read in
+    let second : Some (one_of (codes "nearest") p.1) ≡ Some nearest = ap (option_map (λ (t : Text × Option Text × Option Text). t.2)) read in
+    (rw (← same) (cc), rw (← same) (cc))
+
+-- where the words are `dist` alone its flags have their defaults
+pub dist_defaults : (name : List ℕ) (texts : List (List ℕ)) (matches : ArgMatches) (rows : List Row) → texts ≡ name ∷ codes "dist" ∷ [] → HasMatchesOf program_app texts matches
+    → option_map (λ (p : Text × List Row). p.1) (subcommand_rows_of matches) ≡ Some rows
+    → (first_of (codes "metric") rows ≡ Some (codes "euclid2")) × (one_of (codes "nearest") rows ≡ Some (codes "false"))
+dist_defaults name texts matches rows words found these =
+    let met : subcommand_rows_of matches ≡ subcommand_of program_app (name ∷ codes "dist" ∷ []) = (found program_is_simple).1 ∙ ap (subcommand_of program_app) words in
+    read_rows (subcommand_of program_app (name ∷ codes "dist" ∷ [])) rows (codes "dist") (Some (codes "euclid2")) (Some (codes "false"))
+    (rw (← met) these) (read_of_dist name)
+
+-- flags with their defaults are the default options
+pub default_options-read : (rows : List Row) (options : DistOptions) → AreDistOptions rows options → first_of (codes "metric") rows ≡ Some (codes "euclid2") → one_of (codes "nearest") rows ≡ Some (codes "false")
+    → options ≡ default_options
+default_options-read rows options are metric nearest =
+    let named : Some Euclid2 ≡ Some options.metric = ap (option_and_then metric_named) (sym metric) ∙ are.metric in
+    let euclid : options.metric ≡ Euclid2 = cc in
+    let plain : options.nearest ≡ false = are.unset nearest in
+    ap₂ (λ (m : MetricKind) (n : Bool). record { metric = m; nearest = n }) euclid plain
+
+-- a metric that is named is no unknown one
+pub euclid2_is_named : (rows : List Row) → first_of (codes "metric") rows ≡ Some (codes "euclid2") → option_and_then metric_named (first_of (codes "metric") rows) ≡ None → ⊥
+euclid2_is_named rows metric unknown =
+    let named : Some Euclid2 ≡ None = ap (option_and_then metric_named) (sym metric) ∙ unknown in cc

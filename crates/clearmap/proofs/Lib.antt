@@ -1,5 +1,4 @@
 pub mod Answering
 pub mod CommandLines
-pub mod Decimals
 pub mod Lines
 pub mod Tables

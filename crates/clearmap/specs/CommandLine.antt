@@ -1,10 +1,16 @@
 -- The command line: this project's own rule, in the words of `clap`.
-use Rattle.std.specs.Prelude.{◌≡◌, ℕ, List, codes, map, true}
+use Rattle.std.specs.Prelude.{◌≡◌, ℕ, List, [], ◌∷◌, Option, Some, None, bytes_eq, codes, map, option_and_then, true, false, if◌then◌else◌}
 use Rattle.std.specs.Borrow.{Bor}
-use Rattle.clap.specs.Words.{App, Shape, kind_of, new_app, with_subcommand}
-use Rattle.clap.specs.Simple.{on_top, new_shape}
+use Rattle.clap.specs.Words.{App, Row, Rule, first_of, kind_of, new_app, new_rule, one_of, subcommand_of, with_rule, with_subcommand}
+use Rattle.clap.specs.Simple.{on_top}
+use Rattle.clap.specs.declared.builder.ArgAction.TheVariants.{SetTrue}
 use Rattle.clap.specs.declared.error.Error.{Error}
 use Rattle.clap.specs.declared.error.kind.ErrorKind.TheVariants.{OutOfMemory}
+use Rattle.metric.specs.declared.kind.MetricKind.{MetricKind}
+use Rattle.metric.specs.declared.kind.MetricKind.TheVariants.{Euclid2, City, Chess}
+use Rattle.clearmap.specs.declared.arguments.DistOptions.{DistOptions}
+use Rattle.clearmap.specs.declared.arguments.Options.{Options}
+use Rattle.clearmap.specs.declared.arguments.Options.TheVariants.{Dist}
 use Rattle.clearmap.specs.declared.arguments.Fault.{Fault}
 use Rattle.clearmap.specs.declared.arguments.Fault.TheVariants.{Memory}
 
@@ -12,13 +18,43 @@ use Rattle.clearmap.specs.declared.arguments.Fault.TheVariants.{Memory}
 abbrev pub texts_of : List (Bor (List ℕ)) → List (List ℕ)
 texts_of words = map (λ word. word.now) words
 
--- the subcommand `dist`, which has no options yet
-abbrev pub dist_shape : Shape
-dist_shape = new_shape (codes "dist")
+-- the metric of this name
+abbrev pub metric_named : List ℕ → Option MetricKind
+metric_named name =
+    if bytes_eq name (codes "euclid2") then Some Euclid2
+    else if bytes_eq name (codes "city") then Some City
+    else if bytes_eq name (codes "chess") then Some Chess
+    else None
+
+-- the flag `--metric`, whose default is `euclid2`
+abbrev pub metric_rule : Rule
+metric_rule = record (new_rule (codes "metric")) { long = Some (codes "metric"); value_names = 1; defaults = codes "euclid2" ∷ [] }
+
+-- the flag `--nearest`, which takes no value
+abbrev pub nearest_rule : Rule
+nearest_rule = record (new_rule (codes "nearest")) { long = Some (codes "nearest"); action = Some SetTrue }
+
+-- the subcommand `dist` and its flags
+abbrev pub dist_app : App
+dist_app = with_rule (with_rule (new_app (codes "dist")) metric_rule) nearest_rule
 
 -- the program: it has a version, and wants a subcommand
 abbrev pub program_app : App
-program_app = with_subcommand (on_top (λ s. record s { has_version = true; subcommand_required = true }) (new_app (codes "clearmap"))) dist_shape
+program_app = with_subcommand (on_top (λ s. record s { has_version = true; subcommand_required = true }) (new_app (codes "clearmap"))) dist_app.top
+
+-- the flags of `dist` as the words give them, each with its default where it isn't given
+pub record AreDistOptions (rows : List Row) (options : DistOptions) : Type 0 where
+  pub metric : option_and_then metric_named (first_of (codes "metric") rows) ≡ Some options.metric
+  pub set : one_of (codes "nearest") rows ≡ Some (codes "true") → options.nearest ≡ true
+  pub unset : one_of (codes "nearest") rows ≡ Some (codes "false") → options.nearest ≡ false
+
+-- what `dist` does where no flag is given
+abbrev pub default_options : DistOptions
+default_options = record { metric = Euclid2; nearest = false }
+
+-- the options are those of a `dist` that the words name
+abbrev pub AreOptions : List (List ℕ) → Options → Type 0
+AreOptions words (Dist options) = (rows : List Row) × (subcommand_of program_app words ≡ Some (codes "dist", rows)) × AreDistOptions rows options
 
 -- what is made of an error of `clap`: want of memory is told apart
 abbrev pub IsFaultOf : Error → Fault → Type 0

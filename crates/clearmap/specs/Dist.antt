@@ -2,23 +2,25 @@
 use Rattle.std.specs.Prelude.{◌≡◌, ◌≢◌, ℕ, List, [], ◌∷◌, ◌++◌, ◌⊎◌, Option, Err}
 use Rattle.metric.specs.declared.fault.PbmFault.{PbmFault}
 use Rattle.metric.specs.declared.fault.PbmFault.TheVariants as faults
-use Rattle.metric.specs.Distance.{euclid2}
+use Rattle.metric.specs.Kind.{distance_of}
+use Rattle.metric.specs.declared.near.Near.{Near}
 use Rattle.metric.specs.Refusal.{image_text}
 use Rattle.metric.specs.Stream.{AreAll, Appends, AppendsFront}
 use Rattle.bits.specs.Cells.{Cells}
 use Rattle.pbm.specs.Faults.{image}
 use Rattle.pbm.specs.Image.{Reads}
-use Rattle.field.specs.Rows.{AreDistances}
+use Rattle.field.specs.Rows.{AreNears}
+use Rattle.clearmap.specs.declared.arguments.DistOptions.{DistOptions}
 use Rattle.clearmap.specs.Table.{table_text}
 
--- the bytes read as an image, and the text is the lines of its rows: each cell's least distance to an obstacle
-pub record IsTable (bytes text : List ℕ) (status : ℕ) : Type 0 where
+-- the bytes read as an image, and the text is the lines of its rows: of each cell the nearest obstacle, by the metric that was asked for
+pub record IsTable (options : DistOptions) (bytes text : List ℕ) (status : ℕ) : Type 0 where
   pub taken : ℕ
   pub cells : Cells
-  pub distances : List (Option ℕ)
+  pub nears : List (Option Near)
   pub reads : Reads bytes taken cells
-  pub rows : AreDistances euclid2 cells 0 cells.height distances
-  pub text_is : text ≡ table_text cells.width cells.height distances
+  pub rows : AreNears (distance_of options.metric) cells 0 cells.height nears
+  pub text_is : text ≡ table_text options.nearest cells.width cells.height nears
   pub status_is : status ≡ 0
 
 -- the bytes don't read as an image, and this is their first fault
@@ -33,23 +35,23 @@ pub record IsFault (bytes text : List ℕ) (status : ℕ) : Type 0 where
   pub text_is : text ≡ image_text fault ++ 10 ∷ []
   pub status_is : status ≡ 1
 
--- an answer to these bytes, with its status
-abbrev pub IsDistAnswer : List ℕ → List ℕ → ℕ → Type 0
-IsDistAnswer bytes text status = IsTable bytes text status ⊎ IsFault bytes text status
+-- an answer to these bytes under these options, with its status
+abbrev pub IsDistAnswer : DistOptions → List ℕ → List ℕ → ℕ → Type 0
+IsDistAnswer options bytes text status = IsTable options bytes text status ⊎ IsFault bytes text status
 
 -- an answer to all bytes that the reader had was written whole
-pub record Answers (unread held_before held_after : Option (List ℕ)) (status : ℕ) : Type 0 where
+pub record Answers (options : DistOptions) (unread held_before held_after : Option (List ℕ)) (status : ℕ) : Type 0 where
   pub bytes : List ℕ
   pub text : List ℕ
   pub all : AreAll unread bytes
-  pub answer : IsDistAnswer bytes text status
+  pub answer : IsDistAnswer options bytes text status
   pub written : Appends held_before text held_after
 
 -- a beginning of an answer to all bytes that the reader had was written
-pub record BeginsToAnswer (unread held_before held_after : Option (List ℕ)) : Type 0 where
+pub record BeginsToAnswer (options : DistOptions) (unread held_before held_after : Option (List ℕ)) : Type 0 where
   pub bytes : List ℕ
   pub text : List ℕ
   pub status : ℕ
   pub all : AreAll unread bytes
-  pub answer : IsDistAnswer bytes text status
+  pub answer : IsDistAnswer options bytes text status
   pub written : AppendsFront held_before text held_after

@@ -2,6 +2,7 @@
 
 use clap::Error as ClapError;
 use clap::error::ErrorKind;
+use metric::MetricKind;
 use std::alloc::AllocError;
 use std::io;
 use thiserror::Error;
@@ -9,13 +10,18 @@ use thiserror::Error;
 /// What the program is to do.
 #[derive(Clone, Copy, Debug, PartialEq, Eq)]
 pub enum Options {
-    /// Print the distances of one image.
+    /// Answer an image.
     Dist(DistOptions),
 }
 
-/// How `dist` is to answer. There is nothing to choose yet.
+/// How `dist` is to answer.
 #[derive(Clone, Copy, Debug, PartialEq, Eq)]
-pub struct DistOptions {}
+pub struct DistOptions {
+    /// The distance.
+    pub metric: MetricKind,
+    /// Whether each entry tells its nearest obstacle.
+    pub nearest: bool,
+}
 
 /// Why the words aren't a command to run.
 #[derive(Debug, Drop, Error)]
@@ -23,6 +29,9 @@ pub enum Fault {
     /// A mistake in the words, or a wish for help or the version.
     #[error("{0}")]
     Words(ClapError),
+    /// `--metric` names no metric.
+    #[error("--metric is one of euclid2, city and chess")]
+    UnknownMetric,
     /// No command was named.
     #[error("no command was named")]
     NoCommand,

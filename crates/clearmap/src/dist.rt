@@ -19,7 +19,7 @@ const DONE: u8 = 0;
 /// The status of a run that was refused, or whose reader or writer failed.
 const REFUSED: u8 = 1;
 
-/// Reads an image to the end of the reader, and writes the distances of its cells, a line a row. Answers the status.
+/// Reads an image to the end of the reader, and writes its cells' distances to their nearest obstacles, a line a row, as the options ask. Answers the status.
 ///
 /// A refused image, or want of memory, is one line instead, with status 1. All is computed before the first byte is written. Where a call of the reader or the writer fails, neither is called again, and the status is 1.
 pub fn dist_run<R: Source, W: Sink>(
@@ -33,7 +33,7 @@ pub fn dist_run<R: Source, W: Sink>(
 
     // Where no call failed, the answer is whole.
     ensures answers { R.failed_reads reader.new ≡ R.failed_reads reader.old → W.failed_writes writer.new ≡ W.failed_writes writer.old
-        → Answers (R.rest reader.old) (W.held writer.old) (W.held writer.new) result }
+        → Answers options.now (R.rest reader.old) (W.held writer.old) (W.held writer.new) result }
 
     // Where a read failed, nothing was written.
     ensures failed_read { R.failed_reads reader.new ≢ R.failed_reads reader.old
@@ -41,45 +41,49 @@ pub fn dist_run<R: Source, W: Sink>(
 
     // Where a write failed, a beginning of the answer was written.
     ensures failed_write { W.failed_writes writer.new ≢ W.failed_writes writer.old
-        → BeginsToAnswer (R.rest reader.old) (W.held writer.old) (W.held writer.new) × (result ≡ 1) }
+        → BeginsToAnswer options.now (R.rest reader.old) (W.held writer.old) (W.held writer.new) × (result ≡ 1) }
     ensures one_failure { R.failed_reads reader.new + W.failed_writes writer.new ≤ R.failed_reads reader.old + W.failed_writes writer.old + 1 }
 {
-    let DistOptions {} = options;
     match read_to_end(alloc, reader) {
-        Ok(bytes) => write_answer(alloc, bytes.as_slice(), writer).unwrap_or(REFUSED),
+        Ok(bytes) => write_answer(alloc, options, bytes.as_slice(), writer).unwrap_or(REFUSED),
         Err(InputStop::Memory) => write_fault(writer, PbmFault::Memory).unwrap_or(REFUSED),
         Err(InputStop::Failed) => REFUSED,
     }
 }
 
 /// Writes the answer to these bytes.
-fn write_answer<W: Sink>(alloc: Global, bytes: &[u8], writer: &mut W) -> Result<u8, WriteFault>
+fn write_answer<W: Sink>(
+    alloc: Global,
+    options: &DistOptions,
+    bytes: &[u8],
+    writer: &mut W,
+) -> Result<u8, WriteFault>
     requires { CanFail (W.failed_writes writer.old) }
-    ensures whole { IfOk result (λ status. (text : List ℕ) × IsDistAnswer bytes.now text status × Appends (W.held writer.old) text (W.held writer.new)) }
-    ensures front { OnErr result ((text : List ℕ) × (status : ℕ) × IsDistAnswer bytes.now text status × AppendsFront (W.held writer.old) text (W.held writer.new)) }
+    ensures whole { IfOk result (λ status. (text : List ℕ) × IsDistAnswer options.now bytes.now text status × Appends (W.held writer.old) text (W.held writer.new)) }
+    ensures front { OnErr result ((text : List ℕ) × (status : ℕ) × IsDistAnswer options.now bytes.now text status × AppendsFront (W.held writer.old) text (W.held writer.new)) }
     ensures counts { Counts (W.failed_writes writer.old) result (W.failed_writes writer.new) }
 {
-    match Table::of(alloc, bytes) {
-        Ok(table) => write_rows(writer, table),
+    match Table::of(alloc, bytes, options.metric) {
+        Ok(table) => write_rows(writer, table, options.nearest),
         Err(fault) => write_fault(writer, fault),
     }
 }
 
 /// Writes the table's lines.
-fn write_rows<W: Sink>(writer: &mut W, table: Table) -> Result<u8, WriteFault>
+fn write_rows<W: Sink>(writer: &mut W, table: Table, nearest: bool) -> Result<u8, WriteFault>
     requires { CanFail (W.failed_writes writer.old) }
     ensures status { IfOk result (λ status. status ≡ 0) }
-    ensures whole { OnOk result (Appends (W.held writer.old) (table_text table.width table.height table.distances.items) (W.held writer.new)) }
-    ensures front { OnErr result (AppendsFront (W.held writer.old) (table_text table.width table.height table.distances.items) (W.held writer.new)) }
+    ensures whole { OnOk result (Appends (W.held writer.old) (table_text nearest table.width table.height table.nears.items) (W.held writer.new)) }
+    ensures front { OnErr result (AppendsFront (W.held writer.old) (table_text nearest table.width table.height table.nears.items) (W.held writer.new)) }
     ensures counts { Counts (W.failed_writes writer.old) result (W.failed_writes writer.new) }
 {
     let Table {
         width,
         height,
-        distances,
+        nears,
         mut line,
     } = table;
-    write_table(writer, &mut line, width, height, distances.as_slice())?;
+    write_table(writer, &mut line, width, height, nears.as_slice(), nearest)?;
     writer.flush()?;
     Ok(DONE)
 }

@@ -63,7 +63,7 @@ fn report<R: Print + Eprint>(rt: &R, fault: &Fault) -> u8 {
             Ok(()) if error.use_stderr() => MISTAKEN,
             Ok(()) => DONE,
         },
-        Fault::NoCommand | Fault::Unreadable(_) => {
+        Fault::UnknownMetric | Fault::NoCommand | Fault::Unreadable(_) => {
             let _ = eprintln!(rt; "clearmap: {fault}");
             MISTAKEN
         }

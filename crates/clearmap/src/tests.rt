@@ -3,30 +3,70 @@
 use crate::arguments::{DistOptions, Fault, Options};
 use crate::dist::dist_run;
 use crate::words::options;
-use metric::{MemorySink, MemorySource, Sink, Source};
+use metric::{MemorySink, MemorySource, MetricKind, Sink, Source};
 use std::process::Abort;
 use std::test::Fail;
 
+/// What `dist` does where no flag is given.
+const DEFAULT: DistOptions = DistOptions {
+    metric: MetricKind::Euclid2,
+    nearest: false,
+};
+
 /// Images, what is written for them, and the status.
-const ANSWERS: [(&str, &str, u8); 14] = [
-    ("P1\n3 2\n100\n000\n", "0 1 4\n1 2 5\n", 0),
-    ("P1\n3 2\n000\n000\n", "- - -\n- - -\n", 0),
-    ("P1 5 1 1 0 0 0 1", "0 1 4 1 0\n", 0),
+const ANSWERS: [(&[u8], &str, u8); 18] = [
+    (b"P1\n3 2\n100\n000\n", "0 1 4\n1 2 5\n", 0),
+    (b"P1\n3 2\n000\n000\n", "- - -\n- - -\n", 0),
+    (b"P1 5 1 1 0 0 0 1", "0 1 4 1 0\n", 0),
     (
-        "P1\n12 1\n100000000000 and anything",
+        b"P1\n12 1\n100000000000 and anything",
         "0 1 4 9 16 25 36 49 64 81 100 121\n",
         0,
     ),
-    ("P1\n1 1\n11", "ERR 15 BadImage JunkNotSpaced\n", 1),
-    ("P1\n0 1\n", "ERR 15 BadImage ZeroSize\n", 1),
-    ("P1\n3#c\n1\n000", "ERR 15 BadImage BadComment\n", 1),
-    ("P1\n4097 1\n", "ERR 15 BadImage TooLarge\n", 1),
-    ("P1\n2 1\n1", "ERR 15 BadImage Truncated\n", 1),
-    ("P1\n2 1\n1x", "ERR 15 BadImage BadPixel\n", 1),
-    ("P1\nx", "ERR 15 BadImage BadNumber\n", 1),
-    ("P1x", "ERR 15 BadImage MissingSpace\n", 1),
-    ("GIF89a", "ERR 15 BadImage BadMagic\n", 1),
-    ("", "ERR 15 BadImage Truncated\n", 1),
+    (b"P4\n10 1\n\x80\x7f", "0 1 4 9 16 16 9 4 1 0\n", 0),
+    (b"P1\n# made by hand\n3 1\n101 anything", "0 1 0\n", 0),
+    (b"P1\n1 1\n11", "ERR 15 BadImage JunkNotSpaced\n", 1),
+    (b"P4\n8 2\n\xff", "ERR 15 BadImage Truncated\n", 1),
+    (b"P1\n0 1\n", "ERR 15 BadImage ZeroSize\n", 1),
+    (b"P1\n3#c\n1\n000", "ERR 15 BadImage BadComment\n", 1),
+    (b"P1\n4097 1\n", "ERR 15 BadImage TooLarge\n", 1),
+    (b"P4\n4097 1\n", "ERR 15 BadImage TooLarge\n", 1),
+    (b"P1\n2 1\n1", "ERR 15 BadImage Truncated\n", 1),
+    (b"P1\n2 1\n1x", "ERR 15 BadImage BadPixel\n", 1),
+    (b"P1\nx", "ERR 15 BadImage BadNumber\n", 1),
+    (b"P1x", "ERR 15 BadImage MissingSpace\n", 1),
+    (b"GIF89a", "ERR 15 BadImage BadMagic\n", 1),
+    (b"", "ERR 15 BadImage Truncated\n", 1),
+];
+
+/// Images with flags, and what is written for them.
+const CHOSEN: [(&[u8], MetricKind, bool, &str); 6] = [
+    (ROOM, MetricKind::City, false, "0 1 2\n1 2 3\n"),
+    (ROOM, MetricKind::Chess, false, "0 1 2\n1 1 2\n"),
+    (
+        b"P1\n3 2\n000\n000\n",
+        MetricKind::City,
+        true,
+        "- - -\n- - -\n",
+    ),
+    (
+        b"P1\n5 1\n10001",
+        MetricKind::City,
+        true,
+        "0/0/0 1/0/0 2/0/0 1/4/0 0/4/0\n",
+    ),
+    (
+        ROOM,
+        MetricKind::Euclid2,
+        true,
+        "0/0/0 1/0/0 4/0/0\n1/0/0 2/0/0 5/0/0\n",
+    ),
+    (
+        b"P1\n7 2\n1000001\n0001000\n",
+        MetricKind::Chess,
+        true,
+        "0/0/0 1/0/0 1/3/1 1/3/1 1/3/1 1/6/0 0/6/0\n1/0/0 1/0/0 1/3/1 0/3/1 1/3/1 1/6/0 1/6/0\n",
+    ),
 ];
 
 /// The worked map of three columns and two rows.
@@ -35,9 +75,9 @@ const ROOM: &[u8] = b"P1\n3 2\n100\n000\n";
 #[test]
 fn images_are_answered(rt: HostRuntime) {
     for (image, want, status) in ANSWERS {
-        let mut reader = MemorySource::new(image.as_bytes());
+        let mut reader = MemorySource::new(image);
         let mut writer = MemorySink::new(rt.alloc());
-        let got = dist_run(rt.alloc(), &DistOptions {}, &mut reader, &mut writer);
+        let got = dist_run(rt.alloc(), &DEFAULT, &mut reader, &mut writer);
         assert_eq!(rt; got, status, "at {image:?}");
         assert_eq!(rt; writer.bytes(), want.as_bytes(), "at {image:?}");
         assert!(rt;
@@ -47,11 +87,23 @@ fn images_are_answered(rt: HostRuntime) {
     }
 }
 
+#[test]
+fn flags_are_heeded(rt: HostRuntime) {
+    for (image, metric, nearest, want) in CHOSEN {
+        let options = DistOptions { metric, nearest };
+        let mut reader = MemorySource::new(image);
+        let mut writer = MemorySink::new(rt.alloc());
+        let status = dist_run(rt.alloc(), &options, &mut reader, &mut writer);
+        assert_eq!(rt; status, 0, "at {want:?}");
+        assert_eq!(rt; writer.bytes(), want.as_bytes(), "at {want:?}");
+    }
+}
+
 /// What a run writes whose reader fails at a read.
 fn written_after_failed_read<R: Abort + AllocGlobal>(rt: &R, read: u64) -> usize {
     let mut reader = MemorySource::new(ROOM).failing_at(read);
     let mut writer = MemorySink::new(rt.alloc());
-    let status = dist_run(rt.alloc(), &DistOptions {}, &mut reader, &mut writer);
+    let status = dist_run(rt.alloc(), &DEFAULT, &mut reader, &mut writer);
     assert_eq!(rt; status, 1, "at read {read}");
     assert_eq!(rt; reader.failed_reads(), 1, "at read {read}");
     writer.bytes().len()
@@ -71,19 +123,48 @@ fn a_failed_write_ends_the_run(rt: HostRuntime) {
     for (call, want) in (1u64..).zip(beginnings) {
         let mut reader = MemorySource::new(ROOM);
         let mut writer = MemorySink::new(rt.alloc()).failing_at(call);
-        let status = dist_run(rt.alloc(), &DistOptions {}, &mut reader, &mut writer);
+        let status = dist_run(rt.alloc(), &DEFAULT, &mut reader, &mut writer);
         assert_eq!(rt; status, 1, "at call {call}");
         assert_eq!(rt; writer.bytes(), want, "at call {call}");
         assert_eq!(rt; writer.failed_writes(), 1, "at call {call}");
     }
 }
 
+/// Words of the command line, and what they say.
+const WORDS: [(&[&str], MetricKind, bool); 5] = [
+    (&["clearmap", "dist"], MetricKind::Euclid2, false),
+    (
+        &["clearmap", "dist", "--metric", "city"],
+        MetricKind::City,
+        false,
+    ),
+    (
+        &["clearmap", "dist", "--metric=chess", "--nearest"],
+        MetricKind::Chess,
+        true,
+    ),
+    (
+        &["clearmap", "dist", "--nearest"],
+        MetricKind::Euclid2,
+        true,
+    ),
+    (
+        &["clearmap", "dist", "--nearest", "--metric", "euclid2"],
+        MetricKind::Euclid2,
+        true,
+    ),
+];
+
 #[test]
-fn dist_takes_no_words(rt: HostRuntime) -> Result<(), Fail> {
-    assert_eq!(rt;
-        options(rt.alloc(), &["clearmap", "dist"])?,
-        Options::Dist(DistOptions {})
-    );
+fn words_are_read(rt: HostRuntime) -> Result<(), Fail> {
+    for (words, metric, nearest) in WORDS {
+        let said = options(rt.alloc(), words)?;
+        assert_eq!(rt;
+            said,
+            Options::Dist(DistOptions { metric, nearest }),
+            "at {words:?}"
+        );
+    }
     Ok(())
 }
 
@@ -91,6 +172,7 @@ fn dist_takes_no_words(rt: HostRuntime) -> Result<(), Fail> {
 fn status_of<R: AllocGlobal>(rt: &R, words: &[&str]) -> Option<i32> {
     match options(rt.alloc(), words) {
         Err(Fault::Words(error)) => Some(error.exit_code()),
+        Err(Fault::UnknownMetric) => Some(2),
         _ => None,
     }
 }
@@ -116,6 +198,16 @@ fn mistakes_are_told_from_wishes(rt: HostRuntime) {
         status_of(&rt, &["clearmap", "dist", "--fast"]),
         Some(2),
         "an unknown flag"
+    );
+    assert_eq!(rt;
+        status_of(&rt, &["clearmap", "dist", "--metric", "taxi"]),
+        Some(2),
+        "an unknown metric"
+    );
+    assert_eq!(rt;
+        status_of(&rt, &["clearmap", "dist", "--metric"]),
+        Some(2),
+        "no metric"
     );
     assert_eq!(rt; status_of(&rt, &["clearmap", "--help"]), Some(0), "help");
     assert_eq!(rt;

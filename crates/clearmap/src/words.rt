@@ -1,26 +1,66 @@
 //! Which words the program takes, by `clap`.
 
-ghost use Rattle.std.specs.Prelude.{◌≡◌, ℕ, List, [], ◌∷◌, IfOk, IfErr, true, map, Some, codes};
-ghost use Rattle.clap.specs.Words.{Row, HasMatchesOf, app_of, kind_of, subcommand_of, takes};
+ghost use Rattle.std.specs.Prelude.{◌≡◌, ℕ, List, [], ◌∷◌, IfOk, IfErr, OnErr, MatchResult, true, false, map, option_and_then, Some, None, codes};
+ghost use Rattle.clap.specs.Words.{HasMatchesOf, app_of, first_of, first_value, found_of, kind_of, rows_of, rule_of, takes};
+ghost use Rattle.clap.specs.declared.builder.command.Command.TheViews.{out-Command};
 ghost use Rattle.clap.specs.declared.error.kind.ErrorKind.TheVariants.{OutOfMemory};
 ghost use Rattle.clearmap.specs.declared.arguments.Fault.TheVariants.{Memory};
-ghost use Rattle.clearmap.specs.CommandLine.{program_app, texts_of};
+ghost use Rattle.clearmap.specs.declared.arguments.Options.TheVariants.{Dist};
+ghost use Rattle.clearmap.specs.CommandLine.{AreDistOptions, AreOptions, default_options, dist_app, metric_named, metric_rule, nearest_rule, program_app, texts_of};
 
 use crate::arguments::{DistOptions, Fault, Options};
-use clap::{ArgMatches, Command, Error};
+use clap::{Arg, ArgAction, ArgMatches, Command, Error};
+use metric::MetricKind;
 use std::alloc::Global;
 
 /// Reads the words of the command line, of which the first is the program's name.
 ///
 /// `--help` and `--version` come as a fault whose text goes to standard output, with status 0.
 pub fn options<'a>(alloc: Global, words: &'a [&'a str]) -> Result<Options, Fault>
-    ensures dist { IfOk result (λ _. (rows : List Row) × (subcommand_of program_app (texts_of words.entry.now) ≡ Some (codes "dist", rows))) }
-    ensures taken { (name : List ℕ) → texts_of words.entry.now ≡ name ∷ codes "dist" ∷ [] → IfErr result (λ fault. fault ≡ Memory) }
+    ensures options { IfOk result (AreOptions (texts_of words.entry.now)) }
+    ensures taken { (name : List ℕ) → texts_of words.entry.now ≡ name ∷ codes "dist" ∷ []
+        → MatchResult result (λ options. options ≡ Dist default_options) (λ fault. fault ≡ Memory) }
 {
     let matches = matches_of(alloc, words)?;
     match matches.subcommand_matches("dist") {
-        Some(_) => Ok(Options::Dist(DistOptions {})),
+        Some(flags) => Ok(Options::Dist(dist_options(flags)?)),
         None => Err(Fault::NoCommand),
+    }
+}
+
+/// The flags of `dist`.
+fn dist_options(flags: &ArgMatches<'_>) -> Result<DistOptions, Fault>
+    ensures options { IfOk result (AreDistOptions (rows_of (found_of flags.now))) }
+    ensures unknown { OnErr result (option_and_then metric_named (first_of (codes "metric") (rows_of (found_of flags.now))) ≡ None) }
+{
+    match metric_given(flags) {
+        Some(metric) => Ok(DistOptions {
+            metric,
+            nearest: flags.get_flag("nearest"),
+        }),
+        None => Err(Fault::UnknownMetric),
+    }
+}
+
+/// The metric that `--metric` names.
+fn metric_given(flags: &ArgMatches<'_>) -> Option<MetricKind>
+    ensures { result ≡ option_and_then metric_named (first_value (found_of flags.now) (codes "metric")) }
+{
+    match flags.get_str("metric") {
+        Some(name) => metric_of(name),
+        None => None,
+    }
+}
+
+/// The metric of this name.
+fn metric_of(name: &str) -> Option<MetricKind>
+    ensures { result ≡ metric_named name.now }
+{
+    match name {
+        "euclid2" => Some(MetricKind::Euclid2),
+        "city" => Some(MetricKind::City),
+        "chess" => Some(MetricKind::Chess),
+        _ => None,
     }
 }
 
@@ -37,17 +77,56 @@ fn program<'a>(alloc: Global) -> Result<Command<'a>, Error>
     ensures app { IfOk result (λ command. app_of command ≡ program_app) }
     ensures memory { IfErr result (λ error. kind_of error ≡ OutOfMemory) }
 {
-    let dist = Command::new(alloc, "dist")
-        .about("Print each cell's distance to the nearest obstacle of the image on standard input")
-        .after_help(
-            "Examples:\n  clearmap dist < map.pbm\n  printf 'P1\\n3 2\\n100\\n000\\n' | clearmap dist",
-        );
     Ok(
         Command::new(alloc, "clearmap")
             .version("0.1.0")
             .about("Exact distances to the nearest obstacle of an occupancy grid")
-            .after_help("Examples:\n  clearmap dist < map.pbm\n  clearmap dist --help")
+            .after_help(
+                "Examples:\n  clearmap dist < map.pbm\n  clearmap dist --metric city --nearest < map.pbm",
+            )
             .subcommand_required(true)
-            .subcommand(dist)?,
+            .subcommand(dist_command(alloc)?)?,
     )
+}
+
+/// The command `dist` and its flags.
+fn dist_command<'a>(alloc: Global) -> Result<Command<'a>, Error>
+    ensures app { IfOk result (λ command. app_of command ≡ dist_app) }
+    ensures local { IfOk result (λ command. (out-Command command).has_globals ≡ false) }
+    ensures memory { IfErr result (λ error. kind_of error ≡ OutOfMemory) }
+{
+    Ok(
+        Command::new(alloc, "dist")
+            .about(
+                "Print each cell's distance to the nearest obstacle of the image on standard input",
+            )
+            .after_help(
+                "Examples:\n  clearmap dist --metric chess < map.pbm\n  clearmap dist --metric city --nearest < map.pbm",
+            )
+            .arg(metric_flag(alloc))?
+            .arg(nearest_flag(alloc))?,
+    )
+}
+
+/// The flag `--metric`.
+fn metric_flag<'a>(alloc: Global) -> Arg<'a>
+    ensures rule { rule_of result ≡ metric_rule }
+    ensures local { result.global ≡ false }
+{
+    Arg::new(alloc, "metric")
+        .long("metric")
+        .value_name("METRIC")
+        .default_value("euclid2")
+        .help("The distance, in cells: euclid2 (straight, squared), city or chess")
+}
+
+/// The flag `--nearest`.
+fn nearest_flag<'a>(alloc: Global) -> Arg<'a>
+    ensures rule { rule_of result ≡ nearest_rule }
+    ensures local { result.global ≡ false }
+{
+    Arg::new(alloc, "nearest")
+        .long("nearest")
+        .action(ArgAction::SetTrue)
+        .help("Print each entry as distance/x/y, with its nearest obstacle")
 }

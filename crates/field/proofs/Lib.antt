@@ -1,2 +1,2 @@
-pub mod LeastLemmas
+pub mod NearLemmas
 pub mod RowLemmas

@@ -1,7 +1,7 @@
-//! Distances of every cell of a bitmap's rows to the nearest obstacle.
+//! The nearest obstacle of every cell of a bitmap's rows.
 #![tactic(auto)]
 
-mod least;
+mod nearest;
 mod table;
 #[cfg(test)]
 mod tests;

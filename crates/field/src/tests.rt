@@ -1,91 +1,174 @@
-//! The worked rows, and calls with memory to spare.
+//! What no clause says: that calls find memory, and worked rows of nearest obstacles and of distances.
 
 use super::rows;
 use bits::Bitmap;
-use metric::{Cell, Euclid2};
+use metric::{Cell, Chess, City, Euclid2, MetricKind, Near, Refusal};
+use std::alloc::Global;
+use std::process::Abort;
 use std::test::Fail;
 
-/// A bitmap's width and height, its obstacles, the first of its rows and the one after the last, and the distances of their cells.
-#[derive(Clone, Copy)]
-struct Example {
-    size: (u16, u16),
-    obstacles: &'static [(u16, u16)],
-    rows: (u16, u16),
-    distances: &'static [Option<u32>],
-}
-
-const EXAMPLES: [Example; 6] = [
-    Example {
-        size: (3, 2),
-        obstacles: &[(0, 0)],
-        rows: (0, 2),
-        distances: &[Some(0), Some(1), Some(4), Some(1), Some(2), Some(5)],
-    },
-    Example {
-        size: (3, 2),
-        obstacles: &[],
-        rows: (0, 2),
-        distances: &[None, None, None, None, None, None],
-    },
-    Example {
-        size: (10, 1),
-        obstacles: &[(0, 0), (9, 0)],
-        rows: (0, 1),
-        distances: &[
-            Some(0),
-            Some(1),
-            Some(4),
-            Some(9),
-            Some(16),
-            Some(16),
-            Some(9),
-            Some(4),
-            Some(1),
-            Some(0),
+/// A distance, the width and the height of a bitmap, its obstacles, and of its first rows each cell's distance with the column and the row of the nearest obstacle.
+const NEARS: [(MetricKind, u16, u16, &[(u16, u16)], &[(u32, u16, u16)]); 7] = [
+    (
+        MetricKind::City,
+        5,
+        1,
+        &[(0, 0), (4, 0)],
+        &[(0, 0, 0), (1, 0, 0), (2, 0, 0), (1, 4, 0), (0, 4, 0)],
+    ),
+    (
+        MetricKind::Euclid2,
+        3,
+        2,
+        &[(0, 0)],
+        &[
+            (0, 0, 0),
+            (1, 0, 0),
+            (4, 0, 0),
+            (1, 0, 0),
+            (2, 0, 0),
+            (5, 0, 0),
         ],
-    },
-    // A part of the rows.
-    Example {
-        size: (3, 2),
-        obstacles: &[(0, 0)],
-        rows: (1, 2),
-        distances: &[Some(1), Some(2), Some(5)],
-    },
-    // No rows.
-    Example {
-        size: (3, 2),
-        obstacles: &[(0, 0)],
-        rows: (1, 1),
-        distances: &[],
-    },
-    // The nearest obstacle lies below the rows.
-    Example {
-        size: (2, 3),
-        obstacles: &[(1, 2)],
-        rows: (0, 1),
-        distances: &[Some(5), Some(4)],
-    },
+    ),
+    (
+        MetricKind::City,
+        3,
+        2,
+        &[(0, 0)],
+        &[
+            (0, 0, 0),
+            (1, 0, 0),
+            (2, 0, 0),
+            (1, 0, 0),
+            (2, 0, 0),
+            (3, 0, 0),
+        ],
+    ),
+    (
+        MetricKind::Chess,
+        3,
+        2,
+        &[(0, 0)],
+        &[
+            (0, 0, 0),
+            (1, 0, 0),
+            (2, 0, 0),
+            (1, 0, 0),
+            (1, 0, 0),
+            (2, 0, 0),
+        ],
+    ),
+    (
+        MetricKind::Chess,
+        3,
+        2,
+        &[(0, 0), (0, 1)],
+        &[
+            (0, 0, 0),
+            (1, 0, 0),
+            (2, 0, 0),
+            (0, 0, 1),
+            (1, 0, 1),
+            (2, 0, 1),
+        ],
+    ),
+    (
+        MetricKind::Chess,
+        7,
+        2,
+        &[(0, 0), (6, 0), (3, 1)],
+        &[
+            (0, 0, 0),
+            (1, 0, 0),
+            (1, 3, 1),
+            (1, 3, 1),
+            (1, 3, 1),
+            (1, 6, 0),
+            (0, 6, 0),
+        ],
+    ),
+    (
+        MetricKind::City,
+        1,
+        3,
+        &[(0, 0), (0, 2)],
+        &[(0, 0, 0), (1, 0, 0), (0, 0, 2)],
+    ),
 ];
 
-#[test]
-fn rows_have_the_least_distances(rt: HostRuntime) -> Result<(), Fail> {
-    for example in EXAMPLES {
-        let (width, height) = example.size;
-        assert!(rt; 1 <= width && width <= 4096 && 1 <= height && height <= 4096);
-        let mut bitmap = Bitmap::blank(rt.alloc(), width, height)?;
-        for &(x, y) in example.obstacles {
-            let cell = Cell { x, y };
-            assert!(rt; bitmap.holds(cell));
-            bitmap.set(cell, true);
-        }
-        let (y0, y1) = example.rows;
-        assert!(rt; y0 <= y1 && y1 <= bitmap.height());
-        let distances = rows::<Euclid2>(rt.alloc(), &bitmap, y0, y1)?;
-        assert_eq!(rt;
-            distances.as_slice(),
-            example.distances,
-            "rows {y0} to {y1} of {width} by {height}"
-        );
+/// The distances of all cells of a bitmap of 7 columns and 2 rows with the obstacles (0, 0), (6, 0) and (3, 1).
+const DISTANCES: [u32; 14] = [0, 1, 2, 1, 2, 1, 0, 1, 2, 1, 0, 1, 2, 1];
+
+/// The bitmap of this size with these obstacles.
+fn drawn(
+    rt: &impl Abort,
+    alloc: Global,
+    width: u16,
+    height: u16,
+    obstacles: &[(u16, u16)],
+) -> Result<Bitmap, Refusal> {
+    assert!(rt; 1 <= width && width <= 4096);
+    assert!(rt; 1 <= height && height <= 4096);
+    let mut bitmap = Bitmap::blank(alloc, width, height)?;
+    for (x, y) in obstacles {
+        let cell = Cell { x: *x, y: *y };
+        assert!(rt; bitmap.holds(cell), "({x}, {y}) lies outside");
+        bitmap.set(cell, true);
     }
+    Ok(bitmap)
+}
+
+/// The nearest obstacles of all cells.
+fn all_rows(
+    alloc: Global,
+    bitmap: &Bitmap,
+    kind: MetricKind,
+) -> Result<Vec<Option<Near>>, Refusal> {
+    match kind {
+        MetricKind::Euclid2 => rows::<Euclid2>(alloc, bitmap, 0, bitmap.height()),
+        MetricKind::City => rows::<City>(alloc, bitmap, 0, bitmap.height()),
+        MetricKind::Chess => rows::<Chess>(alloc, bitmap, 0, bitmap.height()),
+    }
+}
+
+#[test]
+fn worked_rows(rt: HostRuntime) -> Result<(), Fail> {
+    for (number, (kind, width, height, obstacles, want)) in NEARS.iter().enumerate() {
+        let bitmap = drawn(&rt, rt.alloc(), *width, *height, obstacles)?;
+        let nears = all_rows(rt.alloc(), &bitmap, *kind)?;
+        assert!(rt; want.len() <= nears.len());
+        for (place, ((dist, x, y), near)) in want.iter().zip(nears.iter()).enumerate() {
+            let cell = Cell { x: *x, y: *y };
+            assert_eq!(rt;
+                *near,
+                Some(Near { dist: *dist, cell }),
+                "place {place} of bitmap {number}"
+            );
+        }
+    }
+    Ok(())
+}
+
+#[test]
+fn one_row_of_two(rt: HostRuntime) -> Result<(), Fail> {
+    let bitmap = drawn(&rt, rt.alloc(), 7, 2, &[(0, 0), (6, 0), (3, 1)])?;
+    let nears = all_rows(rt.alloc(), &bitmap, MetricKind::Euclid2)?;
+    assert_eq!(rt; nears.len(), DISTANCES.len());
+    for (near, dist) in nears.iter().zip(DISTANCES) {
+        assert_eq!(rt; near.map(|near| near.dist), Some(dist));
+    }
+    assert!(rt; bitmap.height() == 2);
+    let lower = rows::<Euclid2>(rt.alloc(), &bitmap, 1, 2)?;
+    assert_eq!(rt; lower.as_slice(), &nears[7..]);
+    assert!(rt; rows::<Euclid2>(rt.alloc(), &bitmap, 1, 1)?.is_empty());
+    Ok(())
+}
+
+#[test]
+fn no_obstacle_is_near(rt: HostRuntime) -> Result<(), Fail> {
+    let bitmap = drawn(&rt, rt.alloc(), 3, 2, &[])?;
+    let nears = all_rows(rt.alloc(), &bitmap, MetricKind::City)?;
+    assert_eq!(rt; nears.len(), 6);
+    assert!(rt; nears.iter().all(|near| near.is_none()));
     Ok(())
 }

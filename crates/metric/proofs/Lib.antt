@@ -1,3 +1,5 @@
 pub mod Appending
+pub mod Decimals
 pub mod Fronts
+pub mod NearestLemmas
 pub mod Taking

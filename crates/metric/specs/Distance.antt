@@ -1,7 +1,7 @@
 -- Distances between cells, and from a cell to the nearest of a set of obstacles.
 -- Source: A. Meijster, J. Roerdink, W. Hesselink, "A General Algorithm for Computing Distance Transforms in Linear Time" (2000): the distance transform and its metrics.
 -- Here the Euclidean distance has no square root taken, and none stands in place of infinity.
-use Rattle.std.specs.Prelude.{◌≡◌, ℕ, ◌+◌, ◌*◌, ◌≤◌, Option, Some, None}
+use Rattle.std.specs.Prelude.{◌≡◌, ℕ, ◌+◌, ◌*◌, ◌≤◌, max, Option, Some, None}
 use Rattle.std.specs.Int.{abs_diff}
 use Rattle.std.proofs.Common.{arith}
 use Rattle.std.proofs.Math.Nat.{mul-le-mul}
@@ -37,3 +37,19 @@ IsLeastDistance distance Obstacle x y (Some d) = IsReached distance Obstacle x y
 -- the square of the straight distance doesn't fall as the row difference grows
 pub euclid2_grows : Grows euclid2
 euclid2_grows dx g h columns up rows = let squares : g * g ≤ h * h = mul-le-mul up up in omega arith
+
+-- the steps from a cell to the four cells beside it, over dx columns and dy rows
+abbrev pub city : ℕ → ℕ → ℕ
+city dx dy = dx + dy
+
+-- the steps from a cell to the eight cells round it, over dx columns and dy rows
+abbrev pub chess : ℕ → ℕ → ℕ
+chess dx dy = max dx dy
+
+-- the steps to the four cells beside don't fall as the row difference grows
+pub city_grows : Grows city
+city_grows dx g h columns up rows = omega arith
+
+-- the steps to the eight cells round don't fall as the row difference grows
+pub chess_grows : Grows chess
+chess_grows dx g h columns up rows = omega arith

@@ -4,11 +4,14 @@
 #![tactic(auto)]
 
 mod cell;
+mod decimal;
 mod fault;
 mod gate;
 mod kind;
+mod laws;
 mod measure;
 mod memory;
+mod near;
 mod rect;
 mod refusal;
 mod std_streams;
@@ -17,11 +20,14 @@ mod stream;
 mod tests;
 
 pub use cell::Cell;
+pub use decimal::push_decimal;
 pub use fault::PbmFault;
 pub use gate::Gate;
 pub use kind::MetricKind;
-pub use measure::{Euclid2, Metric};
+pub use laws::{nearest_is_least, one_nearest};
+pub use measure::{Chess, City, Euclid2, Metric};
 pub use memory::{MemorySink, MemorySource, MemoryStream};
+pub use near::Near;
 pub use rect::Rect;
 pub use refusal::{Field, Refusal};
 pub use std_streams::{ReaderSource, WriterSink};

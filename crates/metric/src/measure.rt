@@ -1,7 +1,7 @@
 //! Distances between cells, as whole numbers.
 
 ghost use Rattle.std.specs.Prelude.{◌≡◌, ℕ, ◌≤◌};
-ghost use Rattle.metric.specs.Distance.{euclid2, Grows, euclid2_grows};
+ghost use Rattle.metric.specs.Distance.{Grows, chess, chess_grows, city, city_grows, euclid2, euclid2_grows};
 
 /// A distance between two cells, which depends on how many columns and how many rows they are apart.
 pub trait Metric {
@@ -31,4 +31,32 @@ impl Metric for Euclid2 {
     }
 
     ghost grows = { euclid2_grows };
+}
+
+/// Steps to the four cells beside: `dx + dy`, at most 8190.
+#[derive(Clone, Copy, Debug, PartialEq, Eq)]
+pub struct City;
+
+impl Metric for City {
+    ghost distance = { city };
+
+    fn of(dx: u16, g: u16) -> u32 {
+        u32::from(dx) + u32::from(g)
+    }
+
+    ghost grows = { city_grows };
+}
+
+/// Steps to the eight cells round: the larger of `dx` and `dy`, at most 4095.
+#[derive(Clone, Copy, Debug, PartialEq, Eq)]
+pub struct Chess;
+
+impl Metric for Chess {
+    ghost distance = { chess };
+
+    fn of(dx: u16, g: u16) -> u32 {
+        u32::from(dx.max(g))
+    }
+
+    ghost grows = { chess_grows };
 }

@@ -1,8 +1,8 @@
 //! What no clause says: the texts of refusals, and the calls at which streams fail.
 
 use super::{
-    Euclid2, Field, MemorySink, MemorySource, MemoryStream, Metric, PbmFault, ReadFault,
-    ReaderSource, Rect, Refusal, Sink, Source, WriteFault, WriterSink,
+    Chess, City, Euclid2, Field, MemorySink, MemorySource, MemoryStream, Metric, PbmFault,
+    ReadFault, ReaderSource, Rect, Refusal, Sink, Source, WriteFault, WriterSink,
 };
 use std::cell::Cell;
 use std::io;
@@ -357,4 +357,16 @@ fn a_failed_write_is_counted(rt: HostRuntime) -> Result<(), Fail> {
     assert_eq!(rt; sink.write_all(LONG.as_slice()), Err(WriteFault));
     assert_eq!(rt; sink.failed_writes(), 1);
     Ok(())
+}
+
+#[test]
+fn distances_are_measured(rt: HostRuntime) {
+    assert_eq!(rt;
+        (Euclid2::of(4, 3), City::of(4, 3), Chess::of(4, 3)),
+        (25, 7, 4)
+    );
+    assert_eq!(rt;
+        (Euclid2::of(0, 2), City::of(0, 2), Chess::of(0, 2)),
+        (4, 2, 2)
+    );
 }

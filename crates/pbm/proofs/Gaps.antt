@@ -1,30 +1,52 @@
 -- Gaps: what is read is a gap, and a gap is read.
-use Rattle.std.proofs.Common.{◌≡◌, ℕ, true, false, cond, eqb, List, [], ◌∷◌, ◌++◌, Ok, Err, refl, ap, ◌∙◌, inl, inr}
-use Rattle.std.specs.List.{list_all}
-use Rattle.std.proofs.lemmas.Bool.{and_parts, and_from}
+use Rattle.std.proofs.Common.{◌≡◌, ℕ, Bool, true, false, cond, eqb, ◌&&◌, List, [], ◌∷◌, ◌++◌, Ok, Err, refl, ap, ◌∙◌, inl, inr}
+use Rattle.std.specs.Prelude.{not}
+use Rattle.std.proofs.lemmas.Bool.{and_parts}
 use Rattle.metric.specs.declared.fault.PbmFault.TheVariants.{MissingSpace, BadComment}
-use Rattle.pbm.specs.Faults.{whitespace, gap}
-use Rattle.pbm.specs.Image.{is_whitespace, IsGap}
-use Rattle.pbm.proofs.Steps.{ok_is, chosen, IsOfBytes, cond-of_bytes}
+use Rattle.pbm.specs.Faults.{space, filling, gap}
+use Rattle.pbm.specs.Image.{is_whitespace, is_line_end, fills, IsGap}
+use Rattle.pbm.proofs.Steps.{ok_is, bind_ok, chosen, IsOfBytes, bind-of_bytes, cond-of_bytes}
 
--- the rest of a gap was read from the bytes
-record WhitespaceRead (bytes rest : List ℕ) : Type 0 where
+-- one whitespace byte was read from the bytes
+pub record SpaceRead (bytes rest : List ℕ) : Type 0 where
+  pub first : ℕ
+  pub split : bytes ≡ first ∷ rest
+  pub first_is : is_whitespace first ≡ true
+
+-- a byte that is read as whitespace is whitespace
+pub space-read : (bytes rest : List ℕ) → space bytes ≡ Ok rest → SpaceRead bytes rest
+space-read [] rest e = absurd cc
+space-read (byte ∷ others) rest e =
+    elim (chosen (is_whitespace byte) (Ok others) (cond (eqb byte 35) (Err BadComment) (Err MissingSpace)) (Ok rest) e) [
+      | inl spaced ↦ record { first = byte; split = ap (λ (t : List ℕ). byte ∷ t) (ok_is others rest spaced.1); first_is = spaced.0 }
+      | inr end ↦ elim (chosen (eqb byte 35) (Err BadComment) (Err MissingSpace) (Ok rest) end.1) [
+        | inl comment ↦ absurd (let no = comment.1 in cc)
+        | inr other ↦ absurd (let no = other.1 in cc)
+      ]
+    ]
+
+-- the rest of a gap, in a comment or not, was read from the bytes
+record FillingRead (in_comment : Bool) (bytes rest : List ℕ) : Type 0 where
   text : List ℕ
   split : bytes ≡ text ++ rest
-  all_are : list_all is_whitespace text ≡ true
+  all_fills : fills in_comment text ≡ true
 
--- the rest of a gap that is read is whitespace
-whitespace-read : (bytes rest : List ℕ) → whitespace bytes ≡ Ok rest → WhitespaceRead bytes rest
-unfolding whitespace
-whitespace-read [] rest e = absurd cc
-whitespace-read (byte ∷ others) rest e =
-    elim (chosen (is_whitespace byte) (whitespace others) (cond (eqb byte 35) (Err BadComment) (Ok (byte ∷ others))) (Ok rest) e) [
-      | inl more ↦
-          let r = whitespace-read others rest more.1 in
-          record { text = byte ∷ r.text; split = ap (λ (t : List ℕ). byte ∷ t) r.split; all_are = and_from (is_whitespace byte) (list_all is_whitespace r.text) more.0 r.all_are }
-      | inr end ↦ elim (chosen (eqb byte 35) (Err BadComment) (Ok (byte ∷ others)) (Ok rest) end.1) [
-        | inl comment ↦ absurd (let no = comment.1 in cc)
-        | inr other ↦ record { text = []; split = ok_is (byte ∷ others) rest other.1; all_are = refl }
+-- a byte more was read
+FillingRead-cons : (byte : ℕ) (others rest : List ℕ) (in_comment after : Bool) → ((text : List ℕ) → fills after text ≡ true → fills in_comment (byte ∷ text) ≡ true) → FillingRead after others rest → FillingRead in_comment (byte ∷ others) rest
+FillingRead-cons byte others rest in_comment after more r = record { text = byte ∷ r.text; split = ap (λ (t : List ℕ). byte ∷ t) r.split; all_fills = more r.text r.all_fills }
+
+-- the rest of a gap that is read fills a gap
+filling-read : (in_comment : Bool) (bytes rest : List ℕ) → filling in_comment bytes ≡ Ok rest → FillingRead in_comment bytes rest
+unfolding filling fills
+filling-read true [] rest e = absurd cc
+filling-read false [] rest e = absurd cc
+filling-read true (byte ∷ others) rest e = FillingRead-cons byte others rest true (not (is_line_end byte)) (λ text h. h) (filling-read (not (is_line_end byte)) others rest e)
+filling-read false (byte ∷ others) rest e =
+    elim (chosen (is_whitespace byte) (filling false others) (cond (eqb byte 35) (filling true others) (Ok (byte ∷ others))) (Ok rest) e) [
+      | inl spaced ↦ let is = spaced.0 in FillingRead-cons byte others rest false false (λ text h. rw is h) (filling-read false others rest spaced.1)
+      | inr solid ↦ elim (chosen (eqb byte 35) (filling true others) (Ok (byte ∷ others)) (Ok rest) solid.1) [
+        | inl comment ↦ let is = comment.0 in let no = solid.0 in FillingRead-cons byte others rest false true (λ text h. rw (no, is) h) (filling-read true others rest comment.1)
+        | inr end ↦ record { text = []; split = ok_is (byte ∷ others) rest end.1; all_fills = refl }
       ]
     ]
 
@@ -35,52 +57,89 @@ pub record GapRead (bytes rest : List ℕ) : Type 0 where
   pub is_gap : IsGap text
 
 -- whitespace and the rest of a gap are a gap
-pub GapRead-from : (byte : ℕ) (others rest : List ℕ) → is_whitespace byte ≡ true → whitespace others ≡ Ok rest → GapRead (byte ∷ others) rest
+pub GapRead-from : (byte : ℕ) (others rest : List ℕ) → is_whitespace byte ≡ true → filling false others ≡ Ok rest → GapRead (byte ∷ others) rest
 GapRead-from byte others rest is e =
-    let r = whitespace-read others rest e in
-    record { text = byte ∷ r.text; split = ap (λ (t : List ℕ). byte ∷ t) r.split; is_gap = record { first = byte; others = r.text; is_text = refl; first_is = is; others_are = r.all_are } }
+    let r = filling-read false others rest e in
+    record { text = byte ∷ r.text; split = ap (λ (t : List ℕ). byte ∷ t) r.split; is_gap = record { first = byte; others = r.text; is_text = refl; first_is = is; others_are = r.all_fills } }
 
 -- a gap that is read is a gap
 pub gap-read : (bytes rest : List ℕ) → gap bytes ≡ Ok rest → GapRead bytes rest
 unfolding gap
-gap-read [] rest e = absurd cc
-gap-read (byte ∷ others) rest e =
-    elim (chosen (is_whitespace byte) (whitespace others) (cond (eqb byte 35) (Err BadComment) (Err MissingSpace)) (Ok rest) e) [
-      | inl more ↦ GapRead-from byte others rest more.0 more.1
-      | inr end ↦ elim (chosen (eqb byte 35) (Err BadComment) (Err MissingSpace) (Ok rest) end.1) [
-        | inl comment ↦ absurd (let no = comment.1 in cc)
-        | inr other ↦ absurd (let no = other.1 in cc)
-      ]
-    ]
+gap-read bytes rest e =
+    let b = bind_ok (space bytes) (filling false) rest e in
+    let s = space-read bytes b.0 b.1 in
+    let g = GapRead-from s.first b.0 rest s.first_is b.2 in
+    record { text = g.text; split = s.split ∙ g.split; is_gap = g.is_gap }
 
 -- a byte at which a gap ends
 pub record EndsGap (byte : ℕ) : Type 0 where
   pub no_whitespace : is_whitespace byte ≡ false
   pub no_comment : eqb byte 35 ≡ false
 
--- whitespace is read, up to a byte that ends it
-pub whitespace-again : (text : List ℕ) (byte : ℕ) (rest : List ℕ) → list_all is_whitespace text ≡ true → EndsGap byte → whitespace (text ++ byte ∷ rest) ≡ Ok (byte ∷ rest)
-unfolding whitespace
-whitespace-again [] byte rest all end = rw (end.no_whitespace, end.no_comment) refl
-whitespace-again (first ∷ others) byte rest all end =
-    let parts = and_parts (is_whitespace first) (list_all is_whitespace others) all in
-    rw parts.0 (whitespace-again others byte rest parts.1 end)
+-- whitespace is read
+pub space-again : (byte : ℕ) (rest : List ℕ) → is_whitespace byte ≡ true → space (byte ∷ rest) ≡ Ok rest
+space-again byte rest is = rw is refl
+
+-- what fills a gap is read, up to a byte that ends it
+pub filling-again : (in_comment : Bool) (text : List ℕ) (byte : ℕ) (rest : List ℕ) → fills in_comment text ≡ true → EndsGap byte → filling in_comment (text ++ byte ∷ rest) ≡ Ok (byte ∷ rest)
+unfolding filling fills
+filling-again true [] byte rest is end = absurd cc
+filling-again false [] byte rest is end = rw (end.no_whitespace, end.no_comment) refl
+filling-again true (first ∷ others) byte rest is end = filling-again (not (is_line_end first)) others byte rest is end
+filling-again false (first ∷ others) byte rest is end =
+    elim (chosen (is_whitespace first) (fills false others) (eqb first 35 && fills true others) true is) [
+      | inl spaced ↦ let white = spaced.0 in rw white (filling-again false others byte rest spaced.1 end)
+      | inr solid ↦
+          let parts = and_parts (eqb first 35) (fills true others) solid.1 in
+          let no = solid.0 in
+          let begins = parts.0 in
+          rw (no, begins) (filling-again true others byte rest parts.1 end)
+    ]
 
 -- a gap is read, up to a byte that ends it
 pub gap-again : (text : List ℕ) (byte : ℕ) (rest : List ℕ) → IsGap text → EndsGap byte → gap (text ++ byte ∷ rest) ≡ Ok (byte ∷ rest)
 unfolding gap
 gap-again text byte rest is end =
-    let one : gap ((is.first ∷ is.others) ++ byte ∷ rest) ≡ Ok (byte ∷ rest) = rw is.first_is (whitespace-again is.others byte rest is.others_are end) in
+    let one : gap ((is.first ∷ is.others) ++ byte ∷ rest) ≡ Ok (byte ∷ rest) = rw is.first_is (filling-again false is.others byte rest is.others_are end) in
     ap (λ (t : List ℕ). gap (t ++ byte ∷ rest)) is.is_text ∙ one
 
+-- behind what fills a gap more may fill it
+pub fills-append : (in_comment : Bool) (text more : List ℕ) → fills in_comment text ≡ true → fills in_comment (text ++ more) ≡ fills false more
+unfolding fills
+fills-append true [] more is = absurd cc
+fills-append false [] more is = refl
+fills-append true (first ∷ others) more is = fills-append (not (is_line_end first)) others more is
+fills-append false (first ∷ others) more is =
+    elim (chosen (is_whitespace first) (fills false others) (eqb first 35 && fills true others) true is) [
+      | inl spaced ↦ let white = spaced.0 in rw white (fills-append false others more spaced.1)
+      | inr solid ↦
+          let parts = and_parts (eqb first 35) (fills true others) solid.1 in
+          let no = solid.0 in
+          let begins = parts.0 in
+          rw (no, begins) (fills-append true others more parts.1)
+    ]
+
+-- a gap fills a gap
+pub fills-gap : (text : List ℕ) → IsGap text → fills false text ≡ true
+unfolding fills
+fills-gap text is =
+    let one : fills false (is.first ∷ is.others) ≡ true = rw is.first_is is.others_are in
+    ap (fills false) is.is_text ∙ one
+
+-- no missing whitespace tells want of memory
+pub space-of_bytes : (bytes : List ℕ) → IsOfBytes (space bytes)
+space-of_bytes [] = λ e. cc
+space-of_bytes (byte ∷ rest) = cond-of_bytes (is_whitespace byte) (Ok rest) (cond (eqb byte 35) (Err BadComment) (Err MissingSpace)) tt (cond-of_bytes (eqb byte 35) (Err BadComment) (Err MissingSpace) (λ e. cc) (λ e. cc))
+
 -- no rest of a gap tells want of memory
-whitespace-of_bytes : (bytes : List ℕ) → IsOfBytes (whitespace bytes)
-unfolding whitespace
-whitespace-of_bytes [] = λ e. cc
-whitespace-of_bytes (byte ∷ rest) = cond-of_bytes (is_whitespace byte) (whitespace rest) (cond (eqb byte 35) (Err BadComment) (Ok (byte ∷ rest))) (whitespace-of_bytes rest) (cond-of_bytes (eqb byte 35) (Err BadComment) (Ok (byte ∷ rest)) (λ e. cc) tt)
+filling-of_bytes : (in_comment : Bool) (bytes : List ℕ) → IsOfBytes (filling in_comment bytes)
+unfolding filling
+filling-of_bytes true [] = λ e. cc
+filling-of_bytes false [] = λ e. cc
+filling-of_bytes true (byte ∷ rest) = filling-of_bytes (not (is_line_end byte)) rest
+filling-of_bytes false (byte ∷ rest) = cond-of_bytes (is_whitespace byte) (filling false rest) (cond (eqb byte 35) (filling true rest) (Ok (byte ∷ rest))) (filling-of_bytes false rest) (cond-of_bytes (eqb byte 35) (filling true rest) (Ok (byte ∷ rest)) (filling-of_bytes true rest) tt)
 
 -- no gap tells want of memory
 pub gap-of_bytes : (bytes : List ℕ) → IsOfBytes (gap bytes)
 unfolding gap
-gap-of_bytes [] = λ e. cc
-gap-of_bytes (byte ∷ rest) = cond-of_bytes (is_whitespace byte) (whitespace rest) (cond (eqb byte 35) (Err BadComment) (Err MissingSpace)) (whitespace-of_bytes rest) (cond-of_bytes (eqb byte 35) (Err BadComment) (Err MissingSpace) (λ e. cc) (λ e. cc))
+gap-of_bytes bytes = bind-of_bytes (space bytes) (filling false) (space-of_bytes bytes) (filling-of_bytes false)

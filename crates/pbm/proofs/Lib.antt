@@ -3,6 +3,11 @@ pub mod Numbers
 pub mod Gaps
 pub mod Rasters
 pub mod Pixels
+pub mod RawRasters
 pub mod Headers
 pub mod Images
 pub mod Progress
+pub mod Decimals
+pub mod Ranges
+pub mod RawTexts
+pub mod PlainTexts

@@ -4,10 +4,10 @@ use Rattle.std.proofs.lemmas.Bool.{eqb-true}
 use Rattle.std.proofs.lemmas.List.{append-nil}
 use Rattle.metric.specs.declared.fault.PbmFault.{PbmFault}
 use Rattle.metric.specs.declared.fault.PbmFault.TheVariants.{BadComment, BadPixel}
-use Rattle.pbm.specs.Faults.{◌>>=◌, whitespace, gap, pixel_at, next_pixel, pixels}
+use Rattle.pbm.specs.Faults.{◌>>=◌, filling, gap, pixel_at, next_pixel, pixels}
 use Rattle.pbm.specs.Image.{is_whitespace, IsGap, pixel_byte, IsBetween, IsRaster}
 use Rattle.pbm.proofs.Steps.{ok_is, bind_ok, chosen}
-use Rattle.pbm.proofs.Gaps.{GapRead-from, EndsGap, whitespace-again, gap-again}
+use Rattle.pbm.proofs.Gaps.{GapRead-from, EndsGap, filling-again, gap-again}
 
 -- a pixel that is read is spelled so
 pixel_at-read : (bytes : List ℕ) (found : Bool × List ℕ) → pixel_at bytes ≡ Ok found → bytes ≡ pixel_byte found.0 ∷ found.1
@@ -32,9 +32,9 @@ next_pixel-read : (bytes : List ℕ) (found : Bool × List ℕ) → next_pixel b
 unfolding next_pixel
 next_pixel-read [] found e = absurd cc
 next_pixel-read (byte ∷ rest) found e =
-    elim (chosen (is_whitespace byte) (whitespace rest >>= pixel_at) (cond (eqb byte 35) (Err BadComment) (pixel_at (byte ∷ rest))) (Ok found) e) [
+    elim (chosen (is_whitespace byte) (filling false rest >>= pixel_at) (cond (eqb byte 35) (Err BadComment) (pixel_at (byte ∷ rest))) (Ok found) e) [
       | inl spaced ↦
-          let b = bind_ok (whitespace rest) pixel_at found spaced.1 in
+          let b = bind_ok (filling false rest) pixel_at found spaced.1 in
           let g = GapRead-from byte rest b.0 spaced.0 b.1 in
           record { between = g.text; is_between = inr g.is_gap; split = g.split ∙ ap (λ (t : List ℕ). g.text ++ t) (pixel_at-read b.0 found b.2) }
       | inr here ↦ elim (chosen (eqb byte 35) (Err BadComment) (pixel_at (byte ∷ rest)) (Ok found) here.1) [
@@ -105,7 +105,7 @@ next_pixel-here true rest = refl
 next_pixel-here false rest = refl
 
 -- a pixel is read behind a gap
-next_pixel-spaced : (first : ℕ) (others : List ℕ) (pixel : Bool) (rest : List ℕ) → is_whitespace first ≡ true → whitespace (others ++ pixel_byte pixel ∷ rest) ≡ Ok (pixel_byte pixel ∷ rest) → next_pixel ((first ∷ others) ++ pixel_byte pixel ∷ rest) ≡ Ok (pixel, rest)
+next_pixel-spaced : (first : ℕ) (others : List ℕ) (pixel : Bool) (rest : List ℕ) → is_whitespace first ≡ true → filling false (others ++ pixel_byte pixel ∷ rest) ≡ Ok (pixel_byte pixel ∷ rest) → next_pixel ((first ∷ others) ++ pixel_byte pixel ∷ rest) ≡ Ok (pixel, rest)
 unfolding next_pixel
 next_pixel-spaced first others pixel rest is h = rw (is, h) (pixel_at-again pixel rest)
 
@@ -116,7 +116,7 @@ next_pixel-again between pixel rest is =
       | inl nothing ↦ ap (λ (t : List ℕ). next_pixel (t ++ pixel_byte pixel ∷ rest)) nothing ∙ next_pixel-here pixel rest
       | inr spaced ↦
           ap (λ (t : List ℕ). next_pixel (t ++ pixel_byte pixel ∷ rest)) spaced.is_text
-          ∙ next_pixel-spaced spaced.first spaced.others pixel rest spaced.first_is (whitespace-again spaced.others (pixel_byte pixel) rest spaced.others_are (pixel-ends pixel))
+          ∙ next_pixel-spaced spaced.first spaced.others pixel rest spaced.first_is (filling-again false spaced.others (pixel_byte pixel) rest spaced.others_are (pixel-ends pixel))
     ]
 
 -- a raster is read behind nothing or a gap

@@ -1,9 +1,11 @@
 -- The first fault of an image, from its front: this project's own rule over the image grammar. Each function reads one part, and answers what it read and what is left, or the fault that it meets.
-use Rattle.std.specs.Prelude.{ℕ, ◌+◌, ◌-◌, ◌*◌, ◌==◌, ◌&&◌, nat_lt, suc, zero, Bool, true, false, List, [], ◌∷◌, Result, Ok, Err, slice_index_or, if◌then◌else◌}
+use Rattle.std.specs.Prelude.{ℕ, ◌+◌, ◌-◌, ◌*◌, ◌==◌, ◌&&◌, nat_lt, suc, zero, Bool, true, false, not, List, [], ◌∷◌, length, take, drop, Result, Ok, Err, slice_index_or, if◌then◌else◌}
 use Rattle.metric.specs.declared.fault.PbmFault.{PbmFault}
 use Rattle.metric.specs.declared.fault.PbmFault.TheVariants.{BadMagic, MissingSpace, BadComment, BadNumber, ZeroSize, TooLarge, BadPixel, Truncated, JunkNotSpaced}
 use Rattle.bits.specs.Cells.{Cells, cells_where}
-use Rattle.pbm.specs.Image.{is_whitespace, is_digit}
+use Rattle.pbm.specs.declared.header.Form.{Form}
+use Rattle.pbm.specs.declared.header.Form.TheVariants.{Plain, Raw}
+use Rattle.pbm.specs.Image.{is_whitespace, is_line_end, is_digit, bytes_across, raw_pixel}
 
 infixl 10 ◌>>=◌
 -- what comes after a part that was read; a fault ends it
@@ -11,21 +13,26 @@ abbrev pub ◌>>=◌ : {A B : Type 0} → Result A PbmFault → (A → Result B 
 (Ok x) >>= f = f x
 (Err e) >>= f = Err e
 
--- the magic number, `P1`
-abbrev pub magic : List ℕ → Result (List ℕ) PbmFault
+-- the magic number: `P1`, the bytes 80 and 49, of a plain image, or `P4`, the bytes 80 and 52, of a raw one
+abbrev pub magic : List ℕ → Result (Form × List ℕ) PbmFault
 magic [] = Err Truncated
 magic (p ∷ []) = if p == 80 then Err Truncated else Err BadMagic
-magic (p ∷ one ∷ rest) = if p == 80 && one == 49 then Ok rest else Err BadMagic
+magic (p ∷ form ∷ rest) = if p == 80 && form == 49 then Ok (Plain, rest) else if p == 80 && form == 52 then Ok (Raw, rest) else Err BadMagic
 
--- the rest of a gap: whitespace, up to a byte that is none; a `#`, the byte 35, is refused there
-unfoldable pub whitespace : List ℕ → Result (List ℕ) PbmFault
-whitespace [] = Err Truncated
-whitespace (byte ∷ rest) = if is_whitespace byte then whitespace rest else if byte == 35 then Err BadComment else Ok (byte ∷ rest)
+-- one whitespace byte; a `#`, the byte 35, is refused in its place
+abbrev pub space : List ℕ → Result (List ℕ) PbmFault
+space [] = Err Truncated
+space (byte ∷ rest) = if is_whitespace byte then Ok rest else if byte == 35 then Err BadComment else Err MissingSpace
 
--- a gap, which begins with whitespace; a `#` in its place is refused
+-- the rest of a gap, which stands in a comment or not: whitespace and comments, up to a byte that is neither
+unfoldable pub filling : Bool → List ℕ → Result (List ℕ) PbmFault
+filling in_comment [] = Err Truncated
+filling true (byte ∷ rest) = filling (not (is_line_end byte)) rest
+filling false (byte ∷ rest) = if is_whitespace byte then filling false rest else if byte == 35 then filling true rest else Ok (byte ∷ rest)
+
+-- a gap, which begins with one whitespace byte
 unfoldable pub gap : List ℕ → Result (List ℕ) PbmFault
-gap [] = Err Truncated
-gap (byte ∷ rest) = if is_whitespace byte then whitespace rest else if byte == 35 then Err BadComment else Err MissingSpace
+gap bytes = space bytes >>= filling false
 
 -- a side of the map: its value is judged as soon as its digits have ended
 abbrev pub side : ℕ → List ℕ → Result (ℕ × List ℕ) PbmFault
@@ -41,16 +48,21 @@ unfoldable pub number : List ℕ → Result (ℕ × List ℕ) PbmFault
 number [] = Err Truncated
 number (byte ∷ rest) = if is_digit byte then digits (byte - 48) rest else Err BadNumber
 
--- all before the raster: the sides, and what is left
-unfoldable pub header : List ℕ → Result (ℕ × ℕ × List ℕ) PbmFault
+-- what stands between the height and the raster: a gap in a plain image, exactly one whitespace byte in a raw one
+abbrev pub before_raster : Form → List ℕ → Result (List ℕ) PbmFault
+before_raster Plain bytes = gap bytes
+before_raster Raw bytes = space bytes
+
+-- all before the raster: the form, the sides, and what is left
+unfoldable pub header : List ℕ → Result (Form × ℕ × ℕ × List ℕ) PbmFault
 header bytes = do
   named ← magic bytes
-  before_width ← gap named
+  before_width ← gap named.1
   width ← number before_width
   before_height ← gap width.1
   height ← number before_height
-  raster_bytes ← gap height.1
-  Ok (width.0, height.0, raster_bytes)
+  raster_bytes ← before_raster named.0 height.1
+  Ok (named.0, width.0, height.0, raster_bytes)
 
 -- a byte that has to be a pixel: `0` is 48, `1` is 49
 abbrev pub pixel_at : List ℕ → Result (Bool × List ℕ) PbmFault
@@ -60,7 +72,7 @@ pixel_at (byte ∷ rest) = if byte == 48 then Ok (false, rest) else if byte == 4
 -- the next pixel, behind nothing or a gap; a `#` directly in its place is refused
 unfoldable pub next_pixel : List ℕ → Result (Bool × List ℕ) PbmFault
 next_pixel [] = Err Truncated
-next_pixel (byte ∷ rest) = if is_whitespace byte then whitespace rest >>= pixel_at else if byte == 35 then Err BadComment else pixel_at (byte ∷ rest)
+next_pixel (byte ∷ rest) = if is_whitespace byte then filling false rest >>= pixel_at else if byte == 35 then Err BadComment else pixel_at (byte ∷ rest)
 
 -- this many pixels more
 unfoldable pub pixels : ℕ → List ℕ → Result (List Bool × List ℕ) PbmFault
@@ -70,7 +82,7 @@ pixels (suc n) bytes = do
   others ← pixels n first.1
   Ok (first.0 ∷ others.0, others.1)
 
--- what stands behind the last pixel
+-- what stands behind the last pixel of a plain image
 abbrev pub ended : List ℕ → Result (List ℕ) PbmFault
 ended [] = Ok []
 ended (byte ∷ rest) = if is_whitespace byte then Ok (byte ∷ rest) else Err JunkNotSpaced
@@ -79,10 +91,28 @@ ended (byte ∷ rest) = if is_whitespace byte then Ok (byte ∷ rest) else Err J
 abbrev pub cells_of : ℕ → ℕ → List Bool → Cells
 cells_of width height all = cells_where width height (λ x y. slice_index_or all (y * width + x) false)
 
+-- a plain raster and what stands behind it
+unfoldable pub plain_raster : ℕ → ℕ → List ℕ → Result (Cells × List ℕ) PbmFault
+plain_raster width height bytes = do
+  all ← pixels (width * height) bytes
+  rest ← ended all.1
+  Ok (cells_of width height all.0, rest)
+
+-- the bitmap that the bytes of a raw raster spell
+abbrev pub raw_cells : ℕ → ℕ → List ℕ → Cells
+raw_cells width height raster = cells_where width height (raw_pixel (bytes_across width) raster)
+
+-- a raw raster, as many bytes as it needs; what stands behind it isn't looked at
+unfoldable pub raw_raster : ℕ → ℕ → List ℕ → Result (Cells × List ℕ) PbmFault
+raw_raster width height bytes = let needed = height * bytes_across width in if nat_lt (length bytes) needed then Err Truncated else Ok (raw_cells width height (take needed bytes), drop needed bytes)
+
+-- the raster of an image of this form and these sides, and what is left behind it
+abbrev pub raster : Form → ℕ → ℕ → List ℕ → Result (Cells × List ℕ) PbmFault
+raster Plain width height bytes = plain_raster width height bytes
+raster Raw width height bytes = raw_raster width height bytes
+
 -- the image at the front, and what is left behind it
 unfoldable pub image : List ℕ → Result (Cells × List ℕ) PbmFault
 image bytes = do
-  sides ← header bytes
-  all ← pixels (sides.0 * sides.1) sides.2
-  rest ← ended all.1
-  Ok (cells_of sides.0 sides.1 all.0, rest)
+  front ← header bytes
+  raster front.0 front.1 front.2 front.3

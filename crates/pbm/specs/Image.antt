@@ -1,6 +1,7 @@
 -- The image grammar: which text of bytes spells which bitmap.
--- Source: pbm(5), the Netpbm manual's page of the PBM format, its plain form; in this project's profile: no comments, whitespace is the blank, TAB, LF and CR alone, sides from 1 to 4096, a gap before the raster.
-use Rattle.std.specs.Prelude.{◌≡◌, ℕ, ◌+◌, ◌-◌, ◌*◌, ◌/◌, ◌%◌, ◌==◌, ◌&&◌, ◌||◌, nat_le, Bool, true, false, List, [], ◌∷◌, ◌++◌, length, map, ◌⊎◌}
+-- Source: pbm(5), the Netpbm manual's page of the PBM format, its plain and its raw form; in this project's profile: whitespace is the blank, TAB, LF and CR alone, sides are from 1 to 4096, a comment stands only within a gap that has begun with whitespace, and none behind the height of a raw image.
+use Rattle.std.specs.Prelude.{◌≡◌, ℕ, ◌+◌, ◌-◌, ◌*◌, ◌/◌, ◌%◌, ◌<◌, ◌==◌, ◌&&◌, ◌||◌, nat_le, Bool, true, false, not, List, [], ◌∷◌, ◌++◌, length, map, slice_index, ◌⊎◌, if◌then◌else◌}
+use Rattle.std.specs.Int.{bit_at}
 use Rattle.std.specs.List.{range_with_len, list_all}
 use Rattle.bits.specs.Cells.{Cells, has, IsBitmap}
 
@@ -8,17 +9,27 @@ use Rattle.bits.specs.Cells.{Cells, has, IsBitmap}
 abbrev pub is_whitespace : ℕ → Bool
 is_whitespace byte = (byte == 9 || byte == 10) || (byte == 13 || byte == 32)
 
+-- a line end: CR or LF
+abbrev pub is_line_end : ℕ → Bool
+is_line_end byte = byte == 10 || byte == 13
+
 -- a digit, from 0 to 9
 abbrev pub is_digit : ℕ → Bool
 is_digit byte = nat_le 48 byte && nat_le byte 57
 
--- a gap: one whitespace byte or more
+-- whether the text fills the rest of a gap, which stands in a comment or not: any mix of whitespace and comments, the last comment with its line end; a comment is `#`, the byte 35, any bytes but line ends, and one line end
+unfoldable pub fills : Bool → List ℕ → Bool
+fills in_comment [] = not in_comment
+fills true (byte ∷ rest) = fills (not (is_line_end byte)) rest
+fills false (byte ∷ rest) = if is_whitespace byte then fills false rest else byte == 35 && fills true rest
+
+-- a gap: one whitespace byte, then any mix of whitespace and comments
 pub record IsGap (text : List ℕ) : Type 0 where
   pub first : ℕ
   pub others : List ℕ
   pub is_text : text ≡ first ∷ others
   pub first_is : is_whitespace first ≡ true
-  pub others_are : list_all is_whitespace others ≡ true
+  pub others_are : fills false others ≡ true
 
 -- the value of a number whose digits so far have this value
 unfoldable pub value_from : ℕ → List ℕ → ℕ
@@ -71,20 +82,50 @@ pub record IsPlain (text : List ℕ) (cells : Cells) : Type 0 where
   pub raster_is : IsRaster raster (pixels_of cells)
   pub is_text : text ≡ 80 ∷ 49 ∷ (gap_before_width ++ (width ++ (gap_before_height ++ (height ++ (gap_before_raster ++ raster)))))
 
+-- how many bytes a row of this width takes in a raw raster
+abbrev pub bytes_across : ℕ → ℕ
+bytes_across width = (width + 7) / 8
+
+-- whether the pixel (x, y) of a raw raster is black, where a row takes this many bytes: the leftmost pixel of a byte is its most significant bit
+abbrev pub raw_pixel : ℕ → List ℕ → ℕ → ℕ → Bool
+raw_pixel across raster x y = bit_at (slice_index raster (y * across + x / 8)) (7 - x % 8) == 1
+
+-- a raw raster: the rows from the top, each in as many bytes as it needs; the fill bits at the end of a row have any value
+pub record IsRawRaster (raster : List ℕ) (cells : Cells) : Type 0 where
+  pub as_many : length raster ≡ cells.height * bytes_across cells.width
+  pub pixels : (x y : ℕ) → x < cells.width → y < cells.height → raw_pixel (bytes_across cells.width) raster x y ≡ has cells x y
+
+-- a raw image: `P4`, a gap, the width, a gap, the height, one whitespace byte, the raster
+pub record IsRaw (text : List ℕ) (cells : Cells) : Type 0 where
+  pub bitmap : IsBitmap cells
+  pub gap_before_width : List ℕ
+  pub width : List ℕ
+  pub gap_before_height : List ℕ
+  pub height : List ℕ
+  pub space : ℕ
+  pub raster : List ℕ
+  pub gap_before_width_is : IsGap gap_before_width
+  pub width_is : IsNumber width cells.width
+  pub gap_before_height_is : IsGap gap_before_height
+  pub height_is : IsNumber height cells.height
+  pub space_is : is_whitespace space ≡ true
+  pub raster_is : IsRawRaster raster cells
+  pub is_text : text ≡ 80 ∷ 52 ∷ (gap_before_width ++ (width ++ (gap_before_height ++ (height ++ (space ∷ raster)))))
+
+-- the text as a whole is one image, of this bitmap
+abbrev pub IsImage : List ℕ → Cells → Type 0
+IsImage text cells = IsPlain text cells ⊎ IsRaw text cells
+
 -- behind a plain image the input ends, or a whitespace byte stands
 abbrev pub IsEnd : List ℕ → Type 0
 IsEnd [] = Unit {0}
 IsEnd (byte ∷ rest) = is_whitespace byte ≡ true
 
--- the text as a whole is one image, of this bitmap
-abbrev pub IsImage : List ℕ → Cells → Type 0
-IsImage text cells = IsPlain text cells
-
--- the first n bytes are an image of this bitmap; behind them the input ends, or whitespace stands
+-- the first n bytes are an image of this bitmap; behind a plain one the input ends, or whitespace stands, and behind a raw one anything may stand
 pub record Reads (bytes : List ℕ) (n : ℕ) (cells : Cells) : Type 0 where
   pub text : List ℕ
   pub rest : List ℕ
   pub split : bytes ≡ text ++ rest
   pub taken : length text ≡ n
   pub image : IsImage text cells
-  pub end : IsEnd rest
+  pub end : IsPlain text cells → IsEnd rest

@@ -1,8 +1,8 @@
 //! The gaps between the parts of an image.
 
-ghost use Rattle.std.specs.Prelude.{◌≡◌, Ok, Err, MatchResult};
-ghost use Rattle.pbm.specs.Faults.{gap, whitespace};
-ghost use Rattle.pbm.specs.Image.{is_whitespace};
+ghost use Rattle.std.specs.Prelude.{◌≡◌, false, Ok, Err, MatchResult};
+ghost use Rattle.pbm.specs.Faults.{filling, gap, space};
+ghost use Rattle.pbm.specs.Image.{is_line_end, is_whitespace};
 
 use metric::PbmFault;
 
@@ -13,17 +13,38 @@ pub fn is_whitespace(byte: u8) -> bool
     matches!(byte, b'\t' | b'\n' | b'\r' | b' ')
 }
 
-/// What stands behind the rest of a gap.
-#[tactic(auto, unfolding(crate::specs::Faults::whitespace))]
-pub fn after_whitespace(bytes: &[u8]) -> Result<&[u8], PbmFault>
-    ensures { MatchResult result (λ rest. whitespace bytes.now ≡ Ok rest.now) (λ fault. whitespace bytes.now ≡ Err fault) }
+/// Whether the byte ends a line: LF or CR.
+fn is_line_end(byte: u8) -> bool
+    ensures { result ≡ is_line_end byte }
 {
+    matches!(byte, b'\n' | b'\r')
+}
+
+/// What stands behind one whitespace byte.
+pub fn after_space(bytes: &[u8]) -> Result<&[u8], PbmFault>
+    ensures { MatchResult result (λ rest. space bytes.now ≡ Ok rest.now) (λ fault. space bytes.now ≡ Err fault) }
+{
+    match bytes.split_first() {
+        None => Err(PbmFault::Truncated),
+        Some((byte, rest)) if is_whitespace(*byte) => Ok(rest),
+        Some((b'#', _)) => Err(PbmFault::BadComment),
+        Some(_) => Err(PbmFault::MissingSpace),
+    }
+}
+
+/// What stands behind the rest of a gap, behind its comments too.
+#[tactic(auto, unfolding(crate::specs::Faults::filling))]
+pub fn after_filling(bytes: &[u8]) -> Result<&[u8], PbmFault>
+    ensures { MatchResult result (λ rest. filling false bytes.now ≡ Ok rest.now) (λ fault. filling false bytes.now ≡ Err fault) }
+{
+    let mut in_comment = false;
     let mut rest = bytes;
-    while let Some((byte, others)) = rest.split_first() {
-        if *byte == b'#' {
-            return Err(PbmFault::BadComment);
-        }
-        if !is_whitespace(*byte) {
+    'filling: while let Some((byte, others)) = rest.split_first() {
+        if in_comment {
+            in_comment = !is_line_end(*byte);
+        } else if *byte == b'#' {
+            in_comment = true;
+        } else if !is_whitespace(*byte) {
             return Ok(rest);
         }
         rest = others;
@@ -36,10 +57,6 @@ pub fn after_whitespace(bytes: &[u8]) -> Result<&[u8], PbmFault>
 pub fn after_gap(bytes: &[u8]) -> Result<&[u8], PbmFault>
     ensures { MatchResult result (λ rest. gap bytes.now ≡ Ok rest.now) (λ fault. gap bytes.now ≡ Err fault) }
 {
-    match bytes.split_first() {
-        None => Err(PbmFault::Truncated),
-        Some((byte, rest)) if is_whitespace(*byte) => after_whitespace(rest),
-        Some((b'#', _)) => Err(PbmFault::BadComment),
-        Some(_) => Err(PbmFault::MissingSpace),
-    }
+    let rest = after_space(bytes)?;
+    after_filling(rest)
 }

@@ -1,32 +1,66 @@
 //! All of an image before its raster.
 
 ghost use Rattle.std.specs.Prelude.{◌≡◌, Ok, Err, MatchResult};
-ghost use Rattle.pbm.specs.Faults.{header, magic};
+ghost use Rattle.pbm.specs.Faults.{before_raster, header, magic};
+ghost use Rattle.pbm.specs.Writing.{form_digit};
 
-use crate::gap::after_gap;
+use crate::gap::{after_gap, after_space};
 use crate::number::read_number;
 use metric::PbmFault;
 
-/// What stands behind the magic number.
-fn after_magic(bytes: &[u8]) -> Result<&[u8], PbmFault>
-    ensures { MatchResult result (λ rest. magic bytes.now ≡ Ok rest.now) (λ fault. magic bytes.now ≡ Err fault) }
+/// The form of an image.
+#[derive(Clone, Copy, Debug, PartialEq, Eq)]
+pub enum Form {
+    /// `P1`: a pixel is a digit.
+    Plain,
+    /// `P4`: a pixel is a bit.
+    Raw,
+}
+
+impl Form {
+    /// The digit in the form's magic number.
+    pub fn digit(self) -> u8
+        ensures { result ≡ form_digit self }
+    {
+        match self {
+            Form::Plain => b'1',
+            Form::Raw => b'4',
+        }
+    }
+}
+
+/// The form that the magic number tells, and what stands behind it.
+fn after_magic(bytes: &[u8]) -> Result<(Form, &[u8]), PbmFault>
+    ensures { MatchResult result (λ found. magic bytes.now ≡ Ok (found.0, found.1.now)) (λ fault. magic bytes.now ≡ Err fault) }
 {
     match bytes {
         [] | [b'P'] => Err(PbmFault::Truncated),
-        [b'P', b'1', rest @ ..] => Ok(rest),
+        [b'P', b'1', rest @ ..] => Ok((Form::Plain, rest)),
+        [b'P', b'4', rest @ ..] => Ok((Form::Raw, rest)),
         _ => Err(PbmFault::BadMagic),
     }
 }
 
-/// The width, the height and what stands behind the gap after them.
-#[tactic(auto, unfolding(crate::specs::Faults::header))]
-pub fn read_header(bytes: &[u8]) -> Result<(u16, u16, &[u8]), PbmFault>
-    ensures { MatchResult result (λ found. header bytes.now ≡ Ok (found.0, found.1, found.2.now)) (λ fault. header bytes.now ≡ Err fault) }
+/// The raster's first byte and all behind it: a gap stands before a plain raster, and one whitespace byte before a raw one.
+fn at_raster(form: Form, bytes: &[u8]) -> Result<&[u8], PbmFault>
+    ensures { MatchResult result (λ rest. before_raster form bytes.now ≡ Ok rest.now) (λ fault. before_raster form bytes.now ≡ Err fault) }
 {
-    let rest = after_gap(after_magic(bytes)?)?;
+    match form {
+        Form::Plain => after_gap(bytes),
+        Form::Raw => after_space(bytes),
+    }
+}
+
+/// The form, the width, the height and the bytes from the raster on.
+#[tactic(auto, unfolding(crate::specs::Faults::header))]
+pub fn read_header(bytes: &[u8]) -> Result<(Form, u16, u16, &[u8]), PbmFault>
+    ensures { MatchResult result (λ found. header bytes.now ≡ Ok (found.0, found.1, found.2, found.3.now)) (λ fault. header bytes.now ≡ Err fault) }
+{
+    let (form, rest) = after_magic(bytes)?;
+    let rest = after_gap(rest)?;
     let (width, rest) = read_number(rest)?;
     let rest = after_gap(rest)?;
     let (height, rest) = read_number(rest)?;
-    let rest = after_gap(rest)?;
-    Ok((width, height, rest))
+    let rest = at_raster(form, rest)?;
+    Ok((form, width, height, rest))
 }

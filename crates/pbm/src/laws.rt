@@ -1,9 +1,10 @@
-//! Laws of the format: what the first fault from the front has to do with the grammar.
+//! Laws of the format: what the first fault from the front and the texts that are written have to do with the grammar.
 
-ghost use Rattle.std.specs.Prelude.{◌≡◌, ℕ, ◌-◌, List, length, Ok};
-ghost use Rattle.bits.specs.Cells.{Cells};
+ghost use Rattle.std.specs.Prelude.{◌≡◌, ℕ, ◌-◌, List, [], ◌∷◌, ◌++◌, length, Ok};
+ghost use Rattle.bits.specs.Cells.{Cells, IsBitmap};
 ghost use Rattle.pbm.specs.Faults.{image};
-ghost use Rattle.pbm.specs.Image.{Reads};
+ghost use Rattle.pbm.specs.Image.{IsPlain, IsRaw, Reads};
+ghost use Rattle.pbm.specs.Writing.{plain_text, raw_text};
 
 /// At most one image stands at the front of given bytes, and it takes one number of them.
 pub fn one_image()
@@ -14,4 +15,14 @@ pub fn one_image()
 pub fn reads_what_is_found()
     ensures found { (bytes rest : List ℕ) (cells : Cells) → image bytes ≡ Ok (cells, rest) → (read : Reads bytes (length bytes - length rest) cells) × (read.rest ≡ rest) }
     ensures read { (bytes : List ℕ) (n : ℕ) (cells : Cells) (read : Reads bytes n cells) → image bytes ≡ Ok (cells, read.rest) }
+{}
+
+/// What a bitmap is written as in the raw form is a raw image of it.
+pub fn raw_text_is_an_image()
+    ensures { (cells : Cells) → IsBitmap cells → IsRaw (raw_text cells) cells }
+{}
+
+/// What a bitmap is written as in the plain form is a plain image of it, and LF behind that.
+pub fn plain_text_is_an_image()
+    ensures { (cells : Cells) → IsBitmap cells → (text : List ℕ) × (plain_text cells ≡ text ++ 10 ∷ []) × IsPlain text cells }
 {}

@@ -1,18 +1,24 @@
-//! Bitmaps read from PBM images.
+//! Bitmaps read from PBM images and written as such, in the plain and in the raw form.
 //!
 //! Bytes are read from the front. A reader takes a slice, and gives what it read and the slice that is left behind it; nothing is copied.
 #![tactic(auto)]
 
+mod front;
 mod gap;
 mod header;
 mod image;
 mod laws;
 mod number;
+mod plain_writer;
 mod raster;
+mod raw_raster;
+mod raw_writer;
 
 pub use image::read_image;
-pub use laws::{one_image, reads_what_is_found};
+pub use laws::{one_image, plain_text_is_an_image, raw_text_is_an_image, reads_what_is_found};
 pub use metric::PbmFault;
+pub use plain_writer::write_plain;
+pub use raw_writer::write_raw;
 
 #[cfg(test)]
 mod tests;

@@ -9,11 +9,11 @@ pub returns-in-Ok-clause-front : goal.returns-in-Ok-clause-front
 returns-in-Ok-clause-front g c =
     let table = c.in-Ok.table in
     on_err_weaker c.write_rows.result
-    (λ front. (table_text table.width table.height table.distances.items, 0, answer_of_table c.args.bytes.now table c.in-Ok.ensures.table, front))
+    (λ front. (table_text c.args.options.now.nearest table.width table.height table.nears.items, 0, answer_of_table c.args.options.now c.args.bytes.now table c.in-Ok.ensures.table, front))
     c.write_rows.ensures.front
 
 pub returns-in-Err-clause-front : goal.returns-in-Err-clause-front
 returns-in-Err-clause-front g c =
     on_err_weaker c.write_fault.result
-    (λ front. (image_text c.in-Err.fault ++ 10 ∷ [], 1, answer_of_fault c.args.bytes.now c.in-Err.fault 1 c.in-Err.ensures.fault refl, front))
+    (λ front. (image_text c.in-Err.fault ++ 10 ∷ [], 1, answer_of_fault c.args.options.now c.args.bytes.now c.in-Err.fault 1 c.in-Err.ensures.fault refl, front))
     c.write_fault.ensures.front

@@ -6,7 +6,7 @@ use Rattle.clearmap.proofs.output.write_table.Goals as goal
 
 pub rows-init : goal.rows-init
 rows-init g c = record {
-  written = rw (table_text-none c.args.width c.args.distances.now) (Appends-nothing _);
+  written = rw (table_text-none c.args.nearest c.args.width c.args.nears.now) (Appends-nothing _);
   none_failed = refl;
   room = refl;
   height_is = search rules;
@@ -15,15 +15,15 @@ rows-init g c = record {
 
 pub returns-in_err-write_all-clause-front : goal.returns-in_err-write_all-clause-front
 returns-in_err-write_all-clause-front g c =
-    let text : c.as_slice.result.now ≡ line_at c.args.width c.args.distances.now c.rows.y = rw (← c.rows.invariant.across_is) (c.as_slice.ensures.value ∙ c.write_row.ensures.line) in
+    let text : c.as_slice.result.now ≡ line_at c.args.nearest c.args.width c.args.nears.now c.rows.y = rw (← c.rows.invariant.across_is) (c.as_slice.ensures.value ∙ c.write_row.ensures.line) in
     let p = err_from_is_err_and c.from_residual.result c.from_residual.ensures.1 in rw (p.1)
-    (AppendsFront-table c.args.width c.rows.y c.args.height c.args.distances.now (g.W.Sink.held c.args.writer.now) (g.W.Sink.held c.rows.writer) _ (omega arith) c.rows.invariant.written (rw (← text) c.in_err-write_all.ensures.front))
+    (AppendsFront-table c.args.nearest c.args.width c.rows.y c.args.height c.args.nears.now (g.W.Sink.held c.args.writer.now) (g.W.Sink.held c.rows.writer) _ (omega arith) c.rows.invariant.written (rw (← text) c.in_err-write_all.ensures.front))
 
 pub rows-preserved : goal.rows-preserved
 rows-preserved g c =
-    let text : c.as_slice.result.now ≡ line_at c.args.width c.args.distances.now c.rows.y = rw (← c.rows.invariant.across_is) (c.as_slice.ensures.value ∙ c.write_row.ensures.line) in
+    let text : c.as_slice.result.now ≡ line_at c.args.nearest c.args.width c.args.nears.now c.rows.y = rw (← c.rows.invariant.across_is) (c.as_slice.ensures.value ∙ c.write_row.ensures.line) in
     record {
-      written = rw (table_text-more c.args.width c.rows.y c.args.distances.now) (Appends-more _ _ _ _ _ c.rows.invariant.written (rw (← text) c.in_ok-write_all.ensures.all));
+      written = rw (table_text-more c.args.nearest c.args.width c.rows.y c.args.nears.now) (Appends-more _ _ _ _ _ c.rows.invariant.written (rw (← text) c.in_ok-write_all.ensures.all));
       none_failed = c.in_ok-write_all.ensures.counts ∙ c.rows.invariant.none_failed;
       room = c.write_row.ensures.room ∙ c.rows.invariant.room;
       height_is = search rules;

@@ -6,7 +6,7 @@ use Rattle.clearmap.proofs.output.write_table.Given as goal
 -- the lines of the rows so far are written, and no write has failed
 abbrev pub invariant-rows : goal.invariant-rows
 invariant-rows g l = record {
-  written : Appends (g.W.Sink.held l.fn.writer) (table_text l.fn.width l.y l.distances) (g.W.Sink.held l.writer);
+  written : Appends (g.W.Sink.held l.fn.writer) (table_text l.nearest l.fn.width l.y l.nears) (g.W.Sink.held l.writer);
   none_failed : g.W.Sink.failed_writes l.writer ≡ g.W.Sink.failed_writes l.fn.writer;
   room : vec_capacity l.line ≡ vec_capacity l.fn.line;
   height_is : l.y-end ≡ l.fn.height;

@@ -5,14 +5,14 @@ use Rattle.metric.specs.declared.fault.PbmFault.TheVariants.{Memory}
 use Rattle.pbm.proofs.Headers.{header-read, header-memory}
 use Rattle.pbm.proofs.image.read_front.Goals as goal
 
-pub returns-in_err-width-clause-memory : goal.returns-in_err-width-clause-memory
-returns-in_err-width-clause-memory c = λ is.
+pub returns-in_err-form-clause-memory : goal.returns-in_err-form-clause-memory
+returns-in_err-form-clause-memory c = λ is.
     let p = err_from_is_err_and c.from_residual.result c.from_residual.ensures.1 in
-    let same : c.in_err-width.field-0.0 ≡ Memory = cc (p.1, p.2, is) in
-    absurd (header-memory c.args.bytes.now c.in_err-width.field-0.0 c.in_err-width.ensures same)
+    let same : c.in_err-form.field-0.0 ≡ Memory = cc (p.1, p.2, is) in
+    absurd (header-memory c.args.bytes.now c.in_err-form.field-0.0 c.in_err-form.ensures same)
 
 pub blank-requires-clause-width : goal.blank-requires-clause-width
-blank-requires-clause-width c = (header-read c.args.bytes.now (c.in_ok-width.width, c.in_ok-width.height, c.in_ok-width.rest.now) c.in_ok-width.ensures).width_side
+blank-requires-clause-width c = (header-read c.args.bytes.now (c.in_ok-form.form, c.in_ok-form.width, c.in_ok-form.height, c.in_ok-form.rest.now) c.in_ok-form.ensures).width_side
 
 pub blank-requires-clause-height : goal.blank-requires-clause-height
-blank-requires-clause-height c = (header-read c.args.bytes.now (c.in_ok-width.width, c.in_ok-width.height, c.in_ok-width.rest.now) c.in_ok-width.ensures).height_side
+blank-requires-clause-height c = (header-read c.args.bytes.now (c.in_ok-form.form, c.in_ok-form.width, c.in_ok-form.height, c.in_ok-form.rest.now) c.in_ok-form.ensures).height_side

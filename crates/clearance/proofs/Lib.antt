@@ -1,0 +1,6 @@
+pub mod Areas
+pub mod Refusals
+pub mod RowSearches
+pub mod Searches
+pub mod Touches
+pub mod Walks

@@ -1,0 +1,143 @@
+-- Which paths aren't refused.
+use Rattle.std.proofs.Common.{◌≡◌, ℕ, zero, suc, ◌+◌, ◌<◌, ◌≤◌, ◌⊎◌, inl, inr, Bool, true, false, ◌||◌, List, [], ◌∷◌, length, get_or, drop, Option, Some, None, refl, ap, ◌∙◌, arith, eqb, leb, ltb, cond}
+use Rattle.std.specs.Option.{option_map}
+use Rattle.std.specs.List.{list_any}
+use Rattle.std.proofs.lemmas.Bool.{cases_lt}
+use Rattle.std.proofs.lemmas.Bool.Decides.{nat_tests}
+use Rattle.std.proofs.lemmas.List.{drop_more, drop_all}
+use Rattle.metric.specs.declared.cell.Cell.{Cell}
+use Rattle.metric.specs.declared.refusal.Refusal.TheVariants.{BadPath, OutOfRange, Crooked}
+use Rattle.bits.specs.Cells.{Cells, IsInside}
+use Rattle.clearance.specs.Paths.{is_outside, first_crooked, crooked_point, path_refusal}
+use Rattle.clearance.specs.Segments.{IsStraight}
+use Rattle.clearance.specs.Search.{origin}
+
+-- the test of a point in the row or column of another
+straight_test : (a b c d : ℕ) → (a ≡ b) ⊎ (c ≡ d) → (eqb a b || eqb c d) ≡ true
+straight_test a b c d straight = grind (arith, nat_tests)
+
+-- the test of a point that is in neither
+crooked_test : (a b c d : ℕ) → (a ≡ b → ⊥) → (c ≡ d → ⊥) → (eqb a b || eqb c d) ≡ false
+crooked_test a b c d column row = grind (arith, nat_tests)
+
+-- a path has its first crooked point behind its first point
+pub crooked_point-start : (points : List Cell) → crooked_point points ≡ first_crooked 1 (get_or points 0 origin) (drop 1 points)
+crooked_point-start [] = refl
+crooked_point-start (first ∷ points) = refl
+
+-- past a point that isn't crooked the search goes on
+pub first_crooked-straight : (points : List Cell) (i : ℕ) (before : Cell) → i < length points → IsStraight before (get_or points i origin)
+    → first_crooked i before (drop i points) ≡ first_crooked (i + 1) (get_or points i origin) (drop (i + 1) points)
+first_crooked-straight points i before within straight =
+    let test = straight_test (get_or points i origin).x before.x (get_or points i origin).y before.y straight in
+    ap (λ (l : List Cell). first_crooked i before l) (drop_more points i origin within) ∙ rw test refl
+
+-- a crooked point is the first
+pub first_crooked-crooked : (points : List Cell) (i : ℕ) (before : Cell) → i < length points
+    → ((get_or points i origin).x ≡ before.x → ⊥) → ((get_or points i origin).y ≡ before.y → ⊥)
+    → first_crooked i before (drop i points) ≡ Some i
+first_crooked-crooked points i before within column row =
+    let test = crooked_test (get_or points i origin).x before.x (get_or points i origin).y before.y column row in
+    ap (λ (l : List Cell). first_crooked i before l) (drop_more points i origin within) ∙ rw test refl
+
+-- past the last point there is none
+pub first_crooked-all : (points : List Cell) (i : ℕ) (before : Cell) → length points ≤ i → first_crooked i before (drop i points) ≡ None
+first_crooked-all points i before ended = ap (λ (l : List Cell). first_crooked i before l) (drop_all i points ended)
+
+-- where a first choice that is some refusal isn't taken, the other one is
+no_choice : {A : Type 0} (test : Bool) (first : A) (other : Option A) → cond test (Some first) other ≡ None → (test ≡ false) × (other ≡ None)
+no_choice true first other none = absurd (cc)
+no_choice false first other none = (refl, none)
+
+-- where the other choice is some, the first is taken
+choice_taken : {A : Type 0} (test : Bool) (other : Option A) (last : A) → cond test other (Some last) ≡ None → (test ≡ true) × (other ≡ None)
+choice_taken true other last none = (refl, none)
+choice_taken false other last none = absurd (cc)
+
+-- what is none under a map is none
+map_none : {A B : Type 0} (f : A → B) (o : Option A) → option_map f o ≡ None → o ≡ None
+map_none f None none = refl
+map_none f (Some a) none = absurd (cc)
+
+-- a path that isn't refused
+pub record IsPath (cells : Cells) (points : List Cell) : Type 0 where
+  pub some : 0 < length points
+  pub few : length points ≤ 1000
+  pub inside : (j : ℕ) → j < length points → IsInside cells (get_or points j origin).x (get_or points j origin).y
+  pub straight : crooked_point points ≡ None
+
+-- numbers that pass neither test
+few_points : (n : ℕ) → (eqb n 0 || ltb 1000 n) ≡ false → (0 < n) × (n ≤ 1000)
+few_points n test = (grind (arith, nat_tests), grind (arith, nat_tests))
+
+-- a cell that isn't outside is inside
+inside_from : (cells : Cells) (cell : Cell) → (leb cells.width cell.x || leb cells.height cell.y) ≡ false → IsInside cells cell.x cell.y
+inside_from cells cell test = record { column = grind (arith, nat_tests); row = grind (arith, nat_tests) }
+
+-- two tests of which none holds
+or_false : (a b : Bool) → (a || b) ≡ false → (a ≡ false) × (b ≡ false)
+or_false true b h = absurd (cc)
+or_false false b h = (refl, h)
+
+-- of points of which none is outside, each is inside
+all_inside : (cells : Cells) (points : List Cell) → list_any (is_outside cells) points ≡ false
+    → (j : ℕ) → j < length points → IsInside cells (get_or points j origin).x (get_or points j origin).y
+all_inside cells [] none j within = absurd (omega arith)
+all_inside cells (point ∷ points) none zero within = inside_from cells point (or_false (is_outside cells point) (list_any (is_outside cells) points) none).0
+all_inside cells (point ∷ points) none (suc j) within = all_inside cells points (or_false (is_outside cells point) (list_any (is_outside cells) points) none).1 j (omega arith)
+
+-- a path for which there is no refusal
+pub IsPath-from : (cells : Cells) (points : List Cell) → path_refusal cells points ≡ None → IsPath cells points
+IsPath-from cells points none =
+    let p = no_choice (eqb (length points) 0 || ltb 1000 (length points)) BadPath (cond (list_any (is_outside cells) points) (Some OutOfRange) (option_map Crooked (crooked_point points))) none in
+    let q = no_choice (list_any (is_outside cells) points) OutOfRange (option_map Crooked (crooked_point points)) p.1 in
+    let size = few_points (length points) p.0 in
+    record { some = size.0; few = size.1; inside = all_inside cells points q.0; straight = map_none Crooked (crooked_point points) q.1 }
+
+-- the points that follow lie each in the row or column of the one before
+abbrev pub AreStraight : Cell → List Cell → Type 0
+AreStraight before [] = Unit {0}
+AreStraight before (point ∷ points) = IsStraight before point × AreStraight point points
+
+-- a test of a point in the row or column of another, which holds
+straight_from : (a b c d : ℕ) → (eqb a b || eqb c d) ≡ true → (a ≡ b) ⊎ (c ≡ d)
+straight_from a b c d test = grind (arith, nat_tests)
+
+-- points of which none is crooked
+pub AreStraight-from : (index : ℕ) (before : Cell) (points : List Cell) → first_crooked index before points ≡ None → AreStraight before points
+AreStraight-from index before [] none = tt
+AreStraight-from index before (point ∷ points) none =
+    let p = choice_taken (eqb point.x before.x || eqb point.y before.y) (first_crooked (index + 1) point points) index none in
+    (straight_from point.x before.x point.y before.y p.0, AreStraight-from (index + 1) point points p.1)
+
+-- a cell that is inside isn't outside
+not_outside : (cells : Cells) (cell : Cell) → IsInside cells cell.x cell.y → is_outside cells cell ≡ false
+not_outside cells cell inside = let column = inside.column in let row = inside.row in grind (arith, nat_tests)
+
+-- past a point inside, a point outside is looked for among the others
+pub outside-past : (cells : Cells) (points : List Cell) (i : ℕ) → i < length points → IsInside cells (get_or points i origin).x (get_or points i origin).y
+    → list_any (is_outside cells) (drop i points) ≡ list_any (is_outside cells) (drop (i + 1) points)
+outside-past cells points i within inside =
+    let test = not_outside cells (get_or points i origin) inside in
+    ap (λ (l : List Cell). list_any (is_outside cells) l) (drop_more points i origin within) ∙ rw test refl
+
+-- a cell that isn't inside is outside
+outside_from : (cells : Cells) (cell : Cell) → (IsInside cells cell.x cell.y → ⊥) → is_outside cells cell ≡ true
+outside_from cells cell outside = elim (cases_lt cell.x cells.width) [
+  | inl column ↦ elim (cases_lt cell.y cells.height) [
+    | inl row ↦ absurd (outside (record { column = column; row = row }))
+    | inr row ↦ grind (arith, nat_tests)
+  ]
+  | inr column ↦ grind (arith, nat_tests)
+]
+
+-- at a point that isn't inside, a point outside is found
+pub outside-here : (cells : Cells) (points : List Cell) (i : ℕ) → i < length points → (IsInside cells (get_or points i origin).x (get_or points i origin).y → ⊥)
+    → list_any (is_outside cells) (drop i points) ≡ true
+outside-here cells points i within outside =
+    let test = outside_from cells (get_or points i origin) outside in
+    ap (λ (l : List Cell). list_any (is_outside cells) l) (drop_more points i origin within) ∙ rw test refl
+
+-- past the last point there is none outside
+pub outside-all : (cells : Cells) (points : List Cell) (i : ℕ) → length points ≤ i → list_any (is_outside cells) (drop i points) ≡ false
+outside-all cells points i ended = ap (λ (l : List Cell). list_any (is_outside cells) l) (drop_all i points ended)

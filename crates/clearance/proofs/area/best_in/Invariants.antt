@@ -1,0 +1,10 @@
+-- The best so far is that of the rows above.
+use Rattle.std.proofs.Common.{◌-◌, ◌*◌}
+use Rattle.bits.specs.Cells.{IsObstacle}
+use Rattle.clearance.specs.declared.found.Wanted.TheVariants.{Least}
+use Rattle.clearance.specs.Answers.{cells_of_rect}
+use Rattle.clearance.specs.Search.{IsBest, IsEarlier}
+use Rattle.clearance.proofs.area.best_in.Given as goal
+
+abbrev pub invariant-rows : goal.invariant-rows
+invariant-rows g l = IsBest g.M.Metric.distance (IsObstacle l.bitmap) Least (cells_of_rect l.rect.x0 l.rect.y0 l.rect.x1 l.rect.y1) (IsEarlier ((l.y - l.rect.y0) * (l.rect.x1 - l.rect.x0))) l.best

@@ -1,0 +1,4 @@
+pub mod Answers
+pub mod Paths
+pub mod Search
+pub mod Segments

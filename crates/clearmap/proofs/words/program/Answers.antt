@@ -1,0 +1,10 @@
+use Rattle.std.proofs.Common.{◌≡◌, ◌∙◌, ap, ap₂, codes, rules, true}
+use Rattle.clap.specs.Words.{App, app_of, new_app, with_subcommand}
+use Rattle.clap.specs.Simple.{on_top}
+use Rattle.clearmap.proofs.words.program.Goals as goal
+
+pub returns-clause-app : goal.returns-clause-app
+returns-clause-app c =
+    let start : app_of c.subcommand_required.result ≡ on_top (λ s. record s { has_version = true; subcommand_required = true }) (new_app (codes "clearmap")) = search rules in
+    c.in_ok-subcommand.ensures.shape c.in_ok-dist_command.ensures.local
+    ∙ ap₂ with_subcommand start (ap (λ (app : App). app.top) c.in_ok-dist_command.ensures.app)

@@ -1,0 +1,134 @@
+-- A bitmap that is written as a plain image.
+use Rattle.std.proofs.Common.{◌≡◌, ℕ, zero, suc, ◌+◌, ◌-◌, ◌*◌, ◌/◌, ◌%◌, ◌<◌, ◌≤◌, Bool, true, false, cond, eqb, List, [], ◌∷◌, ◌++◌, map, refl, sym, ap, subst, ◌∙◌, append_assoc, inl, inr, arith}
+use Rattle.std.specs.Prelude.{◌||◌}
+use Rattle.std.specs.Fmt.{decimal}
+use Rattle.std.specs.List.{range_with_len, flat_map}
+use Rattle.std.proofs.lemmas.Bool.{eq-eqb}
+use Rattle.std.proofs.lemmas.Bool.Decides.{nat_tests}
+use Rattle.std.proofs.lemmas.Nat.{div-mul-add, mod-mul-add}
+use Rattle.std.proofs.lemmas.List.{append-nil}
+use Rattle.bits.specs.Cells.{Cells, has, IsBitmap}
+use Rattle.pbm.specs.declared.header.Form.TheVariants.{Plain}
+use Rattle.pbm.specs.Image.{pixel_byte, IsBetween, IsRaster, IsPlain}
+use Rattle.pbm.specs.Writing.{front_text, ends_line, digit_text, plain_digit, plain_text, row_length}
+use Rattle.pbm.proofs.Decimals.{IsNumber-decimal}
+use Rattle.pbm.proofs.Pixels.{place-below}
+use Rattle.pbm.proofs.RawTexts.{regroup-front, IsGap-line_feed, IsGap-blank}
+
+-- what stands behind a digit: LF, where its line ends
+abbrev line_end : Bool → List ℕ
+line_end ends = cond ends (10 ∷ []) []
+
+-- that is nothing, or a gap
+IsBetween-line_end : (ends : Bool) → IsBetween (line_end ends)
+IsBetween-line_end true = inr IsGap-line_feed
+IsBetween-line_end false = inl refl
+
+-- the digits of n + 1 pixels from one on, each but the last with what stands behind it
+digits_from : (ℕ → Bool) → (ℕ → Bool) → ℕ → ℕ → List ℕ
+digits_from black ends start zero = pixel_byte (black start) ∷ []
+digits_from black ends start (suc n) = pixel_byte (black start) ∷ (line_end (ends start) ++ digits_from black ends (start + 1) n)
+
+-- the text of n + 1 pixels ends with what stands behind the last
+digits_from-text : (black ends : ℕ → Bool) (start n : ℕ) → flat_map (λ k. digit_text (black k) (ends k)) (range_with_len start (suc n)) ≡ digits_from black ends start n ++ line_end (ends (start + n))
+unfolding digits_from
+digits_from-text black ends start zero =
+    let here : start ≡ start + zero = omega arith in
+    append-nil (pixel_byte (black start) ∷ line_end (ends start)) ∙ ap (λ (k : ℕ). pixel_byte (black start) ∷ line_end (ends k)) here
+digits_from-text black ends start (suc n) =
+    let on : (start + 1) + n ≡ start + suc n = omega arith in
+    ap (λ (t : List ℕ). pixel_byte (black start) ∷ (line_end (ends start) ++ t)) (digits_from-text black ends (start + 1) n ∙ ap (λ (k : ℕ). digits_from black ends (start + 1) n ++ line_end (ends k)) on)
+    ∙ ap (λ (t : List ℕ). pixel_byte (black start) ∷ t) (sym (append_assoc (line_end (ends start)) (digits_from black ends (start + 1) n) (line_end (ends (start + suc n)))))
+
+-- they are a raster
+digits_from-raster : (black ends : ℕ → Bool) (start n : ℕ) → IsRaster (digits_from black ends start n) (map black (range_with_len start (suc n)))
+unfolding digits_from IsRaster
+digits_from-raster black ends start zero = refl
+digits_from-raster black ends start (suc n) = (line_end (ends start), digits_from black ends (start + 1) n, IsBetween-line_end (ends start), digits_from-raster black ends (start + 1) n, refl)
+
+-- a test or a true one is true
+or_true : (test : Bool) → (test || true) ≡ true
+or_true true = refl
+or_true false = refl
+
+-- the last column ends its line
+ends_line-last : (width x : ℕ) → x + 1 ≡ width → ends_line width x ≡ true
+ends_line-last width x last = ap (λ (t : Bool). eqb ((x + 1) % 70) 0 || t) (eq-eqb (x + 1) width last) ∙ or_true (eqb ((x + 1) % 70) 0)
+
+-- the last pixel of a bitmap stands in the last column
+last_column : (width height n : ℕ) → 1 ≤ width → 1 ≤ height → height * width ≡ suc n → n % width + 1 ≡ width
+last_column width height n some_columns some_rows all =
+    let rows : ((height - 1) + 1) * width ≡ height * width = let up : (height - 1) + 1 ≡ height = omega arith in ap (λ (h : ℕ). h * width) up in
+    let place : n ≡ (height - 1) * width + (width - 1) = omega (arith, rows, all) in
+    let column : n % width ≡ width - 1 = ap (λ (k : ℕ). k % width) place ∙ mod-mul-add (height - 1) width (width - 1) (omega arith) in
+    omega (arith, column)
+
+-- a bitmap has some cells
+some_cells : (width height : ℕ) → 1 ≤ width → 1 ≤ height → (n : ℕ) × (height * width ≡ suc n)
+some_cells width height some_columns some_rows =
+    let first = place-below width height 0 0 some_columns some_rows in
+    (height * width - 1, omega (arith, first))
+
+-- the pixel of column x and row y
+pub plain_digit-at : (cells : Cells) (y x : ℕ) → x < cells.width → digit_text (has cells x y) (ends_line cells.width x) ≡ plain_digit cells (y * cells.width + x)
+plain_digit-at cells y x within =
+    let width : ℕ = cells.width in
+    sym (ap (λ (a : ℕ). digit_text (has cells a ((y * width + x) / width)) (ends_line width a)) (mod-mul-add y width x within) ∙ ap (λ (b : ℕ). digit_text (has cells x b) (ends_line width x)) (div-mul-add y width x within))
+
+-- how long the lines of a row are behind one digit more
+pub record LinesLength (width x before after : ℕ) : Type 0 where
+  pub within : x < width → after ≤ before + (x + x / 70)
+  pub length : after ≤ before + row_length x
+
+-- a digit makes the lines longer by one, and by one more where a line ends
+pub LinesLength-more : (width x before len after : ℕ) (ends : Bool) → x < width → len ≤ before + (x + x / 70) → ends ≡ ends_line width x → after ≡ len + cond ends 2 1 → LinesLength width (x + 1) before after
+LinesLength-more width x before len after true inside few is longer =
+    record { within = λ more. grind (arith, nat_tests); length = omega arith }
+LinesLength-more width x before len after false inside few is longer =
+    record { within = λ more. omega arith; length = omega arith }
+
+-- a plain image was written, and LF behind it
+pub record PlainWritten (cells : Cells) : Type 0 where
+  pub text : List ℕ
+  pub is_text : plain_text cells ≡ text ++ 10 ∷ []
+  pub is_plain : IsPlain text cells
+
+-- what is written of a bitmap of n + 1 cells
+PlainWritten-from : (cells : Cells) (n : ℕ) → IsBitmap cells → cells.height * cells.width ≡ suc n → PlainWritten cells
+unfolding plain_text
+PlainWritten-from cells n is all =
+    let black : ℕ → Bool = λ k. has cells (k % cells.width) (k / cells.width) in
+    let ends : ℕ → Bool = λ k. ends_line cells.width (k % cells.width) in
+    let raster : List ℕ = digits_from black ends 0 n in
+    let front : List ℕ = front_text Plain cells in
+    let last : ends (0 + n) ≡ true = ends_line-last cells.width ((0 + n) % cells.width) (let here : 0 + n ≡ n = omega arith in rw here (last_column cells.width cells.height n is.width_is.some is.height_is.some all)) in
+    let count : suc n ≡ cells.width * cells.height = omega (arith, all) in
+    record {
+      text = front ++ raster;
+      is_text = ap (λ (m : ℕ). front ++ flat_map (plain_digit cells) (range_with_len 0 m)) all
+          ∙ ap (λ (t : List ℕ). front ++ t) (digits_from-text black ends 0 n ∙ ap (λ (b : Bool). raster ++ line_end b) last)
+          ∙ sym (append_assoc front raster (10 ∷ []));
+      is_plain = record {
+        bitmap = is;
+        gap_before_width = 10 ∷ [];
+        width = decimal cells.width;
+        gap_before_height = 32 ∷ [];
+        height = decimal cells.height;
+        gap_before_raster = 10 ∷ [];
+        raster = raster;
+        gap_before_width_is = IsGap-line_feed;
+        width_is = IsNumber-decimal cells.width (omega (arith, is.width_is.few));
+        gap_before_height_is = IsGap-blank;
+        height_is = IsNumber-decimal cells.height (omega (arith, is.height_is.few));
+        gap_before_raster_is = IsGap-line_feed;
+        raster_is = subst (λ (m : ℕ). IsRaster raster (map black (range_with_len 0 m))) count (digits_from-raster black ends 0 n);
+        is_text = regroup-front 49 (decimal cells.width) (decimal cells.height) raster;
+      };
+    }
+
+-- what is written is a plain image of the bitmap, and LF
+pub plain_text-is : (cells : Cells) → IsBitmap cells → (text : List ℕ) × (plain_text cells ≡ text ++ 10 ∷ []) × IsPlain text cells
+plain_text-is cells is =
+    let some = some_cells cells.width cells.height is.width_is.some is.height_is.some in
+    let w = PlainWritten-from cells some.0 is some.1 in
+    (w.text, w.is_text, w.is_plain)

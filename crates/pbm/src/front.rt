@@ -1,0 +1,27 @@
+//! All that is written of an image before its raster.
+
+ghost use Rattle.std.specs.Prelude.{◌≡◌, ◌+◌, ◌≤◌, ◌++◌, vec_len, vec_capacity};
+ghost use Rattle.pbm.specs.Writing.{front_text};
+
+use crate::header::Form;
+use bits::Bitmap;
+use metric::push_decimal;
+
+/// The most bytes that stand before a raster: two numbers of four digits, and five bytes round them.
+pub const FRONT_ROOM: usize = 13;
+
+/// Adds all of a bitmap's image before its raster. There is room for it.
+pub fn push_front(out: &mut Vec<u8>, form: Form, bitmap: &Bitmap)
+    requires { vec_len out.old + 13 ≤ vec_capacity out.old }
+    ensures text { out.new.items ≡ out.old.items ++ front_text form bitmap.now }
+    ensures length { vec_len out.new ≤ vec_len out.old + 13 }
+    ensures room { vec_capacity out.new ≡ vec_capacity out.old }
+{
+    out.push_reserved(b'P');
+    out.push_reserved(form.digit());
+    out.push_reserved(b'\n');
+    push_decimal(out, u32::from(bitmap.width()));
+    out.push_reserved(b' ');
+    push_decimal(out, u32::from(bitmap.height()));
+    out.push_reserved(b'\n');
+}

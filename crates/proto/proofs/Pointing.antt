@@ -1,0 +1,56 @@
+-- Points of a line, one after another.
+use Rattle.std.proofs.Common.{◌≡◌, ℕ, zero, suc, ◌+◌, ◌^◌, ◌≤◌, ◌<◌, true, List, [], ◌∷◌, ◌++◌, length, Option, Some, None, refl, sym, ap, ◌∙◌, inl, inr, arith, append_assoc}
+use Rattle.std.specs.Prelude.{is_some, option_map, IsSomeAnd}
+use Rattle.std.specs.Borrow.{Bor}
+use Rattle.metric.specs.declared.cell.Cell.{Cell}
+use Rattle.proto.specs.Numbers.{point, join_point, points, HasNoFirst, only}
+use Rattle.proto.specs.Words.{words, words_left}
+use Rattle.proto.proofs.Splitting.{words-some}
+
+-- a point before others
+abbrev before : Cell → Option (List Cell) → Option (List Cell)
+before cell others = option_map (λ cells. cell ∷ cells) others
+
+-- joined points are two at least behind one more
+only-joined : (cell : Cell) (first : Option Cell) (others : Option (List Cell)) → only (before cell (join_point first others)) ≡ None
+only-joined cell None others = refl
+only-joined cell (Some next) None = refl
+only-joined cell (Some next) (Some cells) = refl
+
+-- a point and another word are more than one point
+only-word : (cell : Cell) (word : List ℕ) (others : List (List ℕ)) → only (before cell (points (word ∷ others))) ≡ None
+unfolding points
+only-word cell word [] = refl
+only-word cell word (next ∷ others) = only-joined cell (point word next) (points others)
+
+-- a point before the words of a line is not the only one
+pub only-more : (cell : Cell) (rest : List (List ℕ)) (bytes : List ℕ) → points rest ≡ before cell (points (words bytes)) → None ≡ only (points rest)
+only-more cell rest bytes e =
+    let some = words-some bytes in
+    sym (ap only e ∙ ap (λ (ws : List (List ℕ)). only (before cell (points ws))) some.2 ∙ only-word cell some.0 some.1)
+
+-- where no point stands first in what is left, no points do
+pub points-none : (rest : Option (Bor (List ℕ))) → is_some rest ≡ true → HasNoFirst (words_left rest) → points (words_left rest) ≡ None
+points-none None some first = absurd cc
+points-none (Some bytes) some (inr none) = none
+points-none (Some bytes) some (inl empty) = absurd (let word = words-some bytes.now in let e = sym empty ∙ word.2 in cc)
+
+-- a point is counted
+pub counted-more : (count : ℕ) (cell : Cell) (others : Option (List Cell)) → option_map (λ cells. count + length cells) (before cell others) ≡ option_map (λ cells. (count + 1) + length cells) others
+counted-more count cell None = refl
+counted-more count cell (Some cells) = let e : count + length (cell ∷ cells) ≡ (count + 1) + length cells = omega arith in ap (λ (n : ℕ). Some n) e
+
+-- a point is added
+pub added-more : (cells : List Cell) (cell : Cell) (others : Option (List Cell)) → option_map (λ more. cells ++ more) (before cell others) ≡ option_map (λ more. (cells ++ cell ∷ []) ++ more) others
+added-more cells cell None = refl
+added-more cells cell (Some more) = ap (λ (all : List Cell). Some all) (sym (append_assoc cells (cell ∷ []) more))
+
+-- there is room for a point, and then for the others
+pub room-more : (len capacity : ℕ) (cell : Cell) (others : Option (List Cell)) → IsSomeAnd (before cell others) (λ cells. len + length cells ≤ capacity) → (len < capacity) × IsSomeAnd others (λ cells. (len + 1) + length cells ≤ capacity)
+room-more len capacity cell None few = absurd few
+room-more len capacity cell (Some cells) few = (omega arith, omega arith)
+
+-- the points counted, and one more, are fewer than the bytes of a line can be
+pub few-more : (count left more : ℕ) → (0 < count → count + left ≤ 2 ^ 64) → more + 2 ≤ left → left ≤ 2 ^ 64 → count + 1 < 2 ^ 64
+few-more zero left more few fewer small = omega arith
+few-more (suc count) left more few fewer small = let some : 0 < suc count = omega arith in omega (arith, few some)

@@ -1,0 +1,89 @@
+-- The words of a line, one after another.
+use Rattle.std.proofs.Common.{◌≡◌, ◌≢◌, ℕ, ◌+◌, ◌-◌, ◌≤◌, Bool, true, false, cond, eqb, ltb, List, [], ◌∷◌, length, take, drop, Some, None, All, not, refl, ap, ◌∙◌, inl, inr, arith}
+use Rattle.std.specs.Prelude.{◌⊎◌, position}
+use Rattle.std.specs.List.{slice_split, onto_first, position_or_len, join_with_byte}
+use Rattle.std.proofs.lemmas.Bool.{ltb-true, ltb-false, eqb-false, ne_eqb}
+use Rattle.std.proofs.lemmas.List.{take_rest}
+use Rattle.std.proofs.lemmas.List.Elements.{All-cons, All-nil, All-head, All-tail}
+use Rattle.std.proofs.lemmas.List.Splits.{slice_split_first, slice_split_none, slice_split_at, join_with_byte-slice_split}
+use Rattle.proto.specs.Words.{words, IsWord}
+
+-- a byte is a blank
+abbrev is_blank : ℕ → Bool
+is_blank byte = eqb byte 32
+
+-- which side of a test was taken
+chosen : {A : Type 0} (b : Bool) (x y z : A) → cond b x y ≡ z → ((b ≡ true) × (x ≡ z)) ⊎ ((b ≡ false) × (y ≡ z))
+chosen true x y z e = inl (refl, e)
+chosen false x y z e = inr (refl, e)
+
+-- one byte more before bytes without a blank
+whole-more : (byte : ℕ) (bytes : List ℕ) (b : Bool) → (length bytes ≤ position_or_len is_blank bytes → slice_split is_blank bytes ≡ bytes ∷ []) → length bytes + 1 ≤ cond (not b) (1 + position_or_len is_blank bytes) 0 → cond b ([] ∷ slice_split is_blank bytes) (onto_first byte (slice_split is_blank bytes)) ≡ (byte ∷ bytes) ∷ []
+whole-more byte bytes true rest few = absurd (omega arith)
+whole-more byte bytes false rest few = rw (rest (omega arith)) refl
+
+-- without a blank in it, a line is one word
+whole : (bytes : List ℕ) → length bytes ≤ position_or_len is_blank bytes → slice_split is_blank bytes ≡ bytes ∷ []
+whole [] few = refl
+whole (byte ∷ bytes) few = whole-more byte bytes (is_blank byte) (whole bytes) (omega arith)
+
+-- where a blank is found, the first word ends there
+pub words-blank : (bytes : List ℕ) (end : ℕ) → position is_blank bytes ≡ Some end → words bytes ≡ take end bytes ∷ words (take (length bytes - (end + 1)) (drop (end + 1) bytes))
+unfolding words
+words-blank bytes end e =
+    elim (chosen (ltb (position_or_len is_blank bytes) (length bytes)) (Some (position_or_len is_blank bytes)) None (Some end) e) [
+      | inl found ↦
+          let at : position_or_len is_blank bytes ≡ end = let same = found.1 in cc in
+          rw (take_rest bytes (end + 1), ← at) (slice_split_first is_blank bytes 0 (ltb-true _ _ found.0))
+      | inr none ↦ absurd (let no = none.1 in cc)
+    ]
+
+-- where none is found, all of it is one word
+pub words-one : (bytes : List ℕ) → position is_blank bytes ≡ None → words bytes ≡ bytes ∷ []
+unfolding words
+words-one bytes e =
+    elim (chosen (ltb (position_or_len is_blank bytes) (length bytes)) (Some (position_or_len is_blank bytes)) None None e) [
+      | inl found ↦ absurd (let no = found.1 in cc)
+      | inr none ↦ whole bytes (ltb-false _ _ none.0)
+    ]
+
+-- a line has a word
+pub words-some : (bytes : List ℕ) → (word : List ℕ) × (others : List (List ℕ)) × (words bytes ≡ word ∷ others)
+unfolding words
+words-some [] = ([], [], refl)
+words-some (byte ∷ bytes) = some (is_blank byte) byte (slice_split is_blank bytes)
+  where
+    some : (b : Bool) (byte : ℕ) (parts : List (List ℕ)) → (word : List ℕ) × (others : List (List ℕ)) × (cond b ([] ∷ parts) (onto_first byte parts) ≡ word ∷ others)
+    some true byte parts = ([], parts, refl)
+    some false byte [] = (byte ∷ [], [], refl)
+    some false byte (part ∷ parts) = (byte ∷ part, parts, refl)
+
+-- the words of a line, joined, are the line
+pub joined-words : (bytes : List ℕ) → join_with_byte 32 (words bytes) ≡ bytes
+unfolding words
+joined-words bytes = join_with_byte-slice_split 32 bytes
+
+-- a byte before parts without a blank
+plain-more : (byte : ℕ) (parts : List (List ℕ)) (b : Bool) → is_blank byte ≡ b → All IsWord parts → All IsWord (cond b ([] ∷ parts) (onto_first byte parts))
+plain-more byte parts true e plain = All-cons IsWord [] parts (All-nil (λ other. other ≢ 32)) plain
+plain-more byte [] false e plain = All-cons IsWord (byte ∷ []) [] (All-cons (λ other. other ≢ 32) byte [] (eqb-false byte 32 e) (All-nil (λ other. other ≢ 32))) plain
+plain-more byte (part ∷ parts) false e plain =
+    All-cons IsWord (byte ∷ part) parts (All-cons (λ other. other ≢ 32) byte part (eqb-false byte 32 e) (All-head IsWord part parts plain)) (All-tail IsWord part parts plain)
+
+-- no word has a blank
+pub plain-words : (bytes : List ℕ) → All IsWord (words bytes)
+unfolding words
+plain-words [] = All-cons IsWord [] [] (All-nil (λ other. other ≢ 32)) (All-nil IsWord)
+plain-words (byte ∷ bytes) = plain-more byte (slice_split is_blank bytes) (is_blank byte) refl (plain-words bytes)
+
+-- a word passes no test for a blank
+none-blank : (word : List ℕ) → IsWord word → All (λ byte. is_blank byte ≡ false) word
+none-blank word plain = λ k d h. ne_eqb _ _ (plain k d h)
+
+-- words are those of the line that they make
+pub words-joined : (word : List ℕ) (others : List (List ℕ)) → All IsWord (word ∷ others) → words (join_with_byte 32 (word ∷ others)) ≡ word ∷ others
+unfolding words
+words-joined word [] plain = slice_split_none is_blank word (none-blank word (All-head IsWord word [] plain))
+words-joined word (next ∷ others) plain =
+    let rest : slice_split is_blank (join_with_byte 32 (next ∷ others)) ≡ next ∷ others = words-joined next others (All-tail IsWord word (next ∷ others) plain) in
+    slice_split_at is_blank word 32 (join_with_byte 32 (next ∷ others)) (none-blank word (All-head IsWord word (next ∷ others) plain)) refl ∙ ap (λ (parts : List (List ℕ)). word ∷ parts) rest

@@ -1,0 +1,5 @@
+use Rattle.proto.proofs.Splitting.{words-joined}
+use Rattle.proto.proofs.laws.line_of_words.Goals as goal
+
+pub returns : goal.returns
+returns c = words-joined

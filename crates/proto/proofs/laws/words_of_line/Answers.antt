@@ -1,0 +1,8 @@
+use Rattle.proto.proofs.Splitting.{joined-words, plain-words}
+use Rattle.proto.proofs.laws.words_of_line.Goals as goal
+
+pub returns-clause-joined : goal.returns-clause-joined
+returns-clause-joined c = joined-words
+
+pub returns-clause-plain : goal.returns-clause-plain
+returns-clause-plain c = plain-words

@@ -1,0 +1,9 @@
+use Rattle.std.proofs.Common.{sym}
+use Rattle.proto.proofs.Splitting.{words-blank, words-one}
+use Rattle.proto.proofs.words.split_word.Goals as goal
+
+pub returns-in-Some-clause-words : goal.returns-in-Some-clause-words
+returns-in-Some-clause-words c = words-blank c.args.bytes.now c.in-Some.end (sym c.in-Some.ensures)
+
+pub returns-in-None-clause-words : goal.returns-in-None-clause-words
+returns-in-None-clause-words c = words-one c.args.bytes.now (sym c.in-None.ensures)

@@ -1,0 +1,99 @@
+-- What a line asks: this project's own rule. The first word is the command; a line of no known command is refused as such, whatever else is in it.
+use Rattle.std.specs.Prelude.{ℕ, ◌==◌, ◌&&◌, ◌||◌, nat_lt, nat_le, List, [], ◌∷◌, length, Option, Some, None, Result, Ok, Err, bytes_eq, codes, option_and_then, option_map, if◌then◌else◌}
+use Rattle.metric.specs.declared.cell.Cell.{Cell}
+use Rattle.metric.specs.declared.kind.MetricKind.{MetricKind}
+use Rattle.metric.specs.declared.kind.MetricKind.TheVariants.{Euclid2, City, Chess}
+use Rattle.metric.specs.declared.refusal.Refusal.{Refusal}
+use Rattle.metric.specs.declared.refusal.Refusal.TheVariants.{BadArguments, BadPath, UnknownCommand}
+use Rattle.proto.specs.declared.line.Line.{Line}
+use Rattle.proto.specs.declared.line.Line.TheVariants as lines
+use Rattle.proto.specs.declared.query.Query.{Query}
+use Rattle.proto.specs.declared.query.Query.TheVariants as queries
+use Rattle.proto.specs.Numbers.{number, points, only, pair}
+use Rattle.proto.specs.Words.{words}
+
+-- a query: the distance of a cell, the least over a rectangle or a path, or whether a path is clear of d
+pub data Asked : Type 0 where
+  at : MetricKind → Cell → Asked
+  rect : MetricKind → (x0 y0 x1 y1 : ℕ) → Asked
+  path : MetricKind → List Cell → Asked
+  clear_of : MetricKind → ℕ → List Cell → Asked
+
+-- what a line of the program asks
+abbrev pub seen : Line → Asked
+seen (lines.At metric cell) = at metric cell
+seen (lines.Rect metric r) = rect metric r.x0 r.y0 r.x1 r.y1
+seen (lines.Path metric points) = path metric points.items
+seen (lines.ClearOf metric d points) = clear_of metric d points.items
+
+-- it has points, for which memory is needed
+abbrev pub HasPoints : Asked → Type 0
+HasPoints (at metric cell) = ⊥
+HasPoints (rect metric x0 y0 x1 y1) = ⊥
+HasPoints (path metric points) = Unit {0}
+HasPoints (clear_of metric d points) = Unit {0}
+
+-- the query of this name, in capital letters
+abbrev pub query_named : List ℕ → Option Query
+query_named word =
+    if bytes_eq word (codes "AT") then Some queries.At
+    else if bytes_eq word (codes "RECT") then Some queries.Rect
+    else if bytes_eq word (codes "PATH") then Some queries.Path
+    else if bytes_eq word (codes "CLEAROF") then Some queries.ClearOf
+    else None
+
+-- the metric of this name
+abbrev pub metric_named : List ℕ → Option MetricKind
+metric_named word =
+    if bytes_eq word (codes "euclid2") then Some Euclid2
+    else if bytes_eq word (codes "city") then Some City
+    else if bytes_eq word (codes "chess") then Some Chess
+    else None
+
+-- arguments of the wrong number or form
+abbrev pub or_bad : {A : Type 0} → Option A → Result A Refusal
+or_bad None = Err BadArguments
+or_bad (Some x) = Ok x
+
+-- a rectangle by two corners, half open, neither of them over 4096, with a cell between them
+abbrev pub rect_of : MetricKind → Cell × Cell → Option Asked
+rect_of metric corners =
+    if (nat_lt corners.0.x corners.1.x && nat_lt corners.0.y corners.1.y) && (nat_le corners.1.x 4096 && nat_le corners.1.y 4096) then Some (rect metric corners.0.x corners.0.y corners.1.x corners.1.y) else None
+
+-- a path has 1 to 1000 points
+abbrev pub path_of : Option (List Cell) → Result (List Cell) Refusal
+path_of None = Err BadArguments
+path_of (Some points) = if length points == 0 || nat_lt 1000 (length points) then Err BadPath else Ok points
+
+-- what is asked of good points
+abbrev pub about : (List Cell → Asked) → Result (List Cell) Refusal → Result Asked Refusal
+about ask (Ok points) = Ok (ask points)
+about ask (Err refusal) = Err refusal
+
+-- what the first word tells, and the words behind it
+abbrev pub first_of : {A : Type 0} → (List ℕ → Option A) → List (List ℕ) → Option (A × List (List ℕ))
+first_of told [] = None
+first_of told (word ∷ others) = option_map (λ value. (value, others)) (told word)
+
+-- what a query asks of the words behind the metric
+abbrev pub query_asked : Query → MetricKind → List (List ℕ) → Result Asked Refusal
+query_asked queries.At metric words = or_bad (option_map (λ cell. at metric cell) (only (points words)))
+query_asked queries.Rect metric words = or_bad (option_and_then (λ corners. rect_of metric corners) (pair (points words)))
+query_asked queries.Path metric words = about (path metric) (path_of (points words))
+query_asked queries.ClearOf metric words =
+    elim (first_of number words) as (λ _. Result Asked Refusal) [ None ↦ Err BadArguments | Some distance ↦ about (clear_of metric distance.0) (path_of (points distance.1)) ]
+
+-- the arguments of a query: a metric first
+abbrev pub arguments_asked : Query → List (List ℕ) → Result Asked Refusal
+arguments_asked query words =
+    elim (first_of metric_named words) as (λ _. Result Asked Refusal) [ None ↦ Err BadArguments | Some metric ↦ query_asked query metric.0 metric.1 ]
+
+-- what words ask
+abbrev pub asked_of : List (List ℕ) → Result Asked Refusal
+asked_of [] = Err UnknownCommand
+asked_of (command ∷ arguments) =
+    elim (query_named command) as (λ _. Result Asked Refusal) [ None ↦ Err UnknownCommand | Some query ↦ arguments_asked query arguments ]
+
+-- what a line asks
+unfoldable pub asked : List ℕ → Result Asked Refusal
+asked bytes = asked_of (words bytes)

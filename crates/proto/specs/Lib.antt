@@ -1,0 +1,4 @@
+pub mod Asked
+pub mod Numbers
+pub mod Replies
+pub mod Words

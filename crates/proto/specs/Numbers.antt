@@ -1,0 +1,54 @@
+-- Numbers and points of a line: this project's own rule.
+use Rattle.std.specs.Prelude.{◌≡◌, ℕ, ◌+◌, ◌-◌, ◌*◌, ◌&&◌, ◌⊎◌, nat_lt, nat_le, min, Bool, List, [], ◌∷◌, length, Option, Some, None, option_and_then, option_map, if◌then◌else◌}
+use Rattle.std.specs.List.{list_all}
+use Rattle.metric.specs.declared.cell.Cell.{Cell}
+
+-- a digit, from 0 to 9
+abbrev pub is_digit : ℕ → Bool
+is_digit byte = nat_le 48 byte && nat_le byte 57
+
+-- the value of digits behind a front of this value
+unfoldable pub value_from : ℕ → List ℕ → ℕ
+value_from so_far [] = so_far
+value_from so_far (digit ∷ digits) = value_from (10 * so_far + (digit - 48)) digits
+
+-- a number: 1 to 10 digits, and at most 4294967295
+unfoldable pub number : List ℕ → Option ℕ
+number word =
+    if (nat_le 1 (length word) && nat_le (length word) 10) && (list_all is_digit word && nat_lt (value_from 0 word) 4294967296) then Some (value_from 0 word) else None
+
+-- a coordinate; one over 65535 stands as 65535, which is outside of every map and every rectangle as well
+abbrev pub coordinate : ℕ → ℕ
+coordinate n = min n 65535
+
+-- the cell of two numbers
+abbrev pub cell_of : ℕ → ℕ → Cell
+cell_of x y = record { x = coordinate x; y = coordinate y }
+
+-- the point of two words, where both are numbers
+abbrev pub point : List ℕ → List ℕ → Option Cell
+point x y = option_and_then (λ column. option_map (λ row. cell_of column row) (number y)) (number x)
+
+-- a point before others, where all are points
+abbrev pub join_point : Option Cell → Option (List Cell) → Option (List Cell)
+join_point first others = option_and_then (λ cell. option_map (λ cells. cell ∷ cells) others) first
+
+-- the points of words: an even number of them, all of them numbers
+unfoldable pub points : List (List ℕ) → Option (List Cell)
+points [] = Some []
+points (x ∷ []) = None
+points (x ∷ y ∷ others) = join_point (point x y) (points others)
+
+-- no point stands first in these words
+abbrev pub HasNoFirst : List (List ℕ) → Type 0
+HasNoFirst words = (words ≡ []) ⊎ (points words ≡ None)
+
+-- the point, where there is just one
+abbrev pub only : Option (List Cell) → Option Cell
+only (Some (cell ∷ [])) = Some cell
+only other = None
+
+-- the two points, where there are just two
+abbrev pub pair : Option (List Cell) → Option (Cell × Cell)
+pair (Some (first ∷ second ∷ [])) = Some (first, second)
+pair other = None

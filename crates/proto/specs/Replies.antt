@@ -1,0 +1,34 @@
+-- The reply lines of queries: this project's own rule. Numbers are plain decimal, with one blank between two words; each line ends in LF.
+use Rattle.std.specs.Prelude.{ℕ, List, [], ◌∷◌, ◌++◌, codes, Some, None}
+use Rattle.std.specs.Fmt.{decimal}
+use Rattle.metric.specs.Refusal.{refusal_text}
+use Rattle.metric.specs.declared.cell.Cell.{Cell}
+use Rattle.metric.specs.declared.near.Near.{Near}
+use Rattle.proto.specs.declared.answer.Answer.{Answer}
+use Rattle.proto.specs.declared.answer.Answer.TheVariants as answers
+
+-- the column and the row of a cell
+abbrev pub cell_text : Cell → List ℕ
+cell_text cell = decimal cell.x ++ (32 ∷ decimal cell.y)
+
+-- a distance and its obstacle
+abbrev pub near_text : Near → List ℕ
+near_text near = codes "OK " ++ (decimal near.dist ++ (32 ∷ cell_text near.cell))
+
+-- a distance, the cell that has it, and its obstacle
+abbrev pub found_text : Cell × Near → List ℕ
+found_text found = codes "OK " ++ (decimal found.1.dist ++ (32 ∷ (cell_text found.0 ++ (32 ∷ cell_text found.1.cell))))
+
+-- the reply to a query, without its LF
+abbrev pub answer_text : Answer → List ℕ
+answer_text (answers.Near None) = codes "NONE"
+answer_text (answers.Near (Some near)) = near_text near
+answer_text (answers.Found None) = codes "NONE"
+answer_text (answers.Found (Some found)) = found_text found
+answer_text (answers.Clear None) = codes "OK CLEAR"
+answer_text (answers.Clear (Some found)) = found_text found
+answer_text (answers.Refused refusal) = refusal_text refusal
+
+-- the reply line
+abbrev pub reply_line : Answer → List ℕ
+reply_line answer = answer_text answer ++ 10 ∷ []

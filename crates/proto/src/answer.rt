@@ -1,0 +1,16 @@
+//! What a query is answered.
+
+use metric::{Cell, Near, Refusal};
+
+/// The answer to a query.
+#[derive(Clone, Copy, Debug)]
+pub enum Answer {
+    /// The nearest obstacle of a cell; none where there is no obstacle.
+    Near(Option<Near>),
+    /// The cell of the least distance, with its nearest obstacle; none where there is no obstacle.
+    Found(Option<(Cell, Near)>),
+    /// The cell of the least distance, where that is less than was asked for; none where each cell is clear.
+    Clear(Option<(Cell, Near)>),
+    /// The query was refused.
+    Refused(Refusal),
+}

@@ -1,0 +1,80 @@
+//! Texts of a fixed room.
+
+ghost use Rattle.std.specs.Prelude.{◌≡◌, ◌≤◌, ◌+◌, ◌++◌, [], length, vec_len, vec_capacity, IfOk, IfErr};
+ghost use Rattle.std.specs.Fmt.{decimal};
+ghost use Rattle.metric.specs.declared.refusal.Refusal.{Refusal};
+
+use metric::{Refusal, push_decimal};
+use std::alloc::Global;
+use std::marker::Model;
+
+/// A text of at most 128 bytes, the room of which is made at its beginning.
+#[derive(Drop)]
+pub struct Text {
+    bytes: Vec<u8>,
+}
+
+impl Model for Text {
+    ghost use Rattle.std.specs.Prelude.{ℕ, List, ◌≤◌, vec_capacity};
+
+    ghost Value = { List ℕ };
+
+    ghost view = { λ text. text.bytes.items };
+
+    ghost invariant = { λ text. 128 ≤ vec_capacity text.bytes };
+}
+
+impl Text {
+    /// An empty text, with all of its room.
+    pub fn new(alloc: Global) -> Result<Self, Refusal>
+        ensures empty { IfOk result (λ text. text ≡ []) }
+        ensures refusal { IfErr result (λ refusal. refusal ≡ Refusal.Memory) }
+    {
+        match Vec::with_capacity(alloc, 128) {
+            Ok(bytes) => Ok(Text { bytes }),
+            Err(_) => Err(Refusal::Memory),
+        }
+    }
+
+    /// The bytes of the text.
+    pub fn as_bytes(&self) -> &[u8]
+        ensures { result.now ≡ self.now }
+    {
+        self.bytes.as_slice()
+    }
+
+    /// Takes all bytes away.
+    pub(crate) fn clear(&mut self)
+        ensures { self.new ≡ [] }
+    {
+        self.bytes.clear();
+    }
+
+    /// Adds these bytes, for which there is room.
+    pub(crate) fn put(&mut self, added: &[u8])
+        requires { length self.old + length added.now ≤ 128 }
+        ensures { self.new ≡ self.old ++ added.now }
+    {
+        push_bytes(&mut self.bytes, added);
+    }
+
+    /// Adds a number in decimal. There is room for ten digits, and more it never has.
+    pub(crate) fn put_number(&mut self, number: u32)
+        requires { length self.old + 10 ≤ 128 }
+        ensures text { self.new ≡ self.old ++ decimal number }
+        ensures few { length self.new ≤ length self.old + 10 }
+    {
+        push_decimal(&mut self.bytes, number);
+    }
+}
+
+/// Adds bytes, for which there is room.
+fn push_bytes(bytes: &mut Vec<u8>, added: &[u8])
+    requires { vec_len bytes.old + length added.now ≤ vec_capacity bytes.old }
+    ensures text { bytes.new.items ≡ bytes.old.items ++ added.now }
+    ensures room { vec_capacity bytes.new ≡ vec_capacity bytes.old }
+{
+    'bytes: for byte in added {
+        bytes.push_reserved(*byte);
+    }
+}

@@ -1,0 +1,34 @@
+//! The words of a line, which stand between single blanks.
+
+ghost use Rattle.std.specs.Prelude.{◌≡◌, ◌==◌, [], ◌∷◌, ◌<◌, ◌≤◌, ◌^◌, length, position, MatchOption, IfSome};
+ghost use Rattle.proto.specs.Words.{words, words_left, bytes_left};
+
+/// The place of the first blank.
+fn first_blank(bytes: &[u8]) -> Option<usize>
+    ensures { result ≡ position (λ byte. byte == 32) bytes.now }
+{
+    bytes.iter().position(|byte| *byte == b' ')
+}
+
+/// The first word of a line, and what stands behind the blank after it, where there is one.
+pub fn split_word(bytes: &[u8]) -> (&[u8], Option<&[u8]>)
+    ensures words { words bytes.now ≡ result.0.now ∷ words_left result.1 }
+    ensures fewer { bytes_left result.1 ≤ length bytes.now }
+{
+    match first_blank(bytes) {
+        Some(end) => (&bytes[..end], Some(&bytes[end + 1..])),
+        None => (bytes, None),
+    }
+}
+
+/// The first word of what is left of a line, and what is left behind it.
+pub fn next_word(rest: Option<&[u8]>) -> Option<(&[u8], Option<&[u8]>)>
+    ensures words { MatchOption result (words_left rest.entry ≡ []) (λ found. words_left rest.entry ≡ found.0.now ∷ words_left found.1) }
+    ensures fewer { IfSome result (λ found. bytes_left found.1 < bytes_left rest.entry) }
+    ensures small { bytes_left rest.entry ≤ 2 ^ 64 }
+{
+    match rest {
+        Some(bytes) => Some(split_word(bytes)),
+        None => None,
+    }
+}

@@ -1,0 +1,218 @@
+#!/usr/bin/python3
+"""Compares the built program with a plain minimum written here, on random small maps.
+
+Maps of all small sizes and densities, in both forms of PBM with comments and odd whitespace, every metric, with and
+without `--nearest`; and the same images damaged at one place, which are judged by a reader written here from the
+format's description alone. The program is called directly, so build it first (`./clearmap --version`).
+
+    tools/compare_with_oracle.py [--seed N] [--maps N]
+
+The seed stands on the first line, the count and the disagreements on the last. Where Debian's python3-scipy is installed,
+its exact Euclidean transform is asked as well.
+"""
+import argparse
+import pathlib
+import random
+import subprocess
+import sys
+
+TOP = pathlib.Path(__file__).resolve().parent.parent
+PROGRAM = TOP / "crates" / "clearmap" / "out" / "clearmap"
+SPACE = b" \t\r\n"
+METRICS = {
+    "euclid2": lambda dx, dy: dx * dx + dy * dy,
+    "city": lambda dx, dy: dx + dy,
+    "chess": max,
+}
+
+
+class Fault(Exception):
+    """The first fault of an image."""
+
+
+def nearest(cells, distance, x, y):
+    """The key of the nearest obstacle: distance, column, row difference, row."""
+    return min(((distance(abs(x - a), abs(y - b)), a, abs(y - b), b) for a, b in cells), default=None)
+
+
+def table(width, height, cells, metric, tell):
+    """The lines that `dist` has to print."""
+    lines = []
+    for y in range(height):
+        keys = [nearest(cells, METRICS[metric], x, y) for x in range(width)]
+        entries = ["-" if k is None else f"{k[0]}/{k[1]}/{k[3]}" if tell else str(k[0]) for k in keys]
+        lines.append(" ".join(entries) + "\n")
+    return "".join(lines).encode()
+
+
+def gap(data, at):
+    """The place behind a gap that begins here: whitespace, then whitespace and comments."""
+    if at == len(data):
+        raise Fault("Truncated")
+    if data[at] == ord("#"):
+        raise Fault("BadComment")
+    if data[at] not in SPACE:
+        raise Fault("MissingSpace")
+    return filling(data, at + 1)
+
+
+def filling(data, at):
+    """The place behind any mix of whitespace and comments."""
+    while at < len(data):
+        if data[at] in SPACE:
+            at += 1
+        elif data[at] == ord("#"):
+            while at < len(data) and data[at] not in b"\r\n":
+                at += 1
+            if at == len(data):
+                raise Fault("Truncated")
+        else:
+            return at
+    raise Fault("Truncated")
+
+
+def side(data, at):
+    """A side of the map, and the place behind it."""
+    if not data[at:at + 1].isdigit():
+        raise Fault("BadNumber")
+    end = at
+    while data[end:end + 1].isdigit():
+        end += 1
+    value = int(data[at:end])
+    if value == 0:
+        raise Fault("ZeroSize")
+    if value > 4096:
+        raise Fault("TooLarge")
+    return value, end
+
+
+def read(data):
+    """The width, the height and the obstacles of the image at the front; or its first fault."""
+    if data[:2] not in (b"P1", b"P4"):
+        raise Fault("Truncated" if data in (b"", b"P") else "BadMagic")
+    width, at = side(data, gap(data, 2))
+    height, at = side(data, gap(data, at))
+    if data[:2] == b"P4":
+        if at == len(data):
+            raise Fault("Truncated")
+        if data[at] not in SPACE:
+            raise Fault("BadComment" if data[at] == ord("#") else "MissingSpace")
+        return width, height, raw(data[at + 1:], width, height)
+    return width, height, plain(data, gap(data, at), width, height)
+
+
+def raw(raster, width, height):
+    across = (width + 7) // 8
+    if len(raster) < across * height:
+        raise Fault("Truncated")
+    return {(x, y) for y in range(height) for x in range(width) if raster[y * across + x // 8] >> (7 - x % 8) & 1}
+
+
+def plain(data, at, width, height):
+    cells = set()
+    for k in range(width * height):
+        if at < len(data) and data[at] in SPACE:
+            at = filling(data, at)
+        if at == len(data):
+            raise Fault("Truncated")
+        if data[at] == ord("#"):
+            raise Fault("BadComment")
+        if data[at] not in b"01":
+            raise Fault("BadPixel")
+        if data[at] == ord("1"):
+            cells.add((k % width, k // width))
+        at += 1
+    if at < len(data) and data[at] not in SPACE:
+        raise Fault("JunkNotSpaced")
+    return cells
+
+
+def random_gap(rng):
+    text = bytes([rng.choice(SPACE)])
+    while rng.random() < 0.3:
+        text += rng.choice([b" ", b"\n", b"\t", b"# a comment\n", b"#\r", b"#P1 3 3\n"])
+    return text
+
+
+def random_image(rng):
+    width, height = rng.randint(1, rng.choice([3, 9, 20])), rng.randint(1, rng.choice([3, 9, 12]))
+    share = rng.choice([0.0, 0.02, 0.2, 0.5, 0.9, 1.0])
+    bits = [[int(rng.random() < share) for _ in range(width)] for _ in range(height)]
+    zeros = "0" * rng.choice([0, 0, 2, 12])
+    sides = random_gap(rng) + f"{zeros}{width}".encode() + random_gap(rng) + f"{zeros}{height}".encode()
+    if rng.random() < 0.5:
+        fill = rng.randint(0, 1)
+        rows = [sum(bit << (7 - x % 8) << 8 * 0 for x, bit in enumerate(row[k:k + 8])) |
+                (fill * (0xff >> len(row[k:k + 8])) & 0xff) for row in bits for k in range(0, width, 8)]
+        return b"P4" + sides + bytes([rng.choice(SPACE)]) + bytes(rows) + rng.choice([b"", b"more", b"\n"])
+    pixels = b"".join(b"%d" % bit + (random_gap(rng) if rng.random() < 0.2 else b"") for row in bits for bit in row)
+    pixels = pixels[:pixels.rindex(b"%d" % bits[-1][-1]) + 1] if b"#" not in pixels else pixels
+    return b"P1" + sides + random_gap(rng) + pixels + rng.choice([b"", b"\n", b" more"])
+
+
+def damaged(rng, image):
+    at = rng.randrange(len(image) + 1)
+    kind = rng.randrange(4)
+    if kind == 0:
+        return image[:at]
+    byte = bytes([rng.choice(b"#0129 \n\r\tPx\x0b\xff")])
+    return image[:at] + byte + image[at + (kind == 1):] if kind < 3 else image[:at] + image[at + 1:]
+
+
+def wanted(image, metric, tell):
+    try:
+        width, height, cells = read(image)
+    except Fault as fault:
+        return f"ERR 15 BadImage {fault}\n".encode(), 1
+    return table(width, height, cells, metric, tell), 0
+
+
+def scipy_disagrees(image):
+    """Whether scipy's Euclidean transform differs from the plain minimum; None where it can't be asked."""
+    try:
+        import numpy
+        from scipy import ndimage
+        width, height, cells = read(image)
+    except (ImportError, Fault):
+        return None
+    if not cells:
+        return None
+    grid = numpy.ones((height, width))
+    for x, y in cells:
+        grid[y, x] = 0
+    squares = numpy.rint(ndimage.distance_transform_edt(grid) ** 2).astype(int)
+    return any(squares[y, x] != nearest(cells, METRICS["euclid2"], x, y)[0] for y in range(height) for x in range(width))
+
+
+def main():
+    parser = argparse.ArgumentParser()
+    parser.add_argument("--seed", type=int, default=random.SystemRandom().randrange(2**32))
+    parser.add_argument("--maps", type=int, default=2000)
+    parser.add_argument("--program", type=pathlib.Path, default=PROGRAM)
+    given = parser.parse_args()
+    print(f"seed {given.seed}")
+    rng = random.Random(given.seed)
+    wrong, refused, scipy_asked = 0, 0, 0
+    for _ in range(given.maps):
+        image = random_image(rng)
+        if rng.random() < 0.4:
+            image = damaged(rng, image)
+        metric, tell = rng.choice(list(METRICS)), rng.random() < 0.5
+        text, status = wanted(image, metric, tell)
+        words = [given.program, "dist", "--metric", metric] + ["--nearest"] * tell
+        run = subprocess.run(words, input=image, capture_output=True)
+        refused += status
+        if (run.stdout, run.returncode) != (text, status):
+            wrong += 1
+            print(f"DIFFERS {image!r} {metric} {tell}: {run.stdout!r} {run.returncode}, wanted {text!r} {status}")
+        asked = scipy_disagrees(image)
+        scipy_asked += asked is not None
+        if asked:
+            wrong += 1
+            print(f"DIFFERS from scipy: {image!r}")
+    print(f"maps {given.maps}, refused {refused}, scipy asked {scipy_asked}, disagreements {wrong}")
+    return 1 if wrong else 0
+
+
+if __name__ == "__main__":
+    sys.exit(main())
