@@ -2,8 +2,9 @@
 """Compares the built program with a plain minimum written here, on random small maps.
 
 Maps of all small sizes and densities, in both forms of PBM with comments and odd whitespace, every metric, with and
-without `--nearest`; and the same images damaged at one place, which are judged by a reader written here from the
-format's description alone. The program is called directly, so build it first (`./clearmap --version`).
+without `--nearest`, or with a query line, good or bad; and the same images damaged at one place, which are judged by a
+reader written here from the format's description alone. The program is called directly, so build it first
+(`./clearmap --version`).
 
     tools/compare_with_oracle.py [--seed N] [--maps N]
 
@@ -159,12 +160,121 @@ def damaged(rng, image):
     return image[:at] + byte + image[at + (kind == 1):] if kind < 3 else image[:at] + image[at + 1:]
 
 
-def wanted(image, metric, tell):
+def numbers(words):
+    """The numbers that these words spell; None where one isn't a number of a line."""
+    for word in words:
+        if not (word.isdigit() and len(word) <= 10 and int(word) < 2**32):
+            return None
+    return [int(word) for word in words]
+
+
+def walked(points):
+    """The cells of a path, in order; or the index of the first crooked point."""
+    cells = points[:1]
+    for index, ((x, y), (a, b)) in enumerate(zip(points, points[1:]), 1):
+        if x != a and y != b:
+            return index
+        count = max(abs(a - x), abs(b - y))
+        cells += [(x + (a - x) * k // count, y + (b - y) * k // count) for k in range(1, count + 1)]
+    return cells
+
+
+def least(places, cells, distance):
+    """The reply of the first of these places with the least distance."""
+    found = [(nearest(cells, distance, x, y), (x, y)) for x, y in places]
+    key, (x, y) = min(found, key=lambda pair: pair[0][0])
+    return f"OK {key[0]} {x} {y} {key[1]} {key[3]}"
+
+
+def reply(width, height, cells, line):
+    """The reply to a query line."""
+    words = line.split(" ")
+    if words[0] not in ("AT", "RECT", "PATH", "CLEAROF"):
+        return "ERR 11 UnknownCommand"
+    given = numbers(words[2:])
+    if words[1:2] == [] or words[1] not in METRICS or given is None:
+        return "ERR 12 BadArguments"
+    distance = METRICS[words[1]]
+    if words[0] == "AT":
+        if len(given) != 2:
+            return "ERR 12 BadArguments"
+        if given[0] >= width or given[1] >= height:
+            return "ERR 1 OutOfRange"
+        key = nearest(cells, distance, *given)
+        return f"OK {key[0]} {key[1]} {key[3]}" if key else "NONE"
+    if words[0] == "RECT":
+        if len(given) != 4 or not (given[0] < given[2] <= 4096 and given[1] < given[3] <= 4096):
+            return "ERR 12 BadArguments"
+        if given[2] > width or given[3] > height:
+            return "ERR 1 OutOfRange"
+        places = [(x, y) for y in range(given[1], given[3]) for x in range(given[0], given[2])]
+        return least(places, cells, distance) if cells else "NONE"
+    within = None
+    if words[0] == "CLEAROF":
+        if not given:
+            return "ERR 12 BadArguments"
+        within = given.pop(0)
+    if len(given) % 2:
+        return "ERR 12 BadArguments"
+    return along(width, height, cells, distance, within, list(zip(given[::2], given[1::2])))
+
+
+def along(width, height, cells, distance, within, points):
+    """The reply to a path: its least distance, or its first cell that is nearer than `within`."""
+    if not 1 <= len(points) <= 1000:
+        return "ERR 8 BadPath"
+    if any(x >= width or y >= height for x, y in points):
+        return "ERR 1 OutOfRange"
+    places = walked(points)
+    if isinstance(places, int):
+        return f"ERR 9 Crooked {places}"
+    if within is None:
+        return least(places, cells, distance) if cells else "NONE"
+    for x, y in places:
+        key = nearest(cells, distance, x, y)
+        if key and key[0] < within:
+            return f"OK {key[0]} {x} {y} {key[1]} {key[3]}"
+    return "OK CLEAR"
+
+
+def random_line(rng):
+    """A query line, most often a good one for a map of this size or a little less."""
+    side_of = rng.choice([3, 9, 20])
+    metric = rng.choice(list(METRICS))
+    x, y = rng.randrange(side_of), rng.randrange(side_of)
+    kind = rng.choice(["AT", "RECT", "PATH", "CLEAROF"])
+    if kind == "AT":
+        said = [x, y]
+    elif kind == "RECT":
+        said = [x, y, x + rng.randint(1, 4), y + rng.randint(1, 4)]
+    else:
+        said = [x, y]
+        for _ in range(rng.choice([0, 1, 2, 5])):
+            x, y = (rng.randrange(side_of), y) if rng.random() < 0.5 else (x, rng.randrange(side_of))
+            if rng.random() < 0.05:
+                x, y = y, x
+            said += [x, y]
+        if kind == "CLEAROF":
+            said.insert(0, rng.choice([0, 1, 2, 3, 5, 9, 30, 2**32 - 1]))
+    words = [kind, metric] + [str(number) for number in said]
+    harm = rng.randrange(12)
+    if harm == 0:
+        words[rng.randrange(len(words))] = rng.choice(["", "x", "-1", "4097", "70000", "4294967296", "00000000001", "at", "007"])
+    elif harm == 1:
+        words.pop(rng.randrange(len(words)))
+    return " ".join(words)
+
+
+def wanted(image, metric, tell, line):
+    """What the program has to print, and its status."""
     try:
         width, height, cells = read(image)
     except Fault as fault:
         return f"ERR 15 BadImage {fault}\n".encode(), 1
-    return table(width, height, cells, metric, tell), 0
+    if line is None:
+        return table(width, height, cells, metric, tell), 0
+    text = reply(width, height, cells, line)
+    return text.encode() + b"\n", int(text.startswith("ERR"))
 
 
 def scipy_disagrees(image):
@@ -198,13 +308,15 @@ def main():
         if rng.random() < 0.4:
             image = damaged(rng, image)
         metric, tell = rng.choice(list(METRICS)), rng.random() < 0.5
-        text, status = wanted(image, metric, tell)
+        line = random_line(rng) if rng.random() < 0.5 else None
+        text, status = wanted(image, metric, tell, line)
         words = [given.program, "dist", "--metric", metric] + ["--nearest"] * tell
+        words += [] if line is None else [f"--query={line}"]
         run = subprocess.run(words, input=image, capture_output=True)
         refused += status
         if (run.stdout, run.returncode) != (text, status):
             wrong += 1
-            print(f"DIFFERS {image!r} {metric} {tell}: {run.stdout!r} {run.returncode}, wanted {text!r} {status}")
+            print(f"DIFFERS {image!r} {metric} {tell} {line!r}: {run.stdout!r} {run.returncode}, wanted {text!r} {status}")
         asked = scipy_disagrees(image)
         scipy_asked += asked is not None
         if asked:

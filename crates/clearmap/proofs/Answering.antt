@@ -1,5 +1,6 @@
 -- An answer of `dist`, written whole or in part.
 use Rattle.std.proofs.Common.{◌≡◌, ◌≢◌, ℕ, List, [], ◌∷◌, ◌++◌, Option, Some, None, Result, Ok, Err, inl, inr, refl, arith, IfOk, OnOk, OnErr}
+use Rattle.std.specs.Borrow.{Bor}
 use Rattle.std.specs.Result.{result_unwrap_or}
 use Rattle.metric.specs.declared.fault.PbmFault.{PbmFault}
 use Rattle.metric.specs.declared.fault.PbmFault.TheVariants as faults
@@ -10,7 +11,7 @@ use Rattle.clearmap.specs.declared.arguments.DistOptions.{DistOptions}
 use Rattle.clearmap.specs.declared.table.Table.{Table}
 use Rattle.clearmap.specs.Table.{table_text}
 use Rattle.clearmap.specs.Tabled.{IsTableOf}
-use Rattle.clearmap.specs.Dist.{IsDistAnswer, IsRefused, Answers, BeginsToAnswer}
+use Rattle.clearmap.specs.Dist.{IsDistAnswer, IsRefused, IsReply, Answers, BeginsToAnswer}
 
 -- the bytes that a reader tells, and none where it tells nothing
 pub told : Option (List ℕ) → List ℕ
@@ -48,9 +49,10 @@ answer_of_fault options bytes fault status true_of one = inr (record { fault = f
 pub answer_of_memory : (options : DistOptions) (bytes : List ℕ) (status : ℕ) → status ≡ 1 → IsDistAnswer options bytes (image_text faults.Memory ++ 10 ∷ []) status
 answer_of_memory options bytes status one = answer_of_fault options bytes faults.Memory status (λ other. absurd (other refl)) one
 
--- the lines of a table are an answer to the bytes that it is the table of
-pub answer_of_table : (options : DistOptions) (bytes : List ℕ) (table : Table) → IsTableOf options.metric bytes table → IsDistAnswer options bytes (table_text options.nearest table.width table.height table.nears.items) 0
-answer_of_table options bytes table of = inl (record {
+-- the lines of a table are what is asked where no line is
+pub asked_of_table : (options : DistOptions) (bytes : List ℕ) (table : Table) → options.query ≡ None → IsTableOf options.metric bytes table
+    → IsDistAnswer options bytes (table_text options.nearest table.width table.height table.nears.items) 0
+asked_of_table options bytes table no_line of = inl (rw no_line (record {
   taken = of.taken;
   cells = of.cells;
   nears = table.nears.items;
@@ -58,7 +60,11 @@ answer_of_table options bytes table of = inl (record {
   rows = of.rows;
   text_is = rw (of.width_is, of.height_is) refl;
   status_is = refl;
-})
+}))
+
+-- a reply is what is asked where a line is
+pub asked_of_reply : (options : DistOptions) (bytes : List ℕ) (line : Bor (List ℕ)) (text : List ℕ) (status : ℕ) → options.query ≡ Some line → IsReply line.now bytes text status → IsDistAnswer options bytes text status
+asked_of_reply options bytes line text status given reply = inl (rw given reply)
 
 -- the line of want of memory, written whole, is an answer to any bytes
 pub memory_whole : (options : DistOptions) (bytes : List ℕ) (before after : Option (List ℕ)) (written : Result ℕ WriteFault) → IfOk written (λ status. status ≡ 1)

@@ -1,6 +1,7 @@
 -- What the words `dist` alone say.
 use Rattle.std.proofs.Common.{◌≡◌, ℕ, List, [], ◌∷◌, Option, Some, None, Bool, refl, ap, ap₂, sym, ◌∙◌, true, false, codes}
 use Rattle.std.specs.Prelude.{option_map, option_and_then}
+use Rattle.std.specs.Borrow.{Bor}
 use Rattle.clap.specs.Words.{HasMatchesOf, Row, Text, first_of, one_of, is_simple, takes, subcommand_of, subcommand_rows_of}
 use Rattle.clap.specs.Matches.{subcommand_name_of}
 use Rattle.clap.specs.declared.parser.matches.ArgMatches.{ArgMatches}
@@ -11,8 +12,8 @@ use Rattle.clearmap.specs.declared.arguments.DistOptions.{DistOptions}
 use Rattle.clearmap.specs.CommandLine.{AreDistOptions, default_options, metric_named, program_app}
 
 -- what the words say of the subcommand and its flags
-abbrev pub read_of : Option (Text × List Row) → Option (Text × Option Text × Option Text)
-read_of found = option_map (λ p. (p.0, first_of (codes "metric") p.1, one_of (codes "nearest") p.1)) found
+abbrev pub read_of : Option (Text × List Row) → Option (Text × Option Text × Option Text × Option Text)
+read_of found = option_map (λ p. (p.0, first_of (codes "metric") p.1, one_of (codes "nearest") p.1, first_of (codes "query") p.1)) found
 
 -- the words are taken, whatever the program is called
 pub takes_dist : (name : List ℕ) → takes program_app (name ∷ codes "dist" ∷ []) ≡ true
@@ -20,7 +21,7 @@ unfolding clap_on_literals
 takes_dist name = refl
 
 -- they name the subcommand `dist`, and its flags have their defaults
-pub read_of_dist : (name : List ℕ) → read_of (subcommand_of program_app (name ∷ codes "dist" ∷ [])) ≡ Some (codes "dist", Some (codes "euclid2"), Some (codes "false"))
+pub read_of_dist : (name : List ℕ) → read_of (subcommand_of program_app (name ∷ codes "dist" ∷ [])) ≡ Some (codes "dist", Some (codes "euclid2"), Some (codes "false"), None)
 unfolding clap_on_literals
 read_of_dist name = refl
 
@@ -35,44 +36,52 @@ first_of_pair f g None = refl
 first_of_pair f g (Some x) = refl
 
 -- the first part of what is read is the subcommand's name
-name_of_read : (found : Option (Text × List Row)) (name : Text) (metric nearest : Option Text) → read_of found ≡ Some (name, metric, nearest) → option_map (λ (p : Text × List Row). p.0) found ≡ Some name
-name_of_read None name metric nearest e = absurd (cc)
-name_of_read (Some p) name metric nearest e = let same : read_of (Some p) ≡ Some (name, metric, nearest) = e in ap (option_map (λ (t : Text × Option Text × Option Text). t.0)) same
+name_of_read : (found : Option (Text × List Row)) (name : Text) (metric nearest query : Option Text) → read_of found ≡ Some (name, metric, nearest, query) → option_map (λ (p : Text × List Row). p.0) found ≡ Some name
+name_of_read None name metric nearest query e = absurd (cc)
+name_of_read (Some p) name metric nearest query e = let same : read_of (Some p) ≡ Some (name, metric, nearest, query) = e in ap (option_map (λ (t : Text × Option Text × Option Text × Option Text). t.0)) same
 
 -- a parse whose words name the subcommand `dist` has met it
 pub named_dist : (name : List ℕ) (texts : List (List ℕ)) (matches : ArgMatches) → texts ≡ name ∷ codes "dist" ∷ [] → HasMatchesOf program_app texts matches → subcommand_name_of matches ≡ Some (codes "dist")
 named_dist name texts matches words found =
     let met : subcommand_rows_of matches ≡ subcommand_of program_app (name ∷ codes "dist" ∷ []) = (found program_is_simple).1 ∙ ap (subcommand_of program_app) words in
     first_of_pair _ _ _ ∙ (ap (option_map (λ (p : Text × List Row). p.0)) met
-    ∙ name_of_read (subcommand_of program_app (name ∷ codes "dist" ∷ [])) (codes "dist") (Some (codes "euclid2")) (Some (codes "false")) (read_of_dist name))
+    ∙ name_of_read (subcommand_of program_app (name ∷ codes "dist" ∷ [])) (codes "dist") (Some (codes "euclid2")) (Some (codes "false")) None (read_of_dist name))
 
 -- the flags that were read are those of the subcommand's rows
-read_rows : (found : Option (Text × List Row)) (rows : List Row) (name : Text) (metric nearest : Option Text) → option_map (λ (p : Text × List Row). p.1) found ≡ Some rows
-    → read_of found ≡ Some (name, metric, nearest) → (first_of (codes "metric") rows ≡ metric) × (one_of (codes "nearest") rows ≡ nearest)
-read_rows None rows name metric nearest these read = absurd (cc)
-read_rows (Some p) rows name metric nearest these read =
+read_rows : (found : Option (Text × List Row)) (rows : List Row) (name : Text) (metric nearest query : Option Text) → option_map (λ (p : Text × List Row). p.1) found ≡ Some rows
+    → read_of found ≡ Some (name, metric, nearest, query) → (first_of (codes "metric") rows ≡ metric) × (one_of (codes "nearest") rows ≡ nearest) × (first_of (codes "query") rows ≡ query)
+read_rows None rows name metric nearest query these read = absurd (cc)
+read_rows (Some p) rows name metric nearest query these read =
     let same : p.1 ≡ rows = cc in
-    let first : Some (first_of (codes "metric") p.1) ≡ Some metric = ap (option_map (λ (t : Text × Option Text × Option Text). t.1)) read in
-    let second : Some (one_of (codes "nearest") p.1) ≡ Some nearest = ap (option_map (λ (t : Text × Option Text × Option Text). t.2)) read in
-    (rw (← same) (cc), rw (← same) (cc))
+    let first : Some (first_of (codes "metric") p.1) ≡ Some metric = ap (option_map (λ (t : Text × Option Text × Option Text × Option Text). t.1)) read in
+    let second : Some (one_of (codes "nearest") p.1) ≡ Some nearest = ap (option_map (λ (t : Text × Option Text × Option Text × Option Text). t.2)) read in
+    let third : Some (first_of (codes "query") p.1) ≡ Some query = ap (option_map (λ (t : Text × Option Text × Option Text × Option Text). t.3)) read in
+    (rw (← same) (cc), rw (← same) (cc), rw (← same) (cc))
 
 -- where the words are `dist` alone its flags have their defaults
 pub dist_defaults : (name : List ℕ) (texts : List (List ℕ)) (matches : ArgMatches) (rows : List Row) → texts ≡ name ∷ codes "dist" ∷ [] → HasMatchesOf program_app texts matches
     → option_map (λ (p : Text × List Row). p.1) (subcommand_rows_of matches) ≡ Some rows
-    → (first_of (codes "metric") rows ≡ Some (codes "euclid2")) × (one_of (codes "nearest") rows ≡ Some (codes "false"))
+    → (first_of (codes "metric") rows ≡ Some (codes "euclid2")) × (one_of (codes "nearest") rows ≡ Some (codes "false")) × (first_of (codes "query") rows ≡ None)
 dist_defaults name texts matches rows words found these =
     let met : subcommand_rows_of matches ≡ subcommand_of program_app (name ∷ codes "dist" ∷ []) = (found program_is_simple).1 ∙ ap (subcommand_of program_app) words in
-    read_rows (subcommand_of program_app (name ∷ codes "dist" ∷ [])) rows (codes "dist") (Some (codes "euclid2")) (Some (codes "false"))
+    read_rows (subcommand_of program_app (name ∷ codes "dist" ∷ [])) rows (codes "dist") (Some (codes "euclid2")) (Some (codes "false")) None
     (rw (← met) these) (read_of_dist name)
+
+-- where nothing comes of an option's value it has none
+unmapped : {A B : Type 0} (f : A → B) (o : Option A) → option_map f o ≡ None → o ≡ None
+unmapped f None e = refl
+unmapped f (Some x) e = absurd (cc)
 
 -- flags with their defaults are the default options
 pub default_options-read : (rows : List Row) (options : DistOptions) → AreDistOptions rows options → first_of (codes "metric") rows ≡ Some (codes "euclid2") → one_of (codes "nearest") rows ≡ Some (codes "false")
-    → options ≡ default_options
-default_options-read rows options are metric nearest =
+    → first_of (codes "query") rows ≡ None → options ≡ default_options
+default_options-read rows options are metric nearest query =
     let named : Some Euclid2 ≡ Some options.metric = ap (option_and_then metric_named) (sym metric) ∙ are.metric in
     let euclid : options.metric ≡ Euclid2 = cc in
     let plain : options.nearest ≡ false = are.unset nearest in
-    ap₂ (λ (m : MetricKind) (n : Bool). record { metric = m; nearest = n }) euclid plain
+    let unasked : options.query ≡ None = unmapped _ options.query (are.query ∙ query) in
+    ap₂ (λ (m : MetricKind) (n : Bool). record { metric = m; nearest = n; query = options.query }) euclid plain
+    ∙ ap (λ (q : Option (Bor (List ℕ))). record { metric = Euclid2; nearest = false; query = q }) unasked
 
 -- a metric that is named is no unknown one
 pub euclid2_is_named : (rows : List Row) → first_of (codes "metric") rows ≡ Some (codes "euclid2") → option_and_then metric_named (first_of (codes "metric") rows) ≡ None → ⊥

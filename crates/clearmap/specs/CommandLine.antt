@@ -1,5 +1,5 @@
 -- The command line: this project's own rule, in the words of `clap`.
-use Rattle.std.specs.Prelude.{◌≡◌, ℕ, List, [], ◌∷◌, Option, Some, None, bytes_eq, codes, map, option_and_then, true, false, if◌then◌else◌}
+use Rattle.std.specs.Prelude.{◌≡◌, ℕ, List, [], ◌∷◌, Option, Some, None, bytes_eq, codes, map, option_map, option_and_then, true, false, if◌then◌else◌}
 use Rattle.std.specs.Borrow.{Bor}
 use Rattle.clap.specs.Words.{App, Row, Rule, first_of, kind_of, new_app, new_rule, one_of, subcommand_of, with_rule, with_subcommand}
 use Rattle.clap.specs.Simple.{on_top}
@@ -34,9 +34,13 @@ metric_rule = record (new_rule (codes "metric")) { long = Some (codes "metric");
 abbrev pub nearest_rule : Rule
 nearest_rule = record (new_rule (codes "nearest")) { long = Some (codes "nearest"); action = Some SetTrue }
 
+-- the flag `--query`, which has no default
+abbrev pub query_rule : Rule
+query_rule = record (new_rule (codes "query")) { long = Some (codes "query"); value_names = 1 }
+
 -- the subcommand `dist` and its flags
 abbrev pub dist_app : App
-dist_app = with_rule (with_rule (new_app (codes "dist")) metric_rule) nearest_rule
+dist_app = with_rule (with_rule (with_rule (new_app (codes "dist")) metric_rule) nearest_rule) query_rule
 
 -- the program: it has a version, and wants a subcommand
 abbrev pub program_app : App
@@ -47,10 +51,11 @@ pub record AreDistOptions (rows : List Row) (options : DistOptions) : Type 0 whe
   pub metric : option_and_then metric_named (first_of (codes "metric") rows) ≡ Some options.metric
   pub set : one_of (codes "nearest") rows ≡ Some (codes "true") → options.nearest ≡ true
   pub unset : one_of (codes "nearest") rows ≡ Some (codes "false") → options.nearest ≡ false
+  pub query : option_map (λ line. line.now) options.query ≡ first_of (codes "query") rows
 
 -- what `dist` does where no flag is given
 abbrev pub default_options : DistOptions
-default_options = record { metric = Euclid2; nearest = false }
+default_options = record { metric = Euclid2; nearest = false; query = None }
 
 -- the options are those of a `dist` that the words name
 abbrev pub AreOptions : List (List ℕ) → Options → Type 0

@@ -1,5 +1,5 @@
 -- What `dist` answers to an image: this project's own rule.
-use Rattle.std.specs.Prelude.{◌≡◌, ◌≢◌, ℕ, List, [], ◌∷◌, ◌++◌, ◌⊎◌, Option, Err}
+use Rattle.std.specs.Prelude.{◌≡◌, ◌≢◌, ℕ, List, [], ◌∷◌, ◌++◌, ◌⊎◌, Option, Err, MatchOption}
 use Rattle.metric.specs.declared.fault.PbmFault.{PbmFault}
 use Rattle.metric.specs.declared.fault.PbmFault.TheVariants as faults
 use Rattle.metric.specs.Kind.{distance_of}
@@ -10,6 +10,10 @@ use Rattle.bits.specs.Cells.{Cells}
 use Rattle.pbm.specs.Faults.{image}
 use Rattle.pbm.specs.Image.{Reads}
 use Rattle.field.specs.Rows.{AreNears}
+use Rattle.proto.specs.Asked.{asked}
+use Rattle.proto.specs.Replies.{reply_line}
+use Rattle.proto.specs.declared.answer.Answer.{Answer}
+use Rattle.clearmap.specs.Query.{IsReplyTo, status_of}
 use Rattle.clearmap.specs.declared.arguments.DistOptions.{DistOptions}
 use Rattle.clearmap.specs.Table.{table_text}
 
@@ -22,6 +26,20 @@ pub record IsTable (options : DistOptions) (bytes text : List ℕ) (status : ℕ
   pub rows : AreNears (distance_of options.metric) cells 0 cells.height nears
   pub text_is : text ≡ table_text options.nearest cells.width cells.height nears
   pub status_is : status ≡ 0
+
+-- the bytes read as an image, and the text is the reply to the line
+pub record IsReply (line bytes text : List ℕ) (status : ℕ) : Type 0 where
+  pub taken : ℕ
+  pub cells : Cells
+  pub answer : Answer
+  pub reads : Reads bytes taken cells
+  pub replies : IsReplyTo cells (asked line) answer
+  pub text_is : text ≡ reply_line answer
+  pub status_is : status ≡ status_of answer
+
+-- the bytes read as an image, and the text is what the options ask of it: the table, or the reply to a line
+abbrev pub IsAsked : DistOptions → List ℕ → List ℕ → ℕ → Type 0
+IsAsked options bytes text status = MatchOption options.query (IsTable options bytes text status) (λ line. IsReply line.now bytes text status)
 
 -- the bytes don't read as an image, and this is their first fault
 pub record IsRefused (bytes : List ℕ) (fault : PbmFault) : Type 0 where
@@ -37,7 +55,7 @@ pub record IsFault (bytes text : List ℕ) (status : ℕ) : Type 0 where
 
 -- an answer to these bytes under these options, with its status
 abbrev pub IsDistAnswer : DistOptions → List ℕ → List ℕ → ℕ → Type 0
-IsDistAnswer options bytes text status = IsTable options bytes text status ⊎ IsFault bytes text status
+IsDistAnswer options bytes text status = IsAsked options bytes text status ⊎ IsFault bytes text status
 
 -- an answer to all bytes that the reader had was written whole
 pub record Answers (options : DistOptions) (unread held_before held_after : Option (List ℕ)) (status : ℕ) : Type 0 where

@@ -9,18 +9,20 @@ use thiserror::Error;
 
 /// What the program is to do.
 #[derive(Clone, Copy, Debug, PartialEq, Eq)]
-pub enum Options {
+pub enum Options<'a> {
     /// Answer an image.
-    Dist(DistOptions),
+    Dist(DistOptions<'a>),
 }
 
 /// How `dist` is to answer.
 #[derive(Clone, Copy, Debug, PartialEq, Eq)]
-pub struct DistOptions {
+pub struct DistOptions<'a> {
     /// The distance.
     pub metric: MetricKind,
     /// Whether each entry tells its nearest obstacle.
     pub nearest: bool,
+    /// The line to answer in place of the whole table.
+    pub query: Option<&'a str>,
 }
 
 /// Why the words aren't a command to run.

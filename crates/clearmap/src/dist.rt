@@ -9,6 +9,7 @@ ghost use Rattle.clearmap.specs.Table.{table_text};
 use crate::arguments::DistOptions;
 use crate::input::{InputStop, read_to_end};
 use crate::output::write_table;
+use crate::reply::Reply;
 use crate::table::Table;
 use metric::{PbmFault, Sink, Source, WriteFault};
 use std::alloc::Global;
@@ -24,7 +25,7 @@ const REFUSED: u8 = 1;
 /// A refused image, or want of memory, is one line instead, with status 1. All is computed before the first byte is written. Where a call of the reader or the writer fails, neither is called again, and the status is 1.
 pub fn dist_run<R: Source, W: Sink>(
     alloc: Global,
-    options: &DistOptions,
+    options: &DistOptions<'_>,
     reader: &mut R,
     writer: &mut W,
 ) -> u8
@@ -54,7 +55,7 @@ pub fn dist_run<R: Source, W: Sink>(
 /// Writes the answer to these bytes.
 fn write_answer<W: Sink>(
     alloc: Global,
-    options: &DistOptions,
+    options: &DistOptions<'_>,
     bytes: &[u8],
     writer: &mut W,
 ) -> Result<u8, WriteFault>
@@ -63,10 +64,29 @@ fn write_answer<W: Sink>(
     ensures front { OnErr result ((text : List ℕ) × (status : ℕ) × IsDistAnswer options.now bytes.now text status × AppendsFront (W.held writer.old) text (W.held writer.new)) }
     ensures counts { Counts (W.failed_writes writer.old) result (W.failed_writes writer.new) }
 {
-    match Table::of(alloc, bytes, options.metric) {
-        Ok(table) => write_rows(writer, table, options.nearest),
-        Err(fault) => write_fault(writer, fault),
+    match options.query {
+        Some(line) => match Reply::of(alloc, bytes, line.as_bytes()) {
+            Ok(reply) => write_reply(writer, reply),
+            Err(fault) => write_fault(writer, fault),
+        },
+        None => match Table::of(alloc, bytes, options.metric) {
+            Ok(table) => write_rows(writer, table, options.nearest),
+            Err(fault) => write_fault(writer, fault),
+        },
     }
+}
+
+/// Writes the reply to a line.
+fn write_reply<W: Sink>(writer: &mut W, reply: Reply) -> Result<u8, WriteFault>
+    requires { CanFail (W.failed_writes writer.old) }
+    ensures status { IfOk result (λ status. status ≡ reply.status) }
+    ensures whole { OnOk result (Appends (W.held writer.old) reply.text (W.held writer.new)) }
+    ensures front { OnErr result (AppendsFront (W.held writer.old) reply.text (W.held writer.new)) }
+    ensures counts { Counts (W.failed_writes writer.old) result (W.failed_writes writer.new) }
+{
+    writer.write_all(reply.text.as_bytes())?;
+    writer.flush()?;
+    Ok(reply.status)
 }
 
 /// Writes the table's lines.

@@ -6,6 +6,8 @@ mod dist;
 mod input;
 mod line;
 mod output;
+mod query;
+mod reply;
 mod run;
 mod table;
 #[cfg(test)]

@@ -4,7 +4,6 @@ use crate::arguments::{DistOptions, Fault, Options};
 use crate::dist::dist_run;
 use crate::words::options;
 use metric::{ReaderSource, Refusal, WriterSink};
-use std::alloc::AllocError;
 use std::rt::Env;
 use std::{env, io};
 
@@ -19,25 +18,35 @@ const MISTAKEN: u8 = 2;
 
 /// Runs what the process's words name, and answers its exit status.
 pub fn run<R: Env + Input + Print + Eprint + AllocGlobal>(rt: &R) -> u8 {
-    match command_line(rt) {
+    match words_of(rt) {
+        Ok(words) => run_words(rt, words.as_slice()),
+        Err(fault) => report(rt, &fault),
+    }
+}
+
+/// The process's words.
+fn words_of<R: Env + AllocGlobal>(rt: &R) -> Result<Vec<String>, Fault> {
+    Ok(env::args(rt)?.collect(rt.alloc())?)
+}
+
+/// Runs what these words name.
+fn run_words<R: Input + Print + Eprint + AllocGlobal>(rt: &R, words: &[String]) -> u8 {
+    let alloc = rt.alloc();
+    let Ok(texts) = words
+        .iter()
+        .map(|word| word.as_str())
+        .collect::<Vec<&str>>(alloc)
+    else {
+        return refuse(rt);
+    };
+    match options(alloc, texts.as_slice()) {
         Ok(Options::Dist(options)) => dist(rt, &options),
         Err(fault) => report(rt, &fault),
     }
 }
 
-/// What the process's words say.
-fn command_line<R: Env + AllocGlobal>(rt: &R) -> Result<Options, Fault> {
-    let alloc = rt.alloc();
-    let words: Vec<String> = env::args(rt)?.collect(alloc)?;
-    let mut texts: Vec<&str> = Vec::with_capacity(alloc, words.len())?;
-    for word in &words {
-        texts.push(word.as_str()).map_err(AllocError::from)?;
-    }
-    options(alloc, texts.as_slice())
-}
-
 /// Runs `dist` on the standard streams.
-fn dist<R: Input + Print + AllocGlobal>(rt: &R, options: &DistOptions) -> u8 {
+fn dist<R: Input + Print + AllocGlobal>(rt: &R, options: &DistOptions<'_>) -> u8 {
     let alloc = rt.alloc();
     let Ok(mut reader) = ReaderSource::new(alloc, rt.reader()) else {
         return refuse(rt);

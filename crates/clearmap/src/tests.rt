@@ -11,6 +11,7 @@ use std::test::Fail;
 const DEFAULT: DistOptions = DistOptions {
     metric: MetricKind::Euclid2,
     nearest: false,
+    query: None,
 };
 
 /// Images, what is written for them, and the status.
@@ -69,6 +70,46 @@ const CHOSEN: [(&[u8], MetricKind, bool, &str); 6] = [
     ),
 ];
 
+/// Images and query lines, what is written for them, and the status.
+const QUERIES: [(&[u8], &str, &str, u8); 18] = [
+    (
+        b"P1\n# made by hand\n3 1\n101 anything",
+        "AT euclid2 1 0",
+        "OK 1 0 0\n",
+        0,
+    ),
+    (b"P1\n3 2\n100\n100\n", "AT chess 2 1", "OK 2 0 1\n", 0),
+    (b"P1\n3 2\n000\n000\n", "AT city 0 0", "NONE\n", 0),
+    (POST, "PATH city 0 0 5 0 5 3", "OK 1 2 0 2 1\n", 0),
+    (POST, "PATH city 0 0 0 0", "OK 3 0 0 2 1\n", 0),
+    (POST, "PATH city 0 0 1 1", "ERR 9 Crooked 1\n", 1),
+    (POST, "PATH city", "ERR 8 BadPath\n", 1),
+    (POST, "CLEAROF city 1 0 0 5 0 5 3", "OK CLEAR\n", 0),
+    (POST, "CLEAROF city 2 0 0 5 0 5 3", "OK 1 2 0 2 1\n", 0),
+    (POST, "CLEAROF city 3 0 0 5 0 5 3", "OK 2 1 0 2 1\n", 0),
+    (POST, "RECT euclid2 0 2 6 4", "OK 1 2 2 2 1\n", 0),
+    (POST, "RECT euclid2 0 0 7 4", "ERR 1 OutOfRange\n", 1),
+    (POST, "AT euclid2 6 0", "ERR 1 OutOfRange\n", 1),
+    (POST, "AT euclid 0 0", "ERR 12 BadArguments\n", 1),
+    (POST, "WHERE 0 0", "ERR 11 UnknownCommand\n", 1),
+    (POST, "", "ERR 11 UnknownCommand\n", 1),
+    (
+        b"P1\n6 4\n00",
+        "WHERE 0 0",
+        "ERR 15 BadImage Truncated\n",
+        1,
+    ),
+    (
+        b"P4\n4097 1\n",
+        "AT city 0 0",
+        "ERR 15 BadImage TooLarge\n",
+        1,
+    ),
+];
+
+/// The worked map of six columns and four rows.
+const POST: &[u8] = b"P1\n6 4\n000000\n001000\n000000\n000000\n";
+
 /// The worked map of three columns and two rows.
 const ROOM: &[u8] = b"P1\n3 2\n100\n000\n";
 
@@ -90,13 +131,48 @@ fn images_are_answered(rt: HostRuntime) {
 #[test]
 fn flags_are_heeded(rt: HostRuntime) {
     for (image, metric, nearest, want) in CHOSEN {
-        let options = DistOptions { metric, nearest };
+        let options = DistOptions {
+            metric,
+            nearest,
+            query: None,
+        };
         let mut reader = MemorySource::new(image);
         let mut writer = MemorySink::new(rt.alloc());
         let status = dist_run(rt.alloc(), &options, &mut reader, &mut writer);
         assert_eq!(rt; status, 0, "at {want:?}");
         assert_eq!(rt; writer.bytes(), want.as_bytes(), "at {want:?}");
     }
+}
+
+#[test]
+fn queries_are_answered(rt: HostRuntime) {
+    for (image, line, want, status) in QUERIES {
+        let options = DistOptions {
+            query: Some(line),
+            ..DEFAULT
+        };
+        let mut reader = MemorySource::new(image);
+        let mut writer = MemorySink::new(rt.alloc());
+        let got = dist_run(rt.alloc(), &options, &mut reader, &mut writer);
+        assert_eq!(rt; got, status, "at {line:?}");
+        assert_eq!(rt; writer.bytes(), want.as_bytes(), "at {line:?}");
+        assert!(rt;
+            reader.left().is_empty(),
+            "the input is read to its end at {line:?}"
+        );
+    }
+}
+
+#[test]
+fn the_line_is_taken(rt: HostRuntime) -> Result<(), Fail> {
+    let words = ["clearmap", "dist", "--query", "AT city 3 4"];
+    let wanted = DistOptions {
+        query: Some("AT city 3 4"),
+        ..DEFAULT
+    };
+    let said = options(rt.alloc(), &words)?;
+    assert_eq!(rt; said, Options::Dist(wanted));
+    Ok(())
 }
 
 /// What a run writes whose reader fails at a read.
@@ -161,7 +237,11 @@ fn words_are_read(rt: HostRuntime) -> Result<(), Fail> {
         let said = options(rt.alloc(), words)?;
         assert_eq!(rt;
             said,
-            Options::Dist(DistOptions { metric, nearest }),
+            Options::Dist(DistOptions {
+                metric,
+                nearest,
+                query: None,
+            }),
             "at {words:?}"
         );
     }

@@ -6,7 +6,7 @@ ghost use Rattle.clap.specs.declared.builder.command.Command.TheViews.{out-Comma
 ghost use Rattle.clap.specs.declared.error.kind.ErrorKind.TheVariants.{OutOfMemory};
 ghost use Rattle.clearmap.specs.declared.arguments.Fault.TheVariants.{Memory};
 ghost use Rattle.clearmap.specs.declared.arguments.Options.TheVariants.{Dist};
-ghost use Rattle.clearmap.specs.CommandLine.{AreDistOptions, AreOptions, default_options, dist_app, metric_named, metric_rule, nearest_rule, program_app, texts_of};
+ghost use Rattle.clearmap.specs.CommandLine.{AreDistOptions, AreOptions, default_options, dist_app, metric_named, metric_rule, nearest_rule, program_app, query_rule, texts_of};
 
 use crate::arguments::{DistOptions, Fault, Options};
 use clap::{Arg, ArgAction, ArgMatches, Command, Error};
@@ -16,7 +16,7 @@ use std::alloc::Global;
 /// Reads the words of the command line, of which the first is the program's name.
 ///
 /// `--help` and `--version` come as a fault whose text goes to standard output, with status 0.
-pub fn options<'a>(alloc: Global, words: &'a [&'a str]) -> Result<Options, Fault>
+pub fn options<'a>(alloc: Global, words: &'a [&'a str]) -> Result<Options<'a>, Fault>
     ensures options { IfOk result (AreOptions (texts_of words.entry.now)) }
     ensures taken { (name : List ℕ) → texts_of words.entry.now ≡ name ∷ codes "dist" ∷ []
         → MatchResult result (λ options. options ≡ Dist default_options) (λ fault. fault ≡ Memory) }
@@ -29,7 +29,7 @@ pub fn options<'a>(alloc: Global, words: &'a [&'a str]) -> Result<Options, Fault
 }
 
 /// The flags of `dist`.
-fn dist_options(flags: &ArgMatches<'_>) -> Result<DistOptions, Fault>
+fn dist_options<'a>(flags: &ArgMatches<'a>) -> Result<DistOptions<'a>, Fault>
     ensures options { IfOk result (AreDistOptions (rows_of (found_of flags.now))) }
     ensures unknown { OnErr result (option_and_then metric_named (first_of (codes "metric") (rows_of (found_of flags.now))) ≡ None) }
 {
@@ -37,6 +37,7 @@ fn dist_options(flags: &ArgMatches<'_>) -> Result<DistOptions, Fault>
         Some(metric) => Ok(DistOptions {
             metric,
             nearest: flags.get_flag("nearest"),
+            query: flags.get_str("query"),
         }),
         None => Err(Fault::UnknownMetric),
     }
@@ -101,10 +102,11 @@ fn dist_command<'a>(alloc: Global) -> Result<Command<'a>, Error>
                 "Print each cell's distance to the nearest obstacle of the image on standard input",
             )
             .after_help(
-                "Examples:\n  clearmap dist --metric chess < map.pbm\n  clearmap dist --metric city --nearest < map.pbm",
+                "Examples:\n  clearmap dist --metric chess < map.pbm\n  clearmap dist --query 'AT euclid2 3 4' < map.pbm",
             )
             .arg(metric_flag(alloc))?
-            .arg(nearest_flag(alloc))?,
+            .arg(nearest_flag(alloc))?
+            .arg(query_flag(alloc))?,
     )
 }
 
@@ -129,4 +131,17 @@ fn nearest_flag<'a>(alloc: Global) -> Arg<'a>
         .long("nearest")
         .action(ArgAction::SetTrue)
         .help("Print each entry as distance/x/y, with its nearest obstacle")
+}
+
+/// The flag `--query`.
+fn query_flag<'a>(alloc: Global) -> Arg<'a>
+    ensures rule { rule_of result ≡ query_rule }
+    ensures local { result.global ≡ false }
+{
+    Arg::new(alloc, "query")
+        .long("query")
+        .value_name("LINE")
+        .help(
+            "Print only the answer to LINE, as 'AT city 3 4'; there are AT, RECT, PATH and CLEAROF",
+        )
 }

@@ -2,18 +2,31 @@ use Rattle.std.proofs.Common.{◌∷◌, ◌++◌, [], refl}
 use Rattle.std.proofs.lemmas.Result.{on_err_weaker}
 use Rattle.metric.specs.Refusal.{image_text}
 use Rattle.clearmap.specs.Table.{table_text}
-use Rattle.clearmap.proofs.Answering.{answer_of_table, answer_of_fault}
+use Rattle.clearmap.proofs.Answering.{asked_of_reply, asked_of_table, answer_of_fault}
 use Rattle.clearmap.proofs.dist.write_answer.Goals as goal
 
 pub returns-in-Ok-clause-front : goal.returns-in-Ok-clause-front
 returns-in-Ok-clause-front g c =
-    let table = c.in-Ok.table in
-    on_err_weaker c.write_rows.result
-    (λ front. (table_text c.args.options.now.nearest table.width table.height table.nears.items, 0, answer_of_table c.args.options.now c.args.bytes.now table c.in-Ok.ensures.table, front))
-    c.write_rows.ensures.front
+    let reply = c.in-Ok.reply in
+    on_err_weaker c.write_reply.result
+    (λ front. (reply.text, reply.status, asked_of_reply c.args.options.now c.args.bytes.now c.in-Some.line reply.text reply.status c.in-Some.is (rw (← c.as_bytes.ensures.value) c.in-Ok.ensures.reply), front))
+    c.write_reply.ensures.front
 
 pub returns-in-Err-clause-front : goal.returns-in-Err-clause-front
 returns-in-Err-clause-front g c =
     on_err_weaker c.write_fault.result
     (λ front. (image_text c.in-Err.fault ++ 10 ∷ [], 1, answer_of_fault c.args.options.now c.args.bytes.now c.in-Err.fault 1 c.in-Err.ensures.fault refl, front))
     c.write_fault.ensures.front
+
+pub returns-in-Ok-of-clause-front : goal.returns-in-Ok-of-clause-front
+returns-in-Ok-of-clause-front g c =
+    let table = c.in-Ok-of.table in
+    on_err_weaker c.write_rows.result
+    (λ front. (table_text c.args.options.now.nearest table.width table.height table.nears.items, 0, asked_of_table c.args.options.now c.args.bytes.now table c.in-None.is c.in-Ok-of.ensures.table, front))
+    c.write_rows.ensures.front
+
+pub returns-in-Err-of-clause-front : goal.returns-in-Err-of-clause-front
+returns-in-Err-of-clause-front g c =
+    on_err_weaker c.write_fault-in-Err-of.result
+    (λ front. (image_text c.in-Err-of.fault ++ 10 ∷ [], 1, answer_of_fault c.args.options.now c.args.bytes.now c.in-Err-of.fault 1 c.in-Err-of.ensures.fault refl, front))
+    c.write_fault-in-Err-of.ensures.front

@@ -10,6 +10,7 @@ returns-in-Some-clause-options c = record {
   metric = ap (option_and_then metric_named) (sym (first_value-rows (found_of c.args.flags.now) (codes "metric"))) ∙ (sym c.metric_given.ensures ∙ c.in-Some.is);
   set = λ e. c.get_flag.ensures.value (one_text-rows (found_of c.args.flags.now) (codes "nearest") ∙ e);
   unset = λ e. c.get_flag.ensures.other (one_text-rows (found_of c.args.flags.now) (codes "nearest") ∙ e);
+  query = c.get_str.ensures ∙ first_value-rows (found_of c.args.flags.now) (codes "query");
 }
 
 pub returns-in-None-clause-unknown : goal.returns-in-None-clause-unknown

@@ -22,7 +22,7 @@ pub returns-in-Some-clause-taken : goal.returns-in-Some-clause-taken
 returns-in-Some-clause-taken c = λ name words.
     let rows = rows_of (found_of c.in-Some.flags.now) in
     let defaults = dist_defaults name _ c.in_ok-matches.matches rows words c.in_ok-matches.ensures.found c.in-Some.ensures.rows in
-    ap Dist (default_options-read rows c.in_ok-dist_options-in-Some.field-0 c.in_ok-dist_options-in-Some.ensures.options defaults.0 defaults.1)
+    ap Dist (default_options-read rows c.in_ok-dist_options-in-Some.field-0 c.in_ok-dist_options-in-Some.ensures.options defaults.0 defaults.1 defaults.2)
 
 pub returns-clause-taken : goal.returns-clause-taken
 returns-clause-taken c = λ name words. absurd (false≢true (c.in-None.ensures.found.1 (named_dist name _ c.in_ok-matches.matches words c.in_ok-matches.ensures.found)))
