@@ -143,7 +143,7 @@ def random_image(rng):
     sides = random_gap(rng) + f"{zeros}{width}".encode() + random_gap(rng) + f"{zeros}{height}".encode()
     if rng.random() < 0.5:
         fill = rng.randint(0, 1)
-        rows = [sum(bit << (7 - x % 8) << 8 * 0 for x, bit in enumerate(row[k:k + 8])) |
+        rows = [sum(bit << (7 - x) for x, bit in enumerate(row[k:k + 8])) |
                 (fill * (0xff >> len(row[k:k + 8])) & 0xff) for row in bits for k in range(0, width, 8)]
         return b"P4" + sides + bytes([rng.choice(SPACE)]) + bytes(rows) + rng.choice([b"", b"more", b"\n"])
     pixels = b"".join(b"%d" % bit + (random_gap(rng) if rng.random() < 0.2 else b"") for row in bits for bit in row)

@@ -1,10 +1,10 @@
 -- Paths: which cells a list of points passes, and which paths are refused: this project's own rule.
-use Rattle.std.specs.Prelude.{ℕ, ◌+◌, ◌-◌, ◌==◌, ◌||◌, nat_lt, nat_le, min, max, Bool, List, [], ◌∷◌, ◌++◌, length, map, Option, Some, None, option_map, if◌then◌else◌}
+use Rattle.std.specs.Prelude.{◌≡◌, ℕ, ◌+◌, ◌-◌, ◌==◌, ◌||◌, ◌⊎◌, nat_lt, nat_le, min, max, Bool, List, [], ◌∷◌, ◌++◌, length, map, Option, Some, None, option_map, if◌then◌else◌}
 use Rattle.std.specs.Int.{abs_diff}
 use Rattle.std.specs.List.{range_with_len, list_any}
 use Rattle.metric.specs.declared.cell.Cell.{Cell}
 use Rattle.metric.specs.declared.refusal.Refusal.{Refusal}
-use Rattle.metric.specs.declared.refusal.Refusal.TheVariants.{BadPath, OutOfRange, Crooked}
+use Rattle.metric.specs.declared.refusal.Refusal.TheVariants.{BadPath, OutOfRange, Crooked, Memory}
 use Rattle.bits.specs.Cells.{Cells}
 
 -- the coordinate k steps from one towards another, which it doesn't pass
@@ -45,3 +45,7 @@ path_refusal cells points =
     if length points == 0 || nat_lt 1000 (length points) then Some BadPath
     else if list_any (is_outside cells) points then Some OutOfRange
     else option_map Crooked (crooked_point points)
+
+-- why a path is refused: as it lies in the bitmap, or for want of memory where it is good
+abbrev pub IsPathRefusal : Cells → List Cell → Refusal → Type 0
+IsPathRefusal cells points refusal = (path_refusal cells points ≡ Some refusal) ⊎ ((refusal ≡ Memory) × (path_refusal cells points ≡ None))

@@ -1,11 +1,10 @@
 //! The queries: what a caller asks of a bitmap.
 
-ghost use Rattle.std.specs.Prelude.{◌≡◌, ◌⊎◌, Some, None, IfOk, IfErr};
-ghost use Rattle.metric.specs.declared.refusal.Refusal.TheVariants.{Memory};
+ghost use Rattle.std.specs.Prelude.{◌≡◌, None, IfOk, IfErr};
 ghost use Rattle.metric.specs.Nearest.{IsNear};
 ghost use Rattle.bits.specs.Cells.{IsInside, IsObstacle};
 ghost use Rattle.clearance.specs.Answers.{IsClearOf, IsLeastOf, IsRefusalFor, LiesIn, cells_of_rect};
-ghost use Rattle.clearance.specs.Paths.{cells_of_path, path_refusal};
+ghost use Rattle.clearance.specs.Paths.{IsPathRefusal, cells_of_path, path_refusal};
 ghost use Rattle.clearance.specs.Search.{answer_of};
 
 use crate::area::best_in;
@@ -63,7 +62,7 @@ pub fn along<M: Metric>(
 ) -> Result<Option<(Cell, Near)>, Refusal>
     ensures accepted { IfOk result (λ _. path_refusal bitmap.now points.now ≡ None) }
     ensures least { IfOk result (IsLeastOf M.distance (IsObstacle bitmap.now) (cells_of_path points.now)) }
-    ensures refused { IfErr result (λ refusal. (path_refusal bitmap.now points.now ≡ Some refusal) ⊎ ((refusal ≡ Memory) × (path_refusal bitmap.now points.now ≡ None))) }
+    ensures refused { IfErr result (IsPathRefusal bitmap.now points.now) }
 {
     check_path(bitmap, points)?;
     let best = best_along::<M>(alloc, bitmap, points, Wanted::Least)?;
@@ -81,7 +80,7 @@ pub fn clear_of<M: Metric>(
 ) -> Result<Option<(Cell, Near)>, Refusal>
     ensures accepted { IfOk result (λ _. path_refusal bitmap.now points.now ≡ None) }
     ensures clear { IfOk result (IsClearOf M.distance (IsObstacle bitmap.now) (cells_of_path points.now) d) }
-    ensures refused { IfErr result (λ refusal. (path_refusal bitmap.now points.now ≡ Some refusal) ⊎ ((refusal ≡ Memory) × (path_refusal bitmap.now points.now ≡ None))) }
+    ensures refused { IfErr result (IsPathRefusal bitmap.now points.now) }
 {
     check_path(bitmap, points)?;
     let best = best_along::<M>(alloc, bitmap, points, Wanted::Below(d))?;

@@ -6,10 +6,11 @@ use Rattle.clap.specs.Words.{HasMatchesOf, Row, Text, first_of, one_of, is_simpl
 use Rattle.clap.specs.Matches.{subcommand_name_of}
 use Rattle.clap.specs.declared.parser.matches.ArgMatches.{ArgMatches}
 use Rattle.clap.proofs.OnLiterals.{clap_on_literals}
+use Rattle.metric.specs.Kind.{metric_named}
 use Rattle.metric.specs.declared.kind.MetricKind.{MetricKind}
 use Rattle.metric.specs.declared.kind.MetricKind.TheVariants.{Euclid2}
 use Rattle.clearmap.specs.declared.arguments.DistOptions.{DistOptions}
-use Rattle.clearmap.specs.CommandLine.{AreDistOptions, default_options, metric_named, program_app}
+use Rattle.clearmap.specs.CommandLine.{AreDistOptions, default_options, program_app}
 
 -- what the words say of the subcommand and its flags
 abbrev pub read_of : Option (Text × List Row) → Option (Text × Option Text × Option Text × Option Text)

@@ -1,13 +1,13 @@
 -- The command line: this project's own rule, in the words of `clap`.
-use Rattle.std.specs.Prelude.{◌≡◌, ℕ, List, [], ◌∷◌, Option, Some, None, bytes_eq, codes, map, option_map, option_and_then, true, false, if◌then◌else◌}
+use Rattle.std.specs.Prelude.{◌≡◌, ℕ, List, [], ◌∷◌, Option, Some, None, codes, map, option_map, option_and_then, true, false}
 use Rattle.std.specs.Borrow.{Bor}
 use Rattle.clap.specs.Words.{App, Row, Rule, first_of, kind_of, new_app, new_rule, one_of, subcommand_of, with_rule, with_subcommand}
 use Rattle.clap.specs.Simple.{on_top}
 use Rattle.clap.specs.declared.builder.ArgAction.TheVariants.{SetTrue}
 use Rattle.clap.specs.declared.error.Error.{Error}
 use Rattle.clap.specs.declared.error.kind.ErrorKind.TheVariants.{OutOfMemory}
-use Rattle.metric.specs.declared.kind.MetricKind.{MetricKind}
-use Rattle.metric.specs.declared.kind.MetricKind.TheVariants.{Euclid2, City, Chess}
+use Rattle.metric.specs.Kind.{metric_named}
+use Rattle.metric.specs.declared.kind.MetricKind.TheVariants.{Euclid2}
 use Rattle.clearmap.specs.declared.arguments.DistOptions.{DistOptions}
 use Rattle.clearmap.specs.declared.arguments.Options.{Options}
 use Rattle.clearmap.specs.declared.arguments.Options.TheVariants.{Dist}
@@ -17,14 +17,6 @@ use Rattle.clearmap.specs.declared.arguments.Fault.TheVariants.{Memory}
 -- the words as texts
 abbrev pub texts_of : List (Bor (List ℕ)) → List (List ℕ)
 texts_of words = map (λ word. word.now) words
-
--- the metric of this name
-abbrev pub metric_named : List ℕ → Option MetricKind
-metric_named name =
-    if bytes_eq name (codes "euclid2") then Some Euclid2
-    else if bytes_eq name (codes "city") then Some City
-    else if bytes_eq name (codes "chess") then Some Chess
-    else None
 
 -- the flag `--metric`, whose default is `euclid2`
 abbrev pub metric_rule : Rule

@@ -1,14 +1,13 @@
 -- The answer to a query line on a bitmap: this project's own rule.
-use Rattle.std.specs.Prelude.{◌≡◌, ◌≤◌, ℕ, List, ◌⊎◌, Option, Some, None, Result, Ok, Err}
+use Rattle.std.specs.Prelude.{◌≡◌, ◌≤◌, ℕ, ◌⊎◌, None, Result, Ok, Err}
 use Rattle.metric.specs.Kind.{distance_of}
 use Rattle.metric.specs.Nearest.{IsNear}
-use Rattle.metric.specs.declared.cell.Cell.{Cell}
 use Rattle.metric.specs.declared.kind.MetricKind.{MetricKind}
 use Rattle.metric.specs.declared.refusal.Refusal.{Refusal}
 use Rattle.metric.specs.declared.refusal.Refusal.TheVariants.{Memory}
 use Rattle.bits.specs.Cells.{Cells, IsInside, IsObstacle}
 use Rattle.clearance.specs.Answers.{IsClearOf, IsLeastOf, IsRefusalFor, cells_of_rect}
-use Rattle.clearance.specs.Paths.{cells_of_path, path_refusal}
+use Rattle.clearance.specs.Paths.{IsPathRefusal, cells_of_path, path_refusal}
 use Rattle.proto.specs.Asked.{Asked, at, rect, path, clear_of}
 use Rattle.proto.specs.declared.answer.Answer.{Answer}
 use Rattle.proto.specs.declared.answer.Answer.TheVariants.{Near, Found, Clear, Refused}
@@ -19,10 +18,6 @@ metric_asked (at metric cell) = metric
 metric_asked (rect metric x0 y0 x1 y1) = metric
 metric_asked (path metric points) = metric
 metric_asked (clear_of metric d points) = metric
-
--- why a path is refused: as it lies in the bitmap, or for want of memory where it is good
-abbrev pub IsPathRefusal : Cells → List Cell → Refusal → Type 0
-IsPathRefusal cells points refusal = (path_refusal cells points ≡ Some refusal) ⊎ ((refusal ≡ Memory) × (path_refusal cells points ≡ None))
 
 -- the rectangle with these corners lies in the bitmap
 abbrev pub HasCorners : Cells → ℕ → ℕ → Type 0

@@ -66,7 +66,7 @@ fn write_answer<W: Sink>(
 {
     match options.query {
         Some(line) => match Reply::of(alloc, bytes, line.as_bytes()) {
-            Ok(reply) => write_reply(writer, reply),
+            Ok(reply) => write_text(writer, reply.text.as_bytes(), reply.status),
             Err(fault) => write_fault(writer, fault),
         },
         None => match Table::of(alloc, bytes, options.metric) {
@@ -74,19 +74,6 @@ fn write_answer<W: Sink>(
             Err(fault) => write_fault(writer, fault),
         },
     }
-}
-
-/// Writes the reply to a line.
-fn write_reply<W: Sink>(writer: &mut W, reply: Reply) -> Result<u8, WriteFault>
-    requires { CanFail (W.failed_writes writer.old) }
-    ensures status { IfOk result (λ status. status ≡ reply.status) }
-    ensures whole { OnOk result (Appends (W.held writer.old) reply.text (W.held writer.new)) }
-    ensures front { OnErr result (AppendsFront (W.held writer.old) reply.text (W.held writer.new)) }
-    ensures counts { Counts (W.failed_writes writer.old) result (W.failed_writes writer.new) }
-{
-    writer.write_all(reply.text.as_bytes())?;
-    writer.flush()?;
-    Ok(reply.status)
 }
 
 /// Writes the table's lines.
@@ -116,9 +103,20 @@ fn write_fault<W: Sink>(writer: &mut W, fault: PbmFault) -> Result<u8, WriteFaul
     ensures front { OnErr result (AppendsFront (W.held writer.old) (image_text fault ++ 10 ∷ []) (W.held writer.new)) }
     ensures counts { Counts (W.failed_writes writer.old) result (W.failed_writes writer.new) }
 {
-    writer.write_all(fault_line(fault).as_bytes())?;
+    write_text(writer, fault_line(fault).as_bytes(), REFUSED)
+}
+
+/// Writes a text of one line, and answers the status that goes with it.
+fn write_text<W: Sink>(writer: &mut W, text: &[u8], status: u8) -> Result<u8, WriteFault>
+    requires { CanFail (W.failed_writes writer.old) }
+    ensures status { IfOk result (λ told. told ≡ status) }
+    ensures whole { OnOk result (Appends (W.held writer.old) text.now (W.held writer.new)) }
+    ensures front { OnErr result (AppendsFront (W.held writer.old) text.now (W.held writer.new)) }
+    ensures counts { Counts (W.failed_writes writer.old) result (W.failed_writes writer.new) }
+{
+    writer.write_all(text)?;
     writer.flush()?;
-    Ok(REFUSED)
+    Ok(status)
 }
 
 /// The line of a refused image.

@@ -4,9 +4,10 @@ ghost use Rattle.std.specs.Prelude.{◌≡◌, ℕ, List, [], ◌∷◌, IfOk, I
 ghost use Rattle.clap.specs.Words.{HasMatchesOf, app_of, first_of, first_value, found_of, kind_of, rows_of, rule_of, takes};
 ghost use Rattle.clap.specs.declared.builder.command.Command.TheViews.{out-Command};
 ghost use Rattle.clap.specs.declared.error.kind.ErrorKind.TheVariants.{OutOfMemory};
+ghost use Rattle.metric.specs.Kind.{metric_named};
 ghost use Rattle.clearmap.specs.declared.arguments.Fault.TheVariants.{Memory};
 ghost use Rattle.clearmap.specs.declared.arguments.Options.TheVariants.{Dist};
-ghost use Rattle.clearmap.specs.CommandLine.{AreDistOptions, AreOptions, default_options, dist_app, metric_named, metric_rule, nearest_rule, program_app, query_rule, texts_of};
+ghost use Rattle.clearmap.specs.CommandLine.{AreDistOptions, AreOptions, default_options, dist_app, metric_rule, nearest_rule, program_app, query_rule, texts_of};
 
 use crate::arguments::{DistOptions, Fault, Options};
 use clap::{Arg, ArgAction, ArgMatches, Command, Error};
@@ -48,20 +49,8 @@ fn metric_given(flags: &ArgMatches<'_>) -> Option<MetricKind>
     ensures { result ≡ option_and_then metric_named (first_value (found_of flags.now) (codes "metric")) }
 {
     match flags.get_str("metric") {
-        Some(name) => metric_of(name),
+        Some(name) => MetricKind::named(name.as_bytes()),
         None => None,
-    }
-}
-
-/// The metric of this name.
-fn metric_of(name: &str) -> Option<MetricKind>
-    ensures { result ≡ metric_named name.now }
-{
-    match name {
-        "euclid2" => Some(MetricKind::Euclid2),
-        "city" => Some(MetricKind::City),
-        "chess" => Some(MetricKind::Chess),
-        _ => None,
     }
 }
 

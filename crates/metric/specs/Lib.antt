@@ -1,3 +1,4 @@
+pub mod Digits
 pub mod Distance
 pub mod Fault
 pub mod Nearest

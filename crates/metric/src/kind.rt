@@ -1,5 +1,8 @@
 //! The names of the distances that a caller can choose from.
 
+ghost use Rattle.std.specs.Prelude.{◌≡◌};
+ghost use Rattle.metric.specs.Kind.{metric_named};
+
 /// A distance between cells, of `dx` columns and `dy` rows.
 #[derive(Clone, Copy, Debug, PartialEq, Eq, Hash)]
 pub enum MetricKind {
@@ -9,4 +12,21 @@ pub enum MetricKind {
     City,
     /// `max(dx, dy)`: steps to the eight neighbours.
     Chess,
+}
+
+impl MetricKind {
+    /// The metric of this name, which is `euclid2`, `city` or `chess`.
+    pub fn named(name: &[u8]) -> Option<Self>
+        ensures { result ≡ metric_named name.now }
+    {
+        if name == b"euclid2".as_slice() {
+            Some(MetricKind::Euclid2)
+        } else if name == b"city".as_slice() {
+            Some(MetricKind::City)
+        } else if name == b"chess".as_slice() {
+            Some(MetricKind::Chess)
+        } else {
+            None
+        }
+    }
 }

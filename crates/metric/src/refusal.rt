@@ -1,7 +1,7 @@
 //! The refusals of the whole workspace, in the order of their numbers.
 
 ghost use Rattle.std.specs.Prelude.{◌≡◌, Some};
-ghost use Rattle.metric.specs.Refusal.{refusal_text};
+ghost use Rattle.metric.specs.Refusal.{refusal_text, refusal_title};
 ghost use Rattle.metric.specs.Fault.{field_name};
 
 use crate::fault::PbmFault;
@@ -65,34 +65,49 @@ impl Field {
     }
 }
 
-/// The refusal's line, without its LF: `ERR`, its number, its name, and what belongs to it.
-///
-/// An image for which there was no memory is told as want of memory.
+impl Refusal {
+    /// `ERR`, the refusal's number and its name.
+    ///
+    /// An image for which there was no memory is told as want of memory.
+    pub fn title(self) -> &'static str
+        ensures { result.now ≡ refusal_title self }
+    {
+        match self {
+            Refusal::OutOfRange => "ERR 1 OutOfRange",
+            Refusal::BlocksFull { .. } => "ERR 2 BlocksFull",
+            Refusal::VersionsFull => "ERR 3 VersionsFull",
+            Refusal::LogFull => "ERR 4 LogFull",
+            Refusal::Memory | Refusal::BadImage(PbmFault::Memory) => "ERR 5 Memory",
+            Refusal::NotPinned => "ERR 6 NotPinned",
+            Refusal::AlreadyPinned => "ERR 7 AlreadyPinned",
+            Refusal::BadPath => "ERR 8 BadPath",
+            Refusal::Crooked { .. } => "ERR 9 Crooked",
+            Refusal::UnknownCommand => "ERR 11 UnknownCommand",
+            Refusal::BadArguments => "ERR 12 BadArguments",
+            Refusal::LineTooLong => "ERR 13 LineTooLong",
+            Refusal::TooMuchData => "ERR 14 TooMuchData",
+            Refusal::BadImage(_) => "ERR 15 BadImage",
+            Refusal::BadSetting(_) => "ERR 16 BadSetting",
+        }
+    }
+}
+
+/// The refusal's line, without its LF: its title, and what belongs to it.
 impl fmt::Display for Refusal {
     ghost output = { λ refusal. Some (refusal_text refusal) };
 
     fn fmt<W: fmt::Write>(&self, f: &mut fmt::Formatter<W>) -> fmt::Result {
+        f.write_str(self.title())?;
         match *self {
-            Refusal::OutOfRange => f.write_str("ERR 1 OutOfRange"),
-            Refusal::BlocksFull { needed, free } => {
-                write!(f, "ERR 2 BlocksFull {needed} {free}")
-            }
-            Refusal::VersionsFull => f.write_str("ERR 3 VersionsFull"),
-            Refusal::LogFull => f.write_str("ERR 4 LogFull"),
-            Refusal::Memory | Refusal::BadImage(PbmFault::Memory) => f.write_str("ERR 5 Memory"),
-            Refusal::NotPinned => f.write_str("ERR 6 NotPinned"),
-            Refusal::AlreadyPinned => f.write_str("ERR 7 AlreadyPinned"),
-            Refusal::BadPath => f.write_str("ERR 8 BadPath"),
-            Refusal::Crooked { index } => write!(f, "ERR 9 Crooked {index}"),
-            Refusal::UnknownCommand => f.write_str("ERR 11 UnknownCommand"),
-            Refusal::BadArguments => f.write_str("ERR 12 BadArguments"),
-            Refusal::LineTooLong => f.write_str("ERR 13 LineTooLong"),
-            Refusal::TooMuchData => f.write_str("ERR 14 TooMuchData"),
-            Refusal::BadImage(fault) => write!(f, "ERR 15 BadImage {fault}"),
+            Refusal::BlocksFull { needed, free } => write!(f, " {needed} {free}"),
+            Refusal::Crooked { index } => write!(f, " {index}"),
+            Refusal::BadImage(PbmFault::Memory) => Ok(()),
+            Refusal::BadImage(fault) => write!(f, " {fault}"),
             Refusal::BadSetting(field) => {
                 let name = field.name();
-                write!(f, "ERR 16 BadSetting {name}")
+                write!(f, " {name}")
             }
+            _ => Ok(()),
         }
     }
 }

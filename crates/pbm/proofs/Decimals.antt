@@ -6,7 +6,8 @@ use Rattle.std.proofs.lemmas.Bool.{and_from}
 use Rattle.std.proofs.lemmas.Bool.Decides.{nat_tests}
 use Rattle.std.proofs.lemmas.Fmt.{decimal_by_steps}
 use Rattle.std.proofs.lemmas.List.Folds.{list_all-append}
-use Rattle.pbm.specs.Image.{is_digit, value_from, IsNumber}
+use Rattle.metric.specs.Digits.{is_digit, value_from}
+use Rattle.pbm.specs.Image.{IsNumber}
 
 -- one digit more
 value_from-push : (so_far : ℕ) (digits : List ℕ) (digit : ℕ) → value_from so_far (digits ++ digit ∷ []) ≡ 10 * value_from so_far digits + (digit - 48)

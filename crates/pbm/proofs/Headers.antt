@@ -8,7 +8,8 @@ use Rattle.bits.specs.Cells.{IsSide}
 use Rattle.pbm.specs.declared.header.Form.{Form}
 use Rattle.pbm.specs.declared.header.Form.TheVariants.{Plain, Raw}
 use Rattle.pbm.specs.Faults.{◌>>=◌, magic, gap, number, before_raster, header}
-use Rattle.pbm.specs.Image.{is_whitespace, is_digit, IsGap, IsNumber}
+use Rattle.metric.specs.Digits.{is_digit}
+use Rattle.pbm.specs.Image.{is_whitespace, IsGap, IsNumber}
 use Rattle.pbm.specs.Writing.{form_digit}
 use Rattle.pbm.proofs.Steps.{ok_is, bind_ok, chosen, IsOfBytes, bind-of_bytes, cond-of_bytes}
 use Rattle.pbm.proofs.Gaps.{space-read, space-of_bytes, GapRead, gap-read, EndsGap, gap-again, gap-of_bytes}

@@ -5,7 +5,8 @@ use Rattle.std.proofs.lemmas.Bool.{eqb-false, ltb-false, lt-ltb, le-ltb, ne_eqb,
 use Rattle.metric.specs.declared.fault.PbmFault.TheVariants.{BadNumber, ZeroSize, TooLarge}
 use Rattle.bits.specs.Cells.{IsSide}
 use Rattle.pbm.specs.Faults.{side, digits, number}
-use Rattle.pbm.specs.Image.{is_digit, value_from, IsNumber}
+use Rattle.metric.specs.Digits.{is_digit, value_from}
+use Rattle.pbm.specs.Image.{IsNumber}
 use Rattle.pbm.proofs.Steps.{ok_is, chosen, IsOfBytes, cond-of_bytes}
 
 -- a value over the longest side is refused

@@ -5,7 +5,8 @@ use Rattle.metric.specs.declared.fault.PbmFault.TheVariants.{BadMagic, MissingSp
 use Rattle.bits.specs.Cells.{Cells, cells_where}
 use Rattle.pbm.specs.declared.header.Form.{Form}
 use Rattle.pbm.specs.declared.header.Form.TheVariants.{Plain, Raw}
-use Rattle.pbm.specs.Image.{is_whitespace, is_line_end, is_digit, bytes_across, raw_pixel}
+use Rattle.metric.specs.Digits.{is_digit}
+use Rattle.pbm.specs.Image.{is_whitespace, is_line_end, bytes_across, raw_pixel}
 
 infixl 10 ◌>>=◌
 -- what comes after a part that was read; a fault ends it

@@ -1,8 +1,9 @@
 -- The image grammar: which text of bytes spells which bitmap.
 -- Source: pbm(5), the Netpbm manual's page of the PBM format, its plain and its raw form; in this project's profile: whitespace is the blank, TAB, LF and CR alone, sides are from 1 to 4096, a comment stands only within a gap that has begun with whitespace, and none behind the height of a raw image.
-use Rattle.std.specs.Prelude.{◌≡◌, ℕ, ◌+◌, ◌-◌, ◌*◌, ◌/◌, ◌%◌, ◌<◌, ◌==◌, ◌&&◌, ◌||◌, nat_le, Bool, true, false, not, List, [], ◌∷◌, ◌++◌, length, map, slice_index, ◌⊎◌, if◌then◌else◌}
+use Rattle.std.specs.Prelude.{◌≡◌, ℕ, ◌+◌, ◌-◌, ◌*◌, ◌/◌, ◌%◌, ◌<◌, ◌==◌, ◌&&◌, ◌||◌, Bool, true, false, not, List, [], ◌∷◌, ◌++◌, length, map, slice_index, ◌⊎◌, if◌then◌else◌}
 use Rattle.std.specs.Int.{bit_at}
 use Rattle.std.specs.List.{range_with_len, list_all}
+use Rattle.metric.specs.Digits.{is_digit, value_from}
 use Rattle.bits.specs.Cells.{Cells, has, IsBitmap}
 
 -- whitespace: TAB, LF, CR and the blank
@@ -12,10 +13,6 @@ is_whitespace byte = (byte == 9 || byte == 10) || (byte == 13 || byte == 32)
 -- a line end: CR or LF
 abbrev pub is_line_end : ℕ → Bool
 is_line_end byte = byte == 10 || byte == 13
-
--- a digit, from 0 to 9
-abbrev pub is_digit : ℕ → Bool
-is_digit byte = nat_le 48 byte && nat_le byte 57
 
 -- whether the text fills the rest of a gap, which stands in a comment or not: any mix of whitespace and comments, the last comment with its line end; a comment is `#`, the byte 35, any bytes but line ends, and one line end
 unfoldable pub fills : Bool → List ℕ → Bool
@@ -30,11 +27,6 @@ pub record IsGap (text : List ℕ) : Type 0 where
   pub is_text : text ≡ first ∷ others
   pub first_is : is_whitespace first ≡ true
   pub others_are : fills false others ≡ true
-
--- the value of a number whose digits so far have this value
-unfoldable pub value_from : ℕ → List ℕ → ℕ
-value_from so_far [] = so_far
-value_from so_far (digit ∷ digits) = value_from (10 * so_far + (digit - 48)) digits
 
 -- a number: one digit or more; leading zeros are accepted
 pub record IsNumber (text : List ℕ) (value : ℕ) : Type 0 where

@@ -1,8 +1,8 @@
 -- What a line asks: this project's own rule. The first word is the command; a line of no known command is refused as such, whatever else is in it.
 use Rattle.std.specs.Prelude.{ℕ, ◌==◌, ◌&&◌, ◌||◌, nat_lt, nat_le, List, [], ◌∷◌, length, Option, Some, None, Result, Ok, Err, bytes_eq, codes, option_and_then, option_map, if◌then◌else◌}
+use Rattle.metric.specs.Kind.{metric_named}
 use Rattle.metric.specs.declared.cell.Cell.{Cell}
 use Rattle.metric.specs.declared.kind.MetricKind.{MetricKind}
-use Rattle.metric.specs.declared.kind.MetricKind.TheVariants.{Euclid2, City, Chess}
 use Rattle.metric.specs.declared.refusal.Refusal.{Refusal}
 use Rattle.metric.specs.declared.refusal.Refusal.TheVariants.{BadArguments, BadPath, UnknownCommand}
 use Rattle.proto.specs.declared.line.Line.{Line}
@@ -40,14 +40,6 @@ query_named word =
     else if bytes_eq word (codes "RECT") then Some queries.Rect
     else if bytes_eq word (codes "PATH") then Some queries.Path
     else if bytes_eq word (codes "CLEAROF") then Some queries.ClearOf
-    else None
-
--- the metric of this name
-abbrev pub metric_named : List ℕ → Option MetricKind
-metric_named word =
-    if bytes_eq word (codes "euclid2") then Some Euclid2
-    else if bytes_eq word (codes "city") then Some City
-    else if bytes_eq word (codes "chess") then Some Chess
     else None
 
 -- arguments of the wrong number or form

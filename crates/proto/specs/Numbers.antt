@@ -1,16 +1,8 @@
 -- Numbers and points of a line: this project's own rule.
-use Rattle.std.specs.Prelude.{◌≡◌, ℕ, ◌+◌, ◌-◌, ◌*◌, ◌&&◌, ◌⊎◌, nat_lt, nat_le, min, Bool, List, [], ◌∷◌, length, Option, Some, None, option_and_then, option_map, if◌then◌else◌}
+use Rattle.std.specs.Prelude.{◌≡◌, ℕ, ◌&&◌, ◌⊎◌, nat_lt, nat_le, min, List, [], ◌∷◌, length, Option, Some, None, option_and_then, option_map, if◌then◌else◌}
 use Rattle.std.specs.List.{list_all}
+use Rattle.metric.specs.Digits.{is_digit, value_from}
 use Rattle.metric.specs.declared.cell.Cell.{Cell}
-
--- a digit, from 0 to 9
-abbrev pub is_digit : ℕ → Bool
-is_digit byte = nat_le 48 byte && nat_le byte 57
-
--- the value of digits behind a front of this value
-unfoldable pub value_from : ℕ → List ℕ → ℕ
-value_from so_far [] = so_far
-value_from so_far (digit ∷ digits) = value_from (10 * so_far + (digit - 48)) digits
 
 -- a number: 1 to 10 digits, and at most 4294967295
 unfoldable pub number : List ℕ → Option ℕ

@@ -9,7 +9,7 @@ pub enum Answer {
     Near(Option<Near>),
     /// The cell of the least distance, with its nearest obstacle; none where there is no obstacle.
     Found(Option<(Cell, Near)>),
-    /// The cell of the least distance, where that is less than was asked for; none where each cell is clear.
+    /// The first cell along the path that is nearer to an obstacle than was asked for, with its nearest obstacle; none where each cell is clear.
     Clear(Option<(Cell, Near)>),
     /// The query was refused.
     Refused(Refusal),

@@ -1,12 +1,12 @@
 //! The arguments of a query before its points.
 
 ghost use Rattle.std.specs.Prelude.{◌≡◌, Some, None, MatchOption};
-ghost use Rattle.proto.specs.Asked.{first_of, metric_named};
+ghost use Rattle.metric.specs.Kind.{metric_named};
+ghost use Rattle.proto.specs.Asked.{first_of};
 ghost use Rattle.proto.specs.Numbers.{number};
 ghost use Rattle.proto.specs.Words.{words_left};
 
 use crate::number::read_number;
-use crate::query::metric_of;
 use crate::words::next_word;
 use metric::MetricKind;
 
@@ -15,7 +15,7 @@ pub fn read_metric(rest: Option<&[u8]>) -> Option<(MetricKind, Option<&[u8]>)>
     ensures { MatchOption result (first_of metric_named (words_left rest.entry) ≡ None) (λ found. first_of metric_named (words_left rest.entry) ≡ Some (found.0, words_left found.1)) }
 {
     let (word, rest) = next_word(rest)?;
-    let metric = metric_of(word)?;
+    let metric = MetricKind::named(word)?;
     Some((metric, rest))
 }
 

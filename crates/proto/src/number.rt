@@ -7,7 +7,7 @@ ghost use Rattle.proto.specs.Numbers.{number};
 const MOST_DIGITS: usize = 10;
 
 /// The number that a word is: 1 to 10 digits, of a value that 32 bits hold.
-#[tactic(auto, unfolding(crate::specs::Numbers::number, crate::specs::Numbers::value_from))]
+#[tactic(auto, unfolding(crate::specs::Numbers::number, metric::specs::Digits::value_from))]
 pub fn read_number(word: &[u8]) -> Option<u32>
     ensures { result ≡ number word.now }
 {

@@ -1,9 +1,7 @@
-//! The names of the queries and of the metrics.
+//! The names of the queries.
 
 ghost use Rattle.std.specs.Prelude.{◌≡◌};
-ghost use Rattle.proto.specs.Asked.{metric_named, query_named};
-
-use metric::MetricKind;
+ghost use Rattle.proto.specs.Asked.{query_named};
 
 /// A query, by its name alone.
 #[derive(Clone, Copy)]
@@ -26,21 +24,6 @@ pub fn query_of(word: &[u8]) -> Option<Query>
         Some(Query::Path)
     } else if word == b"CLEAROF".as_slice() {
         Some(Query::ClearOf)
-    } else {
-        None
-    }
-}
-
-/// The metric of this name.
-pub fn metric_of(word: &[u8]) -> Option<MetricKind>
-    ensures { result ≡ metric_named word.now }
-{
-    if word == b"euclid2".as_slice() {
-        Some(MetricKind::Euclid2)
-    } else if word == b"city".as_slice() {
-        Some(MetricKind::City)
-    } else if word == b"chess".as_slice() {
-        Some(MetricKind::Chess)
     } else {
         None
     }

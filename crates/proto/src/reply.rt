@@ -1,6 +1,7 @@
 //! The text of a reply.
 
-ghost use Rattle.std.specs.Prelude.{◌≡◌, ◌≤◌, ◌+◌, [], ◌++◌, length};
+ghost use Rattle.std.specs.Prelude.{◌≡◌, ◌≤◌, ◌+◌, [], ◌∷◌, ◌++◌, length};
+ghost use Rattle.std.specs.Fmt.{decimal};
 ghost use Rattle.metric.specs.Refusal.{refusal_text};
 ghost use Rattle.proto.specs.Replies.{answer_text, cell_text, found_text, near_text, reply_line};
 
@@ -51,37 +52,37 @@ fn put_refusal(text: &mut Text, refusal: Refusal)
     ensures text { text.new ≡ refusal_text refusal }
     ensures few { length text.new ≤ 100 }
 {
+    text.put(refusal.title().as_bytes());
     match refusal {
-        Refusal::OutOfRange => text.put(b"ERR 1 OutOfRange"),
         Refusal::BlocksFull { needed, free } => {
-            text.put(b"ERR 2 BlocksFull ");
-            text.put_number(needed);
-            text.put(b" ");
-            text.put_number(free);
+            put_detail(text, needed);
+            put_detail(text, free);
         }
-        Refusal::VersionsFull => text.put(b"ERR 3 VersionsFull"),
-        Refusal::LogFull => text.put(b"ERR 4 LogFull"),
-        Refusal::Memory | Refusal::BadImage(PbmFault::Memory) => text.put(b"ERR 5 Memory"),
-        Refusal::NotPinned => text.put(b"ERR 6 NotPinned"),
-        Refusal::AlreadyPinned => text.put(b"ERR 7 AlreadyPinned"),
-        Refusal::BadPath => text.put(b"ERR 8 BadPath"),
-        Refusal::Crooked { index } => {
-            text.put(b"ERR 9 Crooked ");
-            text.put_number(index);
-        }
-        Refusal::UnknownCommand => text.put(b"ERR 11 UnknownCommand"),
-        Refusal::BadArguments => text.put(b"ERR 12 BadArguments"),
-        Refusal::LineTooLong => text.put(b"ERR 13 LineTooLong"),
-        Refusal::TooMuchData => text.put(b"ERR 14 TooMuchData"),
-        Refusal::BadImage(fault) => {
-            text.put(b"ERR 15 BadImage ");
-            text.put(fault.name().as_bytes());
-        }
-        Refusal::BadSetting(field) => {
-            text.put(b"ERR 16 BadSetting ");
-            text.put(field.name().as_bytes());
-        }
+        Refusal::Crooked { index } => put_detail(text, index),
+        Refusal::BadImage(PbmFault::Memory) => {}
+        Refusal::BadImage(fault) => put_name(text, fault.name()),
+        Refusal::BadSetting(field) => put_name(text, field.name()),
+        _ => {}
     }
+}
+
+/// Adds a number that belongs to a refusal.
+fn put_detail(text: &mut Text, number: u32)
+    requires { length text.old + 11 ≤ 128 }
+    ensures text { text.new ≡ text.old ++ (32 ∷ decimal number) }
+    ensures few { length text.new ≤ length text.old + 11 }
+{
+    text.put(b" ");
+    text.put_number(number);
+}
+
+/// Adds a name that belongs to a refusal.
+fn put_name(text: &mut Text, name: &str)
+    requires { length text.old + (length name.now + 1) ≤ 128 }
+    ensures text { text.new ≡ text.old ++ (32 ∷ name.now) }
+{
+    text.put(b" ");
+    text.put(name.as_bytes());
 }
 
 /// Writes an answer, without its LF.

@@ -1,6 +1,6 @@
 //! Texts of a fixed room.
 
-ghost use Rattle.std.specs.Prelude.{◌≡◌, ◌≤◌, ◌+◌, ◌++◌, [], length, vec_len, vec_capacity, IfOk, IfErr};
+ghost use Rattle.std.specs.Prelude.{◌≡◌, ◌≤◌, ◌+◌, ◌++◌, [], length, IfOk, IfErr};
 ghost use Rattle.std.specs.Fmt.{decimal};
 ghost use Rattle.metric.specs.declared.refusal.Refusal.{Refusal};
 
@@ -55,7 +55,7 @@ impl Text {
         requires { length self.old + length added.now ≤ 128 }
         ensures { self.new ≡ self.old ++ added.now }
     {
-        push_bytes(&mut self.bytes, added);
+        let _ = self.bytes.extend_from_slice(added);
     }
 
     /// Adds a number in decimal. There is room for ten digits, and more it never has.
@@ -65,16 +65,5 @@ impl Text {
         ensures few { length self.new ≤ length self.old + 10 }
     {
         push_decimal(&mut self.bytes, number);
-    }
-}
-
-/// Adds bytes, for which there is room.
-fn push_bytes(bytes: &mut Vec<u8>, added: &[u8])
-    requires { vec_len bytes.old + length added.now ≤ vec_capacity bytes.old }
-    ensures text { bytes.new.items ≡ bytes.old.items ++ added.now }
-    ensures room { vec_capacity bytes.new ≡ vec_capacity bytes.old }
-{
-    'bytes: for byte in added {
-        bytes.push_reserved(*byte);
     }
 }

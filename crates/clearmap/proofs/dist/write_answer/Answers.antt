@@ -8,9 +8,9 @@ use Rattle.clearmap.proofs.dist.write_answer.Goals as goal
 pub returns-in-Ok-clause-front : goal.returns-in-Ok-clause-front
 returns-in-Ok-clause-front g c =
     let reply = c.in-Ok.reply in
-    on_err_weaker c.write_reply.result
+    on_err_weaker c.write_text.result
     (λ front. (reply.text, reply.status, asked_of_reply c.args.options.now c.args.bytes.now c.in-Some.line reply.text reply.status c.in-Some.is (rw (← c.as_bytes.ensures.value) c.in-Ok.ensures.reply), front))
-    c.write_reply.ensures.front
+    (rw (← c.as_bytes-in-Ok.ensures) c.write_text.ensures.front)
 
 pub returns-in-Err-clause-front : goal.returns-in-Err-clause-front
 returns-in-Err-clause-front g c =

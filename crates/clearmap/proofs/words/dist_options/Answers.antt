@@ -2,7 +2,7 @@ use Rattle.std.proofs.Common.{◌∙◌, sym, ap, codes}
 use Rattle.std.specs.Prelude.{option_and_then}
 use Rattle.clap.specs.Words.{found_of}
 use Rattle.clap.proofs.WalkLemmas.{first_value-rows, one_text-rows}
-use Rattle.clearmap.specs.CommandLine.{metric_named}
+use Rattle.metric.specs.Kind.{metric_named}
 use Rattle.clearmap.proofs.words.dist_options.Goals as goal
 
 pub returns-in-Some-clause-options : goal.returns-in-Some-clause-options

@@ -1,7 +1,7 @@
 -- The digits so far have this value, and what is left is read behind them.
 use Rattle.std.proofs.Common.{◌≡◌, ◌<◌, ◌^◌, drop}
 use Rattle.std.specs.List.{list_all}
-use Rattle.proto.specs.Numbers.{is_digit, value_from}
+use Rattle.metric.specs.Digits.{is_digit, value_from}
 use Rattle.proto.proofs.number.read_number.Given as goal
 
 abbrev pub invariant-digits : goal.invariant-digits
