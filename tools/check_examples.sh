@@ -1,6 +1,7 @@
 #!/bin/sh
 # Runs each transcript of examples/ with the built program, and compares what it prints with the file beside it.
 # With --write it writes those files instead: look at what changed before you commit it.
+# A transcript that says "# Needs netpbm: TOOL .." is left out, and counted, where a tool of these isn't installed.
 set -u
 cd "$(dirname "$0")/.." || exit 1
 ./clearmap --version > /dev/null || exit 1
@@ -12,7 +13,18 @@ ln -s "$PWD/crates/clearmap/out/clearmap" "$scratch/bin/clearmap"
 PATH="$scratch/bin:$PATH"
 tried=0
 wrong=0
+left_out=0
+has_tools() {
+    for tool in $(sed -n 's/^# Needs [a-z]*: //p' "$1"); do
+        command -v "$tool" > /dev/null || return 1
+    done
+}
 for example in examples/*.sh; do
+    if ! has_tools "$example"; then
+        left_out=$((left_out + 1))
+        echo "$example left out: install what it needs"
+        continue
+    fi
     tried=$((tried + 1))
     wanted="${example%.sh}.out"
     sh "$example" > "$scratch/out" 2>&1
@@ -23,5 +35,5 @@ for example in examples/*.sh; do
         echo "$example differs"
     fi
 done
-echo "examples $tried, differing $wrong"
+echo "examples $tried, differing $wrong, left out $left_out"
 [ "$wrong" = 0 ]

@@ -1,8 +1,9 @@
 #!/usr/bin/python3
 """Refuses each request for memory in turn, and looks at what is answered.
 
-First the program: `dist` on a small image, its N-th request refused, for N from 1 until several runs in a row meet no
-refusal. Each run has to print the whole table with status 0, or the one line `ERR 5 Memory` with status 1.
+First the program: `dist` on a small image, plain, with flags and with a query line, its N-th request refused, for N from 1
+until several runs in a row meet no refusal. Each run has to print the whole answer with status 0, or the one line
+`ERR 5 Memory` with status 1.
 
 Then the tests of the crates that take memory, each test's N-th request refused: a test may fail there, since none expects
 it, but only by an answer that names want of memory.
@@ -16,7 +17,11 @@ import sys
 
 TOP = pathlib.Path(__file__).resolve().parent.parent
 IMAGE = b"P1\n3 2\n100\n000\n"
-TABLE = b"0 1 4\n1 2 5\n"
+RUNS = [
+    (["dist"], b"0 1 4\n1 2 5\n"),
+    (["dist", "--metric", "city", "--nearest"], b"0/0/0 1/0/0 2/0/0\n1/0/0 2/0/0 3/0/0\n"),
+    (["dist", "--query", "PATH city 2 1 1 1 1 0"], b"OK 1 1 0 0 0\n"),
+]
 WANT = b"ERR 5 Memory\n"
 QUIET_RUNS = 3
 MOST = 400
@@ -27,21 +32,21 @@ def refused(crate, n, words, given=b""):
     return subprocess.run(command, cwd=TOP / "crates" / crate, input=given, capture_output=True)
 
 
-def try_program():
-    """The program's runs: how many were refused, and those that answered neither the table nor want of memory."""
+def try_program(words, answer):
+    """One command line's runs: how many were refused, and those that gave neither the answer nor want of memory."""
     met, quiet, wrong = 0, 0, []
     for n in range(1, MOST + 1):
-        run = refused("clearmap", n, ["--", "dist"], IMAGE)
-        if (run.stdout, run.returncode) == (TABLE, 0):
+        run = refused("clearmap", n, ["--"] + words, IMAGE)
+        if (run.stdout, run.returncode) == (answer, 0):
             quiet += 1
         elif (run.stdout, run.returncode) == (WANT, 1):
             met, quiet = met + 1, 0
         else:
-            wrong.append(f"dist, request {n}: status {run.returncode}, {run.stdout[:80]!r}")
+            wrong.append(f"{words}, request {n}: status {run.returncode}, {run.stdout[:80]!r}")
             quiet = 0
         if quiet == QUIET_RUNS:
             return met, wrong
-    return met, wrong + ["dist: requests were still met at the end"]
+    return met, wrong + [f"{words}: requests were still met at the end"]
 
 
 def try_tests(crate):
@@ -59,9 +64,12 @@ def try_tests(crate):
 
 
 def main():
-    crates = sys.argv[1:] or ["bits", "pbm", "field"]
-    met, wrong = try_program()
-    print(f"dist: {met} requests refused, each answered by want of memory alone" if not wrong else f"dist: {met} refused")
+    crates = sys.argv[1:] or ["bits", "pbm", "field", "clearance", "proto"]
+    wrong = []
+    for words, answer in RUNS:
+        met, others = try_program(words, answer)
+        print(f"{' '.join(words)}: {met} requests refused in turn, {len(others)} wrong answers")
+        wrong += others
     for crate in crates:
         more, others = try_tests(crate)
         print(f"{crate}: tests run with {more} requests refused in turn")
