@@ -1,2 +1,1 @@
-pub mod NearLemmas
-pub mod RowLemmas
+mod RowLemmas

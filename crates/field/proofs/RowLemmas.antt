@@ -1,32 +1,16 @@
 -- The nearest obstacles of rows, one row after another.
-use Rattle.std.proofs.Common.{◌≡◌, ℕ, ◌+◌, ◌-◌, ◌*◌, ◌<◌, ◌≤◌, inl, inr, List, [], ◌∷◌, ◌++◌, Option, None, length, arith, refl, sym, length-append}
+use Rattle.std.proofs.Common.{◌≡◌, ℕ, ◌+◌, ◌-◌, ◌*◌, ◌<◌, ◌≤◌, inl, inr, List, ◌++◌, Option, None, length, arith, refl, length-append}
 use Rattle.std.proofs.Math.Nat.{mul-le-mul_left}
 use Rattle.std.proofs.lemmas.Bool.{cases_lt}
 use Rattle.std.proofs.lemmas.List.{get_or_append_left, get_or-append-add}
 use Rattle.metric.specs.declared.near.Near.{Near}
-use Rattle.metric.specs.Nearest.{IsNear}
-use Rattle.bits.specs.Cells.{Cells, IsObstacle}
-use Rattle.field.specs.Rows.{AreRowNears, AreNears}
+use Rattle.bits.specs.Cells.{Cells}
+use Rattle.envelope.specs.Rows.{AreRowNears}
+use Rattle.field.specs.Rows.{AreNears}
 
 -- a place in a row above lies before all rows so far end
 place_above : (n m width x : ℕ) → n < m → x < width → n * width + x < m * width
 place_above n m width x above column = let rows : width * (n + 1) ≤ width * m = mul-le-mul_left width (omega arith) in omega (arith, rows)
-
--- one cell more
-pub AreRowNears-more : (distance : ℕ → ℕ → ℕ) (cells : Cells) (y x : ℕ) (row : List (Option Near)) (near : Option Near)
-    → AreRowNears distance cells y x row → IsNear distance (IsObstacle cells) x y near → AreRowNears distance cells y (x + 1) (row ++ near ∷ [])
-AreRowNears-more distance cells y x row near before here = record {
-  as_many = let one : length (near ∷ []) ≡ 1 = refl in rw (length-append row (near ∷ []), before.as_many, one) refl;
-  each = λ a column. elim (cases_lt a x) [
-    | inl earlier ↦
-        let place : a < length row = rw before.as_many earlier in
-        rw (get_or_append_left row (near ∷ []) None a place) (before.each a earlier)
-    | inr later ↦
-        let same : a ≡ x = omega arith in
-        let place : a ≡ length row + 0 = let many = before.as_many in omega arith in
-        rw (place, get_or-append-add row (near ∷ []) 0 None) (rw (sym place, same) here)
-  ];
-}
 
 -- one row more
 pub AreNears-more : (distance : ℕ → ℕ → ℕ) (cells : Cells) (y0 y : ℕ) (rows row : List (Option Near)) → y0 ≤ y

@@ -4,11 +4,7 @@ use Rattle.std.specs.Prelude.{◌≡◌, ℕ, ◌+◌, ◌-◌, ◌*◌, ◌<◌
 use Rattle.metric.specs.declared.near.Near.{Near}
 use Rattle.metric.specs.Nearest.{IsNear}
 use Rattle.bits.specs.Cells.{Cells, IsObstacle}
-
--- the nearest obstacles of the first cells of the row y, from the left, or none
-pub record AreRowNears (distance : ℕ → ℕ → ℕ) (cells : Cells) (y count : ℕ) (nears : List (Option Near)) : Type 0 where
-  pub as_many : length nears ≡ count
-  pub each : (x : ℕ) → x < count → IsNear distance (IsObstacle cells) x y (slice_index_or nears x None)
+pub use Rattle.envelope.specs.Rows.{AreRowNears}
 
 -- the nearest obstacles of all cells of the rows y0 to y1 - 1, row by row, or none
 pub record AreNears (distance : ℕ → ℕ → ℕ) (cells : Cells) (y0 y1 : ℕ) (nears : List (Option Near)) : Type 0 where

@@ -1,6 +1,9 @@
 //! The nearest obstacle of every cell of a bitmap's rows.
 #![tactic(auto)]
 
+#[cfg(test)]
+mod draws;
+#[cfg(test)]
 mod nearest;
 mod table;
 #[cfg(test)]

@@ -1,14 +1,18 @@
 //! The nearest obstacles of all cells of some rows.
 
-ghost use Rattle.std.specs.Prelude.{◌≡◌, ℕ, ◌+◌, ◌<◌, ◌≤◌, List, Option, ◌++◌, vec_len, vec_capacity, IfOk, IfErr};
-ghost use Rattle.field.specs.Rows.{AreRowNears, AreNears};
-ghost use Rattle.metric.specs.declared.near.Near.{Near};
+ghost use Rattle.std.specs.Prelude.{◌≡◌, ◌≤◌, [], ◌++◌, length, IfOk, OnOk, IfErr};
+ghost use Rattle.bits.specs.Cells.{IsBitmap};
+ghost use Rattle.field.specs.Rows.{AreNears};
 ghost use Rattle.metric.specs.declared.refusal.Refusal.TheVariants.{Memory};
 
-use crate::nearest::nearest_obstacle;
 use bits::Bitmap;
-use metric::{Cell, Metric, Near, Refusal};
+use column::{ColumnTable, NONE};
+use envelope::{Stack, row, row_alone};
+use metric::{Metric, Near, Refusal};
 use std::alloc::Global;
+
+/// Up to so many rows are worked one by one; for more a table of the whole bitmap is made.
+const FEW_ROWS: u16 = 32;
 
 /// The nearest obstacles of the cells of rows `y0` to `y1 - 1`, row by row, each row from the left.
 ///
@@ -24,24 +28,92 @@ pub fn rows<M: Metric>(
     ensures rows { IfOk result (λ nears. AreNears M.distance bitmap.now y0 y1 nears.items) }
     ensures memory { IfErr result (λ refusal. refusal ≡ Memory) }
 {
-    let cells = usize::from(y1 - y0) * usize::from(bitmap.width());
-    let Ok(mut nears) = Vec::with_capacity(alloc, cells) else {
+    let width = usize::from(bitmap.width());
+    let mut stack = Stack::new(alloc, bitmap.width())?;
+    let Ok(mut line) = vec![in alloc; None; width] else {
         return Err(Refusal::Memory);
     };
-    'rows: for y in y0..y1 {
-        push_row::<M>(bitmap, y, &mut nears);
+    let Ok(mut nears) = Vec::with_capacity(alloc, usize::from(y1 - y0) * width) else {
+        return Err(Refusal::Memory);
+    };
+    if y1 - y0 <= FEW_ROWS {
+        let Ok(mut entries) = vec![in alloc; NONE; width] else {
+            return Err(Refusal::Memory);
+        };
+        push_few_rows::<M>(
+            bitmap,
+            y0,
+            y1,
+            &mut entries,
+            &mut stack,
+            &mut line,
+            &mut nears,
+        )?;
+    } else {
+        let table = ColumnTable::of(alloc, bitmap)?;
+        push_rows::<M>(&table, y0, y1, &mut stack, &mut line, &mut nears)?;
     }
     Ok(nears)
 }
 
-/// Adds the nearest obstacles of one row, for which there is room.
-fn push_row<M: Metric>(bitmap: &Bitmap, y: u16, nears: &mut Vec<Option<Near>>)
-    requires row { y < bitmap.now.height }
-    requires room { vec_len nears.old + bitmap.now.width ≤ vec_capacity nears.old }
-    ensures row { (row : List (Option Near)) × (nears.new.items ≡ nears.old.items ++ row) × AreRowNears M.distance bitmap.now y bitmap.now.width row }
-    ensures room { vec_capacity nears.new ≡ vec_capacity nears.old }
+/// Adds the rows `y0` to `y1 - 1`, without a table. `entries` and `line` have room for a row; `nears` has room for all.
+fn push_few_rows<M: Metric>(
+    bitmap: &Bitmap,
+    y0: u16,
+    y1: u16,
+    entries: &mut [u16],
+    stack: &mut Stack,
+    line: &mut [Option<Near>],
+    nears: &mut Vec<Option<Near>>,
+) -> Result<(), Refusal>
+    requires order { y0 ≤ y1 }
+    requires bitmap { IsBitmap bitmap.now }
+    requires within { y1 ≤ bitmap.now.height }
+    requires entries { length entries.old ≡ bitmap.now.width }
+    requires stack { bitmap.now.width ≤ stack.old }
+    requires line { length line.old ≡ bitmap.now.width }
+    requires empty { nears.old.items ≡ [] }
+    ensures rows { OnOk result (AreNears M.distance bitmap.now y0 y1 nears.new.items) }
+    ensures memory { IfErr result (λ refusal. refusal ≡ Memory) }
 {
-    'columns: for x in 0..bitmap.width() {
-        nears.push_reserved(nearest_obstacle::<M>(bitmap, Cell { x, y }));
+    'few: for y in y0..y1 {
+        row_alone::<M>(bitmap, y, entries, stack, line);
+        push_line(line, nears)?;
+    }
+    Ok(())
+}
+
+/// Adds the rows `y0` to `y1 - 1` of the table's map. `line` has room for a row; `nears` has room for all.
+fn push_rows<M: Metric>(
+    table: &ColumnTable,
+    y0: u16,
+    y1: u16,
+    stack: &mut Stack,
+    line: &mut [Option<Near>],
+    nears: &mut Vec<Option<Near>>,
+) -> Result<(), Refusal>
+    requires order { y0 ≤ y1 }
+    requires within { y1 ≤ table.now.height }
+    requires stack { table.now.width ≤ stack.old }
+    requires line { length line.old ≡ table.now.width }
+    requires empty { nears.old.items ≡ [] }
+    ensures rows { OnOk result (AreNears M.distance table.now y0 y1 nears.new.items) }
+    ensures memory { IfErr result (λ refusal. refusal ≡ Memory) }
+{
+    'rows: for y in y0..y1 {
+        row::<M>(table, y, stack, line);
+        push_line(line, nears)?;
+    }
+    Ok(())
+}
+
+/// Adds one row's answers. Refused where there is no room for them.
+fn push_line(line: &[Option<Near>], nears: &mut Vec<Option<Near>>) -> Result<(), Refusal>
+    ensures items { OnOk result (nears.new.items ≡ nears.old.items ++ line.now) }
+    ensures memory { IfErr result (λ refusal. refusal ≡ Memory) }
+{
+    match nears.extend_from_slice(line) {
+        Ok(()) => Ok(()),
+        Err(_) => Err(Refusal::Memory),
     }
 }

@@ -1,8 +1,10 @@
-//! What no clause says: that calls find memory, and worked rows of nearest obstacles and of distances.
+//! What no clause says: that calls find memory, worked rows of nearest obstacles and of distances, and that large maps are worked in time.
 
+use super::draws::Draws;
+use super::nearest::nearest_obstacle;
 use super::rows;
 use bits::Bitmap;
-use metric::{Cell, Chess, City, Euclid2, MetricKind, Near, Refusal};
+use metric::{Cell, Chess, City, Euclid2, Metric, MetricKind, Near, Rect, Refusal};
 use std::alloc::Global;
 use std::process::Abort;
 use std::test::Fail;
@@ -170,5 +172,71 @@ fn no_obstacle_is_near(rt: HostRuntime) -> Result<(), Fail> {
     let nears = all_rows(rt.alloc(), &bitmap, MetricKind::City)?;
     assert_eq!(rt; nears.len(), 6);
     assert!(rt; nears.iter().all(|near| near.is_none()));
+    Ok(())
+}
+
+/// Compares each cell's answer with the plain minimum.
+fn compare<M: Metric>(rt: &impl Abort, alloc: Global, bitmap: &Bitmap) -> Result<(), Refusal> {
+    let nears = rows::<M>(alloc, bitmap, 0, bitmap.height())?;
+    let mut answers = nears.iter();
+    for y in 0..bitmap.height() {
+        for x in 0..bitmap.width() {
+            let cell = Cell { x, y };
+            assert!(rt; bitmap.holds(cell));
+            let want = nearest_obstacle::<M>(bitmap, cell);
+            assert_eq!(rt; answers.next(), Some(&want), "at ({x}, {y})");
+        }
+    }
+    assert!(rt; answers.next().is_none());
+    Ok(())
+}
+
+#[test]
+fn as_the_plain_minimum(rt: HostRuntime) -> Result<(), Fail> {
+    let mut draws = Draws::new(20261122);
+    for (width, height) in [(12, 12), (70, 4), (4, 70), (130, 3)] {
+        for rare in [1, 2, 5, 20, 200] {
+            for _ in 0..4 {
+                let (width, height) = (draws.side(width), draws.side(height));
+                let bitmap = draws.map(rt.alloc(), width, height, rare)?;
+                compare::<Euclid2>(&rt, rt.alloc(), &bitmap)?;
+                compare::<City>(&rt, rt.alloc(), &bitmap)?;
+                compare::<Chess>(&rt, rt.alloc(), &bitmap)?;
+            }
+        }
+    }
+    Ok(())
+}
+
+#[test]
+fn the_largest_distance(rt: HostRuntime) -> Result<(), Fail> {
+    let bitmap = drawn(&rt, rt.alloc(), 4096, 4096, &[(0, 0)])?;
+    assert!(rt; bitmap.height() == 4096);
+    let nears = rows::<Euclid2>(rt.alloc(), &bitmap, 4095, 4096)?;
+    let last = nears.last().ok_or("no answer")?;
+    let cell = Cell { x: 0, y: 0 };
+    assert_eq!(rt;
+        *last,
+        Some(Near {
+            dist: 33_538_050,
+            cell
+        })
+    );
+    Ok(())
+}
+
+#[test]
+fn full_map(rt: HostRuntime) -> Result<(), Fail> {
+    let mut bitmap = Bitmap::blank(rt.alloc(), 1024, 1024)?;
+    let all = Rect::new(0, 0, 1024, 1024).ok_or("a rectangle without cells")?;
+    assert!(rt; bitmap.holds_rect(all));
+    bitmap.fill(all, true);
+    let nears = rows::<Euclid2>(rt.alloc(), &bitmap, 0, bitmap.height())?;
+    assert_eq!(rt; nears.len(), 1 << 20);
+    assert!(rt;
+        nears
+            .iter()
+            .all(|near| near.map(|near| near.dist) == Some(0))
+    );
     Ok(())
 }

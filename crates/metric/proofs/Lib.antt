@@ -2,4 +2,5 @@ pub mod Appending
 pub mod Decimals
 pub mod Fronts
 pub mod NearestLemmas
+pub mod Separators
 pub mod Taking

@@ -6,6 +6,7 @@ use super::{
 };
 use std::cell::Cell;
 use std::io;
+use std::process::Abort;
 use std::test::Fail;
 
 /// Each refusal and its line.
@@ -134,6 +135,24 @@ fn distances_are_sums_of_squares(rt: HostRuntime) {
             "at ({columns}, {rows})"
         );
     }
+}
+
+/// The last cell at which the left one of two columns isn't worse, by the rule of a metric.
+fn last_by<M: Metric>(rt: &impl Abort, (i, gi): (u16, u16), (u, gu): (u16, u16)) -> i64 {
+    assert!(rt; i < u && u <= 4095);
+    assert!(rt; gi <= 4095 && gu <= 4095);
+    M::last_not_worse(i, gi, u, gu)
+}
+
+#[test]
+fn separators_of_two_columns(rt: HostRuntime) {
+    assert_eq!(rt; last_by::<Euclid2>(&rt, (0, 0), (4, 0)), 2);
+    assert_eq!(rt; last_by::<Euclid2>(&rt, (0, 2), (1, 0)), -1);
+    assert_eq!(rt; last_by::<City>(&rt, (0, 0), (4, 1)), 2);
+    assert_eq!(rt; last_by::<City>(&rt, (0, 0), (2, 2)), 4095);
+    assert_eq!(rt; last_by::<City>(&rt, (0, 3), (2, 0)), -1);
+    assert_eq!(rt; last_by::<Chess>(&rt, (0, 1), (4, 1)), 2);
+    assert_eq!(rt; last_by::<Chess>(&rt, (0, 3), (4, 0)), 1);
 }
 
 /// The read that fails, and what each read of `ab` gives.

@@ -1,0 +1,5 @@
+pub mod Marking
+pub mod Nearest
+pub mod Seeking
+pub mod Sweeping
+pub mod Tables

@@ -1,0 +1,35 @@
+-- Which entries still stand for no row, as masks of bits tell it.
+use Rattle.std.proofs.Common.{◌≡◌, ℕ, ◌-◌, ◌^◌, ◌<◌, ◌==◌, ◌∙◌, min, arith, refl, sym, ap}
+use Rattle.std.specs.Int.{bit_at, w64}
+use lib.Bits.{bit_and}
+use Rattle.std.proofs.lemmas.Bool.Decides.{nat_tests}
+use Rattle.std.proofs.lemmas.Nat.Bits.{bit_at_and, bit_at_not, bit_at-lt, bit_at-zero}
+use Rattle.column.specs.Sweeps.{marked, first_marked}
+
+-- one bit: a column is missing where it was, and the word has no obstacle there
+bit_missing : (b m entry y : ℕ) → b < 2 → m < 2 → y < 4096 → (m == 1) ≡ (entry == 65535) → (min m (1 - b) == 1) ≡ (marked (min b m == 1) y entry == 65535)
+bit_missing b m entry y hb hm small was = grind (arith, nat_tests)
+
+-- one bit: an obstacle is written where the column was missing
+bit_marked : (b m entry y : ℕ) → b < 2 → m < 2 → (m == 1) ≡ (entry == 65535) → marked (min b m == 1) y entry ≡ first_marked (b == 1) y entry
+bit_marked b m entry y hb hm was = grind (arith, nat_tests)
+
+-- a column is missing where it was, and the word has no obstacle there
+pub new_missing : (word missing i old new y : ℕ) → word < 2 ^ 64 → i < 64 → y < 4096 → (bit_at missing i == 1) ≡ (old == 65535) → new ≡ marked (bit_at (bit_and word missing) i == 1) y old
+    → (bit_at (bit_and missing (18446744073709551615 - word)) i == 1) ≡ (new == 65535)
+new_missing word missing i old new y fits place small was is =
+    let without : bit_at (bit_and missing (18446744073709551615 - word)) i ≡ min (bit_at missing i) (1 - bit_at word i) =
+    bit_at_and missing (18446744073709551615 - word) i ∙ ap (min (bit_at missing i)) (bit_at_not w64 word i fits place) in
+    rw (without, is, bit_at_and word missing i) (bit_missing (bit_at word i) (bit_at missing i) old y (bit_at-lt word i) (bit_at-lt missing i) small was)
+
+-- an obstacle is written where the column was missing
+pub new_marked : (word missing i old new y : ℕ) → (bit_at missing i == 1) ≡ (old == 65535) → new ≡ marked (bit_at (bit_and word missing) i == 1) y old
+    → new ≡ first_marked (bit_at word i == 1) y old
+new_marked word missing i old new y was is =
+    rw (is, bit_at_and word missing i) (bit_marked (bit_at word i) (bit_at missing i) old y (bit_at-lt word i) (bit_at-lt missing i) was)
+
+-- without an obstacle in a missing column nothing is written
+pub none_marked : (word missing i old y : ℕ) → (bit_at missing i == 1) ≡ (old == 65535) → bit_and word missing ≡ 0 → old ≡ first_marked (bit_at word i == 1) y old
+none_marked word missing i old y was none =
+    let free : marked (bit_at 0 i == 1) y old ≡ old = rw (bit_at-zero i) refl in
+    new_marked word missing i old old y was (rw none (sym free))

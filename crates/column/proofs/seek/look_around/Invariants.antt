@@ -1,0 +1,13 @@
+-- The rows less than so many rows away have been looked at.
+use Rattle.std.proofs.Common.{◌≡◌, length}
+use Rattle.bits.specs.Cells.{IsBitmap}
+use Rattle.column.specs.Sweeps.{IsSeen}
+use Rattle.column.proofs.seek.look_around.Given as goal
+
+abbrev pub invariant-away : goal.invariant-away
+invariant-away l = record {
+  seen : IsSeen l.bitmap l.y l.away l.missing l.entries;
+  bitmap : IsBitmap l.bitmap;
+  words : length l.missing ≡ 64;
+  height_is : l.away-end ≡ l.bitmap.height;
+}

@@ -1,0 +1,12 @@
+-- The rows from this one on know their nearest obstacles.
+use Rattle.std.proofs.Common.{◌≡◌}
+use Rattle.bits.specs.Cells.{IsBitmap}
+use Rattle.column.specs.Sweeps.{IsSweptUp}
+use Rattle.column.proofs.sweep.sweep_up.Given as goal
+
+abbrev pub invariant-rows : goal.invariant-rows
+invariant-rows l = record {
+  swept : IsSweptUp l.bitmap l.y l.entries;
+  bitmap : IsBitmap l.bitmap;
+  width_is : l.width ≡ l.bitmap.width;
+}

@@ -1,0 +1,68 @@
+//! One row of entries: where it has obstacles, and what the row below it knows.
+
+ghost use Rattle.std.specs.Prelude.{◌≡◌, ℕ, ◌+◌, ◌*◌, ◌<◌, ◌≤◌, ◌==◌, ◌⊎◌, length, slice_index};
+ghost use Rattle.std.specs.Int.{bit_at};
+ghost use Rattle.column.specs.Sweeps.{is_marked, marked, nearer};
+
+use crate::NONE;
+
+/// How many cells a word of a bitmap's row holds.
+pub const WORD_BITS: usize = 64;
+
+/// Writes its own row into the entry of each obstacle of row `y`.
+pub fn mark_row(words: &[u64], y: u16, row: &mut [u16])
+    requires few { length words.now ≤ 64 }
+    requires all { length row.old ≤ 64 * length words.now }
+    ensures len { length row.new ≡ length row.old }
+    ensures marked { (x : ℕ) → x < length row.old → slice_index row.new x ≡ marked (is_marked words.now x) y (slice_index row.old x) }
+{
+    'words: for (index, word) in words.iter().enumerate() {
+        let first = index * WORD_BITS;
+        if *word != 0 && first < row.len() {
+            mark_word(*word, y, first, row);
+        }
+    }
+}
+
+/// Writes the row `y` into the entries of one word's obstacles; the first column is that of the word's lowest bit.
+pub fn mark_word(word: u64, y: u16, first: usize, row: &mut [u16])
+    requires { first ≤ length row.old }
+    ensures len { length row.new ≡ length row.old }
+    ensures marked { (i : ℕ) → i < 64 → first + i < length row.old → slice_index row.new (first + i) ≡ marked (bit_at word i == 1) y (slice_index row.old (first + i)) }
+    ensures others { (x : ℕ) → (x < first) ⊎ (first + 64 ≤ x) → slice_index row.new x ≡ slice_index row.old x }
+{
+    let count = WORD_BITS.min(row.len() - first);
+    'bits: for place in 0..count {
+        let x = first + place;
+        let entry = row[x];
+        row[x] = if (word >> place) & 1 == 1 { y } else { entry };
+    }
+}
+
+/// Takes for each entry of row `y` that of the row below where that one is nearer; the entries of row `y` begin at `start`.
+#[inline(never)]
+pub fn lift_row(y: u16, start: usize, entries: &mut [u16], below: &[u16])
+    requires { start + length below.now ≤ length entries.old }
+    ensures len { length entries.new ≡ length entries.old }
+    ensures nearer { (x : ℕ) → x < length below.now → slice_index entries.new (start + x) ≡ nearer y (slice_index entries.old (start + x)) (slice_index below.now x) }
+    ensures others { (k : ℕ) → (k < start) ⊎ (start + length below.now ≤ k) → slice_index entries.new k ≡ slice_index entries.old k }
+{
+    'columns: for x in 0..below.len() {
+        entries[start + x] = nearer(y, entries[start + x], below[x]);
+    }
+}
+
+/// The nearer of two entries, as it is seen from row `y`; the first one on a tie.
+fn nearer(y: u16, above: u16, below: u16) -> u16
+    ensures { result ≡ nearer y above below }
+{
+    if below == NONE {
+        above
+    } else if above == NONE {
+        below
+    } else if y.abs_diff(below) < y.abs_diff(above) {
+        below
+    } else {
+        above
+    }
+}

@@ -1,0 +1,113 @@
+//! The nearest obstacles of all columns seen from one row, without a table.
+
+ghost use Rattle.std.specs.Prelude.{◌≡◌, ℕ, ◌+◌, ◌-◌, ◌*◌, ◌<◌, ◌≤◌, ◌==◌, ◌⊎◌, length, slice_index};
+ghost use Rattle.std.specs.Int.{bit_at};
+ghost use Rattle.bits.specs.Cells.{Cells, IsBitmap, has};
+ghost use Rattle.column.specs.Columns.{IsRowOfTable};
+ghost use Rattle.column.specs.Sweeps.{AreMissing, IsSeen, first_marked, is_marked};
+
+use crate::NONE;
+use crate::row::{WORD_BITS, mark_word};
+use bits::Bitmap;
+
+/// How many words the widest row takes.
+const MOST_WORDS: usize = 64;
+
+/// Fills `entries` as the table of the bitmap has them in row `y`. No memory is taken.
+///
+/// The rows are looked at from row `y` outwards, so a few rows are found sooner than a table of the whole bitmap.
+pub fn nearest_rows(bitmap: &Bitmap, y: u16, entries: &mut [u16])
+    requires row { y < bitmap.now.height }
+    requires width { length entries.old ≡ bitmap.now.width }
+    ensures { IsRowOfTable bitmap.now y entries.new }
+{
+    let mut missing = [0u64; MOST_WORDS];
+    look_around(bitmap, y, &mut missing, entries);
+}
+
+/// Looks at the rows from row `y` outwards; `missing` is room for a mask of each word's columns that have no entry yet.
+fn look_around(bitmap: &Bitmap, y: u16, missing: &mut [u64], entries: &mut [u16])
+    requires row { y < bitmap.now.height }
+    requires width { length entries.old ≡ bitmap.now.width }
+    requires room { length missing.old ≡ 64 }
+    ensures { IsRowOfTable bitmap.now y entries.new }
+{
+    missing.fill(u64::MAX);
+    entries.fill(NONE);
+    'away: for away in 0..bitmap.height() {
+        look_above(bitmap, y, away, missing, entries);
+        look_below(bitmap, y, away, missing, entries);
+    }
+}
+
+/// Looks at the row so many rows above row `y`, if there is one.
+fn look_above(bitmap: &Bitmap, y: u16, away: u16, missing: &mut [u64], entries: &mut [u16])
+    requires bitmap { IsBitmap bitmap.now }
+    requires row { y < bitmap.now.height }
+    requires width { length entries.old ≡ bitmap.now.width }
+    requires room { length missing.old ≡ 64 }
+    requires missing { AreMissing missing.old entries.old }
+    ensures len { length entries.new ≡ length entries.old }
+    ensures room { length missing.new ≡ length missing.old }
+    ensures missing { AreMissing missing.new entries.new }
+    ensures seen { away ≤ y → (x : ℕ) → x < bitmap.now.width → slice_index entries.new x ≡ first_marked (has bitmap.now x (y - away)) (y - away) (slice_index entries.old x) }
+    ensures none { y < away → entries.new ≡ entries.old }
+{
+    if away <= y {
+        mark_missing(bitmap.row_words(y - away), y - away, missing, entries);
+    }
+}
+
+/// Looks at the row so many rows below row `y`, if there is one.
+fn look_below(bitmap: &Bitmap, y: u16, away: u16, missing: &mut [u64], entries: &mut [u16])
+    requires bitmap { IsBitmap bitmap.now }
+    requires row { y < bitmap.now.height }
+    requires width { length entries.old ≡ bitmap.now.width }
+    requires room { length missing.old ≡ 64 }
+    requires missing { AreMissing missing.old entries.old }
+    ensures len { length entries.new ≡ length entries.old }
+    ensures room { length missing.new ≡ length missing.old }
+    ensures missing { AreMissing missing.new entries.new }
+    ensures seen { y + away < bitmap.now.height → (x : ℕ) → x < bitmap.now.width → slice_index entries.new x ≡ first_marked (has bitmap.now x (y + away)) (y + away) (slice_index entries.old x) }
+    ensures none { bitmap.now.height ≤ y + away → entries.new ≡ entries.old }
+{
+    if away < bitmap.height() - y {
+        mark_missing(bitmap.row_words(y + away), y + away, missing, entries);
+    }
+}
+
+/// Writes the row `y` into the entries of those of its obstacles whose columns are missing.
+fn mark_missing(words: &[u64], y: u16, missing: &mut [u64], entries: &mut [u16])
+    requires row { y < 4096 }
+    requires few { length words.now ≤ 64 }
+    requires all { length entries.old ≤ 64 * length words.now }
+    requires no_more { 64 * length words.now < length entries.old + 64 }
+    requires room { length missing.old ≡ 64 }
+    requires missing { AreMissing missing.old entries.old }
+    ensures len { length entries.new ≡ length entries.old }
+    ensures room { length missing.new ≡ length missing.old }
+    ensures missing { AreMissing missing.new entries.new }
+    ensures marked { (x : ℕ) → x < length entries.old → slice_index entries.new x ≡ first_marked (is_marked words.now x) y (slice_index entries.old x) }
+{
+    'words: for (index, word) in words.iter().enumerate() {
+        missing[index] = mark_new(*word, y, index * WORD_BITS, missing[index], entries);
+    }
+}
+
+/// Writes the row `y` into the entries of those of a word's obstacles whose columns are missing. Which columns are missing then.
+fn mark_new(word: u64, y: u16, first: usize, missing: u64, entries: &mut [u16]) -> u64
+    requires row { y < 4096 }
+    requires first { first ≤ length entries.old }
+    requires missing { (i : ℕ) → i < 64 → first + i < length entries.old → (bit_at missing i == 1) ≡ (slice_index entries.old (first + i) == 65535) }
+    ensures len { length entries.new ≡ length entries.old }
+    ensures missing { (i : ℕ) → i < 64 → first + i < length entries.old → (bit_at result i == 1) ≡ (slice_index entries.new (first + i) == 65535) }
+    ensures marked { (i : ℕ) → i < 64 → first + i < length entries.old → slice_index entries.new (first + i) ≡ first_marked (bit_at word i == 1) y (slice_index entries.old (first + i)) }
+    ensures others { (x : ℕ) → (x < first) ⊎ (first + 64 ≤ x) → slice_index entries.new x ≡ slice_index entries.old x }
+{
+    let new = word & missing;
+    if new == 0 {
+        return missing;
+    }
+    mark_word(new, y, first, entries);
+    missing & !word
+}

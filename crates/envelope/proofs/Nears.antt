@@ -1,0 +1,121 @@
+-- From the columns of a row of the table to the obstacles of the bitmap.
+use Rattle.std.proofs.Common.{◌≡◌, ◌≢◌, ℕ, ◌<◌, ◌≤◌, inl, inr, List, length, slice_index, slice_index_or, Option, Some, None, refl, sym, subst, arith}
+use Rattle.std.specs.Int.{abs_diff}
+use Rattle.std.proofs.lemmas.Bool.{cases_eq, cases_lt, ne_eqb}
+use Rattle.metric.specs.Distance.{Grows, distance_between}
+use Rattle.metric.specs.Nearest.{IsAtMost, IsNear, IsNearest, key_of}
+use Rattle.metric.specs.declared.near.Near.{Near}
+use Rattle.bits.specs.Cells.{Cells, IsBitmap, IsObstacle}
+use Rattle.bits.proofs.CellsLemmas.{has-outside}
+use Rattle.column.specs.Columns.{IsNearestRow, IsRowAtMost, IsRowOfTable}
+use Rattle.envelope.specs.Rows.{AreRowNears}
+use Rattle.envelope.specs.Columns.{AreEntries, AreNearColumns, IsAmong, IsBest, IsNearColumn, gap_of, near_from}
+
+-- a column with an obstacle has an entry
+entry_some : (cells : Cells) (y : ℕ) (entries : List ℕ) (a b : ℕ) → IsRowOfTable cells y entries → a < cells.width → IsObstacle cells a b → slice_index entries a ≢ 65535
+entry_some cells y entries a b row inside obstacle none = (rw none at (row.each a inside)) b obstacle
+
+-- what an entry says of its column
+entry_row : (cells : Cells) (y : ℕ) (entries : List ℕ) (a : ℕ) → IsRowOfTable cells y entries → a < cells.width → slice_index entries a ≢ 65535
+    → IsNearestRow cells a y (Some (slice_index entries a))
+entry_row cells y entries a row inside some = rw (ne_eqb (slice_index entries a) 65535 some) at (row.each a inside)
+
+-- the entries of a row of the table are rows of a map
+pub entries_of_row : (cells : Cells) (y : ℕ) (entries : List ℕ) → IsBitmap cells → y < cells.height → IsRowOfTable cells y entries → AreEntries entries y
+entries_of_row cells y entries bitmap within row =
+    let width = bitmap.width_is.few in
+    let height = bitmap.height_is.few in
+    let many = row.as_many in
+    record {
+      few = omega (arith, width, many);
+      seen_from = omega (arith, height, within);
+      each = λ column left some.
+          let inside : column < cells.width = omega (arith, left, many) in
+          let obstacle = (entry_row cells y entries column row inside some).0 in
+          let below = (has-outside cells bitmap column (slice_index entries column) obstacle).row in
+          omega (arith, below, height);
+    }
+
+-- of the obstacles of one column, the nearest of the row comes first where the row differences and the rows decide
+column_at_most : (d : ℕ → ℕ → ℕ) (x y a row b : ℕ) → distance_between d x y a row ≤ distance_between d x y a b → IsRowAtMost y row b
+    → IsAtMost (key_of d x y a row) (key_of d x y a b)
+column_at_most d x y a row b not_farther at_most = elim (cases_lt (distance_between d x y a row) (distance_between d x y a b)) [
+  | inl less ↦ record { order = inl less }
+  | inr more ↦
+      let same : distance_between d x y a row ≡ distance_between d x y a b = omega arith in
+      record { order = inr (same, inr (refl, at_most.order)) }
+]
+
+-- a column's nearest row isn't farther than its other obstacles
+row_not_farther : (d : ℕ → ℕ → ℕ) (x y a row b : ℕ) → Grows d → abs_diff x a ≤ 4095 → abs_diff y b ≤ 4095 → IsRowAtMost y row b
+    → distance_between d x y a row ≤ distance_between d x y a b
+row_not_farther d x y a row b grows columns rows at_most =
+    let nearer : abs_diff y row ≤ abs_diff y b = elim at_most.order [ inl less ↦ omega (arith, less) | inr same ↦ let e = same.0 in omega (arith, e) ] in
+    grows (abs_diff x a) (abs_diff y row) (abs_diff y b) columns nearer rows
+
+-- the best column's obstacle comes before each other column's
+other_at_most : (d : ℕ → ℕ → ℕ) (x y a c row other b : ℕ) → distance_between d x y c row ≤ distance_between d x y a other
+    → (a < c → distance_between d x y c row < distance_between d x y a other)
+    → distance_between d x y a other ≤ distance_between d x y a b → a ≢ c → IsAtMost (key_of d x y c row) (key_of d x y a b)
+other_at_most d x y a c row other b least first not_farther differs = elim (cases_lt c a) [
+  | inl left ↦ elim (cases_lt (distance_between d x y c row) (distance_between d x y a b)) [
+    | inl less ↦ record { order = inl less }
+    | inr more ↦ record { order = inr (omega arith, inl left) }
+  ]
+  | inr right ↦ let less = first (omega arith) in record { order = inl (omega (arith, less)) }
+]
+
+-- the obstacle of the best column is the nearest of the bitmap
+nearest_of_best : (d : ℕ → ℕ → ℕ) (cells : Cells) (x y column : ℕ) (entries : List ℕ) → Grows d → IsBitmap cells → x < cells.width → y < cells.height → IsRowOfTable cells y entries
+    → IsBest d (gap_of entries y) (IsAmong entries (length entries)) x column → IsNearest d (IsObstacle cells) x y (near_from d entries y column x)
+nearest_of_best d cells x y column entries grows bitmap inside within row best =
+    let many = row.as_many in
+    let width = bitmap.width_is.few in
+    let height = bitmap.height_is.few in
+    let left = best.among.left in
+    let own = entry_row cells y entries column row (omega (arith, left, many)) best.among.some in
+    record {
+      obstacle = own.0;
+      distance_is = refl;
+      least = λ a b obstacle.
+          let place = has-outside cells bitmap a b obstacle in
+          let of_column = place.column in
+          let of_row = place.row in
+          let columns : abs_diff x a ≤ 4095 = omega (arith, of_column, inside, width) in
+          let rows : abs_diff y b ≤ 4095 = omega (arith, of_row, within, height) in
+          elim (cases_eq a column) [
+            | inl same ↦
+                let at_most = own.1 b (rw same at obstacle) in
+                let here : abs_diff x column ≤ 4095 = omega (arith, left, many, inside, width) in
+                rw same (column_at_most d x y column (slice_index entries column) b (row_not_farther d x y column (slice_index entries column) b grows here rows at_most) at_most)
+            | inr differs ↦
+                let some = entry_some cells y entries a b row of_column obstacle in
+                let nearest = entry_row cells y entries a row of_column some in
+                let among : IsAmong entries (length entries) a = record { left = omega (arith, of_column, many); some = some } in
+                other_at_most d x y a column (slice_index entries column) (slice_index entries a) b (best.least a among) (best.first a among) (row_not_farther d x y a (slice_index entries a) b grows columns rows (nearest.1 b obstacle)) differs
+          ];
+    }
+
+-- the obstacle of the nearest column is the nearest of the bitmap; none where there is no column
+pub near_of_column : (d : ℕ → ℕ → ℕ) (cells : Cells) (x y : ℕ) (entries : List ℕ) (answer : Option Near) → Grows d → IsBitmap cells → x < cells.width → y < cells.height → IsRowOfTable cells y entries
+    → IsNearColumn d entries y x answer → IsNear d (IsObstacle cells) x y answer
+near_of_column d cells x y entries None grows bitmap inside within row none = λ a b obstacle.
+    let of_column = (has-outside cells bitmap a b obstacle).column in
+    let many = row.as_many in
+    none a (record { left = omega (arith, of_column, many); some = entry_some cells y entries a b row of_column obstacle })
+near_of_column d cells x y entries (Some near) grows bitmap inside within row found =
+    let (column, best, same) = found in
+    subst (λ (n : Near). IsNearest d (IsObstacle cells) x y n) (sym same) (nearest_of_best d cells x y column entries grows bitmap inside within row best)
+
+-- the obstacles of the nearest columns are the nearest of all, in the whole row
+pub AreRowNears-columns : (d : ℕ → ℕ → ℕ) (cells : Cells) (y : ℕ) (entries : List ℕ) (nears : List (Option Near)) → Grows d → IsBitmap cells → y < cells.height → IsRowOfTable cells y entries
+    → AreNearColumns d entries y nears → AreRowNears d cells y cells.width nears
+AreRowNears-columns d cells y entries nears grows bitmap within row found =
+    let many = row.as_many in
+    let filled = found.as_many in
+    record {
+      as_many = omega (arith, many, filled);
+      each = λ x below.
+          let inside : x < length entries = omega (arith, below, many) in
+          near_of_column d cells x y entries (slice_index_or nears x None) grows bitmap below within row (found.each x inside);
+    }

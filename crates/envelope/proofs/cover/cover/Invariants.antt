@@ -1,0 +1,12 @@
+use Rattle.std.proofs.Common.{◌≡◌, ◌≤◌, length}
+use Rattle.envelope.specs.Columns.{IsAmong, gap_of}
+use Rattle.envelope.specs.Envelope.{IsCovered}
+use Rattle.envelope.proofs.cover.cover.Given as goal
+
+-- the spans so far are those of the columns so far
+abbrev pub invariant-columns : goal.invariant-columns
+invariant-columns g l = record {
+  few : l.count ≤ l.column;
+  covered : IsCovered g.M.Metric.distance (gap_of l.entries l.y) (IsAmong l.entries l.column) l.spans l.count (length l.entries);
+  end_is : l.column-end ≡ length l.entries;
+}

@@ -1,0 +1,14 @@
+use Rattle.std.proofs.Common.{◌≤◌, length}
+use Rattle.envelope.specs.Columns.{IsAmong, gap_of}
+use Rattle.envelope.specs.Envelope.{IsCut}
+use Rattle.envelope.proofs.cover.kept_spans.Given as goal
+
+-- the spans that are left are those of the cells up to some end; from there on the column is strictly nearer than all before
+abbrev pub invariant-spans : goal.invariant-spans
+invariant-spans g l = record {
+  few : l.kept ≤ l.count;
+  cut : IsCut g.M.Metric.distance (gap_of l.entries l.y) (IsAmong l.entries l.column) l.spans l.kept (length l.entries) l.column;
+}
+
+abbrev pub decreases-spans : goal.decreases-spans
+decreases-spans g l = l.kept

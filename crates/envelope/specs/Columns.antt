@@ -1,0 +1,51 @@
+-- The columns of a row that have an obstacle, and which of them is the nearest to a cell.
+-- Source: A. Meijster, J. Roerdink, W. Hesselink, "A General Algorithm for Computing Distance Transforms in Linear Time" (2000): the second phase, here with this project's rule for ties. A column without an obstacle takes no part.
+use Rattle.std.specs.Prelude.{◌≡◌, ◌≢◌, ℕ, ◌<◌, ◌≤◌, List, length, slice_index, slice_index_or, Option, Some, None}
+use Rattle.std.specs.Int.{abs_diff}
+use Rattle.metric.specs.declared.near.Near.{Near}
+use Rattle.metric.specs.Crossing.{at_column}
+
+-- a row of a table, seen from the row y: each entry is a row of a map, or 65535 where the column has no obstacle
+pub record AreEntries (entries : List ℕ) (y : ℕ) : Type 0 where
+  pub few : length entries ≤ 4096
+  pub seen_from : y ≤ 4095
+  pub each : (column : ℕ) → column < length entries → slice_index entries column ≢ 65535 → slice_index entries column ≤ 4095
+
+-- one of the first columns, with an obstacle
+pub record IsAmong (entries : List ℕ) (count column : ℕ) : Type 0 where
+  pub left : column < count
+  pub some : slice_index entries column ≢ 65535
+
+-- how many rows away from the row y the obstacle of a column lies
+abbrev pub gap_of : List ℕ → ℕ → ℕ → ℕ
+gap_of entries y column = abs_diff y (slice_index entries column)
+
+-- the distance from the cell x to the obstacle of a column that lies so many rows away
+abbrev pub distance_from : (ℕ → ℕ → ℕ) → (ℕ → ℕ) → ℕ → ℕ → ℕ
+distance_from distance gaps column x = at_column distance column (gaps column) x
+
+-- a column's obstacle, as the cell x of the row y sees it
+abbrev pub near_from : (ℕ → ℕ → ℕ) → List ℕ → ℕ → ℕ → ℕ → Near
+near_from distance entries y column x = record { dist = distance_from distance (gap_of entries y) column x; cell = record { x = column; y = slice_index entries column } }
+
+-- the right one of two columns is strictly nearer from this cell on, and not before
+pub record IsCrossing (distance : ℕ → ℕ → ℕ) (left left_gap right right_gap start : ℕ) : Type 0 where
+  pub few : start ≤ 4096
+  pub before : (x : ℕ) → x < start → at_column distance left left_gap x ≤ at_column distance right right_gap x
+  pub after : (x : ℕ) → start ≤ x → x ≤ 4095 → at_column distance right right_gap x < at_column distance left left_gap x
+
+-- of a set of columns the nearest to the cell x, the first of those as near
+pub record IsBest (distance : ℕ → ℕ → ℕ) (gaps : ℕ → ℕ) (Among : ℕ → Type 0) (x column : ℕ) : Type 0 where
+  pub among : Among column
+  pub least : (other : ℕ) → Among other → distance_from distance gaps column x ≤ distance_from distance gaps other x
+  pub first : (other : ℕ) → Among other → other < column → distance_from distance gaps column x < distance_from distance gaps other x
+
+-- the obstacle of the column that is the nearest to the cell x; none where there is no such column
+abbrev pub IsNearColumn : (ℕ → ℕ → ℕ) → List ℕ → ℕ → ℕ → Option Near → Type 0
+IsNearColumn distance entries y x None = (column : ℕ) → IsAmong entries (length entries) column → ⊥
+IsNearColumn distance entries y x (Some near) = (column : ℕ) × IsBest distance (gap_of entries y) (IsAmong entries (length entries)) x column × (near ≡ near_from distance entries y column x)
+
+-- the obstacles of the columns that are the nearest to the cells of the row y
+pub record AreNearColumns (distance : ℕ → ℕ → ℕ) (entries : List ℕ) (y : ℕ) (nears : List (Option Near)) : Type 0 where
+  pub as_many : length nears ≡ length entries
+  pub each : (x : ℕ) → x < length entries → IsNearColumn distance entries y x (slice_index_or nears x None)

@@ -1,0 +1,11 @@
+-- What a contract sees of the nearest obstacles of a bitmap's row.
+-- Source: A. Meijster, J. Roerdink, W. Hesselink, "A General Algorithm for Computing Distance Transforms in Linear Time" (2000): the distance transform of a binary image, and its feature transform with this project's rule for ties.
+use Rattle.std.specs.Prelude.{◌≡◌, ℕ, ◌<◌, List, Option, None, length, slice_index_or}
+use Rattle.metric.specs.declared.near.Near.{Near}
+use Rattle.metric.specs.Nearest.{IsNear}
+use Rattle.bits.specs.Cells.{Cells, IsObstacle}
+
+-- the nearest obstacles of the first cells of the row y, from the left, or none
+pub record AreRowNears (distance : ℕ → ℕ → ℕ) (cells : Cells) (y count : ℕ) (nears : List (Option Near)) : Type 0 where
+  pub as_many : length nears ≡ count
+  pub each : (x : ℕ) → x < count → IsNear distance (IsObstacle cells) x y (slice_index_or nears x None)

@@ -1,0 +1,37 @@
+//! The columns of a row of the table, as they are seen from the row's cells.
+//!
+//! A column with an obstacle has an entry: the row of that obstacle which is nearest to the row in hand, `y`. Its gap is how many rows away that is.
+
+ghost use Rattle.std.specs.Prelude.{◌≡◌, ℕ, ◌<◌, ◌≤◌, length};
+ghost use Rattle.metric.specs.Crossing.{AreColumns, at_column};
+ghost use Rattle.envelope.specs.Columns.{AreEntries, IsAmong, IsCrossing, gap_of};
+
+use metric::Metric;
+
+/// How many rows away the column's obstacle lies.
+pub fn gap(entries: &[u16], y: u16, column: u16) -> u16
+    requires entries { AreEntries entries.now y }
+    requires column { IsAmong entries.now (length entries.now) column }
+    ensures gap { result ≡ gap_of entries.now y column }
+    ensures small { result ≤ 4095 }
+{
+    y.abs_diff(entries[usize::from(column)])
+}
+
+/// The distance from the cell in column `x` to the obstacle of a column with this gap.
+pub fn distance<M: Metric>(column: u16, gap: u16, x: u16) -> u32
+    requires column { column ≤ 4095 }
+    requires gap { gap ≤ 4095 }
+    requires cell { x ≤ 4095 }
+    ensures { result ≡ at_column M.distance column gap x }
+{
+    M::of(x.abs_diff(column), gap)
+}
+
+/// The first cell from which on the right one of two columns is strictly nearer, at most 4096.
+pub fn crossing<M: Metric>(left: u16, left_gap: u16, right: u16, right_gap: u16) -> u16
+    requires { AreColumns left left_gap right right_gap }
+    ensures { IsCrossing M.distance left left_gap right right_gap result }
+{
+    (M::last_not_worse(left, left_gap, right, right_gap) + 1) as u16
+}

@@ -1,0 +1,106 @@
+//! The columns of a row put on a stack, from the left: each span of cells with the column that is the nearest to them.
+
+ghost use Rattle.std.specs.Prelude.{ℕ, ◌+◌, ◌-◌, ◌<◌, ◌≤◌, length};
+ghost use Rattle.metric.specs.Crossing.{AreColumns};
+ghost use Rattle.envelope.specs.Columns.{AreEntries, IsAmong, gap_of};
+ghost use Rattle.envelope.specs.Envelope.{IsCovered, IsKept, IsStart, span_at};
+
+use crate::columns::{crossing, distance, gap};
+use column::NONE;
+use metric::Metric;
+
+/// The cells of a row from `start` on, up to where the next span begins, to which one column is the nearest.
+#[derive(Clone, Copy, Debug)]
+pub struct Span {
+    pub start: u16,
+    pub column: u16,
+    /// How many rows away the column's obstacle lies.
+    pub gap: u16,
+}
+
+/// Stacks the spans of the whole row. How many there are: none where no column has an obstacle.
+// Not inlined: the two phases would compete for registers.
+#[inline(never)]
+pub fn cover<M: Metric>(entries: &[u16], y: u16, spans: &mut [Span]) -> usize
+    requires entries { AreEntries entries.now y }
+    requires room { length entries.now ≤ length spans.old }
+    ensures few { result ≤ length entries.now }
+    ensures covered { IsCovered M.distance (gap_of entries.now y) (IsAmong entries.now (length entries.now)) spans.new result (length entries.now) }
+{
+    let mut count = 0;
+    'columns: for column in 0..entries.len() {
+        if entries[column] != NONE {
+            count = put_on::<M>(entries, y, column as u16, spans, count);
+        }
+    }
+    count
+}
+
+/// Puts one more column on the stack, unless it is nowhere the nearest, and takes off those that it hides. How many spans there are then.
+fn put_on<M: Metric>(
+    entries: &[u16],
+    y: u16,
+    column: u16,
+    spans: &mut [Span],
+    count: usize,
+) -> usize
+    requires entries { AreEntries entries.now y }
+    requires room { length entries.now ≤ length spans.old }
+    requires column { IsAmong entries.now (length entries.now) column }
+    requires few { count ≤ column }
+    requires covered { IsCovered M.distance (gap_of entries.now y) (IsAmong entries.now column) spans.old count (length entries.now) }
+    ensures few { result ≤ column + 1 }
+    ensures covered { IsCovered M.distance (gap_of entries.now y) (IsAmong entries.now (column + 1)) spans.new result (length entries.now) }
+{
+    let kept = kept_spans::<M>(entries, y, column, spans, count);
+    let start = start_of::<M>(entries, y, column, spans, kept);
+    if usize::from(start) < entries.len() {
+        let gap = gap(entries, y, column);
+        spans[kept] = Span { start, column, gap };
+        kept + 1
+    } else {
+        kept
+    }
+}
+
+/// Where the cells begin to which the column is strictly nearer than the last of the kept spans is: the row's first cell on an empty stack.
+fn start_of<M: Metric>(entries: &[u16], y: u16, column: u16, spans: &[Span], kept: usize) -> u16
+    requires entries { AreEntries entries.now y }
+    requires room { kept ≤ length spans.now }
+    requires column { IsAmong entries.now (length entries.now) column }
+    requires top { 0 < kept → let top = span_at spans.now (kept - 1) in AreColumns top.column top.gap column (gap_of entries.now y column) }
+    ensures { IsStart M.distance (gap_of entries.now y) spans.now kept column result }
+{
+    if kept == 0 {
+        return 0;
+    }
+    let top = spans[kept - 1];
+    crossing::<M>(top.column, top.gap, column, gap(entries, y, column))
+}
+
+/// How many spans are left after those from the top on whose first cell the column is strictly nearer than their own.
+fn kept_spans<M: Metric>(
+    entries: &[u16],
+    y: u16,
+    column: u16,
+    spans: &[Span],
+    count: usize,
+) -> usize
+    requires entries { AreEntries entries.now y }
+    requires room { count ≤ length spans.now }
+    requires column { IsAmong entries.now (length entries.now) column }
+    requires covered { IsCovered M.distance (gap_of entries.now y) (IsAmong entries.now column) spans.now count (length entries.now) }
+    ensures { IsKept M.distance (gap_of entries.now y) (IsAmong entries.now column) spans.now count result (length entries.now) column }
+{
+    let gap = gap(entries, y, column);
+    let mut kept = count;
+    'spans: while kept > 0 {
+        let top = spans[kept - 1];
+        let own = distance::<M>(top.column, top.gap, top.start);
+        if own <= distance::<M>(column, gap, top.start) {
+            break;
+        }
+        kept -= 1;
+    }
+    kept
+}

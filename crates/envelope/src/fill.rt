@@ -1,0 +1,63 @@
+//! The spans of a row read back: each cell with its nearest obstacle.
+
+ghost use Rattle.std.specs.Prelude.{◌≡◌, ℕ, ◌<◌, ◌≤◌, length, slice_index_or, None, Some};
+ghost use Rattle.envelope.specs.Columns.{AreEntries, AreNearColumns, IsAmong, gap_of, near_from};
+ghost use Rattle.envelope.specs.Envelope.{IsCovered};
+
+use crate::columns::{distance, gap};
+use crate::cover::Span;
+use metric::{Cell, Metric, Near};
+
+/// Fills the row with the obstacle of the column that is the nearest to each cell, or with `None` where there is no span.
+// Not inlined: the two phases would compete for registers.
+#[inline(never)]
+pub fn fill<M: Metric>(entries: &[u16], y: u16, spans: &[Span], nears: &mut [Option<Near>])
+    requires entries { AreEntries entries.now y }
+    requires width { length nears.old ≡ length entries.now }
+    requires covered { IsCovered M.distance (gap_of entries.now y) (IsAmong entries.now (length entries.now)) spans.now (length spans.now) (length entries.now) }
+    ensures { AreNearColumns M.distance entries.now y nears.new }
+{
+    if spans.is_empty() {
+        nears.fill(None);
+        return;
+    }
+    let mut end = nears.len();
+    let mut count = spans.len();
+    'spans: while count > 0 {
+        count -= 1;
+        let span = spans[count];
+        fill_span::<M>(entries, y, span, end, nears);
+        end = usize::from(span.start);
+    }
+}
+
+/// Fills the cells of one span, up to the end.
+fn fill_span<M: Metric>(entries: &[u16], y: u16, span: Span, end: usize, nears: &mut [Option<Near>])
+    requires entries { AreEntries entries.now y }
+    requires column { IsAmong entries.now (length entries.now) span.column }
+    requires width { length nears.old ≡ length entries.now }
+    requires within { end ≤ length entries.now }
+    requires some { span.start < end }
+    ensures filled { (x : ℕ) → span.start ≤ x → x < end → slice_index_or nears.new x None ≡ Some (near_from M.distance entries.now y span.column x) }
+    ensures others { (x : ℕ) → end ≤ x → slice_index_or nears.new x None ≡ slice_index_or nears.old x None }
+{
+    for x in usize::from(span.start)..end {
+        nears[x] = Some(near::<M>(entries, y, span.column, x as u16));
+    }
+}
+
+/// The column's obstacle, as the cell in column `x` sees it.
+fn near<M: Metric>(entries: &[u16], y: u16, column: u16, x: u16) -> Near
+    requires entries { AreEntries entries.now y }
+    requires column { IsAmong entries.now (length entries.now) column }
+    requires cell { x ≤ 4095 }
+    ensures { result ≡ near_from M.distance entries.now y column x }
+{
+    Near {
+        dist: distance::<M>(column, gap(entries, y, column), x),
+        cell: Cell {
+            x: column,
+            y: entries[usize::from(column)],
+        },
+    }
+}

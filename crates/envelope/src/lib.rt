@@ -1,0 +1,12 @@
+//! The row phase: for each cell of a row the nearest obstacle, found from the nearest obstacle of each column.
+#![tactic(auto)]
+
+mod columns;
+mod cover;
+mod fill;
+mod stack;
+#[cfg(test)]
+mod tests;
+
+pub use metric::Near;
+pub use stack::{Stack, row, row_alone};

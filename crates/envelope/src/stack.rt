@@ -1,0 +1,97 @@
+//! The room in which a row's spans are stacked, and the row phase.
+
+ghost use Rattle.std.specs.Prelude.{◌≡◌, ℕ, ◌<◌, ◌≤◌, length, IfOk, IfErr};
+ghost use Rattle.bits.specs.Cells.{IsBitmap};
+ghost use Rattle.envelope.specs.Columns.{AreEntries, AreNearColumns};
+ghost use Rattle.envelope.specs.Rows.{AreRowNears};
+ghost use Rattle.metric.specs.declared.refusal.Refusal.TheVariants.{Memory};
+
+use crate::cover::{Span, cover};
+use crate::fill::fill;
+use bits::Bitmap;
+use column::{ColumnTable, nearest_rows};
+use metric::{Metric, Near, Refusal};
+use std::alloc::Global;
+use std::marker::Model;
+
+/// What stands in a place of the stack that no span has taken.
+const UNUSED: Span = Span {
+    start: 0,
+    column: 0,
+    gap: 0,
+};
+
+/// The room for the spans of one row. Contracts see it as the width of the rows that it was made for.
+#[derive(Debug, Drop)]
+pub struct Stack {
+    spans: Vec<Span>,
+}
+
+impl Model for Stack {
+    ghost use Rattle.std.specs.Prelude.{ℕ, length};
+
+    ghost Value = { ℕ };
+
+    ghost view = { λ stack. length stack.spans.items };
+}
+
+impl Stack {
+    /// A stack for rows of this width. Refused for want of memory alone.
+    pub fn new(alloc: Global, width: u16) -> Result<Self, Refusal>
+        ensures stack { IfOk result (λ stack. stack ≡ width) }
+        ensures memory { IfErr result (λ refusal. refusal ≡ Memory) }
+    {
+        match vec![in alloc; UNUSED; usize::from(width)] {
+            Ok(spans) => Ok(Stack { spans }),
+            Err(_) => Err(Refusal::Memory),
+        }
+    }
+}
+
+/// Fills a row with the nearest obstacle of each cell of row `y`, from the left, or `None` where the map has no obstacle.
+///
+/// Of the obstacles at the least distance it is the one of the least column; of those the one in the fewest rows away, and of two such the upper. The row in hand and the map have one width, and so has the stack, or a greater one. No memory is taken.
+pub fn row<M: Metric>(table: &ColumnTable, y: u16, stack: &mut Stack, nears: &mut [Option<Near>])
+    requires row { y < table.now.height }
+    requires stack { table.now.width ≤ stack.old }
+    requires width { length nears.old ≡ table.now.width }
+    ensures nears { AreRowNears M.distance table.now y table.now.width nears.new }
+    ensures stack { stack.new ≡ stack.old }
+{
+    fill_row::<M>(table.row(y), y, stack, nears);
+}
+
+/// The same without a table: the nearest obstacles of the columns, seen from this row alone, are put into `entries`.
+///
+/// For some dozens of rows this is faster than a table of the whole map. No memory is taken.
+pub fn row_alone<M: Metric>(
+    bitmap: &Bitmap,
+    y: u16,
+    entries: &mut [u16],
+    stack: &mut Stack,
+    nears: &mut [Option<Near>],
+)
+    requires row { y < bitmap.now.height }
+    requires bitmap { IsBitmap bitmap.now }
+    requires entries { length entries.old ≡ bitmap.now.width }
+    requires stack { bitmap.now.width ≤ stack.old }
+    requires width { length nears.old ≡ bitmap.now.width }
+    ensures nears { AreRowNears M.distance bitmap.now y bitmap.now.width nears.new }
+    ensures stack { stack.new ≡ stack.old }
+{
+    nearest_rows(bitmap, y, entries);
+    fill_row::<M>(entries, y, stack, nears);
+}
+
+/// Fills a row with the obstacle of the column that is the nearest to each cell.
+fn fill_row<M: Metric>(entries: &[u16], y: u16, stack: &mut Stack, nears: &mut [Option<Near>])
+    requires entries { AreEntries entries.now y }
+    requires stack { length entries.now ≤ stack.old }
+    requires width { length nears.old ≡ length entries.now }
+    ensures nears { AreNearColumns M.distance entries.now y nears.new }
+    ensures stack { stack.new ≡ stack.old }
+{
+    let spans = &mut stack.spans[..entries.len()];
+    let count = cover::<M>(entries, y, spans);
+    fill::<M>(entries, y, &spans[..count], nears);
+}

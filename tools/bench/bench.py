@@ -1,0 +1,185 @@
+#!/usr/bin/env python3
+"""Measures `clearmap dist` beside scipy's exact distance transform, on the same maps and with the same text at the end.
+
+Six maps (one obstacle; 0.1, 1 and 20 per cent of the cells at random; obstacles alone; a floor plan of rooms with doors) in
+several sizes, each with a fixed seed, are written as raw PBM. For each map the programs run in turn, round by round: `dist`,
+`dist --nearest`, and `scipy_dist.py`, which reads the same file and writes the same lines. All read from and write to files
+in memory. The distances of the three are compared, and each obstacle that `--nearest` names is looked up in the map.
+
+Printed is a Markdown table, the least and the median time of each program. The program has to be built before.
+"""
+import argparse
+import datetime
+import pathlib
+import random
+import statistics
+import subprocess
+import sys
+import tempfile
+import time
+
+HERE = pathlib.Path(__file__).resolve().parent
+PROGRAM = HERE.parent.parent / "crates" / "clearmap" / "out" / "clearmap"
+PYTHON = "/usr/bin/python3"
+SCIPY_DIST = str(HERE / "scipy_dist.py")
+CHECK = str(HERE / "check.py")
+SIZES = (512, 1024, 2048, 4096)
+SEED = 20261122
+
+
+class Bitmap:
+    """A square map of free cells, in which obstacles are drawn."""
+
+    def __init__(self, side):
+        self.side = side
+        self.across = (side + 7) // 8
+        self.rows = bytearray(self.across * side)
+
+    def draw(self, x, y):
+        self.rows[y * self.across + x // 8] |= 0x80 >> (x % 8)
+
+    def write(self, path):
+        path.write_bytes(b"P4\n%d %d\n" % (self.side, self.side) + self.rows)
+
+
+def one_obstacle(side, rng):
+    bitmap = Bitmap(side)
+    bitmap.draw(rng.randrange(side), rng.randrange(side))
+    return bitmap
+
+
+def at_random(share):
+    def make(side, rng):
+        bitmap = Bitmap(side)
+        for place in rng.sample(range(side * side), int(share * side * side)):
+            bitmap.draw(place % side, place // side)
+        return bitmap
+
+    return make
+
+
+def full(side, rng):
+    bitmap = Bitmap(side)
+    bitmap.rows = bytearray(b"\xff") * len(bitmap.rows)
+    return bitmap
+
+
+def cuts(side, rng):
+    """Where walls stand: at both edges, and in between at distances of 40 to 120 cells."""
+    places = [0]
+    while side - 1 - places[-1] > 160:
+        places.append(places[-1] + rng.randrange(40, 121))
+    return places + [side - 1]
+
+
+def floor_plan(side, rng):
+    """Rooms between walls of one cell, with a door of 10 cells in each wall between two rooms."""
+    bitmap = Bitmap(side)
+    columns, rows = cuts(side, rng), cuts(side, rng)
+    for x in columns:
+        for top, bottom in zip(rows, rows[1:]):
+            door = rng.randrange(top + 5, bottom - 15) if 0 < x < side - 1 else side
+            for y in range(top, bottom + 1):
+                if not door <= y < door + 10:
+                    bitmap.draw(x, y)
+    for y in rows:
+        for left, right in zip(columns, columns[1:]):
+            door = rng.randrange(left + 5, right - 15) if 0 < y < side - 1 else side
+            for x in range(left, right + 1):
+                if not door <= x < door + 10:
+                    bitmap.draw(x, y)
+    return bitmap
+
+
+MAPS = (
+    ("one obstacle", one_obstacle),
+    ("0.1 % at random", at_random(0.001)),
+    ("1 % at random", at_random(0.01)),
+    ("20 % at random", at_random(0.2)),
+    ("obstacles alone", full),
+    ("floor plan", floor_plan),
+)
+
+
+def commands(program):
+    return (
+        ("dist", [str(program), "dist"]),
+        ("dist --nearest", [str(program), "dist", "--nearest"]),
+        ("scipy", [PYTHON, SCIPY_DIST]),
+    )
+
+
+def timed(command, source, target):
+    """The seconds of one run, and those that the command tells of its own work, if it does."""
+    with open(source, "rb") as given, open(target, "wb") as taken:
+        start = time.perf_counter()
+        run = subprocess.run(command, stdin=given, stdout=taken, stderr=subprocess.PIPE)
+        seconds = time.perf_counter() - start
+    if run.returncode != 0:
+        sys.exit(f"{' '.join(command)}: status {run.returncode}, {run.stderr[:400]!r}")
+    told = run.stderr.decode().split()
+    return seconds, float(told[-1]) if told else None
+
+
+def measure(program, rounds, source, folder):
+    """Each command's times, round by round; after the last round its output is still there."""
+    times = {}
+    for _ in range(rounds):
+        for name, command in commands(program):
+            seconds, own = timed(command, source, folder / f"{name}.txt")
+            times.setdefault(name, []).append(seconds)
+            if own is not None:
+                times.setdefault(f"{name}, without its start", []).append(own)
+    return times
+
+
+def check(source, folder):
+    texts = [str(folder / f"{name}.txt") for name in ("dist", "dist --nearest", "scipy")]
+    run = subprocess.run([PYTHON, CHECK, str(source)] + texts, capture_output=True)
+    return run.stdout.decode().strip() if run.returncode == 0 else f"WRONG: {run.stderr.decode()[-300:]}"
+
+
+def cell(times):
+    return f"{min(times):.3f} / {statistics.median(times):.3f}"
+
+
+def processor():
+    for line in open("/proc/cpuinfo"):
+        if line.startswith("model name"):
+            return line.split(":", 1)[1].strip()
+    return "unknown"
+
+
+def first_line(command):
+    return subprocess.run(command, capture_output=True).stdout.decode().strip().splitlines()[0]
+
+
+def main():
+    parser = argparse.ArgumentParser(description=__doc__.splitlines()[0])
+    parser.add_argument("--program", type=pathlib.Path, default=PROGRAM)
+    parser.add_argument("--sizes", type=int, nargs="+", default=SIZES)
+    parser.add_argument("--rounds", type=int, default=5)
+    options = parser.parse_args()
+    print(f"{datetime.date.today()}, {processor()}, {first_line([str(options.program), '--version'])}, {first_line([PYTHON, SCIPY_DIST, '--version'])}. ", end="")
+    print(f"Seconds, the least and the median of {options.rounds} runs in turn.\n")
+    header = None
+    wrong = False
+    with tempfile.TemporaryDirectory(dir="/dev/shm") as place:
+        folder = pathlib.Path(place)
+        for side in options.sizes:
+            for name, make in MAPS:
+                source = folder / "map.pbm"
+                make(side, random.Random(f"{SEED} {name} {side}")).write(source)
+                times = measure(options.program, options.rounds, source, folder)
+                if header is None:
+                    header = list(times)
+                    print("| Map | Cells a side | " + " | ".join(header) + " | Compared |")
+                    print("|---" * (len(header) + 3) + "|")
+                said = check(source, folder)
+                wrong = wrong or said.startswith("WRONG")
+                print(f"| {name} | {side} | " + " | ".join(cell(times[each]) for each in header) + f" | {said} |", flush=True)
+    return 1 if wrong else 0
+
+
+if __name__ == "__main__":
+    sys.exit(main())
