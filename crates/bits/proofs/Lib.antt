@@ -2,3 +2,4 @@ pub mod CellsLemmas
 pub mod ChangesLemmas
 pub mod FillLemmas
 pub mod StoredLemmas
+pub mod TileLemmas

@@ -1,6 +1,6 @@
 -- What a contract sees of a bitmap: a size, and a set of cells, its obstacles.
 -- Source: pbm(5), the Netpbm manual's page of the PBM format. An obstacle is a black pixel; x counts columns from the left and y counts rows from the top, both from 0.
-use Rattle.std.specs.Prelude.{◌≡◌, ℕ, ◌<◌, ◌≤◌, ◌&&◌, ◌==◌, nat_lt, nat_le, Bool, true, false, List, [], slice_index_or, map, if◌then◌else◌}
+use Rattle.std.specs.Prelude.{◌≡◌, ℕ, ◌+◌, ◌-◌, ◌<◌, ◌≤◌, ◌&&◌, ◌==◌, nat_lt, nat_le, Bool, true, false, List, [], slice_index_or, map, if◌then◌else◌}
 use Rattle.std.specs.List.{range_with_len}
 
 -- a size, and for each row the answers of its columns: is this cell an obstacle?
@@ -52,3 +52,8 @@ is_within x0 y0 x1 y1 x y = (nat_le x0 x && nat_lt x x1) && (nat_le y0 y && nat_
 -- the bitmap with the value of each cell of a rectangle written anew
 abbrev pub with_rect : Cells → ℕ → ℕ → ℕ → ℕ → Bool → Cells
 with_rect cells x0 y0 x1 y1 value = cells_where cells.width cells.height (λ a b. if is_within x0 y0 x1 y1 a b then value else has cells a b)
+
+-- the bitmap with each cell of a stamp, laid with its first cell at (x, y), written anew
+abbrev pub with_stamp : Cells → ℕ → ℕ → Cells → Cells
+with_stamp cells x y stamp =
+    cells_where cells.width cells.height (λ a b. if is_within x y (x + stamp.width) (y + stamp.height) a b then has stamp (a - x) (b - y) else has cells a b)

@@ -1,4 +1,5 @@
 pub mod Cells
 pub mod Changes
 pub mod Stored
+pub mod Tiles
 pub mod Words

@@ -144,4 +144,15 @@ impl Bitmap {
             Err(_) => Err(Refusal::Memory),
         }
     }
+
+    /// Makes this bitmap the same as another one of its size. It takes no memory.
+    pub fn copy_from(&mut self, other: &Bitmap)
+        requires width { self.old.width ≡ other.now.width }
+        requires height { self.old.height ≡ other.now.height }
+        ensures { self.new ≡ other.now }
+    {
+        self.words
+            .as_mut_slice()
+            .copy_from_slice(other.words.as_slice());
+    }
 }

@@ -3,8 +3,10 @@
 
 mod bitmap;
 mod fill;
+mod stamp;
 #[cfg(test)]
 mod tests;
+mod tile;
 mod word;
 
 pub use bitmap::Bitmap;

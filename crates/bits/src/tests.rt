@@ -83,3 +83,52 @@ fn copies_are_apart(rt: HostRuntime) -> Result<(), Fail> {
     assert!(rt; copy.get(cell) && !bitmap.get(cell));
     Ok(())
 }
+
+/// A position, a row, and the row's word, on a bitmap of 70 columns and 66 rows with obstacles at (0, 0), (63, 1) and (69, 65).
+const TILE_ROWS: [(u16, u16, u64); 6] = [
+    (0, 0, 1),
+    (0, 1, 0x8000_0000_0000_0000),
+    (1, 1, 0),
+    (2, 1, 0),
+    (3, 1, 32),
+    (3, 2, 0),
+];
+
+#[test]
+fn tile_rows_are_words(rt: HostRuntime) -> Result<(), Fail> {
+    let mut bitmap = Bitmap::blank(rt.alloc(), 70, 66)?;
+    for cell in [
+        Cell { x: 0, y: 0 },
+        Cell { x: 63, y: 1 },
+        Cell { x: 69, y: 65 },
+    ] {
+        assert!(rt; bitmap.holds(cell));
+        bitmap.set(cell, true);
+    }
+    assert_eq!(rt; bitmap.tiles(), 4);
+    for (position, row, word) in TILE_ROWS {
+        assert!(rt; position < bitmap.tiles() && row < 64);
+        assert_eq!(rt;
+            bitmap.tile_row(position, row),
+            word,
+            "at tile {position}, row {row}"
+        );
+    }
+    Ok(())
+}
+
+#[test]
+fn stamps_are_laid(rt: HostRuntime) -> Result<(), Fail> {
+    let mut bitmap = Bitmap::blank(rt.alloc(), 70, 3)?;
+    let mut stamp = Bitmap::blank(rt.alloc(), 2, 2)?;
+    let (first, last) = (Cell { x: 0, y: 0 }, Cell { x: 1, y: 1 });
+    assert!(rt; stamp.holds(first) && stamp.holds(last));
+    stamp.set(first, true);
+    stamp.set(last, true);
+    for (x, changed) in [(63, 2), (63, 0), (64, 3)] {
+        assert!(rt; x <= 64 && bitmap.width() == 70 && bitmap.height() == 3);
+        assert!(rt; stamp.width() == 2 && stamp.height() == 2);
+        assert_eq!(rt; bitmap.stamp(x, 1, &stamp), changed, "at {x}");
+    }
+    Ok(())
+}

@@ -1,0 +1,45 @@
+//! The tiles of a bitmap, and their rows as words.
+
+ghost use Rattle.std.specs.Prelude.{◌≡◌, ◌≤◌, ◌<◌};
+ghost use Rattle.bits.specs.Tiles.{tile_count, row_word};
+ghost use Rattle.bits.specs.Words.{words_across};
+
+use crate::bitmap::Bitmap;
+
+/// How many cells a tile has across and down.
+const TILE_SIDE: u16 = 64;
+
+impl Bitmap {
+    /// How many tiles of 64 by 64 cells the bitmap has, the tiles at its edge with them: 1 to 4096.
+    pub fn tiles(&self) -> u16
+        ensures tiles { result ≡ tile_count self.now }
+        ensures few { result ≤ 4096 }
+    {
+        self.tiles_across() * self.height().div_ceil(TILE_SIDE)
+    }
+
+    /// How many tiles lie beside one another.
+    fn tiles_across(&self) -> u16
+        ensures across { result ≡ words_across self.now.width }
+        ensures some { 1 ≤ result }
+        ensures few { result ≤ 64 }
+    {
+        self.width().div_ceil(TILE_SIDE)
+    }
+
+    /// The row of the tile at this position, from 0 to 63, as a word: bit j is column j, and 0 past the bitmap's edge.
+    pub fn tile_row(&self, position: u16, row: u16) -> u64
+        requires position { position < tile_count self.now }
+        requires row { row < 64 }
+        ensures { result ≡ row_word self.now position row }
+    {
+        let height = self.height();
+        let across = self.tiles_across();
+        let y = TILE_SIDE * (position / across) + row;
+        if y < height {
+            self.row_words(y)[usize::from(position % across)]
+        } else {
+            0
+        }
+    }
+}

@@ -1,0 +1,21 @@
+pub mod CameLemmas
+pub mod CountLemmas
+pub mod DoesLemmas
+pub mod FreedLemmas
+pub mod LogLemmas
+pub mod PlaceLemmas
+pub mod RetiredLemmas
+pub mod SafeLemmas
+pub mod SoundBlocks
+pub mod SoundCommit
+pub mod SoundKeeper
+pub mod SoundReader
+pub mod SpareLemmas
+pub mod StepLemmas
+pub mod TidyCollect
+pub mod TidyDraft
+pub mod TidyLog
+pub mod TidyOpened
+pub mod TidyPublish
+pub mod TimesLemmas
+mod WorkedRows

@@ -1,0 +1,107 @@
+-- How a story grows with its log: places, the newest version, and what a beginning of a log tells.
+use Rattle.std.proofs.Common.{◌≡◌, ℕ, ◌+◌, ◌<◌, ◌≤◌, Bool, true, false, if◌then◌else◌, List, [], ◌∷◌, ◌++◌, refl, ap, sym, ◌∙◌, arith}
+use Rattle.std.specs.Prelude.{Option, Some, None, nat_le}
+use Rattle.std.proofs.lemmas.Bool.Decides.{nat_tests}
+use Rattle.std.proofs.lemmas.List.{length-append, append-nil, append_assoc}
+use Rattle.metric.specs.declared.refusal.Refusal.{Refusal}
+use Rattle.metric.specs.declared.refusal.Refusal.TheVariants.{OutOfRange, LogFull}
+use Rattle.map_core.specs.declared.command.Command.{Command}
+use Rattle.map_core.specs.declared.command.Command.TheVariants.{Paint, Stamp, Publish, Revert, Collect}
+use Rattle.map_core.specs.declared.command.Reply.{Reply}
+use Rattle.map_core.specs.declared.command.Entry.{Entry}
+use Rattle.map_core.specs.declared.setting.Setting.{Setting}
+use Rattle.map_core.specs.Drawing.{is_inside}
+use Rattle.map_core.specs.Story.{Story, opened, kept_log, newest}
+use Rattle.map_core.specs.Legal.{refused, told, after, IsLegalFrom, IsLegal}
+use Rattle.map_core.specs.Words.{Base}
+use Rattle.map_core.specs.Views.{story}
+use Rattle.map_core.specs.Safe.{IsBeginning}
+
+-- a test that is passed refuses nothing
+not_refused : (test : Bool) (refusal : Refusal) (rest : Option Refusal) → (if test then Some refusal else rest) ≡ None → (test ≡ false) × (rest ≡ None)
+not_refused true refusal rest is = absurd (cc)
+not_refused false refusal rest is = (refl, is)
+
+-- a command that is accepted finds room in the log
+pub room_in_log : (g : Setting) (s : Story) (c : Command) → refused g s c ≡ None → s.places < g.log
+unfolding refused kept_log
+room_in_log g s (Paint r black) accepted = from_test g.log s.places (drawing (is_inside s.draft (Paint r black)) (nat_le g.log s.places) _ accepted)
+  where
+    drawing : (inside full : Bool) (rest : Option Refusal) → (if inside then (if full then Some LogFull else rest) else Some OutOfRange) ≡ None → full ≡ false
+    drawing true full rest is = (not_refused full LogFull rest is).0
+    drawing false full rest is = absurd (cc)
+
+    from_test : (l n : ℕ) → nat_le l n ≡ false → n < l
+    from_test l n is = grind (arith, nat_tests)
+room_in_log g s (Stamp x y b) accepted = from_test g.log s.places (drawing (is_inside s.draft (Stamp x y b)) (nat_le g.log s.places) _ accepted)
+  where
+    drawing : (inside full : Bool) (rest : Option Refusal) → (if inside then (if full then Some LogFull else rest) else Some OutOfRange) ≡ None → full ≡ false
+    drawing true full rest is = (not_refused full LogFull rest is).0
+    drawing false full rest is = absurd (cc)
+
+    from_test : (l n : ℕ) → nat_le l n ≡ false → n < l
+    from_test l n is = grind (arith, nat_tests)
+room_in_log g s Publish accepted = let is = (not_refused (nat_le g.log s.places) LogFull _ accepted).0 in grind (arith, nat_tests)
+room_in_log g s Revert accepted = let is = (not_refused (nat_le g.log s.places) LogFull _ accepted).0 in grind (arith, nat_tests)
+room_in_log g s Collect accepted = let is = (not_refused (nat_le g.log s.places) LogFull _ accepted).0 in grind (arith, nat_tests)
+
+-- an entry takes one place
+pub places-told : (s : Story) (c : Command) (reply : Reply) → (told s c reply).places ≡ s.places + 1
+unfolding told
+places-told s (Paint r black) reply = refl
+places-told s (Stamp x y b) reply = refl
+places-told s Publish reply = refl
+places-told s Revert reply = refl
+places-told s Collect reply = refl
+
+-- newest never falls, and grows by one at most
+pub newest-told : (s : Story) (c : Command) (reply : Reply) → (newest s ≤ newest (told s c reply)) × (newest (told s c reply) ≤ newest s + 1)
+unfolding told newest
+newest-told s (Paint r black) reply = (omega arith, omega arith)
+newest-told s (Stamp x y b) reply = (omega arith, omega arith)
+newest-told s Publish reply = (omega (arith, length-append s.published (s.draft ∷ [])), omega (arith, length-append s.published (s.draft ∷ [])))
+newest-told s Revert reply = (omega arith, omega arith)
+newest-told s Collect reply = (omega arith, omega arith)
+
+-- newest never falls over some entries
+pub newest-after : (s : Story) (log : List Entry) → newest s ≤ newest (after s log)
+newest-after s [] = omega arith
+newest-after s (e ∷ es) = let here = newest-told s e.command e.reply in let rest = newest-after (told s e.command e.reply) es in let up = here.0 in omega arith
+
+-- some entries, and then some more
+pub after-append : (s : Story) (log more : List Entry) → after s (log ++ more) ≡ after (after s log) more
+after-append s [] more = refl
+after-append s (e ∷ es) more = after-append (told s e.command e.reply) es more
+
+-- newest of a beginning of a log is at most newest of the log
+pub newest-beginning : (k : Base) (seen log : List Entry) → IsBeginning seen log → newest (story k seen) ≤ newest (story k log)
+unfolding story
+newest-beginning k seen log h =
+    let grown = newest-after (after (opened k.opening) seen) h.rest in
+    let whole : after (after (opened k.opening) seen) h.rest ≡ after (opened k.opening) log = sym (after-append (opened k.opening) seen h.rest) ∙ ap (after (opened k.opening)) h.whole in
+    let same = ap newest whole in
+    omega arith
+
+-- a log begins with itself
+pub beginning_itself : (log : List Entry) → IsBeginning log log
+beginning_itself log = record { rest = []; whole = append-nil log }
+
+-- a beginning of a log begins the log with one more entry
+pub beginning-push : (seen log : List Entry) (e : Entry) → IsBeginning seen log → IsBeginning seen (log ++ e ∷ [])
+beginning-push seen log e h = record { rest = h.rest ++ e ∷ []; whole = sym (append_assoc seen h.rest (e ∷ [])) ∙ ap (λ (l : List Entry). l ++ e ∷ []) h.whole }
+
+-- the log has no more entries than it may, and newest is at most their number
+pub places-after : (g : Setting) (s : Story) (log : List Entry) → IsLegalFrom g s log → s.places ≤ g.log → newest s ≤ s.places
+    → ((after s log).places ≤ g.log) × (newest (after s log) ≤ (after s log).places)
+places-after g s [] legal fits few = (fits, few)
+places-after g s (e ∷ es) legal fits few =
+    let room = room_in_log g s e.command legal.0.accepted in
+    let place = places-told s e.command e.reply in
+    let up = newest-told s e.command e.reply in
+    let most = up.1 in
+    places-after g (told s e.command e.reply) es legal.1 (omega arith) (omega arith)
+
+-- the same of a whole log
+pub places-legal : (k : Base) (log : List Entry) → IsLegal k.setting k.opening log → ((story k log).places ≤ k.setting.log) × (newest (story k log) ≤ (story k log).places)
+unfolding story opened newest
+places-legal k log legal = places-after k.setting (opened k.opening) log legal (omega arith) (omega arith)

@@ -1,0 +1,78 @@
+-- What holds of the empty log holds after any legal log: one lemma for each command.
+use Rattle.std.proofs.Common.{◌≡◌, ℕ, ◌<◌, Bool, true, false, if◌then◌else◌, List, [], ◌∷◌, ◌++◌, length, refl, arith}
+use Rattle.std.specs.Prelude.{Some, None, nat_le}
+use Rattle.std.proofs.lemmas.Bool.{cases_lt}
+use Rattle.std.proofs.lemmas.Bool.Decides.{nat_tests}
+use mathlib.Core.Logic.{inl, inr}
+use Rattle.metric.specs.declared.refusal.Refusal.TheVariants.{VersionsFull, LogFull}
+use Rattle.map_core.specs.declared.command.Command.{Command}
+use Rattle.map_core.specs.declared.command.Command.TheVariants.{Paint, Stamp, Publish, Revert, Collect}
+use Rattle.map_core.specs.declared.command.Reply.{Reply}
+use Rattle.map_core.specs.declared.command.Reply.TheVariants.{Painted, Published, Reverted, Collected}
+use Rattle.map_core.specs.declared.command.Entry.{Entry}
+use Rattle.map_core.specs.declared.setting.Setting.{Setting}
+use Rattle.map_core.specs.Story.{Story, opened, kept}
+use Rattle.map_core.specs.Legal.{refused, IsAnswer, told, after, IsLegalFrom, IsLegal, is_log_full}
+use Rattle.map_core.specs.Blocks.{Blocks, opened_blocks, moved, blocks_after}
+use Rattle.map_core.specs.Words.{Base, tiles}
+use Rattle.map_core.specs.Views.{story, blocks}
+use Rattle.map_core.specs.Tidy.{IsReady, IsTidy}
+use Rattle.map_core.proofs.TidyOpened.{IsTidy-opened}
+use Rattle.map_core.proofs.TidyDraft.{IsTidy-draw, IsTidy-revert}
+use Rattle.map_core.proofs.TidyPublish.{IsTidy-publish}
+use Rattle.map_core.proofs.TidyCollect.{IsTidy-collect}
+
+-- a publish that isn't refused finds a slot
+pub room_for : (g : Setting) (s : Story) → refused g s Publish ≡ None → length (kept s) < g.versions
+unfolding refused
+room_for g s accepted = free_slot (is_log_full g s) g.versions (length (kept s)) accepted
+  where
+    free_slot : (full : Bool) (versions n : ℕ) → (if full then Some LogFull else (if nat_le versions n then Some VersionsFull else None)) ≡ None → n < versions
+    free_slot true versions n is = absurd (cc)
+    free_slot false versions n is =
+        elim (cases_lt n versions) [
+          | inl less ↦ less
+          | inr many ↦ absurd (let test : nat_le versions n ≡ true = grind (arith, nat_tests) in let found : (if nat_le versions n then Some VersionsFull else None) ≡ Some VersionsFull = rw test in cc)
+        ]
+
+-- what holds after a legal log holds after one more answer
+pub IsTidy-told : (k : Base) (s : Story) (m : Blocks) (c : Command) (reply : Reply) → IsTidy k s m → IsAnswer k.setting s c reply
+    → IsTidy k (told s c reply) (moved s c reply m)
+unfolding refused told moved
+IsTidy-told k s m (Paint r black) reply tidy answer = IsTidy-draw k s m (Paint r black) tidy answer.accepted
+IsTidy-told k s m (Stamp x y b) reply tidy answer = IsTidy-draw k s m (Stamp x y b) tidy answer.accepted
+IsTidy-told k s m Publish reply tidy answer = IsTidy-publish k s m tidy (room_for k.setting s answer.accepted)
+IsTidy-told k s m Revert reply tidy answer = IsTidy-revert k s m tidy
+IsTidy-told k s m Collect (Collected place f freed) tidy answer = IsTidy-collect k s m tidy f answer.reply_is.1.risen answer.reply_is.1.within
+IsTidy-told k s m Collect (Painted place changed) tidy answer = absurd answer.reply_is
+IsTidy-told k s m Collect (Published place version) tidy answer = absurd answer.reply_is
+IsTidy-told k s m Collect (Reverted place) tidy answer = absurd answer.reply_is
+
+-- what holds after a legal log holds after more legal entries
+pub IsTidy-after : (k : Base) (s : Story) (m : Blocks) (log : List Entry) → IsTidy k s m → IsLegalFrom k.setting s log
+    → IsTidy k (after s log) (blocks_after s m log)
+IsTidy-after k s m [] tidy legal = tidy
+IsTidy-after k s m (e ∷ es) tidy legal =
+    IsTidy-after k (told s e.command e.reply) (moved s e.command e.reply m) es (IsTidy-told k s m e.command e.reply tidy legal.0) legal.1
+
+-- what holds after any legal log
+pub IsTidy-legal : (k : Base) (log : List Entry) → IsReady k → IsLegal k.setting k.opening log → IsTidy k (story k log) (blocks k log)
+unfolding story blocks
+IsTidy-legal k log ready legal = IsTidy-after k (opened k.opening) (opened_blocks (tiles k) k.setting.blocks) log (IsTidy-opened k ready) legal
+
+-- the story after one more entry
+pub after-push : (s : Story) (log : List Entry) (e : Entry) → after s (log ++ e ∷ []) ≡ told (after s log) e.command e.reply
+after-push s [] e = refl
+after-push s (f ∷ fs) e = after-push (told s f.command f.reply) fs e
+
+-- the blocks after one more entry
+pub blocks_after-push : (s : Story) (m : Blocks) (log : List Entry) (e : Entry)
+    → blocks_after s m (log ++ e ∷ []) ≡ moved (after s log) e.command e.reply (blocks_after s m log)
+blocks_after-push s m [] e = refl
+blocks_after-push s m (f ∷ fs) e = blocks_after-push (told s f.command f.reply) (moved s f.command f.reply m) fs e
+
+-- a legal log with one more answer is legal
+pub IsLegal-push : (g : Setting) (s : Story) (log : List Entry) (e : Entry) → IsLegalFrom g s log → IsAnswer g (after s log) e.command e.reply
+    → IsLegalFrom g s (log ++ e ∷ [])
+IsLegal-push g s [] e legal answer = (answer, tt)
+IsLegal-push g s (f ∷ fs) e legal answer = (legal.0, IsLegal-push g (told s f.command f.reply) fs e legal.1 answer)

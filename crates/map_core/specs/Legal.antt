@@ -1,0 +1,89 @@
+-- What a command is answered after a log, and which logs are legal: this project's own rule.
+use Rattle.std.specs.Prelude.{◌≡◌, ℕ, ◌+◌, ◌-◌, ◌≤◌, nat_lt, nat_le, Bool, false, List, [], ◌∷◌, ◌++◌, length, replicate, Option, Some, None, if◌then◌else◌}
+use Rattle.bits.specs.Cells.{Cells}
+use Rattle.metric.specs.declared.refusal.Refusal.{Refusal}
+use Rattle.metric.specs.declared.refusal.Refusal.TheVariants.{OutOfRange, BlocksFull, VersionsFull, LogFull}
+use Rattle.map_core.specs.declared.command.Command.{Command}
+use Rattle.map_core.specs.declared.command.Command.TheVariants.{Paint, Stamp, Publish, Revert, Collect}
+use Rattle.map_core.specs.declared.command.Reply.{Reply}
+use Rattle.map_core.specs.declared.command.Reply.TheVariants.{Painted, Published, Reverted, Collected}
+use Rattle.map_core.specs.declared.command.Entry.{Entry}
+use Rattle.map_core.specs.declared.setting.Setting.{Setting}
+use Rattle.map_core.specs.Drawing.{drawn, touched, cells_changed, is_inside}
+use Rattle.map_core.specs.Story.{Story, opened, kept_log, newest, bitmap_of, kept, with_floor, trues, either, new_ones, inuse}
+
+-- how many new blocks a command needs: one for each position in which it changes a cell and that hasn't changed before
+unfoldable pub needed : Story → Command → ℕ
+needed s c = trues (new_ones (touched s.draft c) s.changed)
+
+-- whether the log has as many entries as it may have
+abbrev pub is_log_full : Setting → Story → Bool
+is_log_full g s = nat_le g.log (kept_log s)
+
+-- whether as many versions are kept as there are slots
+abbrev pub is_versions_full : Setting → Story → Bool
+is_versions_full g s = nat_le g.versions (length (kept s))
+
+-- why a paint or a stamp is refused: its area, then the log, then the blocks
+abbrev pub refused_draw : Setting → Story → Command → Option Refusal
+refused_draw g s c =
+    if is_inside s.draft c then (if is_log_full g s then Some LogFull else (if nat_lt (g.blocks - inuse s) (needed s c) then Some (BlocksFull (needed s c) (g.blocks - inuse s)) else None)) else Some OutOfRange
+
+-- why a command is refused after a log; none where it is accepted
+unfoldable pub refused : Setting → Story → Command → Option Refusal
+refused g s (Paint r black) = refused_draw g s (Paint r black)
+refused g s (Stamp x y b) = refused_draw g s (Stamp x y b)
+refused g s Publish = if is_log_full g s then Some LogFull else (if is_versions_full g s then Some VersionsFull else None)
+refused g s Revert = if is_log_full g s then Some LogFull else None
+refused g s Collect = if is_log_full g s then Some LogFull else None
+
+-- a collect's reply: a floor from the old one to newest, and how many blocks fewer are in use then
+pub record IsCollected (s : Story) (floor freed : ℕ) : Type 0 where
+  pub risen : s.floor ≤ floor
+  pub within : floor ≤ newest s
+  pub freed_is : freed + inuse (with_floor s floor) ≡ inuse s
+
+-- this reply belongs to a command that is accepted after a log
+abbrev pub IsReply : Story → Command → Reply → Type 0
+IsReply s (Paint r black) (Painted place changed) = (place ≡ s.places + 1) × (changed ≡ cells_changed s.draft (Paint r black))
+IsReply s (Stamp x y b) (Painted place changed) = (place ≡ s.places + 1) × (changed ≡ cells_changed s.draft (Stamp x y b))
+IsReply s Publish (Published place version) = (place ≡ s.places + 1) × (version ≡ newest s + 1)
+IsReply s Revert (Reverted place) = place ≡ s.places + 1
+IsReply s Collect (Collected place floor freed) = (place ≡ s.places + 1) × IsCollected s floor freed
+IsReply s c reply = ⊥
+
+-- an accepted answer to a command after a log
+pub record IsAnswer (g : Setting) (s : Story) (c : Command) (reply : Reply) : Type 0 where
+  pub accepted : refused g s c ≡ None
+  pub reply_is : IsReply s c reply
+
+-- the story after a paint or a stamp
+abbrev pub after_draw : Story → Command → Story
+after_draw s c = record s { places = s.places + 1; draft = drawn s.draft c; changed = either s.changed (touched s.draft c) }
+
+-- the floor that a reply tells
+abbrev pub floor_told : Story → Reply → ℕ
+floor_told s (Collected place floor freed) = floor
+floor_told s reply = s.floor
+
+-- the story after one more entry
+unfoldable pub told : Story → Command → Reply → Story
+told s (Paint r black) reply = after_draw s (Paint r black)
+told s (Stamp x y b) reply = after_draw s (Stamp x y b)
+told s Publish reply = record s { places = s.places + 1; published = s.published ++ s.draft ∷ []; changes = s.changes ++ s.changed ∷ []; changed = replicate (length s.changed) false }
+told s Revert reply = record s { places = s.places + 1; draft = bitmap_of s (newest s); changed = replicate (length s.changed) false }
+told s Collect reply = record s { places = s.places + 1; floor = floor_told s reply }
+
+-- the story after some more entries
+abbrev pub after : Story → List Entry → Story
+after s [] = s
+after s (e ∷ es) = after (told s e.command e.reply) es
+
+-- each of these entries is an accepted answer after those before it
+abbrev pub IsLegalFrom : Setting → Story → List Entry → Type 0
+IsLegalFrom g s [] = Unit {0}
+IsLegalFrom g s (e ∷ es) = IsAnswer g s e.command e.reply × IsLegalFrom g (told s e.command e.reply) es
+
+-- a legal log of a map that was opened with this bitmap
+abbrev pub IsLegal : Setting → Cells → List Entry → Type 0
+IsLegal g b log = IsLegalFrom g (opened b) log

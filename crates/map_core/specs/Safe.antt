@@ -1,0 +1,72 @@
+-- What holds of a world after each event: the theorem of the core, item by item. This project's own rule.
+use Rattle.std.specs.Prelude.{◌≡◌, ◌≢◌, ℕ, ◌+◌, ◌<◌, ◌⊎◌, ◌==◌, nat_lt, cond, List, [], ◌∷◌, ◌++◌, slice_get, slice_index, Option, Some, Contains}
+use Rattle.map_core.specs.declared.command.Entry.{Entry}
+use Rattle.map_core.specs.Story.{Story, newest, bitmap_of, IsKept}
+use Rattle.map_core.specs.Legal.{IsLegal}
+use Rattle.map_core.specs.Blocks.{Retired, Blocks, directory_of, own_list, blocks_of}
+use Rattle.map_core.specs.Words.{tiles, now_at, map_at, tile_at, now_of, slot_of, shown}
+use Rattle.map_core.specs.Views.{Reader, State, story_of, blocks_of_state}
+
+-- what one part has seen is a beginning of a log
+pub record IsBeginning (seen log : List Entry) : Type 0 where
+  pub rest : List Entry
+  pub whole : seen ++ rest ≡ log
+
+-- some reader holds version v
+pub record IsHeld (w : State) (v : ℕ) : Type 0 where
+  pub reader : ℕ
+  pub view : Reader
+  pub there : slice_get w.readers reader ≡ Some view
+  pub holds : view.holds ≡ Some v
+
+-- a version is live where it is newest, or a reader holds it, or it is kept
+abbrev pub IsLive : State → ℕ → Type 0
+IsLive w v = (v ≡ newest (story_of w)) ⊎ (IsHeld w v ⊎ IsKept (story_of w) v)
+
+-- a block is live where a live version maps a position to it
+pub record IsLiveBlock (w : State) (block : ℕ) : Type 0 where
+  pub version : ℕ
+  pub live : IsLive w version
+  pub position : ℕ
+  pub inside : position < tiles w.base
+  pub there : slice_index (directory_of (blocks_of_state w) version) position ≡ block
+
+-- how often a number stands in a list
+abbrev pub times : ℕ → List ℕ → ℕ
+times n [] = 0
+times n (m ∷ ms) = cond (n == m) 1 0 + times n ms
+
+-- each number below this one stands in the list exactly once, and no other does
+abbrev pub IsEachOnce : List ℕ → ℕ → Type 0
+IsEachOnce ns count = (n : ℕ) → times n ns ≡ cond (nat_lt n count) 1 0
+
+-- the blocks of a map with this newest version, this floor and so many blocks are sound
+pub record IsSound (s : Story) (m : Blocks) (count : ℕ) : Type 0 where
+  -- each block is free, or the draft's, or newest's, or retired, and stands once
+  pub once : IsEachOnce (m.free ++ own_list m.own ++ directory_of m (newest s) ++ blocks_of m.retired) count
+  -- the last version of a retired block is kept, and isn't newest
+  pub retired : (r : Retired) → Contains m.retired r → IsKept s r.last × (r.last < newest s)
+
+-- the words show a version: its slot has its blocks, and the cells are those that were published
+pub record IsShown (w : State) (v : ℕ) : Type 0 where
+  pub directory : (p : ℕ) → p < tiles w.base → slice_index w.words (map_at w.base (slot_of w.base (story_of w) v) p) ≡ slice_index (directory_of (blocks_of_state w) v) p
+  pub cells : shown w.base w.words (slot_of w.base (story_of w) v) ≡ bitmap_of (story_of w) v
+
+-- what holds of a world between any two events
+pub record IsSafe (w : State) : Type 0 where
+  -- the log is legal, and NOW has its length and its newest version
+  pub legal : IsLegal w.base.setting w.base.opening w.keeper.log
+  pub now : slice_index w.words now_at ≡ now_of (story_of w)
+  -- each held version is kept
+  pub held : (v : ℕ) → IsHeld w v → IsKept (story_of w) v
+  -- each live version is shown
+  pub shows : (v : ℕ) → IsLive w v → IsShown w v
+  -- the blocks are sound, and no live block is free or the draft's
+  pub sound : IsSound (story_of w) (blocks_of_state w) w.base.setting.blocks
+  pub apart : (b : ℕ) → IsLiveBlock w b → (times b (blocks_of_state w).free ≡ 0) × (times b (own_list (blocks_of_state w).own) ≡ 0)
+  -- what a reader has seen is a beginning of the log
+  pub seen : (r : ℕ) (x : Reader) → slice_get w.readers r ≡ Some x → IsBeginning x.seen w.keeper.log
+
+-- a step that stored this word has stored in no block that was live before it
+abbrev pub SparesLive : State → Option ℕ → Type 0
+SparesLive w stored = (b i : ℕ) → i < 64 → IsLiveBlock w b → stored ≢ Some (tile_at w.base b i)

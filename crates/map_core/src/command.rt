@@ -1,0 +1,39 @@
+//! Commands, their replies, and the log's entries.
+
+use bits::Bitmap;
+use metric::Rect;
+
+/// A command to the keeper of the map. There is one draft, and the published versions.
+#[derive(Debug, Drop)]
+pub enum Command {
+    /// Gives each cell of a rectangle of the draft one value.
+    Paint { rect: Rect, black: bool },
+    /// Gives each cell of the rectangle at `(x, y)` of the bitmap's size the bitmap's value, obstacle or not.
+    Stamp { x: u16, y: u16, bitmap: Bitmap },
+    /// Appends the draft as the next version, also where nothing changed.
+    Publish,
+    /// Makes the draft the newest version.
+    Revert,
+    /// Raises the floor, the least version that is kept, and gives back blocks. It changes no bitmap.
+    Collect,
+}
+
+/// The reply to a command that was accepted. Each has the command's place in the log, from 1.
+#[derive(Clone, Copy, Debug, PartialEq, Eq)]
+pub enum Reply {
+    /// To a paint or a stamp, with the number of cells that became another.
+    Painted { place: u32, changed: u32 },
+    /// To a publish, with the number of the new version.
+    Published { place: u32, version: u32 },
+    /// To a revert.
+    Reverted { place: u32 },
+    /// To a collect, with the new floor and the number of blocks that were given back.
+    Collected { place: u32, floor: u32, freed: u32 },
+}
+
+/// An entry of the log: a command that was accepted, with its reply.
+#[derive(Debug, Drop)]
+pub struct Entry {
+    pub command: Command,
+    pub reply: Reply,
+}
