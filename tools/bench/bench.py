@@ -72,22 +72,22 @@ def cuts(side, rng):
     return places + [side - 1]
 
 
+def draw_walls(side, places, crossing, rng, draw):
+    """Walls at these places, each with a door of 10 cells between two walls that cross it, but for those at the edges."""
+    for place in places:
+        for first, last in zip(crossing, crossing[1:]):
+            door = rng.randrange(first + 5, last - 15) if 0 < place < side - 1 else side
+            for along in range(first, last + 1):
+                if not door <= along < door + 10:
+                    draw(place, along)
+
+
 def floor_plan(side, rng):
     """Rooms between walls of one cell, with a door of 10 cells in each wall between two rooms."""
     bitmap = Bitmap(side)
     columns, rows = cuts(side, rng), cuts(side, rng)
-    for x in columns:
-        for top, bottom in zip(rows, rows[1:]):
-            door = rng.randrange(top + 5, bottom - 15) if 0 < x < side - 1 else side
-            for y in range(top, bottom + 1):
-                if not door <= y < door + 10:
-                    bitmap.draw(x, y)
-    for y in rows:
-        for left, right in zip(columns, columns[1:]):
-            door = rng.randrange(left + 5, right - 15) if 0 < y < side - 1 else side
-            for x in range(left, right + 1):
-                if not door <= x < door + 10:
-                    bitmap.draw(x, y)
+    draw_walls(side, columns, rows, rng, bitmap.draw)
+    draw_walls(side, rows, columns, rng, lambda y, x: bitmap.draw(x, y))
     return bitmap
 
 
