@@ -1,9 +1,10 @@
 -- Which entries still stand for no row, as masks of bits tell it.
-use Rattle.std.proofs.Common.{◌≡◌, ℕ, ◌-◌, ◌^◌, ◌<◌, ◌==◌, ◌∙◌, min, arith, refl, sym, ap}
+use Rattle.std.proofs.Common.{false, ◌≡◌, ℕ, ◌-◌, ◌^◌, ◌<◌, ◌==◌, ◌∙◌, min, arith, refl, sym, ap, ◌≤◌, not}
 use Rattle.std.specs.Int.{bit_at, w64}
 use lib.Bits.{bit_and}
+use Rattle.std.specs.Int.RustNames.{bit_or}
 use Rattle.std.proofs.lemmas.Bool.Decides.{nat_tests}
-use Rattle.std.proofs.lemmas.Nat.Bits.{bit_at_and, bit_at_not, bit_at-lt, bit_at-zero}
+use Rattle.std.proofs.lemmas.Nat.Bits.{bit_at_and, bit_at_not, bit_at-lt, bit_at-zero, bit_at_or, same_from_bits}
 use Rattle.column.specs.Sweeps.{marked, first_marked}
 
 -- one bit: a column is missing where it was, and the word has no obstacle there
@@ -33,3 +34,22 @@ pub none_marked : (word missing i old y : ℕ) → (bit_at missing i == 1) ≡ (
 none_marked word missing i old y was none =
     let free : marked (bit_at 0 i == 1) y old ≡ old = rw (bit_at-zero i) refl in
     new_marked word missing i old old y was (rw none (sym free))
+
+-- a bit that the one number has, the joined number has
+pub joined_more : (new word i : ℕ) → bit_at word i ≤ bit_at (bit_or new word) i
+joined_more new word i = rw (bit_at_or new word i) (omega arith)
+
+-- and a bit that was joined before
+pub joined_before : (new word bit i : ℕ) → bit ≤ bit_at new i → bit ≤ bit_at (bit_or new word) i
+joined_before new word bit i before = rw (bit_at_or new word i) (omega arith)
+
+-- where nothing was joined, each number was 0
+pub joined_none : (word new : ℕ) → new ≡ 0 → ((i : ℕ) → bit_at word i ≤ bit_at new i) → word ≡ 0
+joined_none word new none less = same_from_bits word 0 (λ i.
+    let zero = bit_at-zero i in
+    let less_here : bit_at word i ≤ bit_at 0 i = rw (← none) (less i) in
+    rw zero (omega (arith, less_here, zero)))
+
+-- the test of a number that is 0
+pub zero_from_test : (n : ℕ) → not (n == 0) ≡ false → n ≡ 0
+zero_from_test n test = grind (arith, nat_tests)

@@ -1,10 +1,10 @@
 //! The nearest obstacles of all columns seen from one row, without a table.
 
-ghost use Rattle.std.specs.Prelude.{◌≡◌, ℕ, ◌+◌, ◌-◌, ◌*◌, ◌<◌, ◌≤◌, ◌==◌, ◌⊎◌, length, slice_index};
+ghost use Rattle.std.specs.Prelude.{◌≡◌, ℕ, ◌+◌, ◌-◌, ◌*◌, ◌<◌, ◌≤◌, ◌==◌, ◌⊎◌, false, length, slice_index, bit_and};
 ghost use Rattle.std.specs.Int.{bit_at};
-ghost use Rattle.bits.specs.Cells.{Cells, IsBitmap, has};
+ghost use Rattle.bits.specs.Cells.{IsBitmap, has};
 ghost use Rattle.column.specs.Columns.{IsRowOfTable};
-ghost use Rattle.column.specs.Sweeps.{AreMissing, IsSeen, first_marked, is_marked};
+ghost use Rattle.column.specs.Sweeps.{AreMissing, first_marked, is_marked};
 
 use crate::NONE;
 use crate::row::{WORD_BITS, mark_word};
@@ -25,7 +25,7 @@ pub fn nearest_rows(bitmap: &Bitmap, y: u16, entries: &mut [u16])
     look_around(bitmap, y, &mut missing, entries);
 }
 
-/// Looks at the rows from row `y` outwards; `missing` is room for a mask of each word's columns that have no entry yet.
+/// Looks at the rows from row `y` outwards, mostly until each column has an entry; `missing` is room for a mask of each word's columns that have none yet.
 fn look_around(bitmap: &Bitmap, y: u16, missing: &mut [u64], entries: &mut [u16])
     requires row { y < bitmap.now.height }
     requires width { length entries.old ≡ bitmap.now.width }
@@ -35,6 +35,9 @@ fn look_around(bitmap: &Bitmap, y: u16, missing: &mut [u64], entries: &mut [u16]
     missing.fill(u64::MAX);
     entries.fill(NONE);
     'away: for away in 0..bitmap.height() {
+        if away.is_power_of_two() && !entries.contains(&NONE) {
+            return;
+        }
         look_above(bitmap, y, away, missing, entries);
         look_below(bitmap, y, away, missing, entries);
     }
@@ -89,9 +92,24 @@ fn mark_missing(words: &[u64], y: u16, missing: &mut [u64], entries: &mut [u16])
     ensures missing { AreMissing missing.new entries.new }
     ensures marked { (x : ℕ) → x < length entries.old → slice_index entries.new x ≡ first_marked (is_marked words.now x) y (slice_index entries.old x) }
 {
+    if !has_new(words, missing) {
+        return;
+    }
     'words: for (index, word) in words.iter().enumerate() {
         missing[index] = mark_new(*word, y, index * WORD_BITS, missing[index], entries);
     }
+}
+
+/// Whether a word has an obstacle whose column is missing.
+fn has_new(words: &[u64], missing: &[u64]) -> bool
+    requires { length words.now ≤ length missing.now }
+    ensures { result ≡ false → (k : ℕ) → k < length words.now → bit_and (slice_index words.now k) (slice_index missing.now k) ≡ 0 }
+{
+    let mut new = 0;
+    'words: for index in 0..words.len() {
+        new |= words[index] & missing[index];
+    }
+    new != 0
 }
 
 /// Writes the row `y` into the entries of those of a word's obstacles whose columns are missing. Which columns are missing then.

@@ -1,7 +1,7 @@
 //! The two sweeps over the rows that find the nearest obstacle of each column.
 
 ghost use Rattle.std.specs.Prelude.{◌≡◌, ℕ, ◌+◌, ◌-◌, ◌*◌, ◌<◌, ◌≤◌, ◌⊎◌, length, slice_index};
-ghost use Rattle.bits.specs.Cells.{Cells, IsBitmap, has};
+ghost use Rattle.bits.specs.Cells.{IsBitmap, has};
 ghost use Rattle.column.specs.Sweeps.{IsSweptDown, IsSweptUp, marked, nearer};
 
 use crate::row::{lift_row, mark_row};

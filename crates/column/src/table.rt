@@ -1,7 +1,7 @@
 //! A table of the nearest obstacles in all columns.
 
-ghost use Rattle.std.specs.Prelude.{◌≡◌, ℕ, ◌<◌, ◌≤◌, ◌-◌, IfOk, IfErr};
-ghost use Rattle.bits.specs.Cells.{Cells, IsBitmap, IsInside};
+ghost use Rattle.std.specs.Prelude.{◌≡◌, ◌<◌, IfOk, IfErr};
+ghost use Rattle.bits.specs.Cells.{IsBitmap, IsInside};
 ghost use Rattle.column.specs.Columns.{IsNearestRow, IsRowOfTable};
 ghost use Rattle.metric.specs.declared.refusal.Refusal.TheVariants.{Memory};
 

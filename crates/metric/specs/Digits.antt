@@ -1,5 +1,5 @@
 -- Decimal digits as bytes: this project's own rule.
-use Rattle.std.specs.Prelude.{ℕ, ◌+◌, ◌-◌, ◌*◌, ◌&&◌, nat_le, Bool, List, [], ◌∷◌}
+use Rattle.std.specs.Prelude.{ℕ, ◌+◌, ◌-◌, ◌*◌, ◌/◌, ◌%◌, ◌&&◌, nat_le, Bool, List, [], ◌∷◌}
 
 -- a digit, from 0 to 9
 abbrev pub is_digit : ℕ → Bool
@@ -9,3 +9,7 @@ is_digit byte = nat_le 48 byte && nat_le byte 57
 unfoldable pub value_from : ℕ → List ℕ → ℕ
 value_from so_far [] = so_far
 value_from so_far (digit ∷ digits) = value_from (10 * so_far + (digit - 48)) digits
+
+-- the tens and the ones of a number below 100
+abbrev pub two_digits : ℕ → List ℕ
+two_digits n = (48 + n / 10) ∷ (48 + n % 10) ∷ []

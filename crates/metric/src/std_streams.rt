@@ -6,7 +6,7 @@ ghost use Rattle.metric.specs.declared.refusal.Refusal.TheVariants.{Memory};
 use crate::refusal::Refusal;
 use crate::stream::{ReadFault, Sink, Source, WriteFault};
 use std::alloc::Global;
-use std::io::{BufReader, BufWriter, Read, Write};
+use std::io::{BufRead, BufReader, BufWriter, Read, Write};
 use std::marker::Model;
 
 /// A reader of std, read ahead by blocks. Contracts see how many reads have failed.
@@ -43,10 +43,12 @@ impl<R: Read + Drop> Source for ReaderSource<R> {
     ghost written = { λ _. (None, 0) };
 
     fn next_byte(&mut self) -> Result<Option<u8>, ReadFault> {
-        let mut byte = [0u8; 1];
-        match self.reader.read(&mut byte) {
-            Ok(0) => Ok(None),
-            Ok(_) => Ok(Some(byte[0])),
+        match self.reader.fill_buf() {
+            Ok(bytes) => {
+                let byte = bytes.first().copied();
+                self.reader.consume(1);
+                Ok(byte)
+            }
             Err(_) => {
                 self.failed += 1;
                 Err(ReadFault)
