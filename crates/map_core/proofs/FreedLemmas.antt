@@ -5,7 +5,8 @@ use Rattle.map_core.specs.declared.command.Command.{Command}
 use Rattle.map_core.specs.declared.command.Command.TheVariants.{Paint, Stamp, Publish, Revert, Collect}
 use Rattle.map_core.specs.Story.{Story, newest, kept, with_floor, inuse}
 use Rattle.map_core.specs.Legal.{refused, IsAnswer}
-use Rattle.map_core.specs.Blocks.{Retired, Blocks, is_used}
+use Rattle.map_core.specs.declared.blocks.Retired.{Retired}
+use Rattle.map_core.specs.Blocks.{Blocks, is_used}
 use Rattle.map_core.specs.Words.{Base, tiles}
 use Rattle.map_core.specs.Steps.{floor_after, reply_of}
 use Rattle.map_core.specs.Tidy.{IsRetired, IsTidy}

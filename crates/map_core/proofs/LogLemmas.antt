@@ -1,5 +1,5 @@
 -- How a story grows with its log: places, the newest version, and what a beginning of a log tells.
-use Rattle.std.proofs.Common.{◌≡◌, ℕ, ◌+◌, ◌<◌, ◌≤◌, Bool, true, false, if◌then◌else◌, List, [], ◌∷◌, ◌++◌, refl, ap, sym, ◌∙◌, arith}
+use Rattle.std.proofs.Common.{◌≡◌, ℕ, ◌+◌, ◌<◌, ◌≤◌, length, Bool, true, false, if◌then◌else◌, List, [], ◌∷◌, ◌++◌, refl, ap, sym, ◌∙◌, arith}
 use Rattle.std.specs.Prelude.{Option, Some, None, nat_le}
 use Rattle.std.proofs.lemmas.Bool.Decides.{nat_tests}
 use Rattle.std.proofs.lemmas.List.{length-append, append-nil, append_assoc}
@@ -105,3 +105,13 @@ places-after g s (e ∷ es) legal fits few =
 pub places-legal : (k : Base) (log : List Entry) → IsLegal k.setting k.opening log → ((story k log).places ≤ k.setting.log) × (newest (story k log) ≤ (story k log).places)
 unfolding story opened newest
 places-legal k log legal = places-after k.setting (opened k.opening) log legal (omega arith) (omega arith)
+
+-- each entry takes a place
+counted_places : (s : Story) (log : List Entry) → (after s log).places ≡ s.places + length log
+counted_places s [] = omega arith
+counted_places s (e ∷ es) = let rest = counted_places (told s e.command e.reply) es in let place = places-told s e.command e.reply in omega arith
+
+-- an entry is counted for each place
+pub places_are : (k : Base) (log : List Entry) → (story k log).places ≡ length log
+unfolding story opened
+places_are k log = counted_places (opened k.opening) log ∙ (let none : 0 + length log ≡ length log = omega arith in none)

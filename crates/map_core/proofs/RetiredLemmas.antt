@@ -6,7 +6,8 @@ use Rattle.std.proofs.lemmas.Bool.{cases_lt, cases_eq}
 use Rattle.std.proofs.lemmas.Bool.Decides.{nat_tests}
 use mathlib.Core.Logic.{inl, inr}
 use Rattle.map_core.specs.Story.{Story, newest, came}
-use Rattle.map_core.specs.Blocks.{Retired, replaced, is_used, blocks_of}
+use Rattle.map_core.specs.declared.blocks.Retired.{Retired}
+use Rattle.map_core.specs.Blocks.{replaced, is_used, blocks_of}
 use Rattle.map_core.specs.Safe.{times}
 use Rattle.map_core.specs.Tidy.{IsBlockAt, IsAmongRetired, retired_from}
 

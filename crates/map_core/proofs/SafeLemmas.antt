@@ -9,13 +9,14 @@ use Rattle.bits.specs.Tiles.{tile_of, tile_has}
 use Rattle.bits.proofs.CellsLemmas.{cells_where-same, cells_where-has}
 use Rattle.bits.proofs.StoredLemmas.{test_of_bit}
 use Rattle.bits.proofs.TileLemmas.{bit_at-row_word, tile_has-tile_of, tile_of-lt}
-use Rattle.map_core.specs.Story.{Story, bitmap_of, IsKept}
+use Rattle.map_core.specs.Story.{Story, newest, bitmap_of, IsKept}
 use Rattle.map_core.specs.Blocks.{Blocks}
-use Rattle.map_core.specs.Words.{Base, tile_at, slot_of, shown}
+use Rattle.map_core.specs.Words.{Base, tile_at, now_word, now_of, slot_of, shown}
 use Rattle.map_core.specs.Views.{State, story_of, blocks_of_state}
 use Rattle.map_core.specs.Safe.{IsLive, IsSafe}
 use Rattle.map_core.specs.Tidy.{IsOfMap}
 use Rattle.map_core.specs.Sound.{Shows, IsWhole}
+use Rattle.map_core.proofs.LogLemmas.{places_are}
 use Rattle.map_core.proofs.SoundBlocks.{sound_blocks, kept_apart}
 use Rattle.map_core.proofs.TidyLog.{IsTidy-legal}
 
@@ -52,18 +53,19 @@ live_kept w whole v (inr (inr is_kept)) = is_kept
 
 -- what holds of the parts of a world is the theorem
 pub IsSafe-whole : (w : State) → IsWhole w → IsSafe w
-unfolding IsKept
+unfolding IsKept now_of
 IsSafe-whole w whole =
     let tidy = IsTidy-legal w.base w.keeper.log whole.ready whole.keeper.legal in
     record {
       legal = whole.keeper.legal;
-      now = whole.keeper.now;
+      now = whole.keeper.now ∙ ap (λ (n : ℕ). now_word n (newest (story_of w))) (places_are w.base w.keeper.log);
       held = λ v held. live_kept w whole v (inr (inl held));
       shows = λ v live.
           let is_kept = live_kept w whole v live in
           let shows = whole.keeper.shows v is_kept in
           record {
             directory = shows.mapped;
+            rows = shows.rows;
             cells = shown_is w.base (story_of w) (blocks_of_state w) w.words v (tidy.published v is_kept.1) shows;
           };
       sound = sound_blocks w.base (story_of w) (blocks_of_state w) tidy;

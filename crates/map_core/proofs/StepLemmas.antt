@@ -29,13 +29,13 @@ pub record Keeps (w : State) (o : Outcome) : Type 0 where
   pub spares : SparesLive w o.stored
 
 -- what is in a list lies within it
-slice_get-lt : {A : Type 0} (xs : List A) (i : ℕ) (x : A) → slice_get xs i ≡ Some x → i < length xs
+pub slice_get-lt : {A : Type 0} (xs : List A) (i : ℕ) (x : A) → slice_get xs i ≡ Some x → i < length xs
 slice_get-lt [] i x is = absurd (cc)
 slice_get-lt (y ∷ ys) zero x is = omega arith
 slice_get-lt (y ∷ ys) (suc i) x is = let rest = slice_get-lt ys i x is in omega arith
 
 -- what is found after a write is what was written, or what was there at another place
-slice_get-set : {A : Type 0} (xs : List A) (i : ℕ) (x : A) (j : ℕ) (y : A) → slice_get (set xs i x) j ≡ Some y → ((i ≡ j) × (x ≡ y)) ⊎ ((j ≢ i) × (slice_get xs j ≡ Some y))
+pub slice_get-set : {A : Type 0} (xs : List A) (i : ℕ) (x : A) (j : ℕ) (y : A) → slice_get (set xs i x) j ≡ Some y → ((i ≡ j) × (x ≡ y)) ⊎ ((j ≢ i) × (slice_get xs j ≡ Some y))
 slice_get-set [] i x j y is = absurd (cc)
 slice_get-set (z ∷ zs) zero x zero y is = inl (refl, cc)
 slice_get-set (z ∷ zs) zero x (suc j) y is = inr (λ same. absurd (omega arith), is)

@@ -4,7 +4,8 @@ use Rattle.std.specs.Prelude.{filter}
 use Rattle.std.proofs.lemmas.List.FromFn.{length-range_with_len}
 use mathlib.Core.Logic.{inl, inr}
 use Rattle.map_core.specs.Story.{Story, newest, bitmap_of, kept}
-use Rattle.map_core.specs.Blocks.{Retired, Blocks, directory_of, own_list, blocks_of, is_used, given_back, swept}
+use Rattle.map_core.specs.declared.blocks.Retired.{Retired}
+use Rattle.map_core.specs.Blocks.{Blocks, directory_of, own_list, blocks_of, is_used, given_back, swept}
 use Rattle.map_core.specs.Words.{Base, tiles}
 use Rattle.map_core.specs.Tidy.{IsRetired, IsAmongRetired, HasNewest, IsTidy}
 use Rattle.map_core.proofs.CameLemmas.{came-same_changes, came-le}

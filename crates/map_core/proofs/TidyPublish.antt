@@ -9,7 +9,8 @@ use mathlib.Core.Logic.{inl, inr}
 use Rattle.bits.specs.Cells.{Cells}
 use Rattle.bits.specs.Tiles.{row_word}
 use Rattle.map_core.specs.Story.{Story, newest, bitmap_of, no_bitmap, kept, trues, came}
-use Rattle.map_core.specs.Blocks.{Retired, Blocks, directory_of, own_list, mapped, replaced, blocks_of}
+use Rattle.map_core.specs.declared.blocks.Retired.{Retired}
+use Rattle.map_core.specs.Blocks.{Blocks, directory_of, own_list, mapped, replaced, blocks_of}
 use Rattle.map_core.specs.Words.{Base, tiles}
 use Rattle.map_core.specs.Safe.{times}
 use Rattle.map_core.specs.Tidy.{IsOfMap, IsRetired, IsAmongRetired, HasNewest, retired_from, changes_from, IsShaped, IsTidy}

@@ -3,7 +3,8 @@ use Rattle.std.proofs.Common.{◌≡◌, ℕ, zero, suc, ◌+◌, ◌<◌, ◌�
 use Rattle.std.specs.Prelude.{Option, Some, None, is_some, filter, slice_get}
 use Rattle.std.proofs.lemmas.Bool.Decides.{nat_tests}
 use Rattle.map_core.specs.Story.{Story, trues, either, new_ones}
-use Rattle.map_core.specs.Blocks.{Retired, own_list, own_after, mapped, replaced, given_back, blocks_of}
+use Rattle.map_core.specs.declared.blocks.Retired.{Retired}
+use Rattle.map_core.specs.Blocks.{own_list, own_after, mapped, replaced, given_back, blocks_of}
 use Rattle.map_core.specs.Safe.{times}
 
 -- a number stands in two lists as often as in both

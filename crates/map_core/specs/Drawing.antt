@@ -1,5 +1,5 @@
 -- What a command does to the draft: this project's own rule. Paint and stamp give cells a value; the other commands give none.
-use Rattle.std.specs.Prelude.{ℕ, ◌+◌, ◌-◌, ◌==◌, ◌&&◌, nat_le, Bool, not, List, map, Option, Some, None, unwrap_or, if◌then◌else◌}
+use Rattle.std.specs.Prelude.{ℕ, ◌+◌, ◌-◌, ◌==◌, ◌&&◌, nat_le, Bool, true, not, List, map, Option, Some, None, unwrap_or, if◌then◌else◌}
 use Rattle.std.specs.List.{list_any, range_with_len}
 use Rattle.bits.specs.Cells.{Cells, has, cells_where, is_within}
 use Rattle.bits.specs.Changes.{changes}
@@ -27,14 +27,18 @@ cells_changed draft c = changes draft (drawn draft c)
 abbrev pub is_inside : Cells → Command → Bool
 is_inside draft (Paint r black) = nat_le r.x1 draft.width && nat_le r.y1 draft.height
 is_inside draft (Stamp x y b) = nat_le (x + b.width) draft.width && nat_le (y + b.height) draft.height
-is_inside draft Publish = nat_le 0 0
-is_inside draft Revert = nat_le 0 0
-is_inside draft Collect = nat_le 0 0
+is_inside draft Publish = true
+is_inside draft Revert = true
+is_inside draft Collect = true
 
 -- whether a cell of the tile at position k differs: then a row of it does
 unfoldable pub tile_differs : Cells → Cells → ℕ → Bool
 tile_differs old new k = list_any (λ i. not (row_word old k i == row_word new k i)) (range_with_len 0 64)
 
+-- for each position, whether a cell of it differs
+abbrev pub differing : Cells → Cells → List Bool
+differing old new = map (tile_differs old new) (range_with_len 0 (tile_count old))
+
 -- for each position, whether a command changes a cell of it
 unfoldable pub touched : Cells → Command → List Bool
-touched draft c = map (tile_differs draft (drawn draft c)) (range_with_len 0 (tile_count draft))
+touched draft c = differing draft (drawn draft c)

@@ -24,10 +24,13 @@ is_log_full g s = nat_le g.log (kept_log s)
 abbrev pub is_versions_full : Setting → Story → Bool
 is_versions_full g s = nat_le g.versions (length (kept s))
 
+-- why a paint or a stamp is refused for want of blocks
+abbrev pub refused_blocks : Setting → Story → Command → Option Refusal
+refused_blocks g s c = if nat_lt (g.blocks - inuse s) (needed s c) then Some (BlocksFull (needed s c) (g.blocks - inuse s)) else None
+
 -- why a paint or a stamp is refused: its area, then the log, then the blocks
 abbrev pub refused_draw : Setting → Story → Command → Option Refusal
-refused_draw g s c =
-    if is_inside s.draft c then (if is_log_full g s then Some LogFull else (if nat_lt (g.blocks - inuse s) (needed s c) then Some (BlocksFull (needed s c) (g.blocks - inuse s)) else None)) else Some OutOfRange
+refused_draw g s c = if is_inside s.draft c then (if is_log_full g s then Some LogFull else refused_blocks g s c) else Some OutOfRange
 
 -- why a command is refused after a log; none where it is accepted
 unfoldable pub refused : Setting → Story → Command → Option Refusal

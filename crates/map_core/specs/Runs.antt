@@ -1,5 +1,6 @@
 -- Lists of events, and what each answers: this project's own rule. An event that isn't enabled changes nothing, and want of memory refuses only an order that is accepted otherwise.
-use Rattle.std.specs.Prelude.{◌≡◌, ℕ, ◌⊎◌, List, [], ◌∷◌, Option, Some, None, Result, Ok, Err}
+use Rattle.std.specs.Prelude.{◌≡◌, ℕ, ◌<◌, ◌≤◌, ◌⊎◌, List, [], ◌∷◌, length, replicate, slice_index, Option, Some, None, Result, Ok, Err}
+use Rattle.bits.specs.Tiles.{row_word}
 use Rattle.metric.specs.declared.refusal.Refusal.TheVariants.{Memory}
 use Rattle.map_core.specs.declared.event.Event.{Event}
 use Rattle.map_core.specs.declared.event.Event.TheVariants.{Order}
@@ -7,7 +8,8 @@ use Rattle.map_core.specs.declared.event.StepReply.{StepReply}
 use Rattle.map_core.specs.declared.event.StepReply.TheVariants as says
 use Rattle.map_core.specs.declared.event.NotEnabled.{NotEnabled}
 use Rattle.map_core.specs.Legal.{refused}
-use Rattle.map_core.specs.Views.{State, story_of}
+use Rattle.map_core.specs.Words.{Base, tiles, word_count, pin_at, map_at, tile_at}
+use Rattle.map_core.specs.Views.{Reader, State, story_of}
 use Rattle.map_core.specs.Steps.{does}
 use Rattle.map_core.specs.Safe.{IsSafe, SparesLive}
 
@@ -24,14 +26,14 @@ pub record LacksMemory (old : State) (e : Event) (answer : StepReply) (stored : 
   pub same : new ≡ old
 
 -- an event that isn't enabled
-pub record IsRefused (old : State) (e : Event) (stored : Option ℕ) (new : State) : Type 0 where
+pub record IsNotEnabled (old : State) (e : Event) (stored : Option ℕ) (new : State) : Type 0 where
   pub not_enabled : does old e ≡ None
   pub stored_is : stored ≡ None
   pub same : new ≡ old
 
 -- what an event answers, which word it stores, and the state after it
 abbrev pub IsStep : State → Event → Result StepReply NotEnabled → Option ℕ → State → Type 0
-IsStep old e (Err not_enabled) stored new = IsRefused old e stored new
+IsStep old e (Err not_enabled) stored new = IsNotEnabled old e stored new
 IsStep old e (Ok answer) stored new =
     (does old e ≡ Some record { state = new; answer = answer; stored = stored }) ⊎ LacksMemory old e answer stored new
 
@@ -48,3 +50,28 @@ IsRun old [] [] new = new ≡ old
 IsRun old [] (a ∷ answers) new = ⊥
 IsRun old (e ∷ events) [] new = ⊥
 IsRun old (e ∷ events) (a ∷ answers) new = (mid : State) × SafeStep old e a mid × IsRun mid events answers new
+
+-- a reader that has seen the empty log, has announced nothing and holds nothing
+abbrev pub fresh_reader : Reader
+fresh_reader = record { seen = []; announced = None; holds = None }
+
+-- the words of a world before its first event: NOW and the readers' words are 0, and slot 0 shows the opening bitmap, each position by the block of the same number
+pub record AreOpeningWords (k : Base) (words : List ℕ) : Type 0 where
+  pub sized : length words ≡ word_count k
+  pub quiet : (n : ℕ) → n ≤ k.setting.sessions → slice_index words n ≡ 0
+  pub directory : (p : ℕ) → p < tiles k → slice_index words (map_at k 0 p) ≡ p
+  pub rows : (p i : ℕ) → p < tiles k → i < 64 → slice_index words (tile_at k p i) ≡ row_word k.opening p i
+
+-- a world before its first event: its words are those of the opening bitmap, which is version 0. What other slots and free blocks hold isn't said.
+pub record IsOpened (k : Base) (w : State) : Type 0 where
+  pub base_is : w.base ≡ k
+  pub keeper_is : w.keeper ≡ record { log = []; hand = None }
+  pub readers_are : w.readers ≡ replicate k.setting.sessions fresh_reader
+  pub words : AreOpeningWords k w.words
+  pub safe : IsSafe w
+
+-- a world was opened so, and these events were done in it one after another
+pub record IsRunFrom (k : Base) (events : List Event) (answers : List (Result StepReply NotEnabled)) (new : State) : Type 0 where
+  pub start : State
+  pub opened : IsOpened k start
+  pub run : IsRun start events answers new

@@ -1,10 +1,12 @@
 -- What holds of a world after each event: the theorem of the core, item by item. This project's own rule.
-use Rattle.std.specs.Prelude.{◌≡◌, ◌≢◌, ℕ, ◌+◌, ◌<◌, ◌⊎◌, ◌==◌, nat_lt, cond, List, [], ◌∷◌, ◌++◌, slice_get, slice_index, Option, Some, Contains}
+use Rattle.std.specs.Prelude.{◌≡◌, ◌≢◌, ℕ, ◌+◌, ◌<◌, ◌⊎◌, ◌==◌, nat_lt, cond, List, [], ◌∷◌, ◌++◌, length, slice_get, slice_index, Option, Some, Contains}
+use Rattle.bits.specs.Tiles.{row_word}
 use Rattle.map_core.specs.declared.command.Entry.{Entry}
 use Rattle.map_core.specs.Story.{Story, newest, bitmap_of, IsKept}
 use Rattle.map_core.specs.Legal.{IsLegal}
-use Rattle.map_core.specs.Blocks.{Retired, Blocks, directory_of, own_list, blocks_of}
-use Rattle.map_core.specs.Words.{tiles, now_at, map_at, tile_at, now_of, slot_of, shown}
+use Rattle.map_core.specs.declared.blocks.Retired.{Retired}
+use Rattle.map_core.specs.Blocks.{Blocks, directory_of, own_list, blocks_of}
+use Rattle.map_core.specs.Words.{tiles, now_at, map_at, tile_at, now_word, slot_of, shown}
 use Rattle.map_core.specs.Views.{Reader, State, story_of, blocks_of_state}
 
 -- what one part has seen is a beginning of a log
@@ -47,16 +49,17 @@ pub record IsSound (s : Story) (m : Blocks) (count : ℕ) : Type 0 where
   -- the last version of a retired block is kept, and isn't newest
   pub retired : (r : Retired) → Contains m.retired r → IsKept s r.last × (r.last < newest s)
 
--- the words show a version: its slot has its blocks, and the cells are those that were published
+-- the words show a version: its slot has its blocks, these have its rows, and the cells are those that were published
 pub record IsShown (w : State) (v : ℕ) : Type 0 where
   pub directory : (p : ℕ) → p < tiles w.base → slice_index w.words (map_at w.base (slot_of w.base (story_of w) v) p) ≡ slice_index (directory_of (blocks_of_state w) v) p
+  pub rows : (p i : ℕ) → p < tiles w.base → i < 64 → slice_index w.words (tile_at w.base (slice_index (directory_of (blocks_of_state w) v) p) i) ≡ row_word (bitmap_of (story_of w) v) p i
   pub cells : shown w.base w.words (slot_of w.base (story_of w) v) ≡ bitmap_of (story_of w) v
 
 -- what holds of a world between any two events
 pub record IsSafe (w : State) : Type 0 where
   -- the log is legal, and NOW has its length and its newest version
   pub legal : IsLegal w.base.setting w.base.opening w.keeper.log
-  pub now : slice_index w.words now_at ≡ now_of (story_of w)
+  pub now : slice_index w.words now_at ≡ now_word (length w.keeper.log) (newest (story_of w))
   -- each held version is kept
   pub held : (v : ℕ) → IsHeld w v → IsKept (story_of w) v
   -- each live version is shown

@@ -170,7 +170,7 @@ keep w None = None
 keep w (Some h) =
     if nat_lt h.done (steps_before w.base (blocks_of_state w) h.command) then Some (step_before w h h.command) else Some (commit w h)
 
--- an order that is refused is answered so; another is in hand then
+-- an order that is refused is answered so; one that is accepted is in hand then
 abbrev pub ordered : State → Command → Option Refusal → Outcome
 ordered w c (Some refusal) = record { state = w; answer = says.Refused refusal; stored = None }
 ordered w c None =
@@ -190,3 +190,8 @@ does w (LookTile r b i) = look_tile w b i (hold_of (slice_get w.readers r))
 does w (Leave r) = leave w r (slice_get w.readers r)
 does w (Order c) = order w c w.keeper.hand
 does w Keep = keep w w.keeper.hand
+
+-- how many steps the command in hand has still to do, its last included
+unfoldable pub steps_left : State → Option Hand → ℕ
+steps_left w None = 0
+steps_left w (Some h) = steps_before w.base (blocks_of_state w) h.command + 1 - h.done

@@ -4,7 +4,8 @@ use Rattle.std.specs.List.{AllByRecursion}
 use Rattle.bits.specs.Cells.{Cells, IsBitmap}
 use Rattle.bits.specs.Tiles.{row_word}
 use Rattle.map_core.specs.Story.{Story, newest, bitmap_of, kept, trues, changed_before, came}
-use Rattle.map_core.specs.Blocks.{Retired, Blocks, directory_of, own_list, blocks_of}
+use Rattle.map_core.specs.declared.blocks.Retired.{Retired}
+use Rattle.map_core.specs.Blocks.{Blocks, directory_of, own_list, blocks_of}
 use Rattle.map_core.specs.Words.{Base, tiles}
 use Rattle.map_core.specs.Safe.{IsEachOnce}
 
@@ -77,9 +78,11 @@ pub record IsTidy (k : Base) (s : Story) (m : Blocks) : Type 0 where
   -- a kept version has newest's block at a position, or a retired one
   pub mapped : (v p : ℕ) → s.floor ≤ v → v ≤ newest s → p < tiles k → HasNewest s m v p ⊎ IsAmongRetired (slice_index (directory_of m v) p) v p m.retired
 
--- a world can be opened with this setting and this bitmap
+-- what the laws need of a setting and of the bitmap of an opening; a setting within its limits has more
 pub record IsReady (k : Base) : Type 0 where
   pub bitmap : IsBitmap k.opening
   pub blocks : tiles k ≤ k.setting.blocks
+  pub few_blocks : k.setting.blocks ≤ 16384
   pub versions : 1 ≤ k.setting.versions
+  pub few_sessions : k.setting.sessions ≤ 64
   pub log : k.setting.log ≤ 1048576

@@ -27,21 +27,21 @@ pub enum Event {
 pub enum StepReply {
     /// To an announcement: the announced version.
     Announced { version: u32 },
-    /// To a load of the word NOW.
+    /// To a load of the word NOW: how many entries the log has, and the newest version.
     Now { place: u32, version: u32 },
     /// To a look at a position: its block.
     Block { block: u32 },
-    /// To a look at a row of a block.
+    /// To a look at a row of a block: bit x is its column x, and is 0 past the edge of the map.
     Word { word: u64 },
     /// To a leave.
     Left,
-    /// To an order that was accepted: how many steps it takes.
+    /// To an order that was accepted: how many steps it takes, its last included.
     Ordered { steps: u32 },
     /// To an order that was refused. No command is in hand then.
     Refused { refusal: Refusal },
     /// To a step of a publish: a word was stored.
     Written,
-    /// To a step of a collect: the word of this reader was loaded.
+    /// To a step of a collect: the word of this reader, which is 0, or the version that it has announced plus 1.
     Scanned { reader: u32, word: u64 },
     /// To the last step of a command.
     Committed { reply: Reply },

@@ -1,12 +1,22 @@
 //! The core over events: numbered versions of a bitmap, kept in words that readers and one keeper load and store one at a time.
 #![tactic(auto)]
 
+mod blocks;
 mod command;
+mod draw;
 mod event;
+mod history;
 mod laws;
+mod reader;
 mod setting;
+#[cfg(test)]
+mod tests;
+mod tiles;
+mod world;
 
 pub use command::{Command, Entry, Reply};
 pub use event::{Event, NotEnabled, StepReply};
+pub use history::{Answers, run};
 pub use laws::{blocks_are_sound, events_keep_a_world_safe, free_blocks_are_counted};
 pub use setting::Setting;
+pub use world::World;

@@ -11,7 +11,7 @@ use metric::{Field, Refusal};
 /// How much room a world has.
 #[derive(Clone, Copy, Debug, PartialEq, Eq)]
 pub struct Setting {
-    /// Blocks, each with room for one tile: as many as the map has tiles, to 16,384.
+    /// Blocks, each with room for one tile: from the map's number of tiles to 16,384.
     pub blocks: u32,
     /// Slots, each with room for one version: 2 to 64.
     pub versions: u32,

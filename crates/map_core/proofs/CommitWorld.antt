@@ -1,0 +1,191 @@
+-- The last step of a command, on a world by its parts.
+use Rattle.std.proofs.Common.{◌≡◌, ℕ, suc, ◌+◌, ◌<◌, ◌≤◌, false, List, [], ◌∷◌, ◌++◌, length, set, map, take, replicate, refl, ap, subst, sym, ◌∙◌, arith}
+use Rattle.std.specs.Prelude.{Option, Some, None, nat_lt, slice_get}
+use Rattle.std.proofs.lemmas.Bool.Decides.{nat_tests}
+use Rattle.std.proofs.lemmas.List.{take-append-le, length-append}
+use Rattle.bits.specs.Cells.{Cells}
+use Rattle.map_core.specs.declared.command.Command.{Command}
+use Rattle.map_core.specs.declared.command.Command.TheVariants.{Revert}
+use Rattle.map_core.specs.declared.command.Entry.{Entry}
+use Rattle.map_core.specs.declared.command.Reply.{Reply}
+use Rattle.map_core.specs.declared.command.Reply.TheVariants.{Reverted}
+use Rattle.map_core.specs.declared.event.Event.TheVariants.{Keep}
+use Rattle.map_core.specs.declared.event.StepReply.TheVariants as says
+use Rattle.map_core.specs.declared.reader.Place.{Place}
+use Rattle.map_core.specs.declared.setting.Setting.{Setting}
+use Rattle.map_core.specs.Story.{Story, newest, bitmap_of}
+use Rattle.map_core.specs.Legal.{told}
+use Rattle.map_core.specs.Blocks.{Blocks, own_list, given_back, moved}
+use Rattle.map_core.specs.Words.{Base, word_count, now_at, now_word, now_of}
+use Rattle.map_core.specs.Views.{Hand, Reader, State, story, blocks, story_of, blocks_of_state}
+use Rattle.map_core.specs.Steps.{Outcome, does, keep, steps_before, reply_of}
+use Rattle.map_core.specs.Kept.{hand_of, reader_of, state_of, Summary, IsSummary, Room, IsConsistent, IsLastOf}
+use Rattle.map_core.specs.Tidy.{IsOfMap}
+use Rattle.map_core.proofs.CameLemmas.{came-same_changes}
+use Rattle.map_core.proofs.DoesLemmas.{does-keeps}
+use Rattle.map_core.proofs.StepLemmas.{tidy_of, story-push, blocks-push}
+use Rattle.map_core.proofs.KeepWorld.{that_hand}
+use Rattle.map_core.proofs.LogLemmas.{places-legal}
+use Rattle.map_core.proofs.LogLemmas.{places_are}
+
+-- what is kept of the readers tells the same after one more entry
+pub readers_stay : (log : List Entry) (e : Entry) (places : List Place) → ((r : ℕ) (p : Place) → slice_get places r ≡ Some p → p.seen ≤ length log)
+    → map (reader_of (log ++ e ∷ [])) places ≡ map (reader_of log) places
+readers_stay log e [] within = refl
+readers_stay log e (p ∷ ps) within =
+    let first : take p.seen (log ++ e ∷ []) ≡ take p.seen log = take-append-le p.seen log (e ∷ []) (within 0 p refl) in
+    ap (λ (seen : List Entry). record { seen = seen; announced = p.announced; holds = p.holds } ∷ map (reader_of (log ++ e ∷ [])) ps) first
+    ∙ ap (λ (xs : List Reader). reader_of log p ∷ xs) (readers_stay log e ps (λ r q there. within (suc r) q there))
+
+-- the last step of a command
+pub commit_does : (g : Setting) (b : Cells) (words : List ℕ) (log : List Entry) (hand : Option Command) (done new_done : ℕ) (scanned new_scanned : List ℕ) (places : List Place) (c : Command) (reply : Reply) (now : ℕ)
+    → hand ≡ Some c → steps_before record { setting = g; opening = b } (blocks record { setting = g; opening = b } log) c ≤ done
+    → ((r : ℕ) (p : Place) → slice_get places r ≡ Some p → p.seen ≤ length log)
+    → reply ≡ reply_of (story record { setting = g; opening = b } log) c scanned → now ≡ now_of (told (story record { setting = g; opening = b } log) c reply)
+    → does (state_of g b words log hand done scanned places) Keep
+    ≡ Some record { state = state_of g b (set words 0 now) (log ++ record { command = c; reply = reply } ∷ []) None new_done new_scanned places; answer = says.Committed reply; stored = Some now_at }
+unfolding does keep
+commit_does g b words log hand done new_done scanned new_scanned places c reply now is all within reply_is now_is =
+    let k : Base = record { setting = g; opening = b } in
+    let s : Story = story k log in
+    let w : State = state_of g b words log (Some c) done scanned places in
+    let test : nat_lt done (steps_before k (blocks k log) c) ≡ false = not_below done (steps_before k (blocks k log) c) all in
+    let said : Reply = reply_of s c scanned in
+    subst (λ (hd : Option Command). does (state_of g b words log hd done scanned places) Keep
+    ≡ Some record { state = state_of g b (set words 0 now) (log ++ record { command = c; reply = reply } ∷ []) None new_done new_scanned places; answer = says.Committed reply; stored = Some now_at }) (sym is)
+    (rw test
+    (by_reply g b words log new_done new_scanned places c said reply now now_is (sym reply_is) within))
+  where
+    not_below : (a b : ℕ) → b ≤ a → nat_lt a b ≡ false
+    not_below a b h = grind (arith, nat_tests)
+
+    by_reply : (g : Setting) (b : Cells) (words : List ℕ) (log : List Entry) (new_done : ℕ) (new_scanned : List ℕ) (places : List Place) (c : Command) (said reply : Reply) (now : ℕ)
+        → now ≡ now_of (told (story record { setting = g; opening = b } log) c reply) → said ≡ reply → ((r : ℕ) (p : Place) → slice_get places r ≡ Some p → p.seen ≤ length log)
+        → ◌≡◌ {A = Option Outcome} (Some record {
+          state = record {
+            base = record { setting = g; opening = b };
+            words = set words 0 (now_of (told (story record { setting = g; opening = b } log) c said));
+            keeper = record { log = log ++ record { command = c; reply = said } ∷ []; hand = None };
+            readers = map (reader_of log) places;
+          };
+          answer = says.Committed said;
+          stored = Some now_at;
+        }) (Some record { state = state_of g b (set words 0 now) (log ++ record { command = c; reply = reply } ∷ []) None new_done new_scanned places; answer = says.Committed reply; stored = Some now_at })
+    by_reply g b words log new_done new_scanned places c said reply now now_is same within = rw (same, now_is, readers_stay log record { command = c; reply = reply } places within)
+
+-- what is kept is right after the last step, with what the new log says
+pub consistent_commit : (g : Setting) (b : Cells) (words : List ℕ) (log : List Entry) (hand : Option Command) (done new_done steps new_steps : ℕ) (scanned new_scanned : List ℕ) (places : List Place) (c : Command) (reply : Reply) (now : ℕ)
+    (u new : Summary) (room new_room : Room)
+    → IsConsistent (state_of g b words log hand done scanned places) hand steps places u room
+    → does (state_of g b words log hand done scanned places) Keep
+    ≡ Some record { state = state_of g b (set words 0 now) (log ++ record { command = c; reply = reply } ∷ []) None new_done new_scanned places; answer = says.Committed reply; stored = Some now_at }
+    → IsSummary record { setting = g; opening = b } (told (story record { setting = g; opening = b } log) c reply) (moved (story record { setting = g; opening = b } log) c reply (blocks record { setting = g; opening = b } log)) new
+    → room.scanned ≤ new_room.scanned → room.free ≤ new_room.free → room.retired ≤ new_room.retired
+    → IsConsistent (state_of g b (set words 0 now) (log ++ record { command = c; reply = reply } ∷ []) None new_done new_scanned places) None new_steps places new new_room
+consistent_commit g b words log hand done new_done steps new_steps scanned new_scanned places c reply now u new room new_room consistent is summary scanned_room free_room retired_room =
+    let k : Base = record { setting = g; opening = b } in
+    let e : Entry = record { command = c; reply = reply } in
+    let keeps = does-keeps (state_of g b words log hand done scanned places) Keep _ consistent.whole is in
+    let scanned_before = consistent.roomy.scanned in
+    let free_before = consistent.roomy.free in
+    let retired_before = consistent.roomy.retired in
+    record {
+      whole = keeps.whole;
+      steps = tt;
+      place = λ r p there.
+          let place = consistent.place r p there in
+          let within = place.within in
+          record {
+            within = omega (arith, length-append log (e ∷ []));
+            version_is = place.version_is ∙ ap (λ (l : List Entry). newest (story k l)) (sym (take-append-le p.seen log (e ∷ []) within));
+            small = place.small;
+          };
+      summary =
+          subst (λ (s : Story). IsSummary k s (blocks k (log ++ e ∷ [])) new) (sym (story-push k log e))
+          (subst (λ (m : Blocks). IsSummary k (told (story k log) c reply) m new) (sym (blocks-push k log e)) summary);
+      roomy = record { log = tt; scanned = omega arith; free = omega arith; retired = omega arith };
+    }
+
+-- the last step is to be done of the command that is in hand
+pub last_known : (w v : State) (c : Command) (hand : Option Command) (done : ℕ) (scanned : List ℕ) → v ≡ w → v.keeper.hand ≡ hand_of hand done scanned → IsLastOf w c
+    → (hand ≡ Some c) × (steps_before v.base (blocks_of_state v) c ≤ done)
+last_known w v c hand done scanned same is last =
+    known v c hand done scanned is (subst (λ (x : State). IsLastOf x c) (sym same) last)
+  where
+    known : (v : State) (c : Command) (hand : Option Command) (done : ℕ) (scanned : List ℕ) → v.keeper.hand ≡ hand_of hand done scanned → IsLastOf v c
+        → (hand ≡ Some c) × (steps_before v.base (blocks_of_state v) c ≤ done)
+    known v c None done scanned is last = let there = last.there in absurd (cc)
+    known v c (Some d) done scanned is last =
+        let there : ◌≡◌ {A = Option Hand} (Some record { command = d; done = done; scanned = scanned }) (Some last.hand) = sym is ∙ last.there in
+        let same : record { command = d; done = done; scanned = scanned } ≡ last.hand = that_hand record { command = d; done = done; scanned = scanned } last.hand there in
+        let command : d ≡ c = ap (λ (h : Hand). h.command) same ∙ last.command in
+        let count = ap (λ (h : Hand). h.done) same in
+        let all = last.all in
+        (ap (λ (e : Command). Some e) command, omega arith)
+
+-- the last step of a command, of a world whose parts are kept right
+pub last_does : (g : Setting) (b : Cells) (words : List ℕ) (log : List Entry) (hand : Option Command) (done : ℕ) (scanned : List ℕ) (places : List Place) (steps : ℕ) (u : Summary) (room : Room) (c : Command) (reply : Reply) (now : ℕ)
+    → IsConsistent (state_of g b words log hand done scanned places) hand steps places u room
+    → (hand ≡ Some c) × (steps_before record { setting = g; opening = b } (blocks record { setting = g; opening = b } log) c ≤ done)
+    → reply ≡ reply_of (story record { setting = g; opening = b } log) c scanned → now ≡ now_of (told (story record { setting = g; opening = b } log) c reply)
+    → does (state_of g b words log hand done scanned places) Keep
+    ≡ Some record { state = state_of g b (set words 0 now) (log ++ record { command = c; reply = reply } ∷ []) None done scanned places; answer = says.Committed reply; stored = Some now_at }
+last_does g b words log hand done scanned places steps u room c reply now consistent known reply_is now_is =
+    commit_does g b words log hand done done scanned scanned places c reply now known.0 known.1 (λ r p there. (consistent.place r p there).within) reply_is now_is
+
+-- the log has few entries
+pub log_few : (w : State) (hand : Option Command) (steps : ℕ) (places : List Place) (u : Summary) (room : Room) → IsConsistent w hand steps places u room → length w.keeper.log ≤ 1048576
+log_few w hand steps places u room consistent =
+    let counts = places-legal w.base w.keeper.log consistent.whole.keeper.legal in
+    let fits = counts.0 in
+    let most = consistent.whole.ready.log in
+    let is = places_are w.base w.keeper.log in
+    omega arith
+
+-- there is a word NOW
+pub now_within : (w : State) (hand : Option Command) (steps : ℕ) (places : List Place) (u : Summary) (room : Room) → IsConsistent w hand steps places u room → 0 < length w.words
+unfolding word_count
+now_within w hand steps places u room consistent = let sized = consistent.whole.keeper.sized in omega arith
+
+-- the draft's own blocks find room in the free list
+pub room_back : (w : State) (hand : Option Command) (steps : ℕ) (places : List Place) (u : Summary) (room : Room) → IsConsistent w hand steps places u room → length u.free + length (own_list u.own) ≤ room.free
+room_back w hand steps places u room consistent =
+    let sum = (tidy_of w consistent.whole).shape.blocks in
+    let free = ap length consistent.summary.free_is in
+    let own = ap (λ (os : List (Option ℕ)). length (own_list os)) consistent.summary.own_is in
+    let roomy = consistent.roomy.free in
+    omega arith
+
+-- the published bitmap is of the map's size
+pub published_of_map : (w : State) (hand : Option Command) (steps : ℕ) (places : List Place) (u : Summary) (room : Room) → IsConsistent w hand steps places u room → IsOfMap w.base u.published
+published_of_map w hand steps places u room consistent =
+    subst (λ (b : Cells). IsOfMap w.base b) (sym consistent.summary.published_is) ((tidy_of w consistent.whole).published (newest (story_of w)) (omega arith))
+
+-- the reply of a revert
+pub reply_revert : (k : Base) (log : List Entry) (scanned : List ℕ) (place : ℕ) → place ≡ length log + 1 → Reverted place ≡ reply_of (story k log) Revert scanned
+unfolding reply_of
+reply_revert k log scanned place is = ap Reverted (is ∙ ap (λ (n : ℕ). n + 1) (sym (places_are k log)))
+
+-- NOW after a revert
+pub now_revert : (k : Base) (log : List Entry) (reply : Reply) (place version now : ℕ) → place ≡ length log + 1 → version ≡ newest (story k log) → now ≡ now_word place version → now ≡ now_of (told (story k log) Revert reply)
+unfolding now_of told newest
+now_revert k log reply place version now place_is version_is is =
+    is ∙ (ap (λ (n : ℕ). now_word n version) (place_is ∙ ap (λ (n : ℕ). n + 1) (sym (places_are k log))) ∙ ap (λ (v : ℕ). now_word ((story k log).places + 1) v) version_is)
+
+-- what is kept after a revert
+pub summary_revert : (k : Base) (s : Story) (m : Blocks) (u : Summary) (reply : Reply) (draft : Cells) (own : List (Option ℕ)) (free : List ℕ) → IsSummary k s m u
+    → draft ≡ u.published → own ≡ replicate (length u.own) None → free ≡ given_back (own_list u.own) u.free
+    → IsSummary k (told s Revert reply) (moved s Revert reply m) record u { draft = draft; own = own; free = free }
+unfolding told moved newest bitmap_of
+summary_revert k s m u reply draft own free kept draft_is own_is free_is = record {
+  newest_is = kept.newest_is;
+  floor_is = kept.floor_is;
+  draft_is = draft_is ∙ kept.published_is;
+  scratch = kept.scratch;
+  published_is = kept.published_is;
+  came_long = kept.came_long;
+  came_is = λ p h. kept.came_is p h ∙ came-same_changes s (told s Revert reply) refl p _;
+  own_is = own_is ∙ ap (λ (os : List (Option ℕ)). replicate (length os) None) kept.own_is;
+  free_is = free_is ∙ (ap (λ (os : List (Option ℕ)). given_back (own_list os) u.free) kept.own_is ∙ ap (given_back (own_list m.own)) kept.free_is);
+  retired_is = kept.retired_is;
+}

@@ -1,0 +1,290 @@
+-- The steps of a reader, on a world by its parts.
+use Rattle.std.proofs.Common.{◌≡◌, ℕ, suc, ◌+◌, ◌*◌, ◌<◌, ◌≤◌, ◌&&◌, ◌==◌, Bool, true, false, if◌then◌else◌, List, length, get_or, set, map, take, refl, ap, subst, sym, ◌∙◌, arith}
+use Rattle.std.specs.Prelude.{Option, Some, None, slice_get, is_some, is_none, nat_lt}
+use Rattle.std.proofs.lemmas.Bool.Decides.{nat_tests}
+use Rattle.std.proofs.lemmas.List.{map-set, length-map, take_all, get_or_read, get_or_default}
+use Rattle.std.proofs.lemmas.List.Folds.{list_any_at, list_any_none, Any-from_list_any}
+use Rattle.map_core.specs.Blocks.{directory_of, is_mapped}
+use Rattle.map_core.proofs.PlaceLemmas.{tile-within}
+use Rattle.bits.specs.Cells.{Cells}
+use Rattle.map_core.specs.declared.command.Command.{Command}
+use Rattle.map_core.specs.declared.command.Entry.{Entry}
+use Rattle.map_core.specs.declared.event.Event.TheVariants.{Announce, Load, LookMap, LookTile, Leave}
+use Rattle.map_core.specs.declared.event.StepReply.TheVariants as says
+use Rattle.map_core.specs.declared.reader.Place.{Place}
+use Rattle.map_core.specs.declared.setting.Setting.{Setting}
+use Rattle.map_core.specs.Story.{IsKept}
+use Rattle.map_core.specs.Words.{tiles, pin_at, map_at, tile_at, pin_word, version_told, place_told, slot_of}
+use Rattle.map_core.specs.Views.{Reader, State, story_of}
+use Rattle.map_core.specs.Steps.{does, announce, load, leave, look_map, look_tile, hold_of}
+use Rattle.map_core.specs.Views.{blocks_of_state}
+use Rattle.map_core.specs.Sound.{IsWhole}
+use Rattle.map_core.proofs.SoundBlocks.{block_within}
+use Rattle.map_core.proofs.TidyLog.{IsTidy-legal}
+use Rattle.map_core.specs.Kept.{reader_of, state_of, IsPlace}
+use Rattle.map_core.proofs.WorldLemmas.{slice_get_past, slice_get-map}
+
+-- a reader that isn't there does nothing
+pub no_reader : (w : State) (places : List Place) (r : ℕ) → w.readers ≡ map (reader_of w.keeper.log) places → length places ≤ r → slice_get w.readers r ≡ None
+no_reader w places r readers past =
+    ap (λ (xs : List Reader). slice_get xs r) readers ∙ slice_get_past (map (reader_of w.keeper.log) places) r (let long = length-map places (reader_of w.keeper.log) in omega arith)
+
+-- an announcement of a reader that isn't there
+pub announce_past : (g : Setting) (b : Cells) (words : List ℕ) (log : List Entry) (hand : Option Command) (done : ℕ) (scanned : List ℕ) (places : List Place) (r : ℕ)
+    → length places ≤ r → does (state_of g b words log hand done scanned places) (Announce r) ≡ None
+unfolding does announce
+announce_past g b words log hand done scanned places r past =
+    ap (announce (state_of g b words log hand done scanned places) r) (slice_get_past (map (reader_of log) places) r (let long = length-map places (reader_of log) in omega arith))
+
+-- an announcement of a reader that has announced
+pub announce_again : (g : Setting) (b : Cells) (words : List ℕ) (log : List Entry) (hand : Option Command) (done : ℕ) (scanned : List ℕ) (places : List Place) (r : ℕ) (p : Place)
+    → slice_get places r ≡ Some p → is_some p.announced ≡ true → does (state_of g b words log hand done scanned places) (Announce r) ≡ None
+unfolding does announce
+announce_again g b words log hand done scanned places r p there has =
+    ap (announce (state_of g b words log hand done scanned places) r) (slice_get-map (reader_of log) places r p there) ∙ rw has
+
+-- an announcement
+pub announce_does : (g : Setting) (b : Cells) (words : List ℕ) (log : List Entry) (hand : Option Command) (done : ℕ) (scanned : List ℕ) (places : List Place) (r : ℕ) (p : Place) (at word : ℕ)
+    → slice_get places r ≡ Some p → is_some p.announced ≡ false → IsPlace record { setting = g; opening = b } log p → at ≡ 1 + r → word ≡ p.version + 1
+    → does (state_of g b words log hand done scanned places) (Announce r)
+    ≡ Some record {
+      state = state_of g b (set words at word) log hand done scanned (set places r record p { announced = Some p.version });
+      answer = says.Announced p.version;
+      stored = Some (pin_at r);
+    }
+unfolding does announce pin_at pin_word
+announce_does g b words log hand done scanned places r p at word there none place at_is word_is =
+    let w = state_of g b words log hand done scanned places in
+    let suc_is : word ≡ suc p.version = omega arith in
+    ap (announce w r) (slice_get-map (reader_of log) places r p there)
+    ∙ (rw none
+    (rw (← place.version_is, ← at_is, ← suc_is) (ap (λ (xs : List Reader). Some record { state = record w { words = set words at word; readers = xs }; answer = says.Announced p.version; stored = Some at })
+    (sym (map-set (reader_of log) places r record p { announced = Some p.version })))))
+
+-- a leave of a reader that isn't there
+pub leave_past : (g : Setting) (b : Cells) (words : List ℕ) (log : List Entry) (hand : Option Command) (done : ℕ) (scanned : List ℕ) (places : List Place) (r : ℕ)
+    → length places ≤ r → does (state_of g b words log hand done scanned places) (Leave r) ≡ None
+unfolding does leave
+leave_past g b words log hand done scanned places r past =
+    ap (leave (state_of g b words log hand done scanned places) r) (slice_get_past (map (reader_of log) places) r (let long = length-map places (reader_of log) in omega arith))
+
+-- a leave of a reader that hasn't announced
+pub leave_again : (g : Setting) (b : Cells) (words : List ℕ) (log : List Entry) (hand : Option Command) (done : ℕ) (scanned : List ℕ) (places : List Place) (r : ℕ) (p : Place)
+    → slice_get places r ≡ Some p → is_none p.announced ≡ true → does (state_of g b words log hand done scanned places) (Leave r) ≡ None
+unfolding does leave
+leave_again g b words log hand done scanned places r p there none =
+    ap (leave (state_of g b words log hand done scanned places) r) (slice_get-map (reader_of log) places r p there) ∙ rw (not_some p.announced none)
+  where
+    not_some : (o : Option ℕ) → is_none o ≡ true → is_some o ≡ false
+    not_some None is = refl
+    not_some (Some a) is = absurd (cc)
+
+-- a leave
+pub leave_does : (g : Setting) (b : Cells) (words : List ℕ) (log : List Entry) (hand : Option Command) (done : ℕ) (scanned : List ℕ) (places : List Place) (r : ℕ) (p : Place) (at : ℕ)
+    → slice_get places r ≡ Some p → is_none p.announced ≡ false → at ≡ 1 + r
+    → does (state_of g b words log hand done scanned places) (Leave r)
+    ≡ Some record {
+      state = state_of g b (set words at 0) log hand done scanned (set places r record p { announced = None; holds = None });
+      answer = says.Left;
+      stored = Some (pin_at r);
+    }
+unfolding does leave pin_at pin_word
+leave_does g b words log hand done scanned places r p at there has at_is =
+    let w = state_of g b words log hand done scanned places in
+    ap (leave w r) (slice_get-map (reader_of log) places r p there)
+    ∙ (rw (some p.announced has)
+    (rw (← at_is) (ap (λ (xs : List Reader). Some record { state = record w { words = set words at 0; readers = xs }; answer = says.Left; stored = Some at })
+    (sym (map-set (reader_of log) places r record p { announced = None; holds = None })))))
+  where
+    some : (o : Option ℕ) → is_none o ≡ false → is_some o ≡ true
+    some None is = absurd (cc)
+    some (Some a) is = refl
+
+-- a load of a reader that isn't there
+pub load_past : (g : Setting) (b : Cells) (words : List ℕ) (log : List Entry) (hand : Option Command) (done : ℕ) (scanned : List ℕ) (places : List Place) (r : ℕ)
+    → length places ≤ r → does (state_of g b words log hand done scanned places) (Load r) ≡ None
+unfolding does load
+load_past g b words log hand done scanned places r past =
+    ap (load (state_of g b words log hand done scanned places) r) (slice_get_past (map (reader_of log) places) r (let long = length-map places (reader_of log) in omega arith))
+
+-- a load
+pub load_does : (g : Setting) (b : Cells) (words : List ℕ) (log : List Entry) (hand : Option Command) (done : ℕ) (scanned : List ℕ) (places : List Place) (r : ℕ) (p : Place) (word seen version : ℕ) (holds : Option ℕ)
+    → slice_get places r ≡ Some p → word ≡ get_or words 0 0 → seen ≡ length log
+    → holds ≡ (if is_some p.announced && is_none p.holds then Some (version_told word) else p.holds)
+    → does (state_of g b words log hand done scanned places) (Load r)
+    ≡ Some record {
+      state = state_of g b words log hand done scanned (set places r record { seen = seen; version = version; announced = p.announced; holds = holds });
+      answer = says.Now (place_told word) (version_told word);
+      stored = None;
+    }
+unfolding does load
+load_does g b words log hand done scanned places r p word seen version holds there word_is seen_is holds_is =
+    let w = state_of g b words log hand done scanned places in
+    let whole : take seen log ≡ log = take_all seen log (omega arith) in
+    ap (load w r) (slice_get-map (reader_of log) places r p there)
+    ∙ rw (← word_is, ← holds_is)
+    (ap (λ (xs : List Reader). Some record { state = record w { readers = xs }; answer = says.Now (place_told word) (version_told word); stored = None })
+    (sym (map-set (reader_of log) places r record { seen = seen; version = version; announced = p.announced; holds = holds }
+    ∙ ap (λ (l : List Entry). set (map (reader_of log) places) r record { seen = l; announced = p.announced; holds = holds }) whole)))
+
+-- what a reader of a world holds
+pub held_is : (log : List Entry) (places : List Place) (r : ℕ) (p : Place) → slice_get places r ≡ Some p → p.holds ≡ hold_of (slice_get (map (reader_of log) places) r)
+held_is log places r p there = sym (ap hold_of (slice_get-map (reader_of log) places r p there))
+
+-- a reader that isn't there holds nothing
+pub held_none : (log : List Entry) (places : List Place) (r : ℕ) → length places ≤ r → None ≡ hold_of (slice_get (map (reader_of log) places) r)
+held_none log places r past = sym (ap hold_of (slice_get_past (map (reader_of log) places) r (let long = length-map places (reader_of log) in omega arith)))
+
+-- a look at a position, of a reader that holds nothing
+pub look_map_none : (w : State) (r p : ℕ) (held : Option ℕ) → held ≡ hold_of (slice_get w.readers r) → held ≡ None → does w (LookMap r p) ≡ None
+unfolding does look_map
+look_map_none w r p held is none = ap (look_map w p) (sym is ∙ none)
+
+-- a look at a position that the map hasn't
+pub look_map_past : (w : State) (r p v : ℕ) (held : Option ℕ) → held ≡ hold_of (slice_get w.readers r) → held ≡ Some v → tiles w.base ≤ p → does w (LookMap r p) ≡ None
+unfolding does look_map
+look_map_past w r p v held is some past =
+    ap (look_map w p) (sym is ∙ some) ∙ (let test : nat_lt p (tiles w.base) ≡ false = grind (arith, nat_tests) in rw test)
+
+-- a look at a position
+pub look_map_does : (w : State) (r p v block : ℕ) (held : Option ℕ) → held ≡ hold_of (slice_get w.readers r) → held ≡ Some v → p < tiles w.base
+    → block ≡ get_or w.words (map_at w.base (slot_of w.base (story_of w) v) p) 0
+    → does w (LookMap r p) ≡ Some record { state = w; answer = says.Block block; stored = None }
+unfolding does look_map
+look_map_does w r p v block held is some inside block_is =
+    ap (look_map w p) (sym is ∙ some) ∙ (let test : nat_lt p (tiles w.base) ≡ true = grind (arith, nat_tests) in rw (test, ← block_is))
+
+-- a version that a reader of a whole world holds is kept
+pub held_kept : (w : State) → IsWhole w → (r v : ℕ) (held : Option ℕ) → held ≡ hold_of (slice_get w.readers r) → held ≡ Some v → IsKept (story_of w) v
+held_kept w whole r v held is some = by_reader w whole r v (slice_get w.readers r) refl (sym is ∙ some)
+  where
+    by_reader : (w : State) → IsWhole w → (r v : ℕ) (found : Option Reader) → slice_get w.readers r ≡ found → hold_of found ≡ Some v → IsKept (story_of w) v
+    by_reader w whole r v None there holds = absurd (cc)
+    by_reader w whole r v (Some x) there holds = ((whole.reader r x there).holds v holds).kept
+
+-- the word of a position in a kept version's slot is the number of a block
+pub block_small : (w : State) → IsWhole w → (v p : ℕ) → IsKept (story_of w) v → p < tiles w.base
+    → get_or w.words (map_at w.base (slot_of w.base (story_of w) v) p) 0 < 16384
+unfolding IsKept
+block_small w whole v p is_kept inside =
+    let tidy = IsTidy-legal w.base w.keeper.log whole.ready whole.keeper.legal in
+    let shows = whole.keeper.shows v is_kept in
+    let within = block_within w.base (story_of w) (blocks_of_state w) tidy v p is_kept.0 is_kept.1 inside in
+    let at = shows.mapped p inside in
+    let few = whole.ready.few_blocks in
+    omega arith
+
+-- what is read of a world by its parts: the number of tiles, and a word
+pub record IsRead (w v : State) (tiles_here place word : ℕ) (words : List ℕ) : Type 0 where
+  pub same : v ≡ w
+  pub count : tiles_here ≡ tiles v.base
+  pub words_are : v.words ≡ words
+  pub read : word ≡ get_or words place word
+  pub within : place < length w.words
+
+-- the word that is read
+pub word_read : (w v : State) (tiles_here place word : ℕ) (words : List ℕ) → IsRead w v tiles_here place word words → word ≡ get_or w.words place 0
+word_read w v tiles_here place word words h =
+    let words_same : w.words ≡ words = sym (ap (λ (x : State). x.words) h.same) ∙ h.words_are in
+    get_or_read w.words place word h.within (h.read ∙ sym (ap (λ (xs : List ℕ). get_or xs place word) words_same)) 0
+
+-- the number of tiles that is read
+pub tiles_read : (w v : State) (tiles_here : ℕ) → v ≡ w → tiles_here ≡ tiles v.base → tiles_here ≡ tiles w.base
+tiles_read w v tiles_here same count = count ∙ ap (λ (x : State). tiles x.base) same
+
+-- a block that a word of a kept version's slot has is mapped
+pub is_mapped_found : (w : State) → IsWhole w → (v p block : ℕ) → IsKept (story_of w) v → p < tiles w.base
+    → get_or w.words (map_at w.base (slot_of w.base (story_of w) v) p) 0 ≡ block → true ≡ is_mapped (blocks_of_state w) v block
+unfolding IsKept is_mapped
+is_mapped_found w whole v p block is_kept inside is =
+    let tidy = IsTidy-legal w.base w.keeper.log whole.ready whole.keeper.legal in
+    let shows = whole.keeper.shows v is_kept in
+    let long = tidy.shape.directory v is_kept.1 in
+    let at : get_or (directory_of (blocks_of_state w) v) p 0 ≡ block = sym (shows.mapped p inside) ∙ is in
+    sym (list_any_at (λ b. b == block) (directory_of (blocks_of_state w) v) p 0 (omega arith) (same_number (get_or (directory_of (blocks_of_state w) v) p 0) block at))
+  where
+    same_number : (a b : ℕ) → a ≡ b → (a == b) ≡ true
+    same_number a b same = grind (arith, nat_tests)
+
+-- a block that no word of a kept version's slot has is not mapped
+pub is_mapped_none : (w : State) → IsWhole w → (v block : ℕ) → IsKept (story_of w) v
+    → ((p : ℕ) → p < tiles w.base → get_or w.words (map_at w.base (slot_of w.base (story_of w) v) p) 0 ≡ block → ⊥) → false ≡ is_mapped (blocks_of_state w) v block
+unfolding IsKept is_mapped
+is_mapped_none w whole v block is_kept none =
+    let tidy = IsTidy-legal w.base w.keeper.log whole.ready whole.keeper.legal in
+    let shows = whole.keeper.shows v is_kept in
+    let long = tidy.shape.directory v is_kept.1 in
+    sym (list_any_none (λ b. b == block) (directory_of (blocks_of_state w) v) (λ p d h.
+    other_number (get_or (directory_of (blocks_of_state w) v) p d) block
+    (λ same. none p (omega arith) (shows.mapped p (omega arith) ∙ (get_or_default (directory_of (blocks_of_state w) v) p 0 d h ∙ same)))))
+  where
+    other_number : (a b : ℕ) → (a ≡ b → ⊥) → (a == b) ≡ false
+    other_number a b apart = grind (arith, nat_tests)
+
+-- a block that a kept version maps is one of the map's
+pub mapped_small : (w : State) → IsWhole w → (v block : ℕ) → IsKept (story_of w) v → is_mapped (blocks_of_state w) v block ≡ true → block < w.base.setting.blocks
+unfolding IsKept is_mapped
+mapped_small w whole v block is_kept is =
+    let tidy = IsTidy-legal w.base w.keeper.log whole.ready whole.keeper.legal in
+    let found = Any-from_list_any (λ b. b == block) (directory_of (blocks_of_state w) v) is in
+    let long = tidy.shape.directory v is_kept.1 in
+    let place = found.0 in
+    let inside = found.2 in
+    let within = block_within w.base (story_of w) (blocks_of_state w) tidy v place is_kept.0 is_kept.1 (omega arith) in
+    let same : found.1 ≡ block = that_number found.1 block found.4 in
+    let at = get_or_default (directory_of (blocks_of_state w) v) place 0 found.1 inside ∙ found.3 in
+    omega arith
+  where
+    that_number : (a b : ℕ) → (a == b) ≡ true → a ≡ b
+    that_number a b is = grind (arith, nat_tests)
+
+-- a look at a row, of a reader that holds nothing
+pub look_tile_none : (w : State) (r b i : ℕ) (held : Option ℕ) → held ≡ hold_of (slice_get w.readers r) → held ≡ None → does w (LookTile r b i) ≡ None
+unfolding does look_tile
+look_tile_none w r b i held is none = ap (look_tile w b i) (sym is ∙ none)
+
+-- a look at a row that there isn't, or of a block that isn't mapped
+pub look_tile_past : (w : State) (r b i v : ℕ) (held : Option ℕ) → held ≡ hold_of (slice_get w.readers r) → held ≡ Some v
+    → (is_mapped (blocks_of_state w) v b && nat_lt i 64) ≡ false → does w (LookTile r b i) ≡ None
+unfolding does look_tile
+look_tile_past w r b i v held is some test = ap (look_tile w b i) (sym is ∙ some) ∙ rw test
+
+-- a look at a row
+pub look_tile_does : (w : State) (r b i v word : ℕ) (held : Option ℕ) → held ≡ hold_of (slice_get w.readers r) → held ≡ Some v
+    → (is_mapped (blocks_of_state w) v b && nat_lt i 64) ≡ true → word ≡ get_or w.words (tile_at w.base b i) 0
+    → does w (LookTile r b i) ≡ Some record { state = w; answer = says.Word word; stored = None }
+unfolding does look_tile
+look_tile_does w r b i v word held is some test word_is = ap (look_tile w b i) (sym is ∙ some) ∙ rw (test, ← word_is)
+
+-- the place of a word of a block
+pub tile_place_is : (w : State) → IsWhole w → (b i tiles_here : ℕ) → tiles_here ≡ tiles w.base → b < w.base.setting.blocks → i < 64
+    → (1 + w.base.setting.sessions + w.base.setting.versions * tiles_here + (b * 64 + i) ≡ tile_at w.base b i)
+    × (1 + w.base.setting.sessions + w.base.setting.versions * tiles_here + (b * 64 + i) < length w.words)
+unfolding tile_at
+tile_place_is w whole b i tiles_here same hb hi =
+    let is = ap (λ (t : ℕ). 1 + w.base.setting.sessions + w.base.setting.versions * t + (b * 64 + i)) same in
+    let within = tile-within w.base b i hb hi in
+    let sized = whole.keeper.sized in
+    (is, omega arith)
+
+-- a world is whole under another name
+pub whole_of : (w v : State) → v ≡ w → IsWhole v → IsWhole w
+whole_of w v same whole = subst IsWhole same whole
+
+-- a block that isn't mapped can't be looked at
+pub not_mapped : (mapped inside : Bool) → mapped ≡ false → (mapped && inside) ≡ false
+not_mapped false inside is = refl
+not_mapped true inside is = absurd (cc)
+
+-- a row that there isn't can't be looked at
+pub no_row : (mapped : Bool) (i : ℕ) → 64 ≤ i → (mapped && nat_lt i 64) ≡ false
+no_row true i h = grind (arith, nat_tests)
+no_row false i h = refl
+
+-- a row of a mapped block can be looked at
+pub row_there : (mapped : Bool) (i : ℕ) → mapped ≡ true → i < 64 → (mapped && nat_lt i 64) ≡ true
+row_there mapped i is h = grind (arith, nat_tests)
+
+-- a block of a world read through another name of it
+pub inside_setting : (w v : State) (b : ℕ) → w ≡ v → b < v.base.setting.blocks → b < w.base.setting.blocks
+inside_setting w v b same h = subst (λ (x : State). b < x.base.setting.blocks) (sym same) h

@@ -1,0 +1,113 @@
+-- A world by its parts: what an event does to them, and that what is kept beside its words stays right.
+use Rattle.std.proofs.Common.{◌≡◌, ℕ, zero, suc, ◌+◌, ◌*◌, ◌%◌, ◌^◌, ◌<◌, ◌≤◌, List, [], ◌∷◌, length, get_or, set, map, refl, ap, subst, sym, ◌∙◌, arith}
+use Rattle.std.specs.Prelude.{Option, Some, None, Ok, Err, slice_get}
+use Rattle.std.proofs.lemmas.List.{take_all}
+use mathlib.Core.Logic.{inl, inr}
+use Rattle.map_core.specs.declared.command.Command.{Command}
+use Rattle.map_core.specs.declared.command.Entry.{Entry}
+use Rattle.map_core.specs.declared.event.Event.{Event}
+use Rattle.map_core.specs.declared.event.StepReply.{StepReply}
+use Rattle.map_core.specs.declared.event.NotEnabled.{NotEnabled}
+use Rattle.map_core.specs.declared.reader.Place.{Place}
+use Rattle.map_core.specs.Story.{newest}
+use Rattle.map_core.specs.Words.{tiles, word_count, map_at, slot_of}
+use Rattle.map_core.specs.Views.{Reader, State, story, story_of}
+use Rattle.map_core.specs.Steps.{Outcome, does}
+use Rattle.map_core.specs.Runs.{SafeStep}
+use Rattle.map_core.specs.Sound.{IsWhole}
+use Rattle.map_core.specs.Kept.{IsPlace, Summary, Room, IsConsistent}
+use Rattle.map_core.proofs.DoesLemmas.{does-keeps}
+use Rattle.map_core.proofs.PlaceLemmas.{map-within, slot-within}
+use Rattle.map_core.proofs.SafeLemmas.{IsSafe-whole}
+use Rattle.map_core.proofs.StepLemmas.{nothing_stored, slice_get-set}
+
+-- what is read from a list is in it
+pub slice_get_read : {A : Type 0} (xs : List A) (i : ℕ) (x : A) → i < length xs → x ≡ get_or xs i x → slice_get xs i ≡ Some x
+slice_get_read [] i x h is = absurd (omega arith)
+slice_get_read (y ∷ ys) zero x h is = ap Some (sym is)
+slice_get_read (y ∷ ys) (suc i) x h is = slice_get_read ys i x (omega arith) is
+
+-- past its end a list has nothing
+pub slice_get_past : {A : Type 0} (xs : List A) (i : ℕ) → length xs ≤ i → slice_get xs i ≡ None
+slice_get_past [] i h = refl
+slice_get_past (y ∷ ys) zero h = absurd (omega arith)
+slice_get_past (y ∷ ys) (suc i) h = slice_get_past ys i (omega arith)
+
+-- a reader of a world is what is kept of it
+pub slice_get-map : {A B : Type 0} (f : A → B) (xs : List A) (i : ℕ) (x : A) → slice_get xs i ≡ Some x → slice_get (map f xs) i ≡ Some (f x)
+slice_get-map f [] i x is = absurd (cc)
+slice_get-map {A} {B} f (y ∷ ys) zero x is = ap (λ (z : B). Some z) (ap f (same_value y x is))
+  where
+    same_value : (y x : A) → ◌≡◌ {A = Option A} (Some y) (Some x) → y ≡ x
+    same_value y x is = cc
+slice_get-map f (y ∷ ys) (suc i) x is = slice_get-map f ys i x is
+
+-- an event that isn't enabled changes nothing
+pub safe_refused : (w : State) (e : Event) (why : NotEnabled) → IsWhole w → does w e ≡ None → SafeStep w e (Err why) w
+safe_refused w e why whole none = record {
+  stored = None;
+  step = record { not_enabled = none; stored_is = refl; same = refl };
+  safe = IsSafe-whole w whole;
+  spares = nothing_stored w;
+}
+
+-- an event that is enabled does what it does, safely
+pub safe_done : (w : State) (e : Event) (o : Outcome) → IsWhole w → does w e ≡ Some o → SafeStep w e (Ok o.answer) o.state
+safe_done w e o whole is =
+    let keeps = does-keeps w e o whole is in
+    record { stored = o.stored; step = inl is; safe = IsSafe-whole o.state keeps.whole; spares = keeps.spares }
+
+-- what is kept stays right where the log and the command in hand stay and one reader's place is written
+pub consistent_reader : (w : State) (hand : Option Command) (steps : ℕ) (places : List Place) (u : Summary) (room : Room) (e : Event) (words : List ℕ) (readers : List Reader) (answer : StepReply) (stored : Option ℕ) (r : ℕ) (p : Place)
+    → IsConsistent w hand steps places u room → does w e ≡ Some record { state = record w { words = words; readers = readers }; answer = answer; stored = stored }
+    → IsPlace w.base w.keeper.log p → IsConsistent record w { words = words; readers = readers } hand steps (set places r p) u room
+consistent_reader w hand steps places u room e words readers answer stored r p consistent is place =
+    let keeps = does-keeps w e _ consistent.whole is in
+    record {
+      whole = keeps.whole;
+      steps = consistent.steps;
+      place = λ q z there.
+          elim (slice_get-set places r p q z there) [
+            | inl here ↦ subst (λ (y : Place). IsPlace w.base w.keeper.log y) here.1 place
+            | inr other ↦ consistent.place q z other.1
+          ];
+      summary = consistent.summary;
+      roomy = record { log = consistent.roomy.log; scanned = consistent.roomy.scanned; free = consistent.roomy.free; retired = consistent.roomy.retired };
+    }
+
+-- a reader's word is one of the words
+pub reader_word : (w : State) (hand : Option Command) (steps : ℕ) (places : List Place) (u : Summary) (room : Room) → IsConsistent w hand steps places u room → (r : ℕ) → r < length w.readers → 1 + r < length w.words
+unfolding word_count
+reader_word w hand steps places u room consistent r h =
+    let sized = consistent.whole.keeper.sized in
+    let count = consistent.whole.readers in
+    omega arith
+
+-- what is kept of a reader after it has seen the whole log
+pub place_whole : (w : State) (hand : Option Command) (steps : ℕ) (places : List Place) (u : Summary) (room : Room) → IsConsistent w hand steps places u room → (p : Place) → p.seen ≡ length w.keeper.log → p.version ≡ u.newest
+    → u.newest < 2 ^ 32 → IsPlace w.base w.keeper.log p
+place_whole w hand steps places u room consistent p seen version small = record {
+  within = omega arith;
+  version_is = version ∙ (consistent.summary.newest_is ∙ ap (λ (l : List Entry). newest (story w.base l)) (sym (take_all p.seen w.keeper.log (omega arith))));
+  small = omega arith;
+}
+
+-- there is a word NOW
+pub now_word_there : (w : State) (hand : Option Command) (steps : ℕ) (places : List Place) (u : Summary) (room : Room) → IsConsistent w hand steps places u room → 0 < length w.words
+unfolding word_count
+now_word_there w hand steps places u room consistent = let sized = consistent.whole.keeper.sized in omega arith
+
+-- the place of a word of a directory
+pub map_place_is : (w : State) → IsWhole w → (v p tiles_here : ℕ) → tiles_here ≡ tiles w.base → p < tiles w.base
+    → (1 + w.base.setting.sessions + (v % w.base.setting.versions * tiles_here + p) ≡ map_at w.base (slot_of w.base (story_of w) v) p)
+    × (1 + w.base.setting.sessions + (v % w.base.setting.versions * tiles_here + p) < length w.words)
+unfolding map_at slot_of
+map_place_is w whole v p tiles_here same inside =
+    let is = ap (λ (t : ℕ). 1 + w.base.setting.sessions + (v % w.base.setting.versions * t + p)) same in
+    let within = map-within w.base (slot_of w.base (story_of w) v) p (slot-within w.base (story_of w) v whole.ready.versions) inside in
+    let sized = whole.keeper.sized in
+    (is, omega arith)
+
+-- a world read through another name of it
+pub inside_of : (w v : State) (p : ℕ) → w ≡ v → p < tiles v.base → p < tiles w.base
+inside_of w v p same h = subst (λ (x : State). p < tiles x.base) (sym same) h

@@ -1,0 +1,7 @@
+-- The blocks that stay are those that a version from the floor on maps.
+use Rattle.std.proofs.Common.{rules}
+use Rattle.std.proofs.lemmas.Fn.{filter_same}
+use Rattle.map_core.proofs.blocks.give_back_retired.Goals as goal
+
+pub returns-clause-retired : goal.returns-clause-retired
+returns-clause-retired c = filter_same _ _ _ (λ x b q called. search rules) _ _ c.retain.ensures.filtered

@@ -1,0 +1,52 @@
+-- The last step of a collect.
+use Rattle.std.proofs.Common.{◌≡◌, ◌+◌, ◌-◌, arith, refl, length}
+use Rattle.map_core.proofs.CollectWorld.{summary_collect, freed_collect, reply_collect, now_collect, room_retired, floor_risen, stay_few}
+use Rattle.map_core.proofs.CommitWorld.{last_known, last_does, consistent_commit, log_few, now_within}
+use Rattle.map_core.proofs.StepLemmas.{tidy_of}
+use Rattle.map_core.proofs.WorldLemmas.{safe_done}
+use Rattle.map_core.proofs.world.World.collect.Goals as goal
+
+pub give_back_retired-requires : goal.give_back_retired-requires
+give_back_retired-requires c = (room_retired _ _ _ _ _ _ c.self.invariant).0
+
+pub overflow_sub-freed : goal.overflow_sub-freed
+overflow_sub-freed c =
+    omega (arith, c.len.ensures, c.len-before.ensures, c.self.inside.retired.ok, c.give_back_retired.new.retired.ok, stay_few c.max-floor.result c.self.inside.retired.items c.give_back_retired.new.retired.items c.give_back_retired.ensures.retired)
+
+pub overflow_cast-freed : goal.overflow_cast-freed
+overflow_cast-freed c = omega (arith, c.len-before.ensures, c.self.inside.retired.ok, (room_retired _ _ _ _ _ _ c.self.invariant).1)
+
+pub overflow_cast-place : goal.overflow_cast-place
+overflow_cast-place c = omega (arith, log_few _ _ _ _ _ _ c.self.invariant, c.len-2.ensures, c.self.inside.log.ok)
+
+pub overflow_add-place : goal.overflow_add-place
+overflow_add-place c = omega (arith, log_few _ _ _ _ _ _ c.self.invariant, c.len-2.ensures, c.self.inside.log.ok)
+
+pub index_mut-requires : goal.index_mut-requires
+index_mut-requires c = omega (arith, now_within _ _ _ _ _ _ c.self.invariant, c.self.inside.words.ok)
+
+pub invariant_of-self : goal.invariant_of-self
+invariant_of-self c =
+    let known = last_known c.args.self.now _ _ c.self.inside.hand _ _ c.self.view_is refl c.requires in
+    let place : c.len-2.result + 1 ≡ length c.self.inside.log.items + 1 = omega (arith, c.len-2.ensures, c.self.inside.log.ok) in
+    let risen = floor_risen _ _ _ _ _ _ c.self.invariant c.self.inside.scanned.items _ c.max-floor.result (rw (← c.as_slice.ensures.value) c.least_announced-least.ensures) c.max-floor.ensures in
+    let tidy = tidy_of _ c.self.invariant.whole in
+    let count : c.len-before.result - c.len.result ≡ length c.self.inside.retired.items - length c.give_back_retired.new.retired.items = omega (arith, c.len.ensures, c.len-before.ensures, c.self.inside.retired.ok, c.give_back_retired.new.retired.ok) in
+    let freed = freed_collect _ _ _ _ _ _ _ tidy c.self.invariant.summary risen.low risen.high c.give_back_retired.ensures.retired count in
+    let does = last_does _ _ _ _ _ _ _ _ _ _ _ _ _ c.now_word.result c.self.invariant known (reply_collect _ _ _ _ _ _ place risen.floor_is freed) (now_collect _ _ _ _ _ _ place c.self.invariant.summary.newest_is c.now_word.ensures) in
+    rw (c.push_reserved.ensures.items)
+    (consistent_commit _ _ _ _ _ _ c.self.inside.done _ _ _ c.self.inside.scanned.items _ _ _ _ _ _ _ _ c.self.invariant does
+    (summary_collect _ _ _ _ _ _ _ _ _ tidy c.self.invariant.summary risen.high c.give_back_retired.ensures.retired c.give_back_retired.ensures.free)
+    (omega arith) (omega (arith, c.give_back_retired.ensures.free_capacity)) (omega (arith, c.give_back_retired.ensures.retired_capacity)))
+
+pub returns : goal.returns
+returns c =
+    let known = last_known c.args.self.now _ _ c.self.inside.hand _ _ c.self.view_is refl c.requires in
+    let place : c.len-2.result + 1 ≡ length c.self.inside.log.items + 1 = omega (arith, c.len-2.ensures, c.self.inside.log.ok) in
+    let risen = floor_risen _ _ _ _ _ _ c.self.invariant c.self.inside.scanned.items _ c.max-floor.result (rw (← c.as_slice.ensures.value) c.least_announced-least.ensures) c.max-floor.ensures in
+    let tidy = tidy_of _ c.self.invariant.whole in
+    let count : c.len-before.result - c.len.result ≡ length c.self.inside.retired.items - length c.give_back_retired.new.retired.items = omega (arith, c.len.ensures, c.len-before.ensures, c.self.inside.retired.ok, c.give_back_retired.new.retired.ok) in
+    let freed = freed_collect _ _ _ _ _ _ _ tidy c.self.invariant.summary risen.low risen.high c.give_back_retired.ensures.retired count in
+    rw (← c.self.view_is, c.push_reserved.ensures.items)
+    (safe_done _ _ _ c.self.invariant.whole
+    (last_does _ _ _ _ _ _ _ _ _ _ _ _ _ c.now_word.result c.self.invariant known (reply_collect _ _ _ _ _ _ place risen.floor_is freed) (now_collect _ _ _ _ _ _ place c.self.invariant.summary.newest_is c.now_word.ensures)))

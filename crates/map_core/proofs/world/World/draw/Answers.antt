@@ -1,0 +1,78 @@
+-- The step of a paint or a stamp.
+use Rattle.std.proofs.Common.{◌≡◌, ◌+◌, arith, refl, ap, subst, sym, ◌∙◌, length}
+use Rattle.bits.specs.Cells.{Cells, IsBitmap}
+use Rattle.map_core.proofs.CommitWorld.{last_does, consistent_commit, log_few, now_within}
+use Rattle.map_core.proofs.DrawWorld.{drawing_known, hand_inside, reply_draw, now_draw, count_draw, summary_draw, written_back}
+use Rattle.map_core.proofs.JudgeLemmas.{draft_of_map, same_width, same_height, drawn_of_map, own_long}
+use Rattle.map_core.proofs.StepLemmas.{tidy_of}
+use Rattle.map_core.proofs.TidyDraft.{tile_count-of_map}
+use Rattle.map_core.proofs.WorldLemmas.{safe_done}
+use Rattle.map_core.proofs.world.World.draw.Goals as goal
+
+pub copy_from-requires-clause-width : goal.copy_from-requires-clause-width
+copy_from-requires-clause-width c = same_width _ _ _ _ _ _ c.self.invariant
+
+pub copy_from-requires-clause-height : goal.copy_from-requires-clause-height
+copy_from-requires-clause-height c = same_height _ _ _ _ _ _ c.self.invariant
+
+pub draw-changed-requires-clause-inside : goal.draw-changed-requires-clause-inside
+draw-changed-requires-clause-inside c =
+    hand_inside _ _ _ _ _ _ c.self.invariant c.in-Some.command c.self.inside.done c.self.inside.scanned.items _ refl (sym c.take.ensures.value ∙ c.in-Some.is) c.copy_from.ensures
+
+pub draw-changed-requires-clause-bitmap : goal.draw-changed-requires-clause-bitmap
+draw-changed-requires-clause-bitmap c = subst (λ (b : Cells). IsBitmap b) (sym c.copy_from.ensures) (draft_of_map _ _ _ _ _ _ c.self.invariant).bitmap
+
+pub take_blocks-requires-clause-new : goal.take_blocks-requires-clause-new
+take_blocks-requires-clause-new c =
+    tile_count-of_map _ _ (drawn_of_map _ _ _ _ _ _ c.self.invariant _ _ c.in-Some.command c.copy_from.ensures c.draw-changed.ensures.drawn)
+    ∙ sym (tile_count-of_map _ _ (draft_of_map _ _ _ _ _ _ c.self.invariant))
+
+pub take_blocks-requires-clause-own : goal.take_blocks-requires-clause-own
+take_blocks-requires-clause-own c = ap length c.as_mut_slice.ensures.value ∙ own_long _ _ _ _ _ _ c.self.invariant
+
+pub copy_from-requires-2-clause-width : goal.copy_from-requires-2-clause-width
+copy_from-requires-2-clause-width c =
+    (draft_of_map _ _ _ _ _ _ c.self.invariant).width_is ∙ sym (drawn_of_map _ _ _ _ _ _ c.self.invariant _ _ c.in-Some.command c.copy_from.ensures c.draw-changed.ensures.drawn).width_is
+
+pub copy_from-requires-2-clause-height : goal.copy_from-requires-2-clause-height
+copy_from-requires-2-clause-height c =
+    (draft_of_map _ _ _ _ _ _ c.self.invariant).height_is ∙ sym (drawn_of_map _ _ _ _ _ _ c.self.invariant _ _ c.in-Some.command c.copy_from.ensures c.draw-changed.ensures.drawn).height_is
+
+pub overflow_cast-place : goal.overflow_cast-place
+overflow_cast-place c = omega (arith, log_few _ _ _ _ _ _ c.self.invariant, c.len.ensures, c.self.inside.log.ok)
+
+pub overflow_add-place : goal.overflow_add-place
+overflow_add-place c = omega (arith, log_few _ _ _ _ _ _ c.self.invariant, c.len.ensures, c.self.inside.log.ok)
+
+pub index_mut-requires : goal.index_mut-requires
+index_mut-requires c = omega (arith, now_within _ _ _ _ _ _ c.self.invariant, c.self.inside.words.ok)
+
+pub invariant_of-self : goal.invariant_of-self
+invariant_of-self c =
+    let known = drawing_known c.args.self.now _ _ _ _ _ c.self.view_is refl c.requires (sym c.take.ensures.value ∙ c.in-Some.is) in
+    let place : c.len.result + 1 ≡ length c.self.inside.log.items + 1 = omega (arith, c.len.ensures, c.self.inside.log.ok) in
+    let size : length c.take_blocks.new.own ≡ length c.self.inside.own.items = omega (arith, ap length c.as_mut_slice.ensures.value) in
+    let does = last_does _ _ _ _ _ _ _ _ _ _ _ _ _ c.now_word.result c.self.invariant known.last
+    (reply_draw _ _ _ _ _ _ known.draws place (count_draw _ _ _ _ _ _ c.self.invariant _ _ _ c.copy_from.ensures c.draw-changed.ensures.changed))
+    (now_draw _ _ _ _ _ _ _ known.draws place c.self.invariant.summary.newest_is c.now_word.ensures) in
+    rw (c.push_reserved.ensures.items, c.take.ensures.after)
+    (consistent_commit _ _ _ _ _ _ c.self.inside.done _ _ _ c.self.inside.scanned.items _ _ _ _ _ _ _ _ c.self.invariant does
+    (summary_draw _ _ _ _ _ _ _ _ _ _ c.self.invariant.summary (tidy_of _ c.self.invariant.whole).shape.changed known.draws
+    (drawn_of_map _ _ _ _ _ _ c.self.invariant _ _ c.in-Some.command c.copy_from.ensures c.draw-changed.ensures.drawn)
+    record {
+      draft_is = c.copy_from-2.ensures;
+      scratch_is = rw (← c.copy_from.ensures) c.draw-changed.ensures.drawn;
+      own_is = written_back _ _ _ _ (omega (arith, c.self.inside.own.ok)) size ∙ rw (← c.as_mut_slice.ensures.value) c.take_blocks.ensures.own;
+      free_is = rw (← c.as_mut_slice.ensures.value) c.take_blocks.ensures.free;
+    })
+    (omega arith) (omega (arith, c.take_blocks.ensures.capacity)) (omega arith))
+
+pub returns : goal.returns
+returns c =
+    let known = drawing_known c.args.self.now _ _ _ _ _ c.self.view_is refl c.requires (sym c.take.ensures.value ∙ c.in-Some.is) in
+    let place : c.len.result + 1 ≡ length c.self.inside.log.items + 1 = omega (arith, c.len.ensures, c.self.inside.log.ok) in
+    rw (← c.self.view_is, c.push_reserved.ensures.items, c.take.ensures.after)
+    (safe_done _ _ _ c.self.invariant.whole
+    (last_does _ _ _ _ _ _ _ _ _ _ _ _ _ c.now_word.result c.self.invariant known.last
+    (reply_draw _ _ _ _ _ _ known.draws place (count_draw _ _ _ _ _ _ c.self.invariant _ _ _ c.copy_from.ensures c.draw-changed.ensures.changed))
+    (now_draw _ _ _ _ _ _ _ known.draws place c.self.invariant.summary.newest_is c.now_word.ensures)))

@@ -1,0 +1,94 @@
+//! A world: its words, its keeper and its readers.
+
+ghost use Rattle.map_core.specs.Runs.{SafeStep};
+
+mod commit;
+mod keep;
+mod open;
+#[cfg(test)]
+mod open_tests;
+mod order;
+mod places;
+mod reads;
+
+use crate::blocks::Retired;
+use crate::command::{Command, Entry};
+use crate::event::{Event, NotEnabled, StepReply};
+use crate::reader::Place;
+use crate::setting::Setting;
+use bits::Bitmap;
+use std::alloc::Global;
+use std::collections::VecDeque;
+use std::marker::Model;
+
+/// A world. Contracts see it as what it was opened with, its words, its keeper and its readers.
+#[derive(Drop)]
+pub struct World {
+    // What it was opened with.
+    setting: Setting,
+    opening: Bitmap,
+    // NOW, a word for each reader, the slots' directories, the blocks' rows.
+    words: Vec<u64>,
+    log: Vec<Entry>,
+    // The command in hand: how many of its steps are done, how many come before its last, and the words that its scan has seen.
+    hand: Option<Command>,
+    done: u32,
+    steps: u32,
+    scanned: Vec<u64>,
+    readers: Vec<Place>,
+    // What the log says: the newest version, the least that is kept, the draft, and the newest version's bitmap.
+    newest: u32,
+    floor: u32,
+    draft: Bitmap,
+    published: Bitmap,
+    // Room to draw on before a command is accepted, and while it is done.
+    scratch: Bitmap,
+    // For each position, with which version newest's block came, and the draft's own block.
+    came: Vec<u32>,
+    own: Vec<Option<u32>>,
+    // The free blocks, the next one first, and those that newest no longer maps.
+    free: VecDeque<u32>,
+    retired: Vec<Retired>,
+}
+
+impl Model for World {
+    ghost use Rattle.map_core.specs.Views.{State};
+
+    ghost Value = { State };
+
+    ghost use Rattle.map_core.specs.Kept.{state_of, IsConsistent};
+    ghost use Rattle.std.specs.Vec.{vec_capacity};
+    ghost use Rattle.std.specs.VecDeque.{deque_capacity};
+
+    ghost view = { λ a. state_of a.setting a.opening a.words.items a.log.items a.hand a.done a.scanned.items a.readers.items };
+
+    ghost invariant = { λ a. IsConsistent (state_of a.setting a.opening a.words.items a.log.items a.hand a.done a.scanned.items a.readers.items) a.hand a.steps a.readers.items record { newest = a.newest; floor = a.floor; draft = a.draft; scratch = a.scratch; published = a.published; came = a.came.items; own = a.own.items; free = a.free.items; retired = a.retired.items } record { log = vec_capacity a.log; scanned = vec_capacity a.scanned; free = deque_capacity a.free; retired = vec_capacity a.retired } };
+}
+
+impl World {
+    /// Does an event and answers it, or answers that it isn't enabled and changes nothing.
+    ///
+    /// An order is refused, in this order, for its area (`OutOfRange`), for want of room in the log (`LogFull`), of blocks (`BlocksFull`, a
+    /// paint or a stamp) or of a slot (`VersionsFull`, a publish), and of memory. No other event asks for memory. That memory is found
+    /// where there is some isn't promised.
+    pub fn step(&mut self, alloc: Global, event: Event) -> Result<StepReply, NotEnabled>
+        ensures { SafeStep self.old event result self.new }
+    {
+        self.do_event(alloc, &event)
+    }
+
+    /// Does an event and answers it. Only a command that is accepted is copied.
+    pub(crate) fn do_event(&mut self, alloc: Global, event: &Event) -> Result<StepReply, NotEnabled>
+        ensures { SafeStep self.old event.now result self.new }
+    {
+        match event {
+            Event::Announce { reader } => self.announce(*reader),
+            Event::Load { reader } => self.load(*reader),
+            Event::LookMap { reader, position } => self.look_map(*reader, *position),
+            Event::LookTile { reader, block, row } => self.look_tile(*reader, *block, *row),
+            Event::Leave { reader } => self.leave(*reader),
+            Event::Order { command } => self.order(alloc, command),
+            Event::Keep => self.keep(),
+        }
+    }
+}

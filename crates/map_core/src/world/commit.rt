@@ -1,0 +1,132 @@
+//! The last steps of commands: each stores NOW, and appends its entry to the log.
+
+ghost use Rattle.std.specs.Prelude.{◌≡◌, fold, Ok};
+ghost use Rattle.map_core.specs.Words.{now_word};
+ghost use Rattle.map_core.specs.Steps.{lowered};
+ghost use Rattle.map_core.specs.Runs.{SafeStep};
+ghost use Rattle.map_core.specs.declared.event.Event.TheVariants.{Keep};
+ghost use Rattle.map_core.specs.declared.command.Command.TheVariants.{Publish, Revert, Collect};
+ghost use Rattle.map_core.specs.Kept.{IsLastOf, IsDrawing};
+
+use crate::blocks::{give_back_own, give_back_retired, publish_own, take_blocks};
+use crate::command::{Command, Entry, Reply};
+use crate::event::StepReply;
+use crate::world::World;
+
+/// The word NOW, where the log has this many entries and this is the newest version.
+fn now_word(places: u32, newest: u32) -> u64
+    ensures { result ≡ now_word places newest }
+{
+    u64::from(places) * (1 << 32) + u64::from(newest)
+}
+
+/// The least of a version and of those that some readers' words announce.
+fn least_announced(newest: u32, words: &[u64]) -> u32
+    ensures { result ≡ fold lowered newest words.now }
+{
+    let mut least = u64::from(newest);
+    for word in words {
+        if 0 < *word && *word - 1 < least {
+            least = *word - 1;
+        }
+    }
+    least as u32
+}
+
+impl World {
+    /// The step of a paint or a stamp: it draws on the draft, and each tile that changes takes a block, where it has none.
+    pub(super) fn draw(&mut self) -> StepReply
+        requires { IsDrawing self.old }
+        ensures { SafeStep self.old Keep (Ok result) self.new }
+    {
+        let Some(command) = self.hand.take() else {
+            unreachable!()
+        };
+        self.scratch.copy_from(&self.draft);
+        let changed = command.draw(&mut self.scratch);
+        take_blocks(
+            &self.draft,
+            &self.scratch,
+            self.own.as_mut_slice(),
+            &mut self.free,
+        );
+        self.draft.copy_from(&self.scratch);
+        let place = self.log.len() as u32 + 1;
+        let reply = Reply::Painted { place, changed };
+        self.log.push_reserved(Entry { command, reply });
+        self.words[0] = now_word(place, self.newest);
+        StepReply::Committed { reply }
+    }
+
+    /// The last step of a publish: the draft is the newest version then, and its own blocks are that version's.
+    pub(super) fn publish(&mut self) -> StepReply
+        requires { IsLastOf self.old Publish }
+        ensures { SafeStep self.old Keep (Ok result) self.new }
+    {
+        let first = self.map_place(self.newest, 0);
+        let tiles = usize::from(self.opening.tiles());
+        publish_own(
+            self.newest,
+            &self.words[first..first + tiles],
+            self.own.as_mut_slice(),
+            self.came.as_mut_slice(),
+            &mut self.retired,
+        );
+        self.published.copy_from(&self.draft);
+        let version = self.newest + 1;
+        let place = self.log.len() as u32 + 1;
+        let reply = Reply::Published { place, version };
+        self.log.push_reserved(Entry {
+            command: Command::Publish,
+            reply,
+        });
+        self.words[0] = now_word(place, version);
+        self.newest = version;
+        self.hand = None;
+        StepReply::Committed { reply }
+    }
+
+    /// The last step of a revert: the draft is the newest version again, and its own blocks are given back.
+    pub(super) fn revert(&mut self) -> StepReply
+        requires { IsLastOf self.old Revert }
+        ensures { SafeStep self.old Keep (Ok result) self.new }
+    {
+        self.draft.copy_from(&self.published);
+        give_back_own(self.own.as_mut_slice(), &mut self.free);
+        let place = self.log.len() as u32 + 1;
+        let reply = Reply::Reverted { place };
+        self.log.push_reserved(Entry {
+            command: Command::Revert,
+            reply,
+        });
+        self.words[0] = now_word(place, self.newest);
+        self.hand = None;
+        StepReply::Committed { reply }
+    }
+
+    /// The last step of a collect: the floor rises, and the blocks that no kept version maps are given back.
+    pub(super) fn collect(&mut self) -> StepReply
+        requires { IsLastOf self.old Collect }
+        ensures { SafeStep self.old Keep (Ok result) self.new }
+    {
+        let least = least_announced(self.newest, self.scanned.as_slice());
+        let floor = self.floor.max(least);
+        let before = self.retired.len();
+        give_back_retired(floor, &mut self.retired, &mut self.free);
+        let freed = (before - self.retired.len()) as u32;
+        let place = self.log.len() as u32 + 1;
+        let reply = Reply::Collected {
+            place,
+            floor,
+            freed,
+        };
+        self.log.push_reserved(Entry {
+            command: Command::Collect,
+            reply,
+        });
+        self.words[0] = now_word(place, self.newest);
+        self.floor = floor;
+        self.hand = None;
+        StepReply::Committed { reply }
+    }
+}

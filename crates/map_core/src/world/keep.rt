@@ -1,0 +1,107 @@
+//! The steps of a command in hand.
+
+ghost use Rattle.std.specs.Prelude.{◌≡◌, ◌<◌, length, Ok};
+ghost use Rattle.map_core.specs.Words.{tiles};
+ghost use Rattle.map_core.specs.Views.{story_of, blocks_of_state};
+ghost use Rattle.map_core.specs.Steps.{steps_before, tile_steps, tile_write, map_write, write_of};
+ghost use Rattle.map_core.specs.Runs.{SafeStep};
+ghost use Rattle.map_core.specs.declared.event.Event.TheVariants.{Keep};
+ghost use Rattle.map_core.specs.declared.command.Command.TheVariants.{Publish, Collect};
+ghost use Rattle.map_core.specs.Kept.{IsStepOf};
+
+use crate::command::Command;
+use crate::event::{NotEnabled, StepReply};
+use crate::tiles::{count_own, nth_own};
+use crate::world::World;
+
+impl World {
+    /// A step of a collect: the next reader's word is loaded.
+    pub(super) fn scan(&mut self) -> StepReply
+        requires { IsStepOf self.old Collect }
+        ensures { SafeStep self.old Keep (Ok result) self.new }
+    {
+        let reader = self.done;
+        let word = self.words[1 + reader as usize];
+        self.scanned.push_reserved(word);
+        self.done += 1;
+        StepReply::Scanned { reader, word }
+    }
+
+    /// Where a word of the next version's directory goes, and the word.
+    fn map_word(&self, position: u32) -> (usize, u64)
+        requires { position < tiles self.now.base }
+        ensures place { result.0 ≡ (map_write self.now.base (story_of self.now) (blocks_of_state self.now) position).at }
+        ensures word { result.1 ≡ (map_write self.now.base (story_of self.now) (blocks_of_state self.now) position).word }
+        ensures within { result.0 < length self.now.words }
+    {
+        let place = self.map_place(self.newest + 1, position);
+        let word = match self.own[position as usize] {
+            Some(block) => u64::from(block),
+            None => self.words[self.map_place(self.newest, position)],
+        };
+        (place, word)
+    }
+
+    /// Where a word of the draft's own blocks goes, and the word.
+    fn tile_word(&self, number: usize) -> (usize, u64)
+        requires { number < tile_steps (blocks_of_state self.now) }
+        ensures place { result.0 ≡ (tile_write self.now.base (story_of self.now) (blocks_of_state self.now) number).at }
+        ensures word { result.1 ≡ (tile_write self.now.base (story_of self.now) (blocks_of_state self.now) number).word }
+        ensures within { result.0 < length self.now.words }
+    {
+        let Some((position, block)) = nth_own(self.own.as_slice(), number / 64) else {
+            return (0, 0);
+        };
+        let place = self.tile_place(block, (number % 64) as u32);
+        (
+            place,
+            self.draft.tile_row(position as u16, (number % 64) as u16),
+        )
+    }
+
+    /// Where the next word of a publish goes, and the word: first the rows of the draft's own blocks, then the directory.
+    fn next_word(&self, number: usize) -> (usize, u64)
+        requires { number < steps_before self.now.base (blocks_of_state self.now) Publish }
+        ensures place { result.0 ≡ (write_of self.now.base (story_of self.now) (blocks_of_state self.now) number).at }
+        ensures word { result.1 ≡ (write_of self.now.base (story_of self.now) (blocks_of_state self.now) number).word }
+        ensures within { result.0 < length self.now.words }
+    {
+        let rows = 64 * count_own(self.own.as_slice());
+        if number < rows {
+            self.tile_word(number)
+        } else {
+            self.map_word((number - rows) as u32)
+        }
+    }
+
+    /// A step of a publish: the next word is stored.
+    pub(super) fn write(&mut self) -> StepReply
+        requires { IsStepOf self.old Publish }
+        ensures { SafeStep self.old Keep (Ok result) self.new }
+    {
+        let (place, word) = self.next_word(self.done as usize);
+        self.words[place] = word;
+        self.done += 1;
+        StepReply::Written
+    }
+
+    /// The keeper does the next step of the command in hand, if there is one.
+    pub(super) fn keep(&mut self) -> Result<StepReply, NotEnabled>
+        ensures { SafeStep self.old Keep result self.new }
+    {
+        let has_more = self.done < self.steps;
+        let Some(command) = &self.hand else {
+            return Err(NotEnabled);
+        };
+        let answer = match command {
+            Command::Paint { .. } => self.draw(),
+            Command::Stamp { .. } => self.draw(),
+            Command::Publish if has_more => self.write(),
+            Command::Publish => self.publish(),
+            Command::Revert => self.revert(),
+            Command::Collect if has_more => self.scan(),
+            Command::Collect => self.collect(),
+        };
+        Ok(answer)
+    }
+}
