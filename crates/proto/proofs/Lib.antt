@@ -1,2 +1,5 @@
+pub mod Alone
+pub mod Numbering
 pub mod Pointing
 pub mod Splitting
+pub mod Writing

@@ -12,51 +12,69 @@ use Rattle.proto.specs.Words.{words, IsWord}
 abbrev is_blank : ℕ → Bool
 is_blank byte = eqb byte 32
 
+-- a byte is the one at which bytes are split
+abbrev is_at : ℕ → ℕ → Bool
+is_at separator byte = eqb byte separator
+
 -- which side of a test was taken
 chosen : {A : Type 0} (b : Bool) (x y z : A) → cond b x y ≡ z → ((b ≡ true) × (x ≡ z)) ⊎ ((b ≡ false) × (y ≡ z))
 chosen true x y z e = inl (refl, e)
 chosen false x y z e = inr (refl, e)
 
--- one byte more before bytes without a blank
-whole-more : (byte : ℕ) (bytes : List ℕ) (b : Bool) → (length bytes ≤ position_or_len is_blank bytes → slice_split is_blank bytes ≡ bytes ∷ []) → length bytes + 1 ≤ cond (not b) (1 + position_or_len is_blank bytes) 0 → cond b ([] ∷ slice_split is_blank bytes) (onto_first byte (slice_split is_blank bytes)) ≡ (byte ∷ bytes) ∷ []
-whole-more byte bytes true rest few = absurd (omega arith)
-whole-more byte bytes false rest few = rw (rest (omega arith)) refl
+-- one byte more before bytes that aren't split
+whole-more : (separator byte : ℕ) (bytes : List ℕ) (b : Bool) → (length bytes ≤ position_or_len (is_at separator) bytes → slice_split (is_at separator) bytes ≡ bytes ∷ [])
+    → length bytes + 1 ≤ cond (not b) (1 + position_or_len (is_at separator) bytes) 0 → cond b ([] ∷ slice_split (is_at separator) bytes) (onto_first byte (slice_split (is_at separator) bytes)) ≡ (byte ∷ bytes) ∷ []
+whole-more separator byte bytes true rest few = absurd (omega arith)
+whole-more separator byte bytes false rest few = rw (rest (omega arith)) refl
 
--- without a blank in it, a line is one word
-whole : (bytes : List ℕ) → length bytes ≤ position_or_len is_blank bytes → slice_split is_blank bytes ≡ bytes ∷ []
-whole [] few = refl
-whole (byte ∷ bytes) few = whole-more byte bytes (is_blank byte) (whole bytes) (omega arith)
+-- bytes without a place to split are one part
+whole : (separator : ℕ) (bytes : List ℕ) → length bytes ≤ position_or_len (is_at separator) bytes → slice_split (is_at separator) bytes ≡ bytes ∷ []
+whole separator [] few = refl
+whole separator (byte ∷ bytes) few = whole-more separator byte bytes (is_at separator byte) (whole separator bytes) (omega arith)
+
+-- where a place to split is found, the first part ends there
+pub parts-first : (separator : ℕ) (bytes : List ℕ) (end : ℕ) → position (λ byte. eqb byte separator) bytes ≡ Some end
+    → slice_split (λ byte. eqb byte separator) bytes ≡ take end bytes ∷ slice_split (λ byte. eqb byte separator) (take (length bytes - (end + 1)) (drop (end + 1) bytes))
+parts-first separator bytes end e =
+    elim (chosen (ltb (position_or_len (is_at separator) bytes) (length bytes)) (Some (position_or_len (is_at separator) bytes)) None (Some end) e) [
+      | inl found ↦
+          let at : position_or_len (is_at separator) bytes ≡ end = let same = found.1 in cc in
+          rw (take_rest bytes (end + 1), ← at) (slice_split_first (is_at separator) bytes 0 (ltb-true _ _ found.0))
+      | inr none ↦ absurd (let no = none.1 in cc)
+    ]
+
+-- where none is found, all of it is one part
+pub parts-one : (separator : ℕ) (bytes : List ℕ) → position (λ byte. eqb byte separator) bytes ≡ None → slice_split (λ byte. eqb byte separator) bytes ≡ bytes ∷ []
+parts-one separator bytes e =
+    elim (chosen (ltb (position_or_len (is_at separator) bytes) (length bytes)) (Some (position_or_len (is_at separator) bytes)) None None e) [
+      | inl found ↦ absurd (let no = found.1 in cc)
+      | inr none ↦ whole separator bytes (ltb-false _ _ none.0)
+    ]
+
+-- there is a part
+pub parts-some : (separator : ℕ) (bytes : List ℕ) → (part : List ℕ) × (others : List (List ℕ)) × (slice_split (λ byte. eqb byte separator) bytes ≡ part ∷ others)
+parts-some separator [] = ([], [], refl)
+parts-some separator (byte ∷ bytes) = some (is_at separator byte) byte (slice_split (is_at separator) bytes)
+  where
+    some : (b : Bool) (byte : ℕ) (parts : List (List ℕ)) → (part : List ℕ) × (others : List (List ℕ)) × (cond b ([] ∷ parts) (onto_first byte parts) ≡ part ∷ others)
+    some true byte parts = ([], parts, refl)
+    some false byte [] = (byte ∷ [], [], refl)
+    some false byte (part ∷ parts) = (byte ∷ part, parts, refl)
 
 -- where a blank is found, the first word ends there
 pub words-blank : (bytes : List ℕ) (end : ℕ) → position is_blank bytes ≡ Some end → words bytes ≡ take end bytes ∷ words (take (length bytes - (end + 1)) (drop (end + 1) bytes))
 unfolding words
-words-blank bytes end e =
-    elim (chosen (ltb (position_or_len is_blank bytes) (length bytes)) (Some (position_or_len is_blank bytes)) None (Some end) e) [
-      | inl found ↦
-          let at : position_or_len is_blank bytes ≡ end = let same = found.1 in cc in
-          rw (take_rest bytes (end + 1), ← at) (slice_split_first is_blank bytes 0 (ltb-true _ _ found.0))
-      | inr none ↦ absurd (let no = none.1 in cc)
-    ]
+words-blank bytes end e = parts-first 32 bytes end e
 
 -- where none is found, all of it is one word
 pub words-one : (bytes : List ℕ) → position is_blank bytes ≡ None → words bytes ≡ bytes ∷ []
 unfolding words
-words-one bytes e =
-    elim (chosen (ltb (position_or_len is_blank bytes) (length bytes)) (Some (position_or_len is_blank bytes)) None None e) [
-      | inl found ↦ absurd (let no = found.1 in cc)
-      | inr none ↦ whole bytes (ltb-false _ _ none.0)
-    ]
+words-one bytes e = parts-one 32 bytes e
 
 -- a line has a word
 pub words-some : (bytes : List ℕ) → (word : List ℕ) × (others : List (List ℕ)) × (words bytes ≡ word ∷ others)
 unfolding words
-words-some [] = ([], [], refl)
-words-some (byte ∷ bytes) = some (is_blank byte) byte (slice_split is_blank bytes)
-  where
-    some : (b : Bool) (byte : ℕ) (parts : List (List ℕ)) → (word : List ℕ) × (others : List (List ℕ)) × (cond b ([] ∷ parts) (onto_first byte parts) ≡ word ∷ others)
-    some true byte parts = ([], parts, refl)
-    some false byte [] = (byte ∷ [], [], refl)
-    some false byte (part ∷ parts) = (byte ∷ part, parts, refl)
+words-some bytes = parts-some 32 bytes
 
 -- the words of a line, joined, are the line
 pub joined-words : (bytes : List ℕ) → join_with_byte 32 (words bytes) ≡ bytes

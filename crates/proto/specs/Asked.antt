@@ -1,5 +1,5 @@
 -- What a line asks: this project's own rule. The first word is the command; a line of no known command is refused as such, whatever else is in it.
-use Rattle.std.specs.Prelude.{ℕ, ◌==◌, ◌&&◌, ◌||◌, nat_lt, nat_le, List, [], ◌∷◌, length, Option, Some, None, Result, Ok, Err, bytes_eq, codes, option_and_then, option_map, if◌then◌else◌}
+use Rattle.std.specs.Prelude.{ℕ, ◌==◌, ◌||◌, nat_lt, List, [], ◌∷◌, length, Option, Some, None, Result, Ok, Err, bytes_eq, codes, option_and_then, option_map, if◌then◌else◌}
 use Rattle.metric.specs.Kind.{metric_named}
 use Rattle.metric.specs.declared.cell.Cell.{Cell}
 use Rattle.metric.specs.declared.kind.MetricKind.{MetricKind}
@@ -10,6 +10,7 @@ use Rattle.proto.specs.declared.line.Line.TheVariants as lines
 use Rattle.proto.specs.declared.query.Query.{Query}
 use Rattle.proto.specs.declared.query.Query.TheVariants as queries
 use Rattle.proto.specs.Numbers.{number, points, only, pair}
+use Rattle.proto.specs.Corners.{corners_of}
 use Rattle.proto.specs.Words.{words}
 
 -- a query: the distance of a cell, the least over a rectangle or a path, or whether a path is clear of d
@@ -47,10 +48,9 @@ abbrev pub or_bad : {A : Type 0} → Option A → Result A Refusal
 or_bad None = Err BadArguments
 or_bad (Some x) = Ok x
 
--- a rectangle by two corners, half open, neither of them over 4096, with a cell between them
+-- what is asked of a rectangle by two corners
 abbrev pub rect_of : MetricKind → Cell × Cell → Option Asked
-rect_of metric corners =
-    if (nat_lt corners.0.x corners.1.x && nat_lt corners.0.y corners.1.y) && (nat_le corners.1.x 4096 && nat_le corners.1.y 4096) then Some (rect metric corners.0.x corners.0.y corners.1.x corners.1.y) else None
+rect_of metric corners = option_map (λ c. rect metric c.x0 c.y0 c.x1 c.y1) (corners_of corners)
 
 -- a path has 1 to 1000 points
 abbrev pub path_of : Option (List Cell) → Result (List Cell) Refusal

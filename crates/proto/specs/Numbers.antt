@@ -9,6 +9,34 @@ unfoldable pub number : List ℕ → Option ℕ
 number word =
     if (nat_le 1 (length word) && nat_le (length word) 10) && (list_all is_digit word && nat_lt (value_from 0 word) 4294967296) then Some (value_from 0 word) else None
 
+-- a number before others, where all are numbers
+abbrev pub join_number : Option ℕ → Option (List ℕ) → Option (List ℕ)
+join_number first others = option_and_then (λ n. option_map (λ ns. n ∷ ns) others) first
+
+-- the numbers that words are; none where one of them is no number
+unfoldable pub numbers : List (List ℕ) → Option (List ℕ)
+numbers [] = Some []
+numbers (word ∷ others) = join_number (number word) (numbers others)
+
+-- no number stands first in these words
+abbrev pub HasNoNumber : List (List ℕ) → Type 0
+HasNoNumber words = (words ≡ []) ⊎ (numbers words ≡ None)
+
+-- the number, where there is just one
+abbrev pub only_number : Option (List ℕ) → Option ℕ
+only_number (Some (n ∷ [])) = Some n
+only_number other = None
+
+-- the two numbers, where there are just two
+abbrev pub number_pair : Option (List ℕ) → Option (ℕ × ℕ)
+number_pair (Some (first ∷ second ∷ [])) = Some (first, second)
+number_pair other = None
+
+-- the three numbers, where there are just three
+abbrev pub number_triple : Option (List ℕ) → Option (ℕ × ℕ × ℕ)
+number_triple (Some (first ∷ second ∷ third ∷ [])) = Some (first, second, third)
+number_triple other = None
+
 -- a coordinate; one over 65535 stands as 65535, which is outside of every map and every rectangle as well
 abbrev pub coordinate : ℕ → ℕ
 coordinate n = min n 65535

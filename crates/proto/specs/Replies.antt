@@ -1,9 +1,11 @@
--- The reply lines of queries: this project's own rule. Numbers are plain decimal, with one blank between two words; each line ends in LF.
+-- The reply lines of queries and commands: this project's own rule. Numbers are plain decimal, with one blank between two words; each line ends in LF.
 use Rattle.std.specs.Prelude.{ℕ, List, [], ◌∷◌, ◌++◌, codes, Some, None}
 use Rattle.std.specs.Fmt.{decimal}
 use Rattle.metric.specs.Refusal.{refusal_text}
 use Rattle.metric.specs.declared.cell.Cell.{Cell}
 use Rattle.metric.specs.declared.near.Near.{Near}
+use Rattle.map_core.specs.declared.command.Reply.{Reply}
+use Rattle.map_core.specs.declared.command.Reply.TheVariants.{Painted, Published, Reverted, Collected}
 use Rattle.proto.specs.declared.answer.Answer.{Answer}
 use Rattle.proto.specs.declared.answer.Answer.TheVariants as answers
 
@@ -19,7 +21,19 @@ near_text near = codes "OK " ++ (decimal near.dist ++ (32 ∷ cell_text near.cel
 abbrev pub found_text : Cell × Near → List ℕ
 found_text found = codes "OK " ++ (decimal found.1.dist ++ (32 ∷ (cell_text found.0 ++ (32 ∷ cell_text found.1.cell))))
 
--- the reply to a query, without its LF
+-- numbers behind `OK`, each behind a blank
+abbrev pub numbers_text : List ℕ → List ℕ
+numbers_text [] = []
+numbers_text (number ∷ numbers) = (32 ∷ decimal number) ++ numbers_text numbers
+
+-- the numbers of a reply to a command: its place, and what belongs to it
+abbrev pub numbers_of : Reply → List ℕ
+numbers_of (Painted place changed) = place ∷ changed ∷ []
+numbers_of (Published place version) = place ∷ version ∷ []
+numbers_of (Reverted place) = place ∷ []
+numbers_of (Collected place floor freed) = place ∷ floor ∷ freed ∷ []
+
+-- the reply to a query or a command, without its LF
 abbrev pub answer_text : Answer → List ℕ
 answer_text (answers.Near None) = codes "NONE"
 answer_text (answers.Near (Some near)) = near_text near
@@ -27,6 +41,7 @@ answer_text (answers.Found None) = codes "NONE"
 answer_text (answers.Found (Some found)) = found_text found
 answer_text (answers.Clear None) = codes "OK CLEAR"
 answer_text (answers.Clear (Some found)) = found_text found
+answer_text (answers.Done reply) = codes "OK" ++ numbers_text (numbers_of reply)
 answer_text (answers.Refused refusal) = refusal_text refusal
 
 -- the reply line

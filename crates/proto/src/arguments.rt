@@ -1,14 +1,15 @@
-//! The arguments of a query before its points.
+//! The arguments of a line: a metric, a rectangle.
 
-ghost use Rattle.std.specs.Prelude.{◌≡◌, Some, None, MatchOption};
+ghost use Rattle.std.specs.Prelude.{◌≡◌, Some, None, option_map, option_and_then, MatchOption};
 ghost use Rattle.metric.specs.Kind.{metric_named};
 ghost use Rattle.proto.specs.Asked.{first_of};
-ghost use Rattle.proto.specs.Numbers.{number};
+ghost use Rattle.proto.specs.Corners.{corners_of, seen_corners};
+ghost use Rattle.proto.specs.Numbers.{pair, points};
 ghost use Rattle.proto.specs.Words.{words_left};
 
-use crate::number::read_number;
+use crate::points::read_pair;
 use crate::words::next_word;
-use metric::MetricKind;
+use metric::{MetricKind, Rect};
 
 /// The metric that the next word names, and what is left behind it.
 pub fn read_metric(rest: Option<&[u8]>) -> Option<(MetricKind, Option<&[u8]>)>
@@ -19,11 +20,10 @@ pub fn read_metric(rest: Option<&[u8]>) -> Option<(MetricKind, Option<&[u8]>)>
     Some((metric, rest))
 }
 
-/// The distance that the next word is, and what is left behind it.
-pub fn read_distance(rest: Option<&[u8]>) -> Option<(u32, Option<&[u8]>)>
-    ensures { MatchOption result (first_of number (words_left rest.entry) ≡ None) (λ found. first_of number (words_left rest.entry) ≡ Some (found.0, words_left found.1)) }
+/// The rectangle by its two corners, which are all that is left of a line.
+pub fn read_rect(rest: Option<&[u8]>) -> Option<Rect>
+    ensures { option_map seen_corners result ≡ option_and_then corners_of (pair (points (words_left rest.entry))) }
 {
-    let (word, rest) = next_word(rest)?;
-    let distance = read_number(word)?;
-    Some((distance, rest))
+    let (first, second) = read_pair(rest)?;
+    Rect::new(first.x, first.y, second.x, second.y)
 }

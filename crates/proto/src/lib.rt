@@ -5,9 +5,14 @@
 
 mod answer;
 mod arguments;
+mod command;
+#[cfg(test)]
+mod command_tests;
 mod laws;
 mod line;
 mod number;
+mod numbers;
+mod order;
 mod points;
 mod query;
 mod reply;
@@ -17,7 +22,10 @@ mod text;
 mod words;
 
 pub use answer::Answer;
+pub use command::parse_command;
 pub use laws::{line_of_words, words_of_line};
 pub use line::{Line, parse_line};
-pub use reply::reply_text;
+pub use numbers::{next_number, number_pair, number_triple, only_number};
+pub use reply::{put_answer, reply_text};
 pub use text::Text;
+pub use words::split_word;

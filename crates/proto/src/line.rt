@@ -6,8 +6,9 @@ ghost use Rattle.proto.specs.Asked.{asked, seen, query_asked, rect_of, HasPoints
 ghost use Rattle.proto.specs.Numbers.{points, pair};
 ghost use Rattle.proto.specs.Words.{words_left};
 
-use crate::arguments::{read_distance, read_metric};
-use crate::points::{read_pair, read_path, read_point};
+use crate::arguments::{read_metric, read_rect};
+use crate::numbers::next_number;
+use crate::points::{read_path, read_point};
 use crate::query::{Query, query_of};
 use crate::words::split_word;
 use metric::{Cell, MetricKind, Rect, Refusal};
@@ -39,12 +40,11 @@ pub enum Line {
     },
 }
 
-/// The query of a rectangle by its two corners, which are what is left of a line.
+/// The query of the rectangle that is left of a line.
 fn parse_rect(metric: MetricKind, rest: Option<&[u8]>) -> Option<Line>
     ensures { option_map seen result ≡ option_and_then (λ corners. rect_of metric corners) (pair (points (words_left rest.entry))) }
 {
-    let (first, second) = read_pair(rest)?;
-    let rect = Rect::new(first.x, first.y, second.x, second.y)?;
+    let rect = read_rect(rest)?;
     Some(Line::Rect { metric, rect })
 }
 
@@ -70,7 +70,7 @@ fn parse_query(
             Ok(Line::Path { metric, points })
         }
         Query::ClearOf => {
-            let Some((d, rest)) = read_distance(rest) else {
+            let Some((d, rest)) = next_number(rest) else {
                 return Err(Refusal::BadArguments);
             };
             let points = read_path(alloc, rest)?;

@@ -1,12 +1,13 @@
 //! The text of a reply.
 
-ghost use Rattle.std.specs.Prelude.{◌≡◌, ◌≤◌, ◌+◌, [], ◌∷◌, ◌++◌, length};
+ghost use Rattle.std.specs.Prelude.{◌≡◌, ◌≤◌, ◌+◌, [], ◌∷◌, ◌++◌, codes, length};
 ghost use Rattle.std.specs.Fmt.{decimal};
 ghost use Rattle.metric.specs.Refusal.{refusal_text};
-ghost use Rattle.proto.specs.Replies.{answer_text, cell_text, found_text, near_text, reply_line};
+ghost use Rattle.proto.specs.Replies.{answer_text, cell_text, found_text, near_text, numbers_of, numbers_text, reply_line};
 
 use crate::answer::Answer;
 use crate::text::Text;
+use map_core::Reply;
 use metric::{Cell, Near, PbmFault, Refusal};
 
 /// Adds a cell: two numbers and a blank.
@@ -46,6 +47,38 @@ fn put_found(text: &mut Text, cell: Cell, near: Near)
     put_cell(text, near.cell);
 }
 
+/// Writes the reply to a command.
+fn put_done(text: &mut Text, reply: Reply)
+    requires { text.old ≡ [] }
+    ensures text { text.new ≡ codes "OK" ++ numbers_text (numbers_of reply) }
+    ensures few { length text.new ≤ 100 }
+{
+    text.put(b"OK");
+    match reply {
+        Reply::Painted { place, changed } => put_pair(text, place, changed),
+        Reply::Published { place, version } => put_pair(text, place, version),
+        Reply::Reverted { place } => put_detail(text, place),
+        Reply::Collected {
+            place,
+            floor,
+            freed,
+        } => {
+            put_pair(text, place, floor);
+            put_detail(text, freed);
+        }
+    }
+}
+
+/// Adds two numbers.
+fn put_pair(text: &mut Text, first: u32, second: u32)
+    requires { length text.old + 22 ≤ 128 }
+    ensures text { text.new ≡ text.old ++ ((32 ∷ decimal first) ++ (32 ∷ decimal second)) }
+    ensures few { length text.new ≤ length text.old + 22 }
+{
+    put_detail(text, first);
+    put_detail(text, second);
+}
+
 /// Writes a refusal.
 fn put_refusal(text: &mut Text, refusal: Refusal)
     requires { text.old ≡ [] }
@@ -66,7 +99,7 @@ fn put_refusal(text: &mut Text, refusal: Refusal)
     }
 }
 
-/// Adds a number that belongs to a refusal.
+/// Adds a number behind a blank.
 fn put_detail(text: &mut Text, number: u32)
     requires { length text.old + 11 ≤ 128 }
     ensures text { text.new ≡ text.old ++ (32 ∷ decimal number) }
@@ -85,8 +118,8 @@ fn put_name(text: &mut Text, name: &str)
     text.put(name.as_bytes());
 }
 
-/// Writes an answer, without its LF.
-fn put_answer(text: &mut Text, answer: Answer)
+/// Writes an answer, without its LF, in a text that is empty.
+pub fn put_answer(text: &mut Text, answer: Answer)
     requires { text.old ≡ [] }
     ensures text { text.new ≡ answer_text answer }
     ensures few { length text.new ≤ 100 }
@@ -98,6 +131,7 @@ fn put_answer(text: &mut Text, answer: Answer)
         }
         Answer::Near(None) | Answer::Found(None) => text.put(b"NONE"),
         Answer::Clear(None) => text.put(b"OK CLEAR"),
+        Answer::Done(reply) => put_done(text, reply),
         Answer::Refused(refusal) => put_refusal(text, refusal),
     }
 }

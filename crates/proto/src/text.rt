@@ -1,8 +1,9 @@
 //! Texts of a fixed room.
 
-ghost use Rattle.std.specs.Prelude.{◌≡◌, ◌≤◌, ◌+◌, ◌++◌, [], length, IfOk, IfErr};
-ghost use Rattle.std.specs.Fmt.{decimal};
+ghost use Rattle.std.specs.Prelude.{◌≡◌, ◌<◌, ◌≤◌, ◌+◌, ◌++◌, [], length, false, IfOk, IfErr};
+ghost use Rattle.std.specs.Fmt.{decimal, digit_glyph};
 ghost use Rattle.metric.specs.declared.refusal.Refusal.{Refusal};
+ghost use Rattle.proto.specs.Hex.{hex_digits};
 
 use metric::{Refusal, push_decimal};
 use std::alloc::Global;
@@ -44,14 +45,14 @@ impl Text {
     }
 
     /// Takes all bytes away.
-    pub(crate) fn clear(&mut self)
+    pub fn clear(&mut self)
         ensures { self.new ≡ [] }
     {
         self.bytes.clear();
     }
 
     /// Adds these bytes, for which there is room.
-    pub(crate) fn put(&mut self, added: &[u8])
+    pub fn put(&mut self, added: &[u8])
         requires { length self.old + length added.now ≤ 128 }
         ensures { self.new ≡ self.old ++ added.now }
     {
@@ -59,11 +60,50 @@ impl Text {
     }
 
     /// Adds a number in decimal. There is room for ten digits, and more it never has.
-    pub(crate) fn put_number(&mut self, number: u32)
+    pub fn put_number(&mut self, number: u32)
         requires { length self.old + 10 ≤ 128 }
         ensures text { self.new ≡ self.old ++ decimal number }
         ensures few { length self.new ≤ length self.old + 10 }
     {
         push_decimal(&mut self.bytes, number);
+    }
+
+    /// Adds a number of 64 bits in decimal. There is room for twenty digits, and more it never has.
+    pub fn put_long(&mut self, number: u64)
+        requires { length self.old + 20 ≤ 128 }
+        ensures text { self.new ≡ self.old ++ decimal number }
+        ensures few { length self.new ≤ length self.old + 20 }
+    {
+        if let Ok(number) = u32::try_from(number) {
+            self.put_number(number);
+            return;
+        }
+        self.put_long(number / 10);
+        self.put(&[b'0' + (number % 10) as u8]);
+    }
+
+    /// Adds the last hexadecimal digits of a word, as many as are asked for, in lower case.
+    pub fn put_hex(&mut self, count: u32, word: u64)
+        requires { length self.old + count ≤ 128 }
+        ensures text { self.new ≡ self.old ++ hex_digits count word }
+        ensures few { length self.new ≤ length self.old + count }
+    {
+        if count == 0 {
+            return;
+        }
+        self.put_hex(count - 1, word / 16);
+        self.put(&[hex_digit((word % 16) as u8)]);
+    }
+}
+
+/// The digit of this value, below 16, in lower case.
+fn hex_digit(value: u8) -> u8
+    requires { value < 16 }
+    ensures { result ≡ digit_glyph false value }
+{
+    if value < 10 {
+        b'0' + value
+    } else {
+        b'a' + (value - 10)
     }
 }

@@ -1,0 +1,23 @@
+-- Numbers of a line, one after another.
+use Rattle.std.proofs.Common.{◌≡◌, ℕ, List, ◌∷◌, Option, Some, None, refl, sym, ap, ◌∙◌}
+use Rattle.std.specs.Prelude.{option_map}
+use Rattle.proto.specs.Numbers.{number, join_number, numbers, only_number}
+use Rattle.proto.specs.Words.{words}
+use Rattle.proto.proofs.Splitting.{words-some}
+
+-- a number before others
+abbrev before : ℕ → Option (List ℕ) → Option (List ℕ)
+before n others = option_map (λ ns. n ∷ ns) others
+
+-- joined numbers are two at least behind one more
+only-joined : (n : ℕ) (first : Option ℕ) (others : Option (List ℕ)) → only_number (before n (join_number first others)) ≡ None
+only-joined n None others = refl
+only-joined n (Some next) None = refl
+only-joined n (Some next) (Some ns) = refl
+
+-- a number before the words of a line is not the only one
+pub only_number-more : (n : ℕ) (rest : List (List ℕ)) (bytes : List ℕ) → numbers rest ≡ before n (numbers (words bytes)) → None ≡ only_number (numbers rest)
+unfolding numbers
+only_number-more n rest bytes e =
+    let some = words-some bytes in
+    sym (ap only_number e ∙ ap (λ (ws : List (List ℕ)). only_number (before n (numbers ws))) some.2 ∙ only-joined n (number some.0) (numbers some.1))

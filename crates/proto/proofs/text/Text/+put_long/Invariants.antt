@@ -1,0 +1,4 @@
+use Rattle.proto.proofs.text.Text.+put_long.Given as goal
+
+abbrev pub decreases-put_long : goal.decreases-put_long
+decreases-put_long l = l.number
