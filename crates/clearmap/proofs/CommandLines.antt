@@ -1,4 +1,4 @@
--- What the words `dist` alone say.
+-- What the words `dist` and `steps` alone say.
 use Rattle.std.proofs.Common.{◌≡◌, ℕ, List, [], ◌∷◌, Option, Some, None, Bool, refl, ap, ap₂, sym, ◌∙◌, true, false, codes}
 use Rattle.std.specs.Prelude.{option_map, option_and_then}
 use Rattle.std.specs.Borrow.{Bor}
@@ -58,6 +58,26 @@ read_rows (Some p) rows name metric nearest query these read =
     let second : Some (one_of (codes "nearest") p.1) ≡ Some nearest = ap (option_map (λ (t : Text × Option Text × Option Text × Option Text). t.2)) read in
     let third : Some (first_of (codes "query") p.1) ≡ Some query = ap (option_map (λ (t : Text × Option Text × Option Text × Option Text). t.3)) read in
     (rw (← same) (cc), rw (← same) (cc), rw (← same) (cc))
+
+-- the words `steps` alone are taken, whatever the program is called
+pub takes_steps : (name : List ℕ) → takes program_app (name ∷ codes "steps" ∷ []) ≡ true
+unfolding clap_on_literals
+takes_steps name = refl
+
+-- they name the subcommand `steps`
+name_of_steps : (name : List ℕ) → option_map (λ (p : Text × List Row). p.0) (subcommand_of program_app (name ∷ codes "steps" ∷ [])) ≡ Some (codes "steps")
+unfolding clap_on_literals
+name_of_steps name = refl
+
+-- a parse whose words name the subcommand `steps` has met it
+pub named_steps : (name : List ℕ) (texts : List (List ℕ)) (matches : ArgMatches) → texts ≡ name ∷ codes "steps" ∷ [] → HasMatchesOf program_app texts matches → subcommand_name_of matches ≡ Some (codes "steps")
+named_steps name texts matches words found =
+    let met : subcommand_rows_of matches ≡ subcommand_of program_app (name ∷ codes "steps" ∷ []) = (found program_is_simple).1 ∙ ap (subcommand_of program_app) words in
+    first_of_pair _ _ _ ∙ (ap (option_map (λ (p : Text × List Row). p.0)) met ∙ name_of_steps name)
+
+-- no subcommand has both names
+pub one_name : (name : Option Text) → name ≡ Some (codes "dist") → name ≡ Some (codes "steps") → ⊥
+one_name name dist steps = let same : Some (codes "dist") ≡ Some (codes "steps") = sym dist ∙ steps in cc
 
 -- where the words are `dist` alone its flags have their defaults
 pub dist_defaults : (name : List ℕ) (texts : List (List ℕ)) (matches : ArgMatches) (rows : List Row) → texts ≡ name ∷ codes "dist" ∷ [] → HasMatchesOf program_app texts matches

@@ -2,3 +2,9 @@ pub mod Answering
 pub mod CommandLines
 pub mod Lines
 pub mod Tables
+pub mod Telling
+pub mod Hearing
+pub mod Keeping
+pub mod LineSplitting
+pub mod OpeningLemmas
+pub mod StepAnswering

@@ -10,7 +10,7 @@ use Rattle.metric.specs.Kind.{metric_named}
 use Rattle.metric.specs.declared.kind.MetricKind.TheVariants.{Euclid2}
 use Rattle.clearmap.specs.declared.arguments.DistOptions.{DistOptions}
 use Rattle.clearmap.specs.declared.arguments.Options.{Options}
-use Rattle.clearmap.specs.declared.arguments.Options.TheVariants.{Dist}
+use Rattle.clearmap.specs.declared.arguments.Options.TheVariants.{Dist, Steps}
 use Rattle.clearmap.specs.declared.arguments.Fault.{Fault}
 use Rattle.clearmap.specs.declared.arguments.Fault.TheVariants.{Memory}
 
@@ -34,9 +34,13 @@ query_rule = record (new_rule (codes "query")) { long = Some (codes "query"); va
 abbrev pub dist_app : App
 dist_app = with_rule (with_rule (with_rule (new_app (codes "dist")) metric_rule) nearest_rule) query_rule
 
+-- the subcommand `steps`, which has no flags
+abbrev pub steps_app : App
+steps_app = new_app (codes "steps")
+
 -- the program: it has a version, and wants a subcommand
 abbrev pub program_app : App
-program_app = with_subcommand (on_top (λ s. record s { has_version = true; subcommand_required = true }) (new_app (codes "clearmap"))) dist_app.top
+program_app = with_subcommand (with_subcommand (on_top (λ s. record s { has_version = true; subcommand_required = true }) (new_app (codes "clearmap"))) dist_app.top) steps_app.top
 
 -- the flags of `dist` as the words give them, each with its default where it isn't given
 pub record AreDistOptions (rows : List Row) (options : DistOptions) : Type 0 where
@@ -49,9 +53,10 @@ pub record AreDistOptions (rows : List Row) (options : DistOptions) : Type 0 whe
 abbrev pub default_options : DistOptions
 default_options = record { metric = Euclid2; nearest = false; query = None }
 
--- the options are those of a `dist` that the words name
+-- the options are those of the subcommand that the words name
 abbrev pub AreOptions : List (List ℕ) → Options → Type 0
 AreOptions words (Dist options) = (rows : List Row) × (subcommand_of program_app words ≡ Some (codes "dist", rows)) × AreDistOptions rows options
+AreOptions words Steps = (rows : List Row) × (subcommand_of program_app words ≡ Some (codes "steps", rows))
 
 -- what is made of an error of `clap`: want of memory is told apart
 abbrev pub IsFaultOf : Error → Fault → Type 0

@@ -4,3 +4,9 @@ pub mod Query
 pub mod Replied
 pub mod Table
 pub mod Tabled
+pub mod Opening
+pub mod StepAnswers
+pub mod StepLines
+pub mod StepRuns
+pub mod Steps
+pub mod TextLines

@@ -12,6 +12,8 @@ use thiserror::Error;
 pub enum Options<'a> {
     /// Answer an image.
     Dist(DistOptions<'a>),
+    /// Do the events of a text.
+    Steps,
 }
 
 /// How `dist` is to answer.

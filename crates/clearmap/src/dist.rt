@@ -8,7 +8,7 @@ ghost use Rattle.clearmap.specs.Table.{table_text};
 
 use crate::arguments::DistOptions;
 use crate::input::{InputStop, read_to_end};
-use crate::output::write_table;
+use crate::output::{write_table, write_text};
 use crate::reply::Reply;
 use crate::table::Table;
 use metric::{PbmFault, Sink, Source, WriteFault};
@@ -104,19 +104,6 @@ fn write_fault<W: Sink>(writer: &mut W, fault: PbmFault) -> Result<u8, WriteFaul
     ensures counts { Counts (W.failed_writes writer.old) result (W.failed_writes writer.new) }
 {
     write_text(writer, fault_line(fault).as_bytes(), REFUSED)
-}
-
-/// Writes a text of one line, and answers the status that goes with it.
-fn write_text<W: Sink>(writer: &mut W, text: &[u8], status: u8) -> Result<u8, WriteFault>
-    requires { CanFail (W.failed_writes writer.old) }
-    ensures status { IfOk result (λ told. told ≡ status) }
-    ensures whole { OnOk result (Appends (W.held writer.old) text.now (W.held writer.new)) }
-    ensures front { OnErr result (AppendsFront (W.held writer.old) text.now (W.held writer.new)) }
-    ensures counts { Counts (W.failed_writes writer.old) result (W.failed_writes writer.new) }
-{
-    writer.write_all(text)?;
-    writer.flush()?;
-    Ok(status)
 }
 
 /// The line of a refused image.

@@ -9,6 +9,7 @@ mod output;
 mod query;
 mod reply;
 mod run;
+mod steps;
 mod table;
 #[cfg(test)]
 mod tests;

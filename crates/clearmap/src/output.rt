@@ -1,6 +1,6 @@
-//! Writing a table, line by line.
+//! Writing a table, line by line, or a text.
 
-ghost use Rattle.std.specs.Prelude.{◌≡◌, ◌+◌, ◌*◌, ◌≤◌, length, vec_capacity, OnOk, OnErr};
+ghost use Rattle.std.specs.Prelude.{◌≡◌, ◌+◌, ◌*◌, ◌≤◌, length, vec_capacity, IfOk, OnOk, OnErr};
 ghost use Rattle.metric.specs.Stream.{Appends, AppendsFront, Counts, CanFail};
 ghost use Rattle.clearmap.specs.Table.{table_text};
 
@@ -29,4 +29,17 @@ pub fn write_table<W: Sink>(
         writer.write_all(line.as_slice())?;
     }
     Ok(())
+}
+
+/// Writes a text of one line, and answers the status that goes with it.
+pub fn write_text<W: Sink>(writer: &mut W, text: &[u8], status: u8) -> Result<u8, WriteFault>
+    requires { CanFail (W.failed_writes writer.old) }
+    ensures status { IfOk result (λ told. told ≡ status) }
+    ensures whole { OnOk result (Appends (W.held writer.old) text.now (W.held writer.new)) }
+    ensures front { OnErr result (AppendsFront (W.held writer.old) text.now (W.held writer.new)) }
+    ensures counts { Counts (W.failed_writes writer.old) result (W.failed_writes writer.new) }
+{
+    writer.write_all(text)?;
+    writer.flush()?;
+    Ok(status)
 }

@@ -27,7 +27,7 @@ pub fn status(answer: &Answer) -> u8
 {
     match answer {
         Answer::Refused(_) => 1,
-        Answer::Near(_) | Answer::Found(_) | Answer::Clear(_) => 0,
+        Answer::Near(_) | Answer::Found(_) | Answer::Clear(_) | Answer::Done(_) => 0,
     }
 }
 

@@ -2,6 +2,7 @@
 
 use crate::arguments::{DistOptions, Fault, Options};
 use crate::dist::dist_run;
+use crate::steps::steps_run;
 use crate::words::options;
 use metric::{ReaderSource, Refusal, WriterSink};
 use std::rt::Env;
@@ -41,6 +42,7 @@ fn run_words<R: Input + Print + Eprint + AllocGlobal>(rt: &R, words: &[String]) 
     };
     match options(alloc, texts.as_slice()) {
         Ok(Options::Dist(options)) => dist(rt, &options),
+        Ok(Options::Steps) => steps(rt),
         Err(fault) => report(rt, &fault),
     }
 }
@@ -55,6 +57,18 @@ fn dist<R: Input + Print + AllocGlobal>(rt: &R, options: &DistOptions<'_>) -> u8
         return refuse(rt);
     };
     dist_run(alloc, options, &mut reader, &mut writer)
+}
+
+/// Runs `steps` on the standard streams.
+fn steps<R: Input + Print + AllocGlobal>(rt: &R) -> u8 {
+    let alloc = rt.alloc();
+    let Ok(mut reader) = ReaderSource::new(alloc, rt.reader()) else {
+        return refuse(rt);
+    };
+    let Ok(mut writer) = WriterSink::new(alloc, io::writer(rt)) else {
+        return refuse(rt);
+    };
+    steps_run(alloc, &mut reader, &mut writer)
 }
 
 /// Tells want of memory.

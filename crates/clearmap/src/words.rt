@@ -6,8 +6,8 @@ ghost use Rattle.clap.specs.declared.builder.command.Command.TheViews.{out-Comma
 ghost use Rattle.clap.specs.declared.error.kind.ErrorKind.TheVariants.{OutOfMemory};
 ghost use Rattle.metric.specs.Kind.{metric_named};
 ghost use Rattle.clearmap.specs.declared.arguments.Fault.TheVariants.{Memory};
-ghost use Rattle.clearmap.specs.declared.arguments.Options.TheVariants.{Dist};
-ghost use Rattle.clearmap.specs.CommandLine.{AreDistOptions, AreOptions, default_options, dist_app, metric_rule, nearest_rule, program_app, query_rule, texts_of};
+ghost use Rattle.clearmap.specs.declared.arguments.Options.TheVariants.{Dist, Steps};
+ghost use Rattle.clearmap.specs.CommandLine.{AreDistOptions, AreOptions, default_options, dist_app, metric_rule, nearest_rule, program_app, query_rule, steps_app, texts_of};
 
 use crate::arguments::{DistOptions, Fault, Options};
 use clap::{Arg, ArgAction, ArgMatches, Command, Error};
@@ -21,12 +21,17 @@ pub fn options<'a>(alloc: Global, words: &'a [&'a str]) -> Result<Options<'a>, F
     ensures options { IfOk result (AreOptions (texts_of words.entry.now)) }
     ensures taken { (name : List ℕ) → texts_of words.entry.now ≡ name ∷ codes "dist" ∷ []
         → MatchResult result (λ options. options ≡ Dist default_options) (λ fault. fault ≡ Memory) }
+    ensures steps_taken { (name : List ℕ) → texts_of words.entry.now ≡ name ∷ codes "steps" ∷ []
+        → MatchResult result (λ options. options ≡ Steps) (λ fault. fault ≡ Memory) }
 {
     let matches = matches_of(alloc, words)?;
-    match matches.subcommand_matches("dist") {
-        Some(flags) => Ok(Options::Dist(dist_options(flags)?)),
-        None => Err(Fault::NoCommand),
+    if let Some(flags) = matches.subcommand_matches("dist") {
+        return Ok(Options::Dist(dist_options(flags)?));
     }
+    if matches.subcommand_matches("steps").is_some() {
+        return Ok(Options::Steps);
+    }
+    Err(Fault::NoCommand)
 }
 
 /// The flags of `dist`.
@@ -72,10 +77,11 @@ fn program<'a>(alloc: Global) -> Result<Command<'a>, Error>
             .version("0.1.0")
             .about("Exact distances to the nearest obstacle of an occupancy grid")
             .after_help(
-                "Examples:\n  clearmap dist < map.pbm\n  clearmap dist --metric city --nearest < map.pbm",
+                "Examples:\n  clearmap dist < map.pbm\n  clearmap dist --metric city --nearest < map.pbm\n  clearmap steps < events.txt",
             )
             .subcommand_required(true)
-            .subcommand(dist_command(alloc)?)?,
+            .subcommand(dist_command(alloc)?)?
+            .subcommand(steps_command(alloc))?,
     )
 }
 
@@ -97,6 +103,20 @@ fn dist_command<'a>(alloc: Global) -> Result<Command<'a>, Error>
             .arg(nearest_flag(alloc))?
             .arg(query_flag(alloc))?,
     )
+}
+
+/// The command `steps`, which has no flags.
+fn steps_command<'a>(alloc: Global) -> Command<'a>
+    ensures app { app_of result ≡ steps_app }
+    ensures local { (out-Command result).has_globals ≡ false }
+{
+    Command::new(alloc, "steps")
+        .about(
+            "Do the events on standard input in a map with numbered versions, one word at a time",
+        )
+        .after_help(
+            "The first line is OPEN and six numbers: the columns and rows of a blank map, its blocks,\nversions, sessions and the length of its log. Each line behind it is one of these, and gets\none answer line:\n  A r      reader r announces the newest version that it has seen\n  L r      it loads the newest version, and holds it if it has announced\n  M r k    it looks up the block of position k\n  T r b i  it looks at row i of block b\n  V r      it leaves\n  C LINE   the keeper gets a command: PAINT x0 y0 x1 y1, CLEAR x0 y0 x1 y1, PUBLISH, REVERT, COLLECT\n  K n      the keeper does the next n steps of its command\n\nExample:\n  printf 'OPEN 64 64 3 2 1 10\\nC PAINT 0 0 1 1\\nK 1\\n' | clearmap steps",
+        )
 }
 
 /// The flag `--metric`.
