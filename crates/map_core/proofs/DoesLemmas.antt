@@ -19,12 +19,12 @@ use Rattle.map_core.specs.Sound.{InHand, IsWhole}
 use Rattle.map_core.proofs.StepLemmas.{Keeps, nothing_stored, pin_stored, number_inside, in_hand, keeps-announce, keeps-leave, keeps-load, keeps-order, keeps-write, keeps-scan, keeps-commit}
 
 -- what is done unless a test is true
-unless_true : (test : Bool) (a o : Outcome) → (if test then None else Some a) ≡ Some o → (test ≡ false) × (a ≡ o)
+pub unless_true : (test : Bool) (a o : Outcome) → (if test then None else Some a) ≡ Some o → (test ≡ false) × (a ≡ o)
 unless_true true a o is = absurd (cc)
 unless_true false a o is = (refl, cc)
 
 -- what is done where a test is true
-where_true : (test : Bool) (a o : Outcome) → (if test then Some a else None) ≡ Some o → (test ≡ true) × (a ≡ o)
+pub where_true : (test : Bool) (a o : Outcome) → (if test then Some a else None) ≡ Some o → (test ≡ true) × (a ≡ o)
 where_true true a o is = (refl, cc)
 where_true false a o is = absurd (cc)
 

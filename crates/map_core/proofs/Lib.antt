@@ -20,6 +20,7 @@ pub mod ReaderWorld
 pub mod RetiredLemmas
 pub mod RunLemmas
 pub mod SafeLemmas
+pub mod SeenLemmas
 pub mod SoundBlocks
 pub mod SoundCommit
 pub mod SoundKeeper

@@ -19,6 +19,7 @@ use Rattle.map_core.specs.Sound.{IsWhole}
 use Rattle.map_core.specs.Kept.{hand_of, Summary, Room, IsConsistent}
 use Rattle.map_core.proofs.WorldLemmas.{safe_done}
 use Rattle.map_core.proofs.SafeLemmas.{IsSafe-whole}
+use Rattle.map_core.proofs.SeenLemmas.{seen_stays}
 use Rattle.map_core.proofs.StepLemmas.{nothing_stored, keeps-order, in_hand, tidy_of}
 
 -- an order while a command is in hand
@@ -47,6 +48,8 @@ order_starved w c whole free is = record {
   step = inr record { order = (free, sym is); answer_is = refl; stored_is = refl; same = refl };
   safe = IsSafe-whole w whole;
   spares = nothing_stored w;
+  grows = seen_stays w w refl;
+  sees = tt;
 }
 
 -- how many steps a publish has before its last, by what is kept

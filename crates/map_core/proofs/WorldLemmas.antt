@@ -19,6 +19,7 @@ use Rattle.map_core.specs.Kept.{IsPlace, Summary, Room, IsConsistent}
 use Rattle.map_core.proofs.DoesLemmas.{does-keeps}
 use Rattle.map_core.proofs.PlaceLemmas.{map-within, slot-within}
 use Rattle.map_core.proofs.SafeLemmas.{IsSafe-whole}
+use Rattle.map_core.proofs.SeenLemmas.{does-grows, seen_stays, sees_none}
 use Rattle.map_core.proofs.StepLemmas.{nothing_stored, slice_get-set}
 
 -- what is read from a list is in it
@@ -49,13 +50,16 @@ safe_refused w e why whole none = record {
   step = record { not_enabled = none; stored_is = refl; same = refl };
   safe = IsSafe-whole w whole;
   spares = nothing_stored w;
+  grows = seen_stays w w refl;
+  sees = sees_none w e none;
 }
 
 -- an event that is enabled does what it does, safely
 pub safe_done : (w : State) (e : Event) (o : Outcome) → IsWhole w → does w e ≡ Some o → SafeStep w e (Ok o.answer) o.state
 safe_done w e o whole is =
     let keeps = does-keeps w e o whole is in
-    record { stored = o.stored; step = inl is; safe = IsSafe-whole o.state keeps.whole; spares = keeps.spares }
+    let seen = does-grows w e o whole is in
+    record { stored = o.stored; step = inl is; safe = IsSafe-whole o.state keeps.whole; spares = keeps.spares; grows = seen.0; sees = seen.1 }
 
 -- what is kept stays right where the log and the command in hand stay and one reader's place is written
 pub consistent_reader : (w : State) (hand : Option Command) (steps : ℕ) (places : List Place) (u : Summary) (room : Room) (e : Event) (words : List ℕ) (readers : List Reader) (answer : StepReply) (stored : Option ℕ) (r : ℕ) (p : Place)

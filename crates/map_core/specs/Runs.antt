@@ -1,9 +1,9 @@
 -- Lists of events, and what each answers: this project's own rule. An event that isn't enabled changes nothing, and want of memory refuses only an order that is accepted otherwise.
-use Rattle.std.specs.Prelude.{◌≡◌, ℕ, ◌<◌, ◌≤◌, ◌⊎◌, List, [], ◌∷◌, length, replicate, slice_index, Option, Some, None, Result, Ok, Err}
+use Rattle.std.specs.Prelude.{◌≡◌, ℕ, ◌<◌, ◌≤◌, ◌⊎◌, List, [], ◌∷◌, length, replicate, slice_get, slice_index, Option, Some, None, Result, Ok, Err}
 use Rattle.bits.specs.Tiles.{row_word}
 use Rattle.metric.specs.declared.refusal.Refusal.TheVariants.{Memory}
 use Rattle.map_core.specs.declared.event.Event.{Event}
-use Rattle.map_core.specs.declared.event.Event.TheVariants.{Order}
+use Rattle.map_core.specs.declared.event.Event.TheVariants.{Load, Order}
 use Rattle.map_core.specs.declared.event.StepReply.{StepReply}
 use Rattle.map_core.specs.declared.event.StepReply.TheVariants as says
 use Rattle.map_core.specs.declared.event.NotEnabled.{NotEnabled}
@@ -11,7 +11,7 @@ use Rattle.map_core.specs.Legal.{refused}
 use Rattle.map_core.specs.Words.{Base, tiles, word_count, pin_at, map_at, tile_at}
 use Rattle.map_core.specs.Views.{Reader, State, story_of}
 use Rattle.map_core.specs.Steps.{does}
-use Rattle.map_core.specs.Safe.{IsSafe, SparesLive}
+use Rattle.map_core.specs.Safe.{IsBeginning, IsSafe, SparesLive}
 
 -- an order that no rule refuses, while no command is in hand: it alone may find no memory
 abbrev pub MayLackMemory : State → Event → Type 0
@@ -37,12 +37,23 @@ IsStep old e (Err not_enabled) stored new = IsNotEnabled old e stored new
 IsStep old e (Ok answer) stored new =
     (does old e ≡ Some record { state = new; answer = answer; stored = stored }) ⊎ LacksMemory old e answer stored new
 
+-- what a reader had seen is a beginning of what it has seen now
+abbrev pub SeenGrows : State → State → Type 0
+SeenGrows old new = (r : ℕ) (x y : Reader) → slice_get old.readers r ≡ Some x → slice_get new.readers r ≡ Some y → IsBeginning x.seen y.seen
+
+-- after its load a reader has seen the whole log
+abbrev pub SeesAll : Event → State → Type 0
+SeesAll (Load r) new = (y : Reader) → slice_get new.readers r ≡ Some y → y.seen ≡ new.keeper.log
+SeesAll e new = Unit {0}
+
 -- a step after which all of the theorem holds, and which stored in no live block
 pub record SafeStep (old : State) (e : Event) (answer : Result StepReply NotEnabled) (new : State) : Type 0 where
   pub stored : Option ℕ
   pub step : IsStep old e answer stored new
   pub safe : IsSafe new
   pub spares : SparesLive old stored
+  pub grows : SeenGrows old new
+  pub sees : SeesAll e new
 
 -- the events one after another, with what each answers
 abbrev pub IsRun : State → List Event → List (Result StepReply NotEnabled) → State → Type 0
