@@ -11,14 +11,9 @@ use crate::input::{InputStop, read_to_end};
 use crate::output::{write_table, write_text};
 use crate::reply::Reply;
 use crate::table::Table;
+use crate::{DONE, REFUSED};
 use metric::{PbmFault, Sink, Source, WriteFault};
 use std::alloc::Global;
-
-/// The status of a run whose answer is the table.
-const DONE: u8 = 0;
-
-/// The status of a run that was refused, or whose reader or writer failed.
-const REFUSED: u8 = 1;
 
 /// Reads an image to the end of the reader, and writes its cells' distances to their nearest obstacles, a line a row, as the options ask. Answers the status.
 ///

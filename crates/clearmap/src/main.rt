@@ -17,6 +17,12 @@ mod words;
 
 use std::process::ExitCode;
 
+/// The status of a run that did what it was asked for.
+const DONE: u8 = 0;
+
+/// The status of a run that was refused, or whose reader or writer failed.
+const REFUSED: u8 = 1;
+
 fn main(rt: HostRuntime) -> ExitCode {
     ExitCode::from(run::run(&rt))
 }

@@ -1,18 +1,13 @@
 //! From the process's words and standard streams to the engine that they name.
 
-use crate::arguments::{DistOptions, Fault, Options};
+use crate::arguments::{Fault, Options};
 use crate::dist::dist_run;
 use crate::steps::steps_run;
 use crate::words::options;
+use crate::{DONE, REFUSED};
 use metric::{ReaderSource, Refusal, WriterSink};
 use std::rt::Env;
 use std::{env, io};
-
-/// The status of a run that did what it was asked for.
-const DONE: u8 = 0;
-
-/// The status of a run that was refused, or whose standard streams failed.
-const REFUSED: u8 = 1;
 
 /// The status of a command line that was refused.
 const MISTAKEN: u8 = 2;
@@ -41,14 +36,13 @@ fn run_words<R: Input + Print + Eprint + AllocGlobal>(rt: &R, words: &[String]) 
         return refuse(rt);
     };
     match options(alloc, texts.as_slice()) {
-        Ok(Options::Dist(options)) => dist(rt, &options),
-        Ok(Options::Steps) => steps(rt),
+        Ok(options) => run_engine(rt, &options),
         Err(fault) => report(rt, &fault),
     }
 }
 
-/// Runs `dist` on the standard streams.
-fn dist<R: Input + Print + AllocGlobal>(rt: &R, options: &DistOptions<'_>) -> u8 {
+/// Runs an engine on the standard streams.
+fn run_engine<R: Input + Print + AllocGlobal>(rt: &R, options: &Options<'_>) -> u8 {
     let alloc = rt.alloc();
     let Ok(mut reader) = ReaderSource::new(alloc, rt.reader()) else {
         return refuse(rt);
@@ -56,19 +50,10 @@ fn dist<R: Input + Print + AllocGlobal>(rt: &R, options: &DistOptions<'_>) -> u8
     let Ok(mut writer) = WriterSink::new(alloc, io::writer(rt)) else {
         return refuse(rt);
     };
-    dist_run(alloc, options, &mut reader, &mut writer)
-}
-
-/// Runs `steps` on the standard streams.
-fn steps<R: Input + Print + AllocGlobal>(rt: &R) -> u8 {
-    let alloc = rt.alloc();
-    let Ok(mut reader) = ReaderSource::new(alloc, rt.reader()) else {
-        return refuse(rt);
-    };
-    let Ok(mut writer) = WriterSink::new(alloc, io::writer(rt)) else {
-        return refuse(rt);
-    };
-    steps_run(alloc, &mut reader, &mut writer)
+    match options {
+        Options::Dist(options) => dist_run(alloc, options, &mut reader, &mut writer),
+        Options::Steps => steps_run(alloc, &mut reader, &mut writer),
+    }
 }
 
 /// Tells want of memory.

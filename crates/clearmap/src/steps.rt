@@ -12,14 +12,12 @@ mod run;
 mod tests;
 mod text;
 
+use crate::REFUSED;
 use crate::input::{InputStop, read_to_end};
 use metric::{Sink, Source};
 use opening::NotOpened;
 use run::{write_refusal, write_steps};
 use std::alloc::Global;
-
-/// The status of a run that was refused, or whose reader or writer failed.
-const REFUSED: u8 = 1;
 
 /// Reads a text to the end of the reader, opens the world that its first line tells, and writes one answer line for it and for each line behind it. Answers the status.
 ///

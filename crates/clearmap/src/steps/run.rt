@@ -14,16 +14,11 @@ use crate::steps::answer::{bad_line, opened_line, step_line};
 use crate::steps::line::{StepLine, parse_step};
 use crate::steps::opening::{NotOpened, Opened};
 use crate::steps::text::split_line;
+use crate::{DONE, REFUSED};
 use map_core::{Event, NotEnabled, StepReply, World};
 use metric::{Sink, WriteFault};
 use proto::{Answer, Text, reply_text};
 use std::alloc::Global;
-
-/// The status of a run whose lines were answered.
-const DONE: u8 = 0;
-
-/// The status of a run whose first line opened no world.
-const REFUSED: u8 = 1;
 
 /// So many steps of the keeper, where all of them are enabled; answered as the last.
 fn keep(alloc: Global, world: &mut World, count: u32) -> Result<StepReply, NotEnabled>
