@@ -11,6 +11,7 @@ use Rattle.bits.specs.Cells.{Cells, IsInside}
 use Rattle.clearance.specs.Paths.{is_outside, first_crooked, crooked_point, path_refusal}
 use Rattle.clearance.specs.Segments.{IsStraight}
 use Rattle.clearance.specs.Search.{origin}
+use Rattle.std.proofs.lemmas.Bool.{or_parts}
 
 -- the test of a point in the row or column of another
 straight_test : (a b c d : ℕ) → (a ≡ b) ⊎ (c ≡ d) → (eqb a b || eqb c d) ≡ true
@@ -55,7 +56,7 @@ choice_taken true other last none = (refl, none)
 choice_taken false other last none = absurd (cc)
 
 -- what is none under a map is none
-map_none : {A B : Type 0} (f : A → B) (o : Option A) → option_map f o ≡ None → o ≡ None
+pub map_none : {A B : Type 0} (f : A → B) (o : Option A) → option_map f o ≡ None → o ≡ None
 map_none f None none = refl
 map_none f (Some a) none = absurd (cc)
 
@@ -74,17 +75,12 @@ few_points n test = (grind (arith, nat_tests), grind (arith, nat_tests))
 inside_from : (cells : Cells) (cell : Cell) → (leb cells.width cell.x || leb cells.height cell.y) ≡ false → IsInside cells cell.x cell.y
 inside_from cells cell test = record { column = grind (arith, nat_tests); row = grind (arith, nat_tests) }
 
--- two tests of which none holds
-or_false : (a b : Bool) → (a || b) ≡ false → (a ≡ false) × (b ≡ false)
-or_false true b h = absurd (cc)
-or_false false b h = (refl, h)
-
 -- of points of which none is outside, each is inside
 all_inside : (cells : Cells) (points : List Cell) → list_any (is_outside cells) points ≡ false
     → (j : ℕ) → j < length points → IsInside cells (get_or points j origin).x (get_or points j origin).y
 all_inside cells [] none j within = absurd (omega arith)
-all_inside cells (point ∷ points) none zero within = inside_from cells point (or_false (is_outside cells point) (list_any (is_outside cells) points) none).0
-all_inside cells (point ∷ points) none (suc j) within = all_inside cells points (or_false (is_outside cells point) (list_any (is_outside cells) points) none).1 j (omega arith)
+all_inside cells (point ∷ points) none zero within = inside_from cells point (or_parts (is_outside cells point) (list_any (is_outside cells) points) none).0
+all_inside cells (point ∷ points) none (suc j) within = all_inside cells points (or_parts (is_outside cells point) (list_any (is_outside cells) points) none).1 j (omega arith)
 
 -- a path for which there is no refusal
 pub IsPath-from : (cells : Cells) (points : List Cell) → path_refusal cells points ≡ None → IsPath cells points

@@ -11,6 +11,7 @@ use Rattle.metric.specs.declared.kind.MetricKind.{MetricKind}
 use Rattle.metric.specs.declared.kind.MetricKind.TheVariants.{Euclid2}
 use Rattle.clearmap.specs.declared.arguments.DistOptions.{DistOptions}
 use Rattle.clearmap.specs.CommandLine.{AreDistOptions, default_options, program_app}
+use Rattle.clearance.proofs.Refusals.{map_none}
 
 -- what the words say of the subcommand and its flags
 abbrev pub read_of : Option (Text × List Row) → Option (Text × Option Text × Option Text × Option Text)
@@ -88,11 +89,6 @@ dist_defaults name texts matches rows words found these =
     read_rows (subcommand_of program_app (name ∷ codes "dist" ∷ [])) rows (codes "dist") (Some (codes "euclid2")) (Some (codes "false")) None
     (rw (← met) these) (read_of_dist name)
 
--- where nothing comes of an option's value it has none
-unmapped : {A B : Type 0} (f : A → B) (o : Option A) → option_map f o ≡ None → o ≡ None
-unmapped f None e = refl
-unmapped f (Some x) e = absurd (cc)
-
 -- flags with their defaults are the default options
 pub default_options-read : (rows : List Row) (options : DistOptions) → AreDistOptions rows options → first_of (codes "metric") rows ≡ Some (codes "euclid2") → one_of (codes "nearest") rows ≡ Some (codes "false")
     → first_of (codes "query") rows ≡ None → options ≡ default_options
@@ -100,7 +96,7 @@ default_options-read rows options are metric nearest query =
     let named : Some Euclid2 ≡ Some options.metric = ap (option_and_then metric_named) (sym metric) ∙ are.metric in
     let euclid : options.metric ≡ Euclid2 = cc in
     let plain : options.nearest ≡ false = are.unset nearest in
-    let unasked : options.query ≡ None = unmapped _ options.query (are.query ∙ query) in
+    let unasked : options.query ≡ None = map_none _ options.query (are.query ∙ query) in
     ap₂ (λ (m : MetricKind) (n : Bool). record { metric = m; nearest = n; query = options.query }) euclid plain
     ∙ ap (λ (q : Option (Bor (List ℕ))). record { metric = Euclid2; nearest = false; query = q }) unasked
 

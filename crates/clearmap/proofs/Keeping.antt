@@ -9,14 +9,7 @@ use Rattle.map_core.specs.declared.event.StepReply.{StepReply}
 use Rattle.map_core.specs.Runs.{IsRun, SafeStep}
 use Rattle.map_core.specs.Views.{State}
 use Rattle.clearmap.specs.Steps.{Keeps}
-
--- one event more at the end of a run
-IsRun-more : (old mid new : State) (es : List Event) (answers : List (Result StepReply NotEnabled)) (e : Event) (answer : Result StepReply NotEnabled)
-    → IsRun old es answers mid → SafeStep mid e answer new → IsRun old (es ++ e ∷ []) (answers ++ answer ∷ []) new
-IsRun-more old mid new [] [] e answer run step = (new, subst (λ (w : State). SafeStep w e answer new) run step, refl)
-IsRun-more old mid new [] (a ∷ answers) e answer run step = absurd run
-IsRun-more old mid new (f ∷ es) [] e answer run step = absurd run
-IsRun-more old mid new (f ∷ es) (a ∷ answers) e answer (next, first, rest) step = (next, first, IsRun-more next mid new es answers e answer rest step)
+use Rattle.map_core.proofs.RunLemmas.{run-push}
 
 -- one step
 pub Keeps-one : (old new : State) (answer : Result StepReply NotEnabled) → SafeStep old events.Keep answer new → Keeps 1 old answer new
@@ -26,5 +19,5 @@ Keeps-one old new answer step = record { before = []; run = (new, step, refl) }
 pub Keeps-more : (count : ℕ) (old mid new : State) (first second : Result StepReply NotEnabled) → Keeps count old first mid → SafeStep mid events.Keep second new → Keeps (count + 1) old second new
 Keeps-more count old mid new first second kept step = record {
   before = kept.before ++ first ∷ [];
-  run = rw (← replicate_more count events.Keep) (IsRun-more old mid new (replicate count events.Keep) (kept.before ++ first ∷ []) events.Keep second kept.run step);
+  run = rw (← replicate_more count events.Keep) (run-push old mid new (replicate count events.Keep) (kept.before ++ first ∷ []) events.Keep second kept.run step);
 }

@@ -7,14 +7,7 @@ use Rattle.metric.specs.Stream.{Appends, AppendsFront}
 use Rattle.metric.proofs.Appending.{AppendsFront-more}
 use Rattle.metric.specs.declared.near.Near.{Near}
 use Rattle.clearmap.specs.Table.{row_line, table_text}
-
--- numbers from a on are those of a front and those behind it
-range_with_len-add : (a n m : ℕ) → range_with_len a (n + m) ≡ range_with_len a n ++ range_with_len (a + n) m
-range_with_len-add a zero m = rw (zero-add, add-zero) refl
-range_with_len-add a (suc n) m =
-    let counted : suc n + m ≡ suc (n + m) = omega arith in
-    let shifted : (a + 1) + n ≡ a + suc n = omega arith in
-    ap (range_with_len a) counted ∙ ap (λ t. a ∷ t) (range_with_len-add (a + 1) n m ∙ ap (λ k. range_with_len (a + 1) n ++ range_with_len k m) shifted)
+use Rattle.pbm.proofs.Ranges.{range-append}
 
 -- the line of the row y among those of rows of this width
 abbrev pub line_at : Bool → ℕ → List (Option Near) → ℕ → List ℕ
@@ -24,7 +17,7 @@ line_at nearest width nears y = row_line nearest (slice_range nears (y * width) 
 table_text-split : (nearest : Bool) (width y later : ℕ) (nears : List (Option Near)) → table_text nearest width (y + (1 + later)) nears ≡ table_text nearest width y nears ++ (line_at nearest width nears y ++ flat_map (line_at nearest width nears) (range_with_len (y + 1) later))
 unfolding table_text
 table_text-split nearest width y later nears =
-    ap (flat_map (line_at nearest width nears)) (range_with_len-add 0 y (1 + later))
+    ap (flat_map (line_at nearest width nears)) (range-append 0 y (1 + later))
     ∙ (flat_map-append (line_at nearest width nears) (range_with_len 0 y) (range_with_len (0 + y) (1 + later))
     ∙ ap (λ t. flat_map (line_at nearest width nears) (range_with_len 0 y) ++ t) (next y later))
   where

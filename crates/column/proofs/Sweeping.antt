@@ -9,7 +9,7 @@ use Rattle.column.specs.Sweeps.{IsRowAbove, IsSweptDown, IsSweptUp, marked, near
 use Rattle.column.proofs.Nearest.{row_of-none, row_of-some, IsRowAbove-here, IsRowAbove-top, IsRowAbove-free, IsNearestRow-last, IsNearestRow-nearer}
 
 -- a place in a row above lies before the row
-place_above : (b y width x : ℕ) → b < y → x < width → b * width + x < y * width
+pub place_above : (b y width x : ℕ) → b < y → x < width → b * width + x < y * width
 place_above b y width x above column = let rows : width * (b + 1) ≤ width * y = mul-le-mul_left width (omega arith) in omega (arith, rows)
 
 -- a place in a row below lies behind the row

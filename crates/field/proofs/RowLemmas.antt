@@ -7,10 +7,7 @@ use Rattle.metric.specs.declared.near.Near.{Near}
 use Rattle.bits.specs.Cells.{Cells}
 use Rattle.envelope.specs.Rows.{AreRowNears}
 use Rattle.field.specs.Rows.{AreNears}
-
--- a place in a row above lies before all rows so far end
-place_above : (n m width x : ℕ) → n < m → x < width → n * width + x < m * width
-place_above n m width x above column = let rows : width * (n + 1) ≤ width * m = mul-le-mul_left width (omega arith) in omega (arith, rows)
+use Rattle.column.proofs.Sweeping.{place_above}
 
 -- one row more
 pub AreNears-more : (distance : ℕ → ℕ → ℕ) (cells : Cells) (y0 y : ℕ) (rows row : List (Option Near)) → y0 ≤ y

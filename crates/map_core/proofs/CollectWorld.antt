@@ -11,7 +11,7 @@ use Rattle.map_core.specs.declared.command.Command.TheVariants.{Collect}
 use Rattle.map_core.specs.declared.command.Entry.{Entry}
 use Rattle.map_core.specs.declared.command.Reply.{Reply}
 use Rattle.map_core.specs.declared.command.Reply.TheVariants.{Collected}
-use Rattle.map_core.specs.declared.reader.Place.{Place}
+use Rattle.map_core.specs.declared.reader.Standing.{Standing}
 use Rattle.map_core.specs.Story.{Story, newest, bitmap_of, kept, with_floor, inuse}
 use Rattle.map_core.specs.Legal.{told}
 use Rattle.map_core.specs.Blocks.{Blocks, is_used, blocks_of, given_back, moved}
@@ -19,7 +19,7 @@ use Rattle.map_core.specs.Words.{Base, now_word, now_of}
 use Rattle.map_core.specs.Views.{State, story, story_of, blocks_of_state}
 use Rattle.map_core.specs.Steps.{lowered, floor_after, reply_of}
 use Rattle.map_core.specs.Tidy.{IsRetired, IsTidy}
-use Rattle.map_core.specs.Kept.{Summary, IsSummary, Room, IsConsistent}
+use Rattle.map_core.specs.Consistent.{Summary, IsSummary, Room, IsConsistent}
 use Rattle.map_core.proofs.CameLemmas.{came-same_changes}
 use Rattle.map_core.proofs.FreedLemmas.{freed_is, floor_after-from}
 use Rattle.map_core.proofs.LogLemmas.{places_are}
@@ -114,9 +114,9 @@ now_collect k log reply place version now place_is version_is is =
     is ∙ (ap (λ (n : ℕ). now_word n version) (place_is ∙ ap (λ (n : ℕ). n + 1) (sym (places_are k log))) ∙ ap (λ (v : ℕ). now_word ((story k log).places + 1) v) version_is)
 
 -- the retired blocks find room in the free list, and are few
-pub room_retired : (w : State) (hand : Option Command) (steps : ℕ) (places : List Place) (u : Summary) (room : Room) → IsConsistent w hand steps places u room
+pub room_retired : (w : State) (hand : Option Command) (steps : ℕ) (standings : List Standing) (u : Summary) (room : Room) → IsConsistent w hand steps standings u room
     → (length u.free + length u.retired ≤ room.free) × (length u.retired ≤ 16384)
-room_retired w hand steps places u room consistent =
+room_retired w hand steps standings u room consistent =
     let sum = (tidy_of w consistent.whole).shape.blocks in
     let free = ap length consistent.summary.free_is in
     let retired = ap length consistent.summary.retired_is in
@@ -131,9 +131,9 @@ pub record IsRisen (s : Story) (scanned : List ℕ) (f : ℕ) : Type 0 where
   pub high : f ≤ newest s
 
 -- it is known by what is kept
-pub floor_risen : (w : State) (hand : Option Command) (steps : ℕ) (places : List Place) (u : Summary) (room : Room) → IsConsistent w hand steps places u room → (scanned : List ℕ) (least f : ℕ)
+pub floor_risen : (w : State) (hand : Option Command) (steps : ℕ) (standings : List Standing) (u : Summary) (room : Room) → IsConsistent w hand steps standings u room → (scanned : List ℕ) (least f : ℕ)
     → least ≡ fold lowered u.newest scanned → f ≡ max u.floor least → IsRisen (story_of w) scanned f
-floor_risen w hand steps places u room consistent scanned least f least_is is =
+floor_risen w hand steps standings u room consistent scanned least f least_is is =
     let floor_is = floor_collect w.base (story_of w) (blocks_of_state w) u scanned least f consistent.summary least_is is in
     let top = floor_after-le (story_of w) scanned (tidy_of w consistent.whole).floor_in in
     let from = floor_after-from (story_of w) scanned in

@@ -11,7 +11,7 @@ use Rattle.map_core.specs.declared.command.Reply.{Reply}
 use Rattle.map_core.specs.declared.command.Reply.TheVariants.{Reverted}
 use Rattle.map_core.specs.declared.event.Event.TheVariants.{Keep}
 use Rattle.map_core.specs.declared.event.StepReply.TheVariants as says
-use Rattle.map_core.specs.declared.reader.Place.{Place}
+use Rattle.map_core.specs.declared.reader.Standing.{Standing}
 use Rattle.map_core.specs.declared.setting.Setting.{Setting}
 use Rattle.map_core.specs.Story.{Story, newest, bitmap_of}
 use Rattle.map_core.specs.Legal.{told}
@@ -19,7 +19,7 @@ use Rattle.map_core.specs.Blocks.{Blocks, own_list, given_back, moved}
 use Rattle.map_core.specs.Words.{Base, word_count, now_at, now_word, now_of}
 use Rattle.map_core.specs.Views.{Hand, Reader, State, story, blocks, story_of, blocks_of_state}
 use Rattle.map_core.specs.Steps.{Outcome, does, keep, steps_before, reply_of}
-use Rattle.map_core.specs.Kept.{hand_of, reader_of, state_of, Summary, IsSummary, Room, IsConsistent, IsLastOf}
+use Rattle.map_core.specs.Consistent.{hand_of, reader_of, state_of, Summary, IsSummary, Room, IsConsistent, IsLastOf}
 use Rattle.map_core.specs.Tidy.{IsOfMap}
 use Rattle.map_core.proofs.CameLemmas.{came-same_changes}
 use Rattle.map_core.proofs.DoesLemmas.{does-keeps}
@@ -29,8 +29,8 @@ use Rattle.map_core.proofs.LogLemmas.{places-legal}
 use Rattle.map_core.proofs.LogLemmas.{places_are}
 
 -- what is kept of the readers tells the same after one more entry
-pub readers_stay : (log : List Entry) (e : Entry) (places : List Place) → ((r : ℕ) (p : Place) → slice_get places r ≡ Some p → p.seen ≤ length log)
-    → map (reader_of (log ++ e ∷ [])) places ≡ map (reader_of log) places
+pub readers_stay : (log : List Entry) (e : Entry) (standings : List Standing) → ((r : ℕ) (p : Standing) → slice_get standings r ≡ Some p → p.seen ≤ length log)
+    → map (reader_of (log ++ e ∷ [])) standings ≡ map (reader_of log) standings
 readers_stay log e [] within = refl
 readers_stay log e (p ∷ ps) within =
     let first : take p.seen (log ++ e ∷ []) ≡ take p.seen log = take-append-le p.seen log (e ∷ []) (within 0 p refl) in
@@ -38,62 +38,62 @@ readers_stay log e (p ∷ ps) within =
     ∙ ap (λ (xs : List Reader). reader_of log p ∷ xs) (readers_stay log e ps (λ r q there. within (suc r) q there))
 
 -- the last step of a command
-pub commit_does : (g : Setting) (b : Cells) (words : List ℕ) (log : List Entry) (hand : Option Command) (done new_done : ℕ) (scanned new_scanned : List ℕ) (places : List Place) (c : Command) (reply : Reply) (now : ℕ)
+pub commit_does : (g : Setting) (b : Cells) (words : List ℕ) (log : List Entry) (hand : Option Command) (done new_done : ℕ) (scanned new_scanned : List ℕ) (standings : List Standing) (c : Command) (reply : Reply) (now : ℕ)
     → hand ≡ Some c → steps_before record { setting = g; opening = b } (blocks record { setting = g; opening = b } log) c ≤ done
-    → ((r : ℕ) (p : Place) → slice_get places r ≡ Some p → p.seen ≤ length log)
+    → ((r : ℕ) (p : Standing) → slice_get standings r ≡ Some p → p.seen ≤ length log)
     → reply ≡ reply_of (story record { setting = g; opening = b } log) c scanned → now ≡ now_of (told (story record { setting = g; opening = b } log) c reply)
-    → does (state_of g b words log hand done scanned places) Keep
-    ≡ Some record { state = state_of g b (set words 0 now) (log ++ record { command = c; reply = reply } ∷ []) None new_done new_scanned places; answer = says.Committed reply; stored = Some now_at }
+    → does (state_of g b words log hand done scanned standings) Keep
+    ≡ Some record { state = state_of g b (set words 0 now) (log ++ record { command = c; reply = reply } ∷ []) None new_done new_scanned standings; answer = says.Committed reply; stored = Some now_at }
 unfolding does keep
-commit_does g b words log hand done new_done scanned new_scanned places c reply now is all within reply_is now_is =
+commit_does g b words log hand done new_done scanned new_scanned standings c reply now is all within reply_is now_is =
     let k : Base = record { setting = g; opening = b } in
     let s : Story = story k log in
-    let w : State = state_of g b words log (Some c) done scanned places in
+    let w : State = state_of g b words log (Some c) done scanned standings in
     let test : nat_lt done (steps_before k (blocks k log) c) ≡ false = not_below done (steps_before k (blocks k log) c) all in
     let said : Reply = reply_of s c scanned in
-    subst (λ (hd : Option Command). does (state_of g b words log hd done scanned places) Keep
-    ≡ Some record { state = state_of g b (set words 0 now) (log ++ record { command = c; reply = reply } ∷ []) None new_done new_scanned places; answer = says.Committed reply; stored = Some now_at }) (sym is)
+    subst (λ (hd : Option Command). does (state_of g b words log hd done scanned standings) Keep
+    ≡ Some record { state = state_of g b (set words 0 now) (log ++ record { command = c; reply = reply } ∷ []) None new_done new_scanned standings; answer = says.Committed reply; stored = Some now_at }) (sym is)
     (rw test
-    (by_reply g b words log new_done new_scanned places c said reply now now_is (sym reply_is) within))
+    (by_reply g b words log new_done new_scanned standings c said reply now now_is (sym reply_is) within))
   where
     not_below : (a b : ℕ) → b ≤ a → nat_lt a b ≡ false
     not_below a b h = grind (arith, nat_tests)
 
-    by_reply : (g : Setting) (b : Cells) (words : List ℕ) (log : List Entry) (new_done : ℕ) (new_scanned : List ℕ) (places : List Place) (c : Command) (said reply : Reply) (now : ℕ)
-        → now ≡ now_of (told (story record { setting = g; opening = b } log) c reply) → said ≡ reply → ((r : ℕ) (p : Place) → slice_get places r ≡ Some p → p.seen ≤ length log)
+    by_reply : (g : Setting) (b : Cells) (words : List ℕ) (log : List Entry) (new_done : ℕ) (new_scanned : List ℕ) (standings : List Standing) (c : Command) (said reply : Reply) (now : ℕ)
+        → now ≡ now_of (told (story record { setting = g; opening = b } log) c reply) → said ≡ reply → ((r : ℕ) (p : Standing) → slice_get standings r ≡ Some p → p.seen ≤ length log)
         → ◌≡◌ {A = Option Outcome} (Some record {
           state = record {
             base = record { setting = g; opening = b };
             words = set words 0 (now_of (told (story record { setting = g; opening = b } log) c said));
             keeper = record { log = log ++ record { command = c; reply = said } ∷ []; hand = None };
-            readers = map (reader_of log) places;
+            readers = map (reader_of log) standings;
           };
           answer = says.Committed said;
           stored = Some now_at;
-        }) (Some record { state = state_of g b (set words 0 now) (log ++ record { command = c; reply = reply } ∷ []) None new_done new_scanned places; answer = says.Committed reply; stored = Some now_at })
-    by_reply g b words log new_done new_scanned places c said reply now now_is same within = rw (same, now_is, readers_stay log record { command = c; reply = reply } places within)
+        }) (Some record { state = state_of g b (set words 0 now) (log ++ record { command = c; reply = reply } ∷ []) None new_done new_scanned standings; answer = says.Committed reply; stored = Some now_at })
+    by_reply g b words log new_done new_scanned standings c said reply now now_is same within = rw (same, now_is, readers_stay log record { command = c; reply = reply } standings within)
 
 -- what is kept is right after the last step, with what the new log says
-pub consistent_commit : (g : Setting) (b : Cells) (words : List ℕ) (log : List Entry) (hand : Option Command) (done new_done steps new_steps : ℕ) (scanned new_scanned : List ℕ) (places : List Place) (c : Command) (reply : Reply) (now : ℕ)
+pub consistent_commit : (g : Setting) (b : Cells) (words : List ℕ) (log : List Entry) (hand : Option Command) (done new_done steps new_steps : ℕ) (scanned new_scanned : List ℕ) (standings : List Standing) (c : Command) (reply : Reply) (now : ℕ)
     (u new : Summary) (room new_room : Room)
-    → IsConsistent (state_of g b words log hand done scanned places) hand steps places u room
-    → does (state_of g b words log hand done scanned places) Keep
-    ≡ Some record { state = state_of g b (set words 0 now) (log ++ record { command = c; reply = reply } ∷ []) None new_done new_scanned places; answer = says.Committed reply; stored = Some now_at }
+    → IsConsistent (state_of g b words log hand done scanned standings) hand steps standings u room
+    → does (state_of g b words log hand done scanned standings) Keep
+    ≡ Some record { state = state_of g b (set words 0 now) (log ++ record { command = c; reply = reply } ∷ []) None new_done new_scanned standings; answer = says.Committed reply; stored = Some now_at }
     → IsSummary record { setting = g; opening = b } (told (story record { setting = g; opening = b } log) c reply) (moved (story record { setting = g; opening = b } log) c reply (blocks record { setting = g; opening = b } log)) new
     → room.scanned ≤ new_room.scanned → room.free ≤ new_room.free → room.retired ≤ new_room.retired
-    → IsConsistent (state_of g b (set words 0 now) (log ++ record { command = c; reply = reply } ∷ []) None new_done new_scanned places) None new_steps places new new_room
-consistent_commit g b words log hand done new_done steps new_steps scanned new_scanned places c reply now u new room new_room consistent is summary scanned_room free_room retired_room =
+    → IsConsistent (state_of g b (set words 0 now) (log ++ record { command = c; reply = reply } ∷ []) None new_done new_scanned standings) None new_steps standings new new_room
+consistent_commit g b words log hand done new_done steps new_steps scanned new_scanned standings c reply now u new room new_room consistent is summary scanned_room free_room retired_room =
     let k : Base = record { setting = g; opening = b } in
     let e : Entry = record { command = c; reply = reply } in
-    let keeps = does-keeps (state_of g b words log hand done scanned places) Keep _ consistent.whole is in
+    let keeps = does-keeps (state_of g b words log hand done scanned standings) Keep _ consistent.whole is in
     let scanned_before = consistent.roomy.scanned in
     let free_before = consistent.roomy.free in
     let retired_before = consistent.roomy.retired in
     record {
       whole = keeps.whole;
       steps = tt;
-      place = λ r p there.
-          let place = consistent.place r p there in
+      standing = λ r p there.
+          let place = consistent.standing r p there in
           let within = place.within in
           record {
             within = omega (arith, length-append log (e ∷ []));
@@ -124,32 +124,27 @@ last_known w v c hand done scanned same is last =
         (ap (λ (e : Command). Some e) command, omega arith)
 
 -- the last step of a command, of a world whose parts are kept right
-pub last_does : (g : Setting) (b : Cells) (words : List ℕ) (log : List Entry) (hand : Option Command) (done : ℕ) (scanned : List ℕ) (places : List Place) (steps : ℕ) (u : Summary) (room : Room) (c : Command) (reply : Reply) (now : ℕ)
-    → IsConsistent (state_of g b words log hand done scanned places) hand steps places u room
+pub last_does : (g : Setting) (b : Cells) (words : List ℕ) (log : List Entry) (hand : Option Command) (done : ℕ) (scanned : List ℕ) (standings : List Standing) (steps : ℕ) (u : Summary) (room : Room) (c : Command) (reply : Reply) (now : ℕ)
+    → IsConsistent (state_of g b words log hand done scanned standings) hand steps standings u room
     → (hand ≡ Some c) × (steps_before record { setting = g; opening = b } (blocks record { setting = g; opening = b } log) c ≤ done)
     → reply ≡ reply_of (story record { setting = g; opening = b } log) c scanned → now ≡ now_of (told (story record { setting = g; opening = b } log) c reply)
-    → does (state_of g b words log hand done scanned places) Keep
-    ≡ Some record { state = state_of g b (set words 0 now) (log ++ record { command = c; reply = reply } ∷ []) None done scanned places; answer = says.Committed reply; stored = Some now_at }
-last_does g b words log hand done scanned places steps u room c reply now consistent known reply_is now_is =
-    commit_does g b words log hand done done scanned scanned places c reply now known.0 known.1 (λ r p there. (consistent.place r p there).within) reply_is now_is
+    → does (state_of g b words log hand done scanned standings) Keep
+    ≡ Some record { state = state_of g b (set words 0 now) (log ++ record { command = c; reply = reply } ∷ []) None done scanned standings; answer = says.Committed reply; stored = Some now_at }
+last_does g b words log hand done scanned standings steps u room c reply now consistent known reply_is now_is =
+    commit_does g b words log hand done done scanned scanned standings c reply now known.0 known.1 (λ r p there. (consistent.standing r p there).within) reply_is now_is
 
 -- the log has few entries
-pub log_few : (w : State) (hand : Option Command) (steps : ℕ) (places : List Place) (u : Summary) (room : Room) → IsConsistent w hand steps places u room → length w.keeper.log ≤ 1048576
-log_few w hand steps places u room consistent =
+pub log_few : (w : State) (hand : Option Command) (steps : ℕ) (standings : List Standing) (u : Summary) (room : Room) → IsConsistent w hand steps standings u room → length w.keeper.log ≤ 1048576
+log_few w hand steps standings u room consistent =
     let counts = places-legal w.base w.keeper.log consistent.whole.keeper.legal in
     let fits = counts.0 in
     let most = consistent.whole.ready.log in
     let is = places_are w.base w.keeper.log in
     omega arith
 
--- there is a word NOW
-pub now_within : (w : State) (hand : Option Command) (steps : ℕ) (places : List Place) (u : Summary) (room : Room) → IsConsistent w hand steps places u room → 0 < length w.words
-unfolding word_count
-now_within w hand steps places u room consistent = let sized = consistent.whole.keeper.sized in omega arith
-
 -- the draft's own blocks find room in the free list
-pub room_back : (w : State) (hand : Option Command) (steps : ℕ) (places : List Place) (u : Summary) (room : Room) → IsConsistent w hand steps places u room → length u.free + length (own_list u.own) ≤ room.free
-room_back w hand steps places u room consistent =
+pub room_back : (w : State) (hand : Option Command) (steps : ℕ) (standings : List Standing) (u : Summary) (room : Room) → IsConsistent w hand steps standings u room → length u.free + length (own_list u.own) ≤ room.free
+room_back w hand steps standings u room consistent =
     let sum = (tidy_of w consistent.whole).shape.blocks in
     let free = ap length consistent.summary.free_is in
     let own = ap (λ (os : List (Option ℕ)). length (own_list os)) consistent.summary.own_is in
@@ -157,8 +152,8 @@ room_back w hand steps places u room consistent =
     omega arith
 
 -- the published bitmap is of the map's size
-pub published_of_map : (w : State) (hand : Option Command) (steps : ℕ) (places : List Place) (u : Summary) (room : Room) → IsConsistent w hand steps places u room → IsOfMap w.base u.published
-published_of_map w hand steps places u room consistent =
+pub published_of_map : (w : State) (hand : Option Command) (steps : ℕ) (standings : List Standing) (u : Summary) (room : Room) → IsConsistent w hand steps standings u room → IsOfMap w.base u.published
+published_of_map w hand steps standings u room consistent =
     subst (λ (b : Cells). IsOfMap w.base b) (sym consistent.summary.published_is) ((tidy_of w consistent.whole).published (newest (story_of w)) (omega arith))
 
 -- the reply of a revert

@@ -10,7 +10,7 @@ use Rattle.map_core.specs.declared.command.Command.TheVariants.{Paint, Stamp, Pu
 use Rattle.map_core.specs.declared.command.Entry.{Entry}
 use Rattle.map_core.specs.declared.command.Reply.{Reply}
 use Rattle.map_core.specs.declared.command.Reply.TheVariants.{Painted}
-use Rattle.map_core.specs.declared.reader.Place.{Place}
+use Rattle.map_core.specs.declared.reader.Standing.{Standing}
 use Rattle.map_core.specs.declared.setting.Setting.{Setting}
 use Rattle.map_core.specs.Drawing.{drawn, touched, differing, is_inside, cells_changed}
 use Rattle.map_core.specs.Story.{Story, newest, bitmap_of, trues, new_ones}
@@ -21,7 +21,7 @@ use Rattle.map_core.specs.Views.{Hand, State, story, story_of, blocks_of_state}
 use Rattle.map_core.specs.Steps.{reply_of, steps_before}
 use Rattle.map_core.specs.Tidy.{IsOfMap}
 use Rattle.map_core.specs.Sound.{InHand}
-use Rattle.map_core.specs.Kept.{hand_of, Summary, IsSummary, Room, IsConsistent, IsDraw, IsDrawing}
+use Rattle.map_core.specs.Consistent.{hand_of, Summary, IsSummary, Room, IsConsistent, IsDraw, IsDrawing}
 use Rattle.map_core.proofs.CameLemmas.{came-same_changes}
 use Rattle.map_core.proofs.LogLemmas.{places_are}
 use Rattle.map_core.proofs.KeepWorld.{that_hand}
@@ -67,9 +67,9 @@ inside_accepted g s Revert accepted = refl
 inside_accepted g s Collect accepted = refl
 
 -- a command in hand lies in the map
-pub hand_inside : (w : State) (hand : Option Command) (steps : ℕ) (places : List Place) (u : Summary) (room : Room) → IsConsistent w hand steps places u room → (c : Command) (done : ℕ) (scanned : List ℕ) (copy : Cells)
+pub hand_inside : (w : State) (hand : Option Command) (steps : ℕ) (standings : List Standing) (u : Summary) (room : Room) → IsConsistent w hand steps standings u room → (c : Command) (done : ℕ) (scanned : List ℕ) (copy : Cells)
     → w.keeper.hand ≡ hand_of hand done scanned → hand ≡ Some c → copy ≡ u.draft → is_inside copy c ≡ true
-hand_inside w hand steps places u room consistent c done scanned copy is found same =
+hand_inside w hand steps standings u room consistent c done scanned copy is found same =
     let there : w.keeper.hand ≡ Some record { command = c; done = done; scanned = scanned } = is ∙ ap (λ (h : Option Command). hand_of h done scanned) found in
     let inhand : InHand w.base (story_of w) (blocks_of_state w) w.words record { command = c; done = done; scanned = scanned } =
     subst (λ (h : Option Hand). IfSome h (InHand w.base (story_of w) (blocks_of_state w) w.words)) there consistent.whole.keeper.hand in
@@ -156,6 +156,6 @@ pub written_back : {A : Type 0} (n : ℕ) (own now rest : List A) → n ≡ leng
 written_back {A} n own now rest long same = ap (λ (k : ℕ). take k (now ++ rest)) (long ∙ sym same) ∙ take-append_seam now rest
 
 -- how many cells a paint or a stamp changes, by the draft that is kept
-pub count_draw : (w : State) (hand : Option Command) (steps : ℕ) (places : List Place) (u : Summary) (room : Room) → IsConsistent w hand steps places u room → (copy : Cells) (c : Command) (n : ℕ)
+pub count_draw : (w : State) (hand : Option Command) (steps : ℕ) (standings : List Standing) (u : Summary) (room : Room) → IsConsistent w hand steps standings u room → (copy : Cells) (c : Command) (n : ℕ)
     → copy ≡ u.draft → n ≡ cells_changed copy c → n ≡ cells_changed (story_of w).draft c
-count_draw w hand steps places u room consistent copy c n same is = is ∙ ap (λ (b : Cells). cells_changed b c) (same ∙ consistent.summary.draft_is)
+count_draw w hand steps standings u room consistent copy c n same is = is ∙ ap (λ (b : Cells). cells_changed b c) (same ∙ consistent.summary.draft_is)

@@ -9,44 +9,44 @@ use Rattle.metric.specs.declared.refusal.Refusal.TheVariants.{OutOfRange, Blocks
 use Rattle.metric.specs.declared.rect.Rect.{Rect}
 use Rattle.map_core.specs.declared.command.Command.{Command}
 use Rattle.map_core.specs.declared.command.Command.TheVariants.{Paint, Stamp, Publish, Revert, Collect}
-use Rattle.map_core.specs.declared.reader.Place.{Place}
+use Rattle.map_core.specs.declared.reader.Standing.{Standing}
 use Rattle.map_core.specs.declared.setting.Setting.{Setting}
 use Rattle.map_core.specs.Drawing.{drawn, touched, differing, is_inside}
 use Rattle.map_core.specs.Story.{Story, kept_log, newest, kept, trues, new_ones, inuse}
 use Rattle.map_core.specs.Legal.{needed, refused, refused_blocks, is_log_full, is_versions_full}
 use Rattle.map_core.specs.Views.{State, story_of, blocks_of_state}
 use Rattle.map_core.specs.Tidy.{IsOfMap}
-use Rattle.map_core.specs.Kept.{Summary, Room, IsConsistent}
+use Rattle.map_core.specs.Consistent.{Summary, Room, IsConsistent}
 use Rattle.std.proofs.lemmas.List.FromFn.{length-range_with_len}
 use Rattle.map_core.proofs.LogLemmas.{places_are}
 use Rattle.map_core.proofs.StepLemmas.{tidy_of}
 use Rattle.map_core.proofs.TidyDraft.{tile_count-of_map, IsOfMap-drawn, free_is}
 
 -- the draft that is kept is of the map's size
-pub draft_of_map : (w : State) (hand : Option Command) (steps : ℕ) (places : List Place) (u : Summary) (room : Room) → IsConsistent w hand steps places u room → IsOfMap w.base u.draft
-draft_of_map w hand steps places u room consistent = subst (λ (b : Cells). IsOfMap w.base b) (sym consistent.summary.draft_is) (tidy_of w consistent.whole).draft
+pub draft_of_map : (w : State) (hand : Option Command) (steps : ℕ) (standings : List Standing) (u : Summary) (room : Room) → IsConsistent w hand steps standings u room → IsOfMap w.base u.draft
+draft_of_map w hand steps standings u room consistent = subst (λ (b : Cells). IsOfMap w.base b) (sym consistent.summary.draft_is) (tidy_of w consistent.whole).draft
 
 -- the scratch bitmap is as wide as the draft
-pub same_width : (w : State) (hand : Option Command) (steps : ℕ) (places : List Place) (u : Summary) (room : Room) → IsConsistent w hand steps places u room → u.scratch.width ≡ u.draft.width
-same_width w hand steps places u room consistent = consistent.summary.scratch.width_is ∙ sym (draft_of_map w hand steps places u room consistent).width_is
+pub same_width : (w : State) (hand : Option Command) (steps : ℕ) (standings : List Standing) (u : Summary) (room : Room) → IsConsistent w hand steps standings u room → u.scratch.width ≡ u.draft.width
+same_width w hand steps standings u room consistent = consistent.summary.scratch.width_is ∙ sym (draft_of_map w hand steps standings u room consistent).width_is
 
 -- and as high
-pub same_height : (w : State) (hand : Option Command) (steps : ℕ) (places : List Place) (u : Summary) (room : Room) → IsConsistent w hand steps places u room → u.scratch.height ≡ u.draft.height
-same_height w hand steps places u room consistent = consistent.summary.scratch.height_is ∙ sym (draft_of_map w hand steps places u room consistent).height_is
+pub same_height : (w : State) (hand : Option Command) (steps : ℕ) (standings : List Standing) (u : Summary) (room : Room) → IsConsistent w hand steps standings u room → u.scratch.height ≡ u.draft.height
+same_height w hand steps standings u room consistent = consistent.summary.scratch.height_is ∙ sym (draft_of_map w hand steps standings u room consistent).height_is
 
 -- a bitmap that is drawn on the draft is of the map's size
-pub drawn_of_map : (w : State) (hand : Option Command) (steps : ℕ) (places : List Place) (u : Summary) (room : Room) → IsConsistent w hand steps places u room → (copy new : Cells) (c : Command)
+pub drawn_of_map : (w : State) (hand : Option Command) (steps : ℕ) (standings : List Standing) (u : Summary) (room : Room) → IsConsistent w hand steps standings u room → (copy new : Cells) (c : Command)
     → copy ≡ u.draft → new ≡ drawn copy c → IsOfMap w.base new
-drawn_of_map w hand steps places u room consistent copy new c same is =
-    subst (λ (b : Cells). IsOfMap w.base b) (sym (is ∙ ap (λ (b : Cells). drawn b c) same)) (IsOfMap-drawn w.base u.draft c (draft_of_map w hand steps places u room consistent))
+drawn_of_map w hand steps standings u room consistent copy new c same is =
+    subst (λ (b : Cells). IsOfMap w.base b) (sym (is ∙ ap (λ (b : Cells). drawn b c) same)) (IsOfMap-drawn w.base u.draft c (draft_of_map w hand steps standings u room consistent))
 
 -- what is kept stays right with another scratch bitmap
-pub consistent_scratch : (w : State) (hand : Option Command) (steps : ℕ) (places : List Place) (u : Summary) (room : Room) → IsConsistent w hand steps places u room → (scratch : Cells)
-    → IsOfMap w.base scratch → IsConsistent w hand steps places record u { scratch = scratch } room
-consistent_scratch w hand steps places u room consistent scratch of_map = record {
+pub consistent_scratch : (w : State) (hand : Option Command) (steps : ℕ) (standings : List Standing) (u : Summary) (room : Room) → IsConsistent w hand steps standings u room → (scratch : Cells)
+    → IsOfMap w.base scratch → IsConsistent w hand steps standings record u { scratch = scratch } room
+consistent_scratch w hand steps standings u room consistent scratch of_map = record {
   whole = consistent.whole;
   steps = consistent.steps;
-  place = consistent.place;
+  standing = consistent.standing;
   summary = let kept = consistent.summary in record {
     newest_is = kept.newest_is;
     floor_is = kept.floor_is;
@@ -63,23 +63,23 @@ consistent_scratch w hand steps places u room consistent scratch of_map = record
 }
 
 -- the draft's own blocks are kept for each position
-pub own_long : (w : State) (hand : Option Command) (steps : ℕ) (places : List Place) (u : Summary) (room : Room) → IsConsistent w hand steps places u room → length u.own ≡ tile_count u.draft
-own_long w hand steps places u room consistent =
-    ap length consistent.summary.own_is ∙ ((tidy_of w consistent.whole).shape.own ∙ sym (tile_count-of_map w.base u.draft (draft_of_map w hand steps places u room consistent)))
+pub own_long : (w : State) (hand : Option Command) (steps : ℕ) (standings : List Standing) (u : Summary) (room : Room) → IsConsistent w hand steps standings u room → length u.own ≡ tile_count u.draft
+own_long w hand steps standings u room consistent =
+    ap length consistent.summary.own_is ∙ ((tidy_of w consistent.whole).shape.own ∙ sym (tile_count-of_map w.base u.draft (draft_of_map w hand steps standings u room consistent)))
 
 -- the free blocks that are kept are those that aren't in use
-pub free_kept : (w : State) (hand : Option Command) (steps : ℕ) (places : List Place) (u : Summary) (room : Room) → IsConsistent w hand steps places u room
+pub free_kept : (w : State) (hand : Option Command) (steps : ℕ) (standings : List Standing) (u : Summary) (room : Room) → IsConsistent w hand steps standings u room
     → length u.free + inuse (story_of w) ≡ w.base.setting.blocks
-free_kept w hand steps places u room consistent =
+free_kept w hand steps standings u room consistent =
     let free = free_is w.base (story_of w) (blocks_of_state w) (tidy_of w consistent.whole) in
     let same = ap length consistent.summary.free_is in
     omega arith
 
 -- the count of the blocks that a command needs is right
-pub needed_is : (w : State) (hand : Option Command) (steps : ℕ) (places : List Place) (u : Summary) (room : Room) → IsConsistent w hand steps places u room → (copy new : Cells) (c : Command) (n : ℕ)
+pub needed_is : (w : State) (hand : Option Command) (steps : ℕ) (standings : List Standing) (u : Summary) (room : Room) → IsConsistent w hand steps standings u room → (copy new : Cells) (c : Command) (n : ℕ)
     → copy ≡ u.draft → new ≡ drawn copy c → n ≡ trues (new_ones (differing u.draft new) (map is_some u.own)) → n ≡ needed (story_of w) c
 unfolding needed touched
-needed_is w hand steps places u room consistent copy new c n same is count =
+needed_is w hand steps standings u room consistent copy new c n same is count =
     let kept = consistent.summary in
     let tidy = tidy_of w consistent.whole in
     let s = story_of w in
@@ -155,53 +155,53 @@ unfolding kept_log
 full_is w limit is = ap (λ (n : ℕ). nat_le w.base.setting.log n) (places_are w.base w.keeper.log) ∙ ap (λ (l : ℕ). nat_le l (length w.keeper.log)) (sym is)
 
 -- how many versions are kept
-pub versions_kept : (w : State) (hand : Option Command) (steps : ℕ) (places : List Place) (u : Summary) (room : Room) → IsConsistent w hand steps places u room → u.newest + 1 ≡ length (kept (story_of w)) + u.floor
+pub versions_kept : (w : State) (hand : Option Command) (steps : ℕ) (standings : List Standing) (u : Summary) (room : Room) → IsConsistent w hand steps standings u room → u.newest + 1 ≡ length (kept (story_of w)) + u.floor
 unfolding kept
-versions_kept w hand steps places u room consistent =
+versions_kept w hand steps standings u room consistent =
     let floor_in = (tidy_of w consistent.whole).floor_in in
     let newest_is = consistent.summary.newest_is in
     let floor_is = consistent.summary.floor_is in
     omega (arith, length-range_with_len (story_of w).floor (suc (newest (story_of w)) - (story_of w).floor))
 
 -- the area of a command, by the draft that is kept
-pub inside_now : (w : State) (hand : Option Command) (steps : ℕ) (places : List Place) (u : Summary) (room : Room) → IsConsistent w hand steps places u room → (c : Command) (test : Bool)
+pub inside_now : (w : State) (hand : Option Command) (steps : ℕ) (standings : List Standing) (u : Summary) (room : Room) → IsConsistent w hand steps standings u room → (c : Command) (test : Bool)
     → test ≡ is_inside u.draft c → test ≡ is_inside (story_of w).draft c
-inside_now w hand steps places u room consistent c test is = is ∙ ap (λ (b : Cells). is_inside b c) consistent.summary.draft_is
+inside_now w hand steps standings u room consistent c test is = is ∙ ap (λ (b : Cells). is_inside b c) consistent.summary.draft_is
 
 -- the log is full
-pub is_full : (w : State) (hand : Option Command) (steps : ℕ) (places : List Place) (u : Summary) (room : Room) → IsConsistent w hand steps places u room → (n : ℕ) → n ≡ length w.keeper.log → w.base.setting.log ≤ n → is_log_full w.base.setting (story_of w) ≡ true
-is_full w hand steps places u room consistent n is h = full_is w w.base.setting.log refl ∙ (let few : w.base.setting.log ≤ length w.keeper.log = omega arith in grind (arith, nat_tests))
+pub is_full : (w : State) (hand : Option Command) (steps : ℕ) (standings : List Standing) (u : Summary) (room : Room) → IsConsistent w hand steps standings u room → (n : ℕ) → n ≡ length w.keeper.log → w.base.setting.log ≤ n → is_log_full w.base.setting (story_of w) ≡ true
+is_full w hand steps standings u room consistent n is h = full_is w w.base.setting.log refl ∙ (let few : w.base.setting.log ≤ length w.keeper.log = omega arith in grind (arith, nat_tests))
 
 -- the log has room
 pub not_full : (w : State) (n : ℕ) → n ≡ length w.keeper.log → n < w.base.setting.log → is_log_full w.base.setting (story_of w) ≡ false
 not_full w n is h = full_is w w.base.setting.log refl ∙ (let few : length w.keeper.log < w.base.setting.log = omega arith in grind (arith, nat_tests))
 
 -- there is no slot
-pub slots_full : (w : State) (hand : Option Command) (steps : ℕ) (places : List Place) (u : Summary) (room : Room) → IsConsistent w hand steps places u room → (n : ℕ) → n ≡ u.newest + 1 - u.floor
+pub slots_full : (w : State) (hand : Option Command) (steps : ℕ) (standings : List Standing) (u : Summary) (room : Room) → IsConsistent w hand steps standings u room → (n : ℕ) → n ≡ u.newest + 1 - u.floor
     → w.base.setting.versions ≤ n → Some VersionsFull ≡ (if is_versions_full w.base.setting (story_of w) then Some VersionsFull else None)
-slots_full w hand steps places u room consistent n is h =
-    let count = versions_kept w hand steps places u room consistent in
+slots_full w hand steps standings u room consistent n is h =
+    let count = versions_kept w hand steps standings u room consistent in
     let many : w.base.setting.versions ≤ length (kept (story_of w)) = omega arith in
     let test : is_versions_full w.base.setting (story_of w) ≡ true = grind (arith, nat_tests) in
     sym (rw test)
 
 -- there is a slot
-pub slots_free : (w : State) (hand : Option Command) (steps : ℕ) (places : List Place) (u : Summary) (room : Room) → IsConsistent w hand steps places u room → (n : ℕ) → n ≡ u.newest + 1 - u.floor
+pub slots_free : (w : State) (hand : Option Command) (steps : ℕ) (standings : List Standing) (u : Summary) (room : Room) → IsConsistent w hand steps standings u room → (n : ℕ) → n ≡ u.newest + 1 - u.floor
     → n < w.base.setting.versions → None ≡ (if is_versions_full w.base.setting (story_of w) then Some VersionsFull else None)
-slots_free w hand steps places u room consistent n is h =
-    let count = versions_kept w hand steps places u room consistent in
+slots_free w hand steps standings u room consistent n is h =
+    let count = versions_kept w hand steps standings u room consistent in
     let few : length (kept (story_of w)) < w.base.setting.versions = omega arith in
     let test : is_versions_full w.base.setting (story_of w) ≡ false = grind (arith, nat_tests) in
     sym (rw test)
 
 -- what a command that lies in the map meets, where the log has room: by its kind
-pub judged_kind : (w v : State) (hand : Option Command) (steps : ℕ) (places : List Place) (u : Summary) (room : Room) → v ≡ w → IsConsistent v hand steps places u room → (c : Command) (n : ℕ)
+pub judged_kind : (w v : State) (hand : Option Command) (steps : ℕ) (standings : List Standing) (u : Summary) (room : Room) → v ≡ w → IsConsistent v hand steps standings u room → (c : Command) (n : ℕ)
     → true ≡ is_inside u.draft c → n ≡ length v.keeper.log → n < v.base.setting.log → (result : Option Refusal)
     → (P : Command → Setting → Story → Type 0)
     → ((g : Setting) (s : Story) → true ≡ is_inside s.draft c → is_log_full g s ≡ false → P c g s → result ≡ refused g s c)
     → P c w.base.setting (story_of w) → result ≡ refused w.base.setting (story_of w) c
-judged_kind w v hand steps places u room same consistent c n inside count room_left result P judge given =
+judged_kind w v hand steps standings u room same consistent c n inside count room_left result P judge given =
     judge w.base.setting (story_of w)
-    (subst (λ (x : State). true ≡ is_inside (story_of x).draft c) same (inside_now v hand steps places u room consistent c true inside))
+    (subst (λ (x : State). true ≡ is_inside (story_of x).draft c) same (inside_now v hand steps standings u room consistent c true inside))
     (subst (λ (x : State). is_log_full x.base.setting (story_of x) ≡ false) same (not_full v n count room_left))
     given

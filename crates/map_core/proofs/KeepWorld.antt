@@ -2,6 +2,7 @@
 use Rattle.std.proofs.Common.{◌≡◌, ℕ, ◌+◌, ◌<◌, ◌≤◌, true, List, [], ◌∷◌, ◌++◌, length, get_or, set, refl, ap, subst, sym, ◌∙◌, arith}
 use Rattle.std.specs.Prelude.{Option, Some, None, IfSome, nat_lt}
 use Rattle.std.proofs.lemmas.Bool.Decides.{nat_tests}
+use Rattle.std.proofs.lemmas.List.{get_or_read}
 use Rattle.bits.specs.Cells.{Cells}
 use Rattle.map_core.specs.declared.command.Command.{Command}
 use Rattle.map_core.specs.declared.command.Command.TheVariants.{Publish, Revert, Collect}
@@ -9,12 +10,12 @@ use Rattle.map_core.specs.declared.command.Entry.{Entry}
 use Rattle.map_core.specs.declared.event.Event.TheVariants.{Keep}
 use Rattle.map_core.specs.declared.event.StepReply.{StepReply}
 use Rattle.map_core.specs.declared.event.StepReply.TheVariants as says
-use Rattle.map_core.specs.declared.reader.Place.{Place}
+use Rattle.map_core.specs.declared.reader.Standing.{Standing}
 use Rattle.map_core.specs.declared.setting.Setting.{Setting}
 use Rattle.map_core.specs.Words.{Base, word_count, pin_at}
 use Rattle.map_core.specs.Views.{Hand, State, story, blocks, story_of, blocks_of_state}
 use Rattle.map_core.specs.Steps.{Write, does, keep, steps_before, write_of}
-use Rattle.map_core.specs.Kept.{hand_of, state_of, Summary, Room, IsConsistent, IsStepOf, IsLastOf, IsDraw, IsDrawing}
+use Rattle.map_core.specs.Consistent.{hand_of, state_of, Summary, Room, IsConsistent, IsStepOf, IsLastOf, IsDraw, IsDrawing}
 use Rattle.map_core.specs.Sound.{InHand}
 use Rattle.map_core.proofs.DoesLemmas.{does-keeps}
 
@@ -39,37 +40,41 @@ hand_known w v c hand done scanned same is step =
         let more = step.more in
         (ap (λ (e : Command). Some e) command, omega arith)
 
+-- a reader's word is read at its place
+pub scan_read : (words : List ℕ) (done at word : ℕ) → at ≡ pin_at done → pin_at done < length words → word ≡ get_or words at word → word ≡ get_or words (pin_at done) 0
+scan_read words done at word at_is within read = get_or_read words (pin_at done) word within (read ∙ ap (λ (n : ℕ). get_or words n word) at_is) 0
+
 -- a step of a collect
-pub scan_does : (g : Setting) (b : Cells) (words : List ℕ) (log : List Entry) (hand : Option Command) (done : ℕ) (scanned : List ℕ) (places : List Place) (word : ℕ)
-    → hand ≡ Some Collect → done < steps_before record { setting = g; opening = b } (blocks record { setting = g; opening = b } log) Collect → word ≡ get_or words (1 + done) 0
-    → does (state_of g b words log hand done scanned places) Keep
-    ≡ Some record { state = state_of g b words log hand (done + 1) (scanned ++ word ∷ []) places; answer = says.Scanned done word; stored = None }
-unfolding does keep pin_at
-scan_does g b words log hand done scanned places word is more word_is =
+pub scan_does : (g : Setting) (b : Cells) (words : List ℕ) (log : List Entry) (hand : Option Command) (done : ℕ) (scanned : List ℕ) (standings : List Standing) (word : ℕ)
+    → hand ≡ Some Collect → done < steps_before record { setting = g; opening = b } (blocks record { setting = g; opening = b } log) Collect → word ≡ get_or words (pin_at done) 0
+    → does (state_of g b words log hand done scanned standings) Keep
+    ≡ Some record { state = state_of g b words log hand (done + 1) (scanned ++ word ∷ []) standings; answer = says.Scanned done word; stored = None }
+unfolding does keep
+scan_does g b words log hand done scanned standings word is more word_is =
     let k : Base = record { setting = g; opening = b } in
     let test : nat_lt done (steps_before k (blocks k log) Collect) ≡ true = below done (steps_before k (blocks k log) Collect) more in
-    subst (λ (hd : Option Command). does (state_of g b words log hd done scanned places) Keep
-    ≡ Some record { state = state_of g b words log hd (done + 1) (scanned ++ word ∷ []) places; answer = says.Scanned done word; stored = None }) (sym is)
+    subst (λ (hd : Option Command). does (state_of g b words log hd done scanned standings) Keep
+    ≡ Some record { state = state_of g b words log hd (done + 1) (scanned ++ word ∷ []) standings; answer = says.Scanned done word; stored = None }) (sym is)
     (rw (test, ← word_is))
   where
     below : (a b : ℕ) → a < b → nat_lt a b ≡ true
     below a b h = grind (arith, nat_tests)
 
 -- what is kept stays right after a step that leaves log, readers and slots of what is kept
-pub consistent_step : (g : Setting) (b : Cells) (words new_words : List ℕ) (log : List Entry) (hand : Option Command) (done new_done : ℕ) (scanned new_scanned : List ℕ) (places : List Place)
+pub consistent_step : (g : Setting) (b : Cells) (words new_words : List ℕ) (log : List Entry) (hand : Option Command) (done new_done : ℕ) (scanned new_scanned : List ℕ) (standings : List Standing)
     (steps : ℕ) (u : Summary) (room : Room) (scanned_room : ℕ) (answer : StepReply) (stored : Option ℕ)
-    → IsConsistent (state_of g b words log hand done scanned places) hand steps places u room
-    → does (state_of g b words log hand done scanned places) Keep ≡ Some record { state = state_of g b new_words log hand new_done new_scanned places; answer = answer; stored = stored }
+    → IsConsistent (state_of g b words log hand done scanned standings) hand steps standings u room
+    → does (state_of g b words log hand done scanned standings) Keep ≡ Some record { state = state_of g b new_words log hand new_done new_scanned standings; answer = answer; stored = stored }
     → room.scanned ≡ scanned_room
-    → IsConsistent (state_of g b new_words log hand new_done new_scanned places) hand steps places u record room { scanned = scanned_room }
-consistent_step g b words new_words log hand done new_done scanned new_scanned places steps u room scanned_room answer stored consistent is same =
-    let keeps = does-keeps (state_of g b words log hand done scanned places) Keep _ consistent.whole is in
+    → IsConsistent (state_of g b new_words log hand new_done new_scanned standings) hand steps standings u record room { scanned = scanned_room }
+consistent_step g b words new_words log hand done new_done scanned new_scanned standings steps u room scanned_room answer stored consistent is same =
+    let keeps = does-keeps (state_of g b words log hand done scanned standings) Keep _ consistent.whole is in
     let roomy = consistent.roomy in
     let scanned_before = roomy.scanned in
     record {
       whole = keeps.whole;
       steps = consistent.steps;
-      place = consistent.place;
+      standing = consistent.standing;
       summary = consistent.summary;
       roomy = record { log = log_room hand done new_done scanned new_scanned (length log < room.log) roomy.log; scanned = omega arith; free = roomy.free; retired = roomy.retired };
     }
@@ -79,11 +84,11 @@ consistent_step g b words new_words log hand done new_done scanned new_scanned p
     log_room (Some c) done new_done scanned new_scanned P h = h
 
 -- the words that a scan loads are there, and there is room for what it has seen
-pub scan_within : (w : State) (hand : Option Command) (steps : ℕ) (places : List Place) (u : Summary) (room : Room) (done : ℕ) (scanned : List ℕ) → IsConsistent w hand steps places u room
+pub scan_within : (w : State) (hand : Option Command) (steps : ℕ) (standings : List Standing) (u : Summary) (room : Room) (done : ℕ) (scanned : List ℕ) → IsConsistent w hand steps standings u room
     → w.keeper.hand ≡ hand_of hand done scanned → hand ≡ Some Collect → done < steps_before w.base (blocks_of_state w) Collect
-    → (1 + done < length w.words) × (length scanned < room.scanned)
-unfolding steps_before word_count
-scan_within w hand steps places u room done scanned consistent is collect more =
+    → (pin_at done < length w.words) × (length scanned < room.scanned)
+unfolding steps_before word_count pin_at
+scan_within w hand steps standings u room done scanned consistent is collect more =
     let sized = consistent.whole.keeper.sized in
     let roomy = consistent.roomy.scanned in
     let there : w.keeper.hand ≡ Some record { command = Collect; done = done; scanned = scanned } = is ∙ ap (λ (h : Option Command). hand_of h done scanned) collect in
@@ -93,23 +98,23 @@ scan_within w hand steps places u room done scanned consistent is collect more =
     (omega arith, omega arith)
 
 -- a step of a publish
-pub write_does : (g : Setting) (b : Cells) (words : List ℕ) (log : List Entry) (hand : Option Command) (done : ℕ) (scanned : List ℕ) (places : List Place) (place word : ℕ)
+pub write_does : (g : Setting) (b : Cells) (words : List ℕ) (log : List Entry) (hand : Option Command) (done : ℕ) (scanned : List ℕ) (standings : List Standing) (place word : ℕ)
     → hand ≡ Some Publish → done < steps_before record { setting = g; opening = b } (blocks record { setting = g; opening = b } log) Publish
     → place ≡ (write_of record { setting = g; opening = b } (story record { setting = g; opening = b } log) (blocks record { setting = g; opening = b } log) done).at
     → word ≡ (write_of record { setting = g; opening = b } (story record { setting = g; opening = b } log) (blocks record { setting = g; opening = b } log) done).word
-    → does (state_of g b words log hand done scanned places) Keep
-    ≡ Some record { state = state_of g b (set words place word) log hand (done + 1) scanned places; answer = says.Written; stored = Some place }
+    → does (state_of g b words log hand done scanned standings) Keep
+    ≡ Some record { state = state_of g b (set words place word) log hand (done + 1) scanned standings; answer = says.Written; stored = Some place }
 unfolding does keep
-write_does g b words log hand done scanned places place word is more place_is word_is =
+write_does g b words log hand done scanned standings place word is more place_is word_is =
     let k : Base = record { setting = g; opening = b } in
     let next : Write = write_of k (story k log) (blocks k log) done in
     let test : nat_lt done (steps_before k (blocks k log) Publish) ≡ true = below done (steps_before k (blocks k log) Publish) more in
-    subst (λ (hd : Option Command). does (state_of g b words log hd done scanned places) Keep
-    ≡ Some record { state = state_of g b (set words place word) log hd (done + 1) scanned places; answer = says.Written; stored = Some place }) (sym is)
-    (subst (λ (p : ℕ). does (state_of g b words log (Some Publish) done scanned places) Keep
-    ≡ Some record { state = state_of g b (set words p word) log (Some Publish) (done + 1) scanned places; answer = says.Written; stored = Some p }) (sym place_is)
-    (subst (λ (x : ℕ). does (state_of g b words log (Some Publish) done scanned places) Keep
-    ≡ Some record { state = state_of g b (set words next.at x) log (Some Publish) (done + 1) scanned places; answer = says.Written; stored = Some next.at }) (sym word_is)
+    subst (λ (hd : Option Command). does (state_of g b words log hd done scanned standings) Keep
+    ≡ Some record { state = state_of g b (set words place word) log hd (done + 1) scanned standings; answer = says.Written; stored = Some place }) (sym is)
+    (subst (λ (p : ℕ). does (state_of g b words log (Some Publish) done scanned standings) Keep
+    ≡ Some record { state = state_of g b (set words p word) log (Some Publish) (done + 1) scanned standings; answer = says.Written; stored = Some p }) (sym place_is)
+    (subst (λ (x : ℕ). does (state_of g b words log (Some Publish) done scanned standings) Keep
+    ≡ Some record { state = state_of g b (set words next.at x) log (Some Publish) (done + 1) scanned standings; answer = says.Written; stored = Some next.at }) (sym word_is)
     (rw test)))
   where
     below : (a b : ℕ) → a < b → nat_lt a b ≡ true
@@ -120,17 +125,17 @@ pub some_is : (hand : Option Command) (d c : Command) → hand ≡ Some d → d 
 some_is hand d c some same = some ∙ ap (λ (e : Command). Some e) same
 
 -- a step of the command in hand is to be done that isn't its last, by the count that is kept
-pub step_of : (w v : State) (c : Command) (hand : Option Command) (done steps : ℕ) (scanned : List ℕ) (places : List Place) (u : Summary) (room : Room) → v ≡ w → v.keeper.hand ≡ hand_of hand done scanned → IsConsistent v hand steps places u room
+pub step_of : (w v : State) (c : Command) (hand : Option Command) (done steps : ℕ) (scanned : List ℕ) (standings : List Standing) (u : Summary) (room : Room) → v ≡ w → v.keeper.hand ≡ hand_of hand done scanned → IsConsistent v hand steps standings u room
     → hand ≡ Some c → done < steps → IsStepOf w c
-step_of w v c hand done steps scanned places u room same is consistent some more =
+step_of w v c hand done steps scanned standings u room same is consistent some more =
     let count : steps ≡ steps_before v.base (blocks_of_state v) c = subst (λ (h : Option Command). IfSome h (λ d. steps ≡ steps_before v.base (blocks_of_state v) d)) some consistent.steps in
     subst (λ (x : State). IsStepOf x c) same
     record { hand = record { command = c; done = done; scanned = scanned }; there = is ∙ ap (λ (h : Option Command). hand_of h done scanned) some; command = refl; more = omega arith }
 
 -- the last step of the command in hand is to be done
-pub last_of : (w v : State) (c : Command) (hand : Option Command) (done steps : ℕ) (scanned : List ℕ) (places : List Place) (u : Summary) (room : Room) → v ≡ w → v.keeper.hand ≡ hand_of hand done scanned → IsConsistent v hand steps places u room
+pub last_of : (w v : State) (c : Command) (hand : Option Command) (done steps : ℕ) (scanned : List ℕ) (standings : List Standing) (u : Summary) (room : Room) → v ≡ w → v.keeper.hand ≡ hand_of hand done scanned → IsConsistent v hand steps standings u room
     → hand ≡ Some c → steps ≤ done → IsLastOf w c
-last_of w v c hand done steps scanned places u room same is consistent some all =
+last_of w v c hand done steps scanned standings u room same is consistent some all =
     let count : steps ≡ steps_before v.base (blocks_of_state v) c = subst (λ (h : Option Command). IfSome h (λ d. steps ≡ steps_before v.base (blocks_of_state v) d)) some consistent.steps in
     subst (λ (x : State). IsLastOf x c) same
     record { hand = record { command = c; done = done; scanned = scanned }; there = is ∙ ap (λ (h : Option Command). hand_of h done scanned) some; command = refl; all = omega arith }

@@ -10,7 +10,7 @@ use Rattle.bits.specs.Cells.{Cells, IsBitmap, cells_where}
 use Rattle.bits.specs.Tiles.{tile_count}
 use Rattle.bits.proofs.CellsLemmas.{IsBitmap-cells_where}
 use Rattle.map_core.specs.declared.command.Entry.{Entry}
-use Rattle.map_core.specs.declared.reader.Place.{Place}
+use Rattle.map_core.specs.declared.reader.Standing.{Standing}
 use Rattle.map_core.specs.declared.setting.Setting.{Setting}
 use Rattle.map_core.specs.Setting.{bad_field}
 use Rattle.map_core.specs.Story.{opened, newest, bitmap_of, IsKept}
@@ -20,7 +20,7 @@ use Rattle.map_core.specs.Views.{Reader, State, story, blocks}
 use Rattle.map_core.specs.Tidy.{IsReady, IsOfMap}
 use Rattle.map_core.specs.Sound.{Shows, KeeperSound, ReaderSound, IsWhole}
 use Rattle.map_core.specs.Runs.{AreOpeningWords, IsOpened, fresh_reader}
-use Rattle.map_core.specs.Kept.{reader_of, state_of, IsPlace, Summary, Room, IsConsistent}
+use Rattle.map_core.specs.Consistent.{reader_of, state_of, IsStanding, Summary, Room, IsConsistent}
 use Rattle.map_core.proofs.SafeLemmas.{IsSafe-whole}
 
 -- what the limits of a setting say of its fields
@@ -119,17 +119,17 @@ IsOpened-opening k words ready opening = record {
 }
 
 -- what a world keeps of a reader before its first event
-abbrev pub fresh_place : Place
-fresh_place = record { seen = 0; version = 0; announced = None; holds = None }
+abbrev pub fresh_standing : Standing
+fresh_standing = record { seen = 0; version = 0; announced = None; holds = None }
 
 -- what a world is made of before its first event
-pub record IsNew (g : Setting) (b opening : Cells) (words : List ℕ) (log : List Entry) (places : List Place) (u : Summary) (room : Room) : Type 0 where
+pub record IsNew (g : Setting) (b opening : Cells) (words : List ℕ) (log : List Entry) (standings : List Standing) (u : Summary) (room : Room) : Type 0 where
   pub fits : bad_field (tile_count b) g ≡ None
   pub bitmap : IsBitmap b
   pub opening_is : opening ≡ b
   pub words_are : AreOpeningWords record { setting = g; opening = b } words
   pub log_is : log ≡ []
-  pub places_are : places ≡ replicate g.sessions fresh_place
+  pub standings_are : standings ≡ replicate g.sessions fresh_standing
   pub newest_is : u.newest ≡ 0
   pub floor_is : u.floor ≡ 0
   pub draft_is : u.draft ≡ b
@@ -144,31 +144,31 @@ pub record IsNew (g : Setting) (b opening : Cells) (words : List ℕ) (log : Lis
   pub retired_room : g.blocks ≤ room.retired
 
 -- the readers of a world before its first event
-map-fresh : (n : ℕ) → map (reader_of []) (replicate n fresh_place) ≡ replicate n fresh_reader
+map-fresh : (n : ℕ) → map (reader_of []) (replicate n fresh_standing) ≡ replicate n fresh_reader
 map-fresh zero = refl
 map-fresh (suc n) = ap (λ (xs : List Reader). fresh_reader ∷ xs) (map-fresh n)
 
 -- the state of a world before its first event
-state-new : (g : Setting) (b opening : Cells) (words : List ℕ) (log : List Entry) (scanned : List ℕ) (places : List Place) (u : Summary) (room : Room) → IsNew g b opening words log places u room
-    → opened_state record { setting = g; opening = b } words ≡ state_of g opening words log None 0 scanned places
-state-new g b opening words log scanned places u room new =
-    let readers : replicate g.sessions fresh_reader ≡ map (reader_of []) places = sym (ap (map (reader_of [])) new.places_are ∙ map-fresh g.sessions) in
+state-new : (g : Setting) (b opening : Cells) (words : List ℕ) (log : List Entry) (scanned : List ℕ) (standings : List Standing) (u : Summary) (room : Room) → IsNew g b opening words log standings u room
+    → opened_state record { setting = g; opening = b } words ≡ state_of g opening words log None 0 scanned standings
+state-new g b opening words log scanned standings u room new =
+    let readers : replicate g.sessions fresh_reader ≡ map (reader_of []) standings = sym (ap (map (reader_of [])) new.standings_are ∙ map-fresh g.sessions) in
     ap (λ (xs : List Reader). record { base = record { setting = g; opening = b }; words = words; keeper = record { log = []; hand = None }; readers = xs }) readers
-    ∙ (ap (λ (c : Cells). state_of g c words [] None 0 scanned places) (sym new.opening_is)
-    ∙ ap (λ (l : List Entry). state_of g opening words l None 0 scanned places) (sym new.log_is))
+    ∙ (ap (λ (c : Cells). state_of g c words [] None 0 scanned standings) (sym new.opening_is)
+    ∙ ap (λ (l : List Entry). state_of g opening words l None 0 scanned standings) (sym new.log_is))
 
 -- what is kept beside the words of a world is what the empty log says
-consistent_opened : (g : Setting) (b opening : Cells) (words : List ℕ) (log : List Entry) (places : List Place) (u : Summary) (room : Room) → IsNew g b opening words log places u room
-    → IsConsistent (opened_state record { setting = g; opening = b } words) None 0 places u room
+consistent_opened : (g : Setting) (b opening : Cells) (words : List ℕ) (log : List Entry) (standings : List Standing) (u : Summary) (room : Room) → IsNew g b opening words log standings u room
+    → IsConsistent (opened_state record { setting = g; opening = b } words) None 0 standings u room
 unfolding story blocks opened opened_blocks newest bitmap_of
-consistent_opened g b opening words log places u room new =
+consistent_opened g b opening words log standings u room new =
     let k : Base = record { setting = g; opening = b } in
     record {
       whole = IsWhole-opening k words (fits_ready g b new.bitmap new.fits) new.words_are;
       steps = tt;
-      place = λ r p there.
-          let fresh = slice_get-replicate g.sessions r fresh_place p (ap (λ (ps : List Place). slice_get ps r) (sym new.places_are) ∙ there) in
-          subst (λ (q : Place). IsPlace k [] q) (sym fresh.0) record { within = omega arith; version_is = refl; small = lit< tt };
+      standing = λ r p there.
+          let fresh = slice_get-replicate g.sessions r fresh_standing p (ap (λ (ps : List Standing). slice_get ps r) (sym new.standings_are) ∙ there) in
+          subst (λ (q : Standing). IsStanding k [] q) (sym fresh.0) record { within = omega arith; version_is = refl; small = lit< tt };
       summary = record {
         newest_is = new.newest_is;
         floor_is = new.floor_is;
@@ -185,14 +185,14 @@ consistent_opened g b opening words log places u room new =
     }
 
 -- a world is consistent before its first event
-pub consistent_new : (g : Setting) (b opening : Cells) (words : List ℕ) (log : List Entry) (scanned : List ℕ) (places : List Place) (u : Summary) (room : Room) → IsNew g b opening words log places u room
-    → IsConsistent (state_of g opening words log None 0 scanned places) None 0 places u room
-consistent_new g b opening words log scanned places u room new =
-    subst (λ (w : State). IsConsistent w None 0 places u room) (state-new g b opening words log scanned places u room new) (consistent_opened g b opening words log places u room new)
+pub consistent_new : (g : Setting) (b opening : Cells) (words : List ℕ) (log : List Entry) (scanned : List ℕ) (standings : List Standing) (u : Summary) (room : Room) → IsNew g b opening words log standings u room
+    → IsConsistent (state_of g opening words log None 0 scanned standings) None 0 standings u room
+consistent_new g b opening words log scanned standings u room new =
+    subst (λ (w : State). IsConsistent w None 0 standings u room) (state-new g b opening words log scanned standings u room new) (consistent_opened g b opening words log standings u room new)
 
 -- and it is opened
-pub opened_new : (g : Setting) (b opening : Cells) (words : List ℕ) (log : List Entry) (scanned : List ℕ) (places : List Place) (u : Summary) (room : Room) → IsNew g b opening words log places u room
-    → IsOpened record { setting = g; opening = b } (state_of g opening words log None 0 scanned places)
-opened_new g b opening words log scanned places u room new =
-    subst (λ (w : State). IsOpened record { setting = g; opening = b } w) (state-new g b opening words log scanned places u room new)
+pub opened_new : (g : Setting) (b opening : Cells) (words : List ℕ) (log : List Entry) (scanned : List ℕ) (standings : List Standing) (u : Summary) (room : Room) → IsNew g b opening words log standings u room
+    → IsOpened record { setting = g; opening = b } (state_of g opening words log None 0 scanned standings)
+opened_new g b opening words log scanned standings u room new =
+    subst (λ (w : State). IsOpened record { setting = g; opening = b } w) (state-new g b opening words log scanned standings u room new)
     (IsOpened-opening record { setting = g; opening = b } words (fits_ready g b new.bitmap new.fits) new.words_are)

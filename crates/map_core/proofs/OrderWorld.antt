@@ -8,7 +8,7 @@ use Rattle.map_core.specs.declared.command.Command.{Command}
 use Rattle.map_core.specs.declared.command.Command.TheVariants.{Paint, Stamp, Publish, Revert, Collect}
 use Rattle.map_core.specs.declared.event.Event.TheVariants.{Order}
 use Rattle.map_core.specs.declared.event.StepReply.TheVariants as says
-use Rattle.map_core.specs.declared.reader.Place.{Place}
+use Rattle.map_core.specs.declared.reader.Standing.{Standing}
 use Rattle.map_core.specs.Legal.{refused}
 use Rattle.map_core.specs.Blocks.{own_list}
 use Rattle.map_core.specs.Words.{tiles}
@@ -16,7 +16,7 @@ use Rattle.map_core.specs.Views.{Hand, State, story_of, blocks_of_state}
 use Rattle.map_core.specs.Steps.{does, order, ordered, steps_before}
 use Rattle.map_core.specs.Runs.{SafeStep}
 use Rattle.map_core.specs.Sound.{IsWhole}
-use Rattle.map_core.specs.Kept.{hand_of, Summary, Room, IsConsistent}
+use Rattle.map_core.specs.Consistent.{hand_of, Summary, Room, IsConsistent}
 use Rattle.map_core.proofs.WorldLemmas.{safe_done}
 use Rattle.map_core.proofs.SafeLemmas.{IsSafe-whole}
 use Rattle.map_core.proofs.SeenLemmas.{seen_stays}
@@ -53,10 +53,10 @@ order_starved w c whole free is = record {
 }
 
 -- how many steps a publish has before its last, by what is kept
-pub publish_steps : (w : State) (hand : Option Command) (steps : ℕ) (places : List Place) (u : Summary) (room : Room) → IsConsistent w hand steps places u room → (n t : ℕ) → n ≡ length (own_list u.own) → t ≡ tiles w.base
+pub publish_steps : (w : State) (hand : Option Command) (steps : ℕ) (standings : List Standing) (u : Summary) (room : Room) → IsConsistent w hand steps standings u room → (n t : ℕ) → n ≡ length (own_list u.own) → t ≡ tiles w.base
     → 64 * n + t ≡ steps_before w.base (blocks_of_state w) Publish
 unfolding steps_before
-publish_steps w hand steps places u room consistent n t n_is t_is =
+publish_steps w hand steps standings u room consistent n t n_is t_is =
     ap (λ (m : ℕ). 64 * m + t) (n_is ∙ ap (λ own. length (own_list own)) consistent.summary.own_is) ∙ ap (λ (m : ℕ). 64 * length (own_list (blocks_of_state w).own) + m) t_is
 
 -- a publish has few steps
@@ -67,8 +67,8 @@ publish_few w whole =
     omega arith
 
 -- the draft has few blocks of its own
-pub own_few : (w : State) (hand : Option Command) (steps : ℕ) (places : List Place) (u : Summary) (room : Room) → IsConsistent w hand steps places u room → length (own_list u.own) ≤ 16384
-own_few w hand steps places u room consistent =
+pub own_few : (w : State) (hand : Option Command) (steps : ℕ) (standings : List Standing) (u : Summary) (room : Room) → IsConsistent w hand steps standings u room → length (own_list u.own) ≤ 16384
+own_few w hand steps standings u room consistent =
     let sum = (tidy_of w consistent.whole).shape.blocks in
     let few = consistent.whole.ready.few_blocks in
     let same = ap (λ own. length (own_list own)) consistent.summary.own_is in
@@ -98,18 +98,18 @@ hand_free w v None done scanned same is none = sym (ap (λ (x : State). x.keeper
 hand_free w v (Some t) done scanned same is none = absurd (cc)
 
 -- what is kept is right after an order that is accepted
-pub consistent_order : (w : State) (hand : Option Command) (steps : ℕ) (places : List Place) (u : Summary) (room : Room) → IsConsistent w hand steps places u room → (c copy : Command) (steps_now log_room scanned_room : ℕ)
+pub consistent_order : (w : State) (hand : Option Command) (steps : ℕ) (standings : List Standing) (u : Summary) (room : Room) → IsConsistent w hand steps standings u room → (c copy : Command) (steps_now log_room scanned_room : ℕ)
     → w.keeper.hand ≡ None → None ≡ refused w.base.setting (story_of w) c → copy ≡ c → steps_now ≡ steps_before w.base (blocks_of_state w) c
     → length w.keeper.log < log_room → room.scanned ≡ scanned_room
-    → IsConsistent (in_hand w (Some record { command = copy; done = 0; scanned = [] })) (Some copy) steps_now places u
+    → IsConsistent (in_hand w (Some record { command = copy; done = 0; scanned = [] })) (Some copy) steps_now standings u
     record { log = log_room; scanned = scanned_room; free = room.free; retired = room.retired }
-consistent_order w hand steps places u room consistent c copy steps_now log_room scanned_room free accepted same count room_is scanned_is =
+consistent_order w hand steps standings u room consistent c copy steps_now log_room scanned_room free accepted same count room_is scanned_is =
     let roomy = consistent.roomy in
     let scanned_before = roomy.scanned in
     record {
       whole = keeps-order w copy consistent.whole (ap (refused w.base.setting (story_of w)) same ∙ sym accepted);
       steps = count ∙ sym (ap (steps_before w.base (blocks_of_state w)) same);
-      place = consistent.place;
+      standing = consistent.standing;
       summary = consistent.summary;
       roomy = record { log = room_is; scanned = omega arith; free = roomy.free; retired = roomy.retired };
     }
@@ -143,9 +143,9 @@ order_named w v c copy steps same whole free accepted copied count =
     (order_done w c copy steps whole free accepted copied (count ∙ ap (λ (x : State). steps_before x.base (blocks_of_state x) c) same))
 
 -- a number past the rows of a publish is one of its directory's
-pub publish_rest : (w : State) (hand : Option Command) (steps : ℕ) (places : List Place) (u : Summary) (room : Room) → IsConsistent w hand steps places u room → (n number : ℕ) → n ≡ length (own_list u.own)
+pub publish_rest : (w : State) (hand : Option Command) (steps : ℕ) (standings : List Standing) (u : Summary) (room : Room) → IsConsistent w hand steps standings u room → (n number : ℕ) → n ≡ length (own_list u.own)
     → number < steps_before w.base (blocks_of_state w) Publish → 64 * n ≤ number → number - 64 * n < tiles w.base
 unfolding steps_before
-publish_rest w hand steps places u room consistent n number n_is h past =
+publish_rest w hand steps standings u room consistent n number n_is h past =
     let same = ap (λ own. length (own_list own)) consistent.summary.own_is in
     omega arith

@@ -4,7 +4,7 @@ use Rattle.std.specs.Prelude.{Option, Some, None, is_some}
 use Rattle.std.proofs.lemmas.List.{drop_more, drop_all}
 use Rattle.map_core.specs.declared.blocks.Retired.{Retired}
 use Rattle.map_core.specs.Blocks.{own_list}
-use Rattle.map_core.specs.Kept.{came_with, came_after, retired_by}
+use Rattle.map_core.specs.Consistent.{came_with, came_after, retired_by}
 use Rattle.map_core.proofs.GiveBack.{cleared, get_or-cleared, set-cleared}
 
 -- the positions before the i-th have come with the version with which they come after a publish

@@ -11,14 +11,14 @@ use Rattle.map_core.specs.declared.command.Command.TheVariants.{Publish}
 use Rattle.map_core.specs.declared.command.Entry.{Entry}
 use Rattle.map_core.specs.declared.command.Reply.{Reply}
 use Rattle.map_core.specs.declared.command.Reply.TheVariants.{Published}
-use Rattle.map_core.specs.declared.reader.Place.{Place}
+use Rattle.map_core.specs.declared.reader.Standing.{Standing}
 use Rattle.map_core.specs.Story.{Story, newest, came, changed_before, IsKept}
 use Rattle.map_core.specs.Legal.{told}
 use Rattle.map_core.specs.Blocks.{Blocks, directory_of, own_list, replaced, moved}
 use Rattle.map_core.specs.Words.{Base, tiles, word_count, map_at, now_word, now_of, slot_of}
 use Rattle.map_core.specs.Views.{State, story, blocks, story_of, blocks_of_state}
 use Rattle.map_core.specs.Steps.{reply_of}
-use Rattle.map_core.specs.Kept.{Summary, IsSummary, Room, IsConsistent, came_with, came_after, retired_by}
+use Rattle.map_core.specs.Consistent.{Summary, IsSummary, Room, IsConsistent, came_with, came_after, retired_by}
 use Rattle.map_core.specs.Tidy.{IsShaped, IsTidy}
 use Rattle.map_core.proofs.CameLemmas.{came-push, came-changed, came-same, changed_before_new}
 use Rattle.map_core.proofs.DrawWorld.{written_back}
@@ -144,8 +144,8 @@ now_publish k log m shape reply place version before now place_is before_is vers
     ∙ ap (λ (v : ℕ). now_word ((story k log).places + 1) v) (version_is ∙ (ap (λ (n : ℕ). n + 1) before_is ∙ sym (newest-publish k (story k log) m shape))))
 
 -- the blocks that the draft's own ones replace find room
-pub room_replaced : (w : State) (hand : Option Command) (steps : ℕ) (places : List Place) (u : Summary) (room : Room) → IsConsistent w hand steps places u room → length u.retired + length (own_list u.own) ≤ room.retired
-room_replaced w hand steps places u room consistent =
+pub room_replaced : (w : State) (hand : Option Command) (steps : ℕ) (standings : List Standing) (u : Summary) (room : Room) → IsConsistent w hand steps standings u room → length u.retired + length (own_list u.own) ≤ room.retired
+room_replaced w hand steps standings u room consistent =
     let sum = (tidy_of w consistent.whole).shape.blocks in
     let retired = ap length consistent.summary.retired_is in
     let own = ap (λ (os : List (Option ℕ)). length (own_list os)) consistent.summary.own_is in
@@ -165,8 +165,8 @@ newest_part w v newest_now first count same count_is first_is = record {
 }
 
 -- there are few positions
-pub own_few_places : (w : State) (hand : Option Command) (steps : ℕ) (places : List Place) (u : Summary) (room : Room) → IsConsistent w hand steps places u room → length u.own ≤ 16384
-own_few_places w hand steps places u room consistent =
+pub own_few_places : (w : State) (hand : Option Command) (steps : ℕ) (standings : List Standing) (u : Summary) (room : Room) → IsConsistent w hand steps standings u room → length u.own ≤ 16384
+own_few_places w hand steps standings u room consistent =
     let own = ap length consistent.summary.own_is in
     let long = (tidy_of w consistent.whole).shape.own in
     let blocks_enough = consistent.whole.ready.blocks in
@@ -174,9 +174,9 @@ own_few_places w hand steps places u room consistent =
     omega arith
 
 -- newest has a block for each position
-pub directory_long : (w : State) (hand : Option Command) (steps : ℕ) (places : List Place) (u : Summary) (room : Room) → IsConsistent w hand steps places u room
+pub directory_long : (w : State) (hand : Option Command) (steps : ℕ) (standings : List Standing) (u : Summary) (room : Room) → IsConsistent w hand steps standings u room
     → length (directory_of (blocks_of_state w) (newest (story_of w))) ≡ length u.own
-directory_long w hand steps places u room consistent =
+directory_long w hand steps standings u room consistent =
     let own = ap length consistent.summary.own_is in
     let tidy = tidy_of w consistent.whole in
     let long = tidy.shape.own in
@@ -184,18 +184,18 @@ directory_long w hand steps places u room consistent =
     omega arith
 
 -- it is kept of each position with which version it has come
-pub came_and_own : (w : State) (hand : Option Command) (steps : ℕ) (places : List Place) (u : Summary) (room : Room) → IsConsistent w hand steps places u room → length u.came ≡ length u.own
-came_and_own w hand steps places u room consistent =
+pub came_and_own : (w : State) (hand : Option Command) (steps : ℕ) (standings : List Standing) (u : Summary) (room : Room) → IsConsistent w hand steps standings u room → length u.came ≡ length u.own
+came_and_own w hand steps standings u room consistent =
     let own = ap length consistent.summary.own_is in
     let long = (tidy_of w consistent.whole).shape.own in
     let came_long = consistent.summary.came_long in
     omega arith
 
 -- it lies within the words
-pub part_within : (w : State) (hand : Option Command) (steps : ℕ) (places : List Place) (u : Summary) (room : Room) → IsConsistent w hand steps places u room → (first count : ℕ) → IsNewestPart w u.newest first count
+pub part_within : (w : State) (hand : Option Command) (steps : ℕ) (standings : List Standing) (u : Summary) (room : Room) → IsConsistent w hand steps standings u room → (first count : ℕ) → IsNewestPart w u.newest first count
     → first + count ≤ length w.words
 unfolding map_at word_count
-part_within w hand steps places u room consistent first count part =
+part_within w hand steps standings u room consistent first count part =
     let slot = slot-within w.base (story_of w) u.newest consistent.whole.ready.versions in
     let rows : tiles w.base * (slot_of w.base (story_of w) u.newest + 1) ≤ tiles w.base * w.base.setting.versions = mul-le-mul_left (tiles w.base) (omega arith) in
     let sized = consistent.whole.keeper.sized in
@@ -204,12 +204,12 @@ part_within w hand steps places u room consistent first count part =
     omega arith
 
 -- it is newest's directory
-pub part_is : (w : State) (hand : Option Command) (steps : ℕ) (places : List Place) (u : Summary) (room : Room) → IsConsistent w hand steps places u room → (first count : ℕ) → IsNewestPart w u.newest first count
+pub part_is : (w : State) (hand : Option Command) (steps : ℕ) (standings : List Standing) (u : Summary) (room : Room) → IsConsistent w hand steps standings u room → (first count : ℕ) → IsNewestPart w u.newest first count
     → take (first + count - first) (drop first w.words) ≡ directory_of (blocks_of_state w) (newest (story_of w))
 unfolding map_at IsKept
-part_is w hand steps places u room consistent first count part =
+part_is w hand steps standings u room consistent first count part =
     let tidy = tidy_of w consistent.whole in
-    let within = part_within w hand steps places u room consistent first count part in
+    let within = part_within w hand steps standings u room consistent first count part in
     let newest_same = consistent.summary.newest_is in
     let count_is = part.count_is in
     let first_is = part.first_is in
@@ -225,10 +225,10 @@ part_is w hand steps places u room consistent first count part =
     ∙ (ap (λ (n : ℕ). get_or w.words (map_at w.base (slot_of w.base (story_of w) n) p) 0) newest_same ∙ shows.mapped p (omega arith)))))
 
 -- each of its words is the number of a block
-pub part_small : (w : State) (hand : Option Command) (steps : ℕ) (places : List Place) (u : Summary) (room : Room) → IsConsistent w hand steps places u room → (p : ℕ) → p < length u.own
+pub part_small : (w : State) (hand : Option Command) (steps : ℕ) (standings : List Standing) (u : Summary) (room : Room) → IsConsistent w hand steps standings u room → (p : ℕ) → p < length u.own
     → get_or (directory_of (blocks_of_state w) (newest (story_of w))) p 0 < 16384
 unfolding IsKept
-part_small w hand steps places u room consistent p h =
+part_small w hand steps standings u room consistent p h =
     let tidy = tidy_of w consistent.whole in
     let own = ap length consistent.summary.own_is in
     let long = tidy.shape.own in

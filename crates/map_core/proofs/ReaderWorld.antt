@@ -2,7 +2,7 @@
 use Rattle.std.proofs.Common.{◌≡◌, ℕ, suc, ◌+◌, ◌*◌, ◌<◌, ◌≤◌, ◌&&◌, ◌==◌, Bool, true, false, if◌then◌else◌, List, length, get_or, set, map, take, refl, ap, subst, sym, ◌∙◌, arith}
 use Rattle.std.specs.Prelude.{Option, Some, None, slice_get, is_some, is_none, nat_lt}
 use Rattle.std.proofs.lemmas.Bool.Decides.{nat_tests}
-use Rattle.std.proofs.lemmas.List.{map-set, length-map, take_all, get_or_read, get_or_default}
+use Rattle.std.proofs.lemmas.List.{map-set, take_all, get_or_read, get_or_default}
 use Rattle.std.proofs.lemmas.List.Folds.{list_any_at, list_any_none, Any-from_list_any}
 use Rattle.map_core.specs.Blocks.{directory_of, is_mapped}
 use Rattle.map_core.proofs.PlaceLemmas.{tile-within}
@@ -11,7 +11,7 @@ use Rattle.map_core.specs.declared.command.Command.{Command}
 use Rattle.map_core.specs.declared.command.Entry.{Entry}
 use Rattle.map_core.specs.declared.event.Event.TheVariants.{Announce, Load, LookMap, LookTile, Leave}
 use Rattle.map_core.specs.declared.event.StepReply.TheVariants as says
-use Rattle.map_core.specs.declared.reader.Place.{Place}
+use Rattle.map_core.specs.declared.reader.Standing.{Standing}
 use Rattle.map_core.specs.declared.setting.Setting.{Setting}
 use Rattle.map_core.specs.Story.{IsKept}
 use Rattle.map_core.specs.Words.{tiles, pin_at, map_at, tile_at, pin_word, version_told, place_told, slot_of}
@@ -21,119 +21,114 @@ use Rattle.map_core.specs.Views.{blocks_of_state}
 use Rattle.map_core.specs.Sound.{IsWhole}
 use Rattle.map_core.proofs.SoundBlocks.{block_within}
 use Rattle.map_core.proofs.TidyLog.{IsTidy-legal}
-use Rattle.map_core.specs.Kept.{reader_of, state_of, IsPlace}
-use Rattle.map_core.proofs.WorldLemmas.{slice_get_past, slice_get-map}
-
--- a reader that isn't there does nothing
-pub no_reader : (w : State) (places : List Place) (r : ℕ) → w.readers ≡ map (reader_of w.keeper.log) places → length places ≤ r → slice_get w.readers r ≡ None
-no_reader w places r readers past =
-    ap (λ (xs : List Reader). slice_get xs r) readers ∙ slice_get_past (map (reader_of w.keeper.log) places) r (let long = length-map places (reader_of w.keeper.log) in omega arith)
+use Rattle.map_core.specs.Consistent.{reader_of, state_of, IsStanding}
+use Rattle.map_core.proofs.WorldLemmas.{reader_got}
 
 -- an announcement of a reader that isn't there
-pub announce_past : (g : Setting) (b : Cells) (words : List ℕ) (log : List Entry) (hand : Option Command) (done : ℕ) (scanned : List ℕ) (places : List Place) (r : ℕ)
-    → length places ≤ r → does (state_of g b words log hand done scanned places) (Announce r) ≡ None
+pub announce_past : (g : Setting) (b : Cells) (words : List ℕ) (log : List Entry) (hand : Option Command) (done : ℕ) (scanned : List ℕ) (standings : List Standing) (r : ℕ)
+    → slice_get standings r ≡ None → does (state_of g b words log hand done scanned standings) (Announce r) ≡ None
 unfolding does announce
-announce_past g b words log hand done scanned places r past =
-    ap (announce (state_of g b words log hand done scanned places) r) (slice_get_past (map (reader_of log) places) r (let long = length-map places (reader_of log) in omega arith))
+announce_past g b words log hand done scanned standings r none =
+    ap (announce (state_of g b words log hand done scanned standings) r) (reader_got log standings r None none)
 
 -- an announcement of a reader that has announced
-pub announce_again : (g : Setting) (b : Cells) (words : List ℕ) (log : List Entry) (hand : Option Command) (done : ℕ) (scanned : List ℕ) (places : List Place) (r : ℕ) (p : Place)
-    → slice_get places r ≡ Some p → is_some p.announced ≡ true → does (state_of g b words log hand done scanned places) (Announce r) ≡ None
+pub announce_again : (g : Setting) (b : Cells) (words : List ℕ) (log : List Entry) (hand : Option Command) (done : ℕ) (scanned : List ℕ) (standings : List Standing) (r : ℕ) (p : Standing)
+    → slice_get standings r ≡ Some p → is_some p.announced ≡ true → does (state_of g b words log hand done scanned standings) (Announce r) ≡ None
 unfolding does announce
-announce_again g b words log hand done scanned places r p there has =
-    ap (announce (state_of g b words log hand done scanned places) r) (slice_get-map (reader_of log) places r p there) ∙ rw has
+announce_again g b words log hand done scanned standings r p there has =
+    ap (announce (state_of g b words log hand done scanned standings) r) (reader_got log standings r (Some p) there) ∙ rw has
 
 -- an announcement
-pub announce_does : (g : Setting) (b : Cells) (words : List ℕ) (log : List Entry) (hand : Option Command) (done : ℕ) (scanned : List ℕ) (places : List Place) (r : ℕ) (p : Place) (at word : ℕ)
-    → slice_get places r ≡ Some p → is_some p.announced ≡ false → IsPlace record { setting = g; opening = b } log p → at ≡ 1 + r → word ≡ p.version + 1
-    → does (state_of g b words log hand done scanned places) (Announce r)
+pub announce_does : (g : Setting) (b : Cells) (words : List ℕ) (log : List Entry) (hand : Option Command) (done : ℕ) (scanned : List ℕ) (standings : List Standing) (r : ℕ) (p : Standing) (at word : ℕ)
+    → slice_get standings r ≡ Some p → is_some p.announced ≡ false → IsStanding record { setting = g; opening = b } log p → at ≡ pin_at r → word ≡ p.version + 1
+    → does (state_of g b words log hand done scanned standings) (Announce r)
     ≡ Some record {
-      state = state_of g b (set words at word) log hand done scanned (set places r record p { announced = Some p.version });
+      state = state_of g b (set words at word) log hand done scanned (set standings r record p { announced = Some p.version });
       answer = says.Announced p.version;
       stored = Some (pin_at r);
     }
 unfolding does announce pin_at pin_word
-announce_does g b words log hand done scanned places r p at word there none place at_is word_is =
-    let w = state_of g b words log hand done scanned places in
+announce_does g b words log hand done scanned standings r p at word there none place at_is word_is =
+    let w = state_of g b words log hand done scanned standings in
     let suc_is : word ≡ suc p.version = omega arith in
-    ap (announce w r) (slice_get-map (reader_of log) places r p there)
+    ap (announce w r) (reader_got log standings r (Some p) there)
     ∙ (rw none
     (rw (← place.version_is, ← at_is, ← suc_is) (ap (λ (xs : List Reader). Some record { state = record w { words = set words at word; readers = xs }; answer = says.Announced p.version; stored = Some at })
-    (sym (map-set (reader_of log) places r record p { announced = Some p.version })))))
+    (sym (map-set (reader_of log) standings r record p { announced = Some p.version })))))
 
 -- a leave of a reader that isn't there
-pub leave_past : (g : Setting) (b : Cells) (words : List ℕ) (log : List Entry) (hand : Option Command) (done : ℕ) (scanned : List ℕ) (places : List Place) (r : ℕ)
-    → length places ≤ r → does (state_of g b words log hand done scanned places) (Leave r) ≡ None
+pub leave_past : (g : Setting) (b : Cells) (words : List ℕ) (log : List Entry) (hand : Option Command) (done : ℕ) (scanned : List ℕ) (standings : List Standing) (r : ℕ)
+    → slice_get standings r ≡ None → does (state_of g b words log hand done scanned standings) (Leave r) ≡ None
 unfolding does leave
-leave_past g b words log hand done scanned places r past =
-    ap (leave (state_of g b words log hand done scanned places) r) (slice_get_past (map (reader_of log) places) r (let long = length-map places (reader_of log) in omega arith))
+leave_past g b words log hand done scanned standings r none =
+    ap (leave (state_of g b words log hand done scanned standings) r) (reader_got log standings r None none)
 
 -- a leave of a reader that hasn't announced
-pub leave_again : (g : Setting) (b : Cells) (words : List ℕ) (log : List Entry) (hand : Option Command) (done : ℕ) (scanned : List ℕ) (places : List Place) (r : ℕ) (p : Place)
-    → slice_get places r ≡ Some p → is_none p.announced ≡ true → does (state_of g b words log hand done scanned places) (Leave r) ≡ None
+pub leave_again : (g : Setting) (b : Cells) (words : List ℕ) (log : List Entry) (hand : Option Command) (done : ℕ) (scanned : List ℕ) (standings : List Standing) (r : ℕ) (p : Standing)
+    → slice_get standings r ≡ Some p → is_none p.announced ≡ true → does (state_of g b words log hand done scanned standings) (Leave r) ≡ None
 unfolding does leave
-leave_again g b words log hand done scanned places r p there none =
-    ap (leave (state_of g b words log hand done scanned places) r) (slice_get-map (reader_of log) places r p there) ∙ rw (not_some p.announced none)
+leave_again g b words log hand done scanned standings r p there none =
+    ap (leave (state_of g b words log hand done scanned standings) r) (reader_got log standings r (Some p) there) ∙ rw (not_some p.announced none)
   where
     not_some : (o : Option ℕ) → is_none o ≡ true → is_some o ≡ false
     not_some None is = refl
     not_some (Some a) is = absurd (cc)
 
 -- a leave
-pub leave_does : (g : Setting) (b : Cells) (words : List ℕ) (log : List Entry) (hand : Option Command) (done : ℕ) (scanned : List ℕ) (places : List Place) (r : ℕ) (p : Place) (at : ℕ)
-    → slice_get places r ≡ Some p → is_none p.announced ≡ false → at ≡ 1 + r
-    → does (state_of g b words log hand done scanned places) (Leave r)
+pub leave_does : (g : Setting) (b : Cells) (words : List ℕ) (log : List Entry) (hand : Option Command) (done : ℕ) (scanned : List ℕ) (standings : List Standing) (r : ℕ) (p : Standing) (at : ℕ)
+    → slice_get standings r ≡ Some p → is_none p.announced ≡ false → at ≡ pin_at r
+    → does (state_of g b words log hand done scanned standings) (Leave r)
     ≡ Some record {
-      state = state_of g b (set words at 0) log hand done scanned (set places r record p { announced = None; holds = None });
+      state = state_of g b (set words at 0) log hand done scanned (set standings r record p { announced = None; holds = None });
       answer = says.Left;
       stored = Some (pin_at r);
     }
 unfolding does leave pin_at pin_word
-leave_does g b words log hand done scanned places r p at there has at_is =
-    let w = state_of g b words log hand done scanned places in
-    ap (leave w r) (slice_get-map (reader_of log) places r p there)
+leave_does g b words log hand done scanned standings r p at there has at_is =
+    let w = state_of g b words log hand done scanned standings in
+    ap (leave w r) (reader_got log standings r (Some p) there)
     ∙ (rw (some p.announced has)
     (rw (← at_is) (ap (λ (xs : List Reader). Some record { state = record w { words = set words at 0; readers = xs }; answer = says.Left; stored = Some at })
-    (sym (map-set (reader_of log) places r record p { announced = None; holds = None })))))
+    (sym (map-set (reader_of log) standings r record p { announced = None; holds = None })))))
   where
     some : (o : Option ℕ) → is_none o ≡ false → is_some o ≡ true
     some None is = absurd (cc)
     some (Some a) is = refl
 
 -- a load of a reader that isn't there
-pub load_past : (g : Setting) (b : Cells) (words : List ℕ) (log : List Entry) (hand : Option Command) (done : ℕ) (scanned : List ℕ) (places : List Place) (r : ℕ)
-    → length places ≤ r → does (state_of g b words log hand done scanned places) (Load r) ≡ None
+pub load_past : (g : Setting) (b : Cells) (words : List ℕ) (log : List Entry) (hand : Option Command) (done : ℕ) (scanned : List ℕ) (standings : List Standing) (r : ℕ)
+    → slice_get standings r ≡ None → does (state_of g b words log hand done scanned standings) (Load r) ≡ None
 unfolding does load
-load_past g b words log hand done scanned places r past =
-    ap (load (state_of g b words log hand done scanned places) r) (slice_get_past (map (reader_of log) places) r (let long = length-map places (reader_of log) in omega arith))
+load_past g b words log hand done scanned standings r none =
+    ap (load (state_of g b words log hand done scanned standings) r) (reader_got log standings r None none)
 
 -- a load
-pub load_does : (g : Setting) (b : Cells) (words : List ℕ) (log : List Entry) (hand : Option Command) (done : ℕ) (scanned : List ℕ) (places : List Place) (r : ℕ) (p : Place) (word seen version : ℕ) (holds : Option ℕ)
-    → slice_get places r ≡ Some p → word ≡ get_or words 0 0 → seen ≡ length log
-    → holds ≡ (if is_some p.announced && is_none p.holds then Some (version_told word) else p.holds)
-    → does (state_of g b words log hand done scanned places) (Load r)
+pub load_does : (g : Setting) (b : Cells) (words : List ℕ) (log : List Entry) (hand : Option Command) (done : ℕ) (scanned : List ℕ) (standings : List Standing) (r : ℕ) (p : Standing) (place version seen newest : ℕ) (holds : Option ℕ)
+    → slice_get standings r ≡ Some p → place ≡ place_told (get_or words 0 0) → version ≡ version_told (get_or words 0 0) → seen ≡ length log
+    → holds ≡ (if is_some p.announced && is_none p.holds then Some version else p.holds)
+    → does (state_of g b words log hand done scanned standings) (Load r)
     ≡ Some record {
-      state = state_of g b words log hand done scanned (set places r record { seen = seen; version = version; announced = p.announced; holds = holds });
-      answer = says.Now (place_told word) (version_told word);
+      state = state_of g b words log hand done scanned (set standings r record { seen = seen; version = newest; announced = p.announced; holds = holds });
+      answer = says.Now place version;
       stored = None;
     }
 unfolding does load
-load_does g b words log hand done scanned places r p word seen version holds there word_is seen_is holds_is =
-    let w = state_of g b words log hand done scanned places in
+load_does g b words log hand done scanned standings r p place version seen newest holds there place_is version_is seen_is holds_is =
+    let w = state_of g b words log hand done scanned standings in
     let whole : take seen log ≡ log = take_all seen log (omega arith) in
-    ap (load w r) (slice_get-map (reader_of log) places r p there)
-    ∙ rw (← word_is, ← holds_is)
-    (ap (λ (xs : List Reader). Some record { state = record w { readers = xs }; answer = says.Now (place_told word) (version_told word); stored = None })
-    (sym (map-set (reader_of log) places r record { seen = seen; version = version; announced = p.announced; holds = holds }
-    ∙ ap (λ (l : List Entry). set (map (reader_of log) places) r record { seen = l; announced = p.announced; holds = holds }) whole)))
+    ap (load w r) (reader_got log standings r (Some p) there)
+    ∙ rw (← place_is, ← version_is, ← holds_is)
+    (ap (λ (xs : List Reader). Some record { state = record w { readers = xs }; answer = says.Now place version; stored = None })
+    (sym (map-set (reader_of log) standings r record { seen = seen; version = newest; announced = p.announced; holds = holds }
+    ∙ ap (λ (l : List Entry). set (map (reader_of log) standings) r record { seen = l; announced = p.announced; holds = holds }) whole)))
 
 -- what a reader of a world holds
-pub held_is : (log : List Entry) (places : List Place) (r : ℕ) (p : Place) → slice_get places r ≡ Some p → p.holds ≡ hold_of (slice_get (map (reader_of log) places) r)
-held_is log places r p there = sym (ap hold_of (slice_get-map (reader_of log) places r p there))
+pub held_is : (log : List Entry) (standings : List Standing) (r : ℕ) (p : Standing) → slice_get standings r ≡ Some p → p.holds ≡ hold_of (slice_get (map (reader_of log) standings) r)
+held_is log standings r p there = sym (ap hold_of (reader_got log standings r (Some p) there))
 
 -- a reader that isn't there holds nothing
-pub held_none : (log : List Entry) (places : List Place) (r : ℕ) → length places ≤ r → None ≡ hold_of (slice_get (map (reader_of log) places) r)
-held_none log places r past = sym (ap hold_of (slice_get_past (map (reader_of log) places) r (let long = length-map places (reader_of log) in omega arith)))
+pub held_none : (log : List Entry) (standings : List Standing) (r : ℕ) → slice_get standings r ≡ None → None ≡ hold_of (slice_get (map (reader_of log) standings) r)
+held_none log standings r none = sym (ap hold_of (reader_got log standings r None none))
 
 -- a look at a position, of a reader that holds nothing
 pub look_map_none : (w : State) (r p : ℕ) (held : Option ℕ) → held ≡ hold_of (slice_get w.readers r) → held ≡ None → does w (LookMap r p) ≡ None
@@ -257,11 +252,11 @@ unfolding does look_tile
 look_tile_does w r b i v word held is some test word_is = ap (look_tile w b i) (sym is ∙ some) ∙ rw (test, ← word_is)
 
 -- the place of a word of a block
-pub tile_place_is : (w : State) → IsWhole w → (b i tiles_here : ℕ) → tiles_here ≡ tiles w.base → b < w.base.setting.blocks → i < 64
+pub tile_at_is : (w : State) → IsWhole w → (b i tiles_here : ℕ) → tiles_here ≡ tiles w.base → b < w.base.setting.blocks → i < 64
     → (1 + w.base.setting.sessions + w.base.setting.versions * tiles_here + (b * 64 + i) ≡ tile_at w.base b i)
     × (1 + w.base.setting.sessions + w.base.setting.versions * tiles_here + (b * 64 + i) < length w.words)
 unfolding tile_at
-tile_place_is w whole b i tiles_here same hb hi =
+tile_at_is w whole b i tiles_here same hb hi =
     let is = ap (λ (t : ℕ). 1 + w.base.setting.sessions + w.base.setting.versions * t + (b * 64 + i)) same in
     let within = tile-within w.base b i hb hi in
     let sized = whole.keeper.sized in
@@ -270,11 +265,6 @@ tile_place_is w whole b i tiles_here same hb hi =
 -- a world is whole under another name
 pub whole_of : (w v : State) → v ≡ w → IsWhole v → IsWhole w
 whole_of w v same whole = subst IsWhole same whole
-
--- a block that isn't mapped can't be looked at
-pub not_mapped : (mapped inside : Bool) → mapped ≡ false → (mapped && inside) ≡ false
-not_mapped false inside is = refl
-not_mapped true inside is = absurd (cc)
 
 -- a row that there isn't can't be looked at
 pub no_row : (mapped : Bool) (i : ℕ) → 64 ≤ i → (mapped && nat_lt i 64) ≡ false

@@ -1,5 +1,5 @@
 -- What readers have seen grows with each event, and to the whole log at a load.
-use Rattle.std.proofs.Common.{◌≡◌, ◌≢◌, ℕ, ◌⊎◌, ◌&&◌, Bool, true, false, if◌then◌else◌, List, [], ◌++◌, set, refl, ap, subst, sym, ◌∙◌, append-nil}
+use Rattle.std.proofs.Common.{◌≡◌, ℕ, ◌&&◌, Bool, true, false, if◌then◌else◌, List, [], set, refl, ap, subst, sym, ◌∙◌, append-nil}
 use Rattle.std.specs.Prelude.{Option, Some, None, slice_get, nat_lt, is_some}
 use mathlib.Core.Logic.{inl, inr}
 use Rattle.metric.specs.declared.refusal.Refusal.{Refusal}
@@ -18,10 +18,7 @@ use Rattle.map_core.specs.Sound.{IsWhole}
 use Rattle.map_core.specs.Runs.{SeenGrows, SeesAll}
 use Rattle.map_core.proofs.DoesLemmas.{unless_true, where_true}
 use Rattle.map_core.proofs.StepLemmas.{slice_get-set}
-
--- a log is a beginning of itself
-beginning_same : (log : List Entry) → IsBeginning log log
-beginning_same log = record { rest = []; whole = append-nil log }
+use Rattle.map_core.proofs.LogLemmas.{beginning_itself}
 
 -- what is there is one thing
 one_there : (x y : Reader) → ◌≡◌ {A = Option Reader} (Some x) (Some y) → x ≡ y
@@ -31,7 +28,7 @@ one_there x y is = cc
 pub seen_stays : (old new : State) → new.readers ≡ old.readers → SeenGrows old new
 seen_stays old new same r x y was is =
     let here : x ≡ y = one_there x y (sym was ∙ (ap (λ (xs : List Reader). slice_get xs r) (sym same) ∙ is)) in
-    subst (λ (z : Reader). IsBeginning x.seen z.seen) here (beginning_same x.seen)
+    subst (λ (z : Reader). IsBeginning x.seen z.seen) here (beginning_itself x.seen)
 
 -- where one reader has another view, it has seen what it had, and more
 seen_of_one : (readers : List Reader) (r : ℕ) (x y : Reader) → slice_get readers r ≡ Some x → IsBeginning x.seen y.seen
@@ -43,7 +40,7 @@ seen_of_one readers r x y there more q a b was now =
           subst (λ (z : Reader). IsBeginning z.seen b.seen) same (subst (λ (z : Reader). IsBeginning x.seen z.seen) here.1 more)
       | inr other ↦
           let same : a ≡ b = one_there a b (sym was ∙ other.1) in
-          subst (λ (z : Reader). IsBeginning a.seen z.seen) same (beginning_same a.seen)
+          subst (λ (z : Reader). IsBeginning a.seen z.seen) same (beginning_itself a.seen)
     ]
 
 -- one outcome is the other
@@ -56,7 +53,7 @@ unfolding announce
 grows-announce w r None o there is = absurd (cc)
 grows-announce w r (Some x) o there is =
     let parts = unless_true (is_some x.announced) _ o is in
-    subst (λ (a : Outcome). SeenGrows w a.state) parts.1 (seen_of_one w.readers r x _ there (beginning_same x.seen))
+    subst (λ (a : Outcome). SeenGrows w a.state) parts.1 (seen_of_one w.readers r x _ there (beginning_itself x.seen))
 
 -- a load
 grows-load : (w : State) (r : ℕ) (found : Option Reader) (o : Outcome) → IsWhole w → slice_get w.readers r ≡ found → load w r found ≡ Some o → SeenGrows w o.state × SeesAll (Load r) o.state
@@ -79,7 +76,7 @@ unfolding leave
 grows-leave w r None o there is = absurd (cc)
 grows-leave w r (Some x) o there is =
     let parts = where_true (is_some x.announced) _ o is in
-    subst (λ (a : Outcome). SeenGrows w a.state) parts.1 (seen_of_one w.readers r x _ there (beginning_same x.seen))
+    subst (λ (a : Outcome). SeenGrows w a.state) parts.1 (seen_of_one w.readers r x _ there (beginning_itself x.seen))
 
 -- a look at a position leaves the readers
 stay-look_map : (w : State) (p : ℕ) (held : Option ℕ) (o : Outcome) → look_map w p held ≡ Some o → o.state.readers ≡ w.readers

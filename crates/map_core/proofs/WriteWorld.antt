@@ -4,26 +4,26 @@ use Rattle.std.specs.Prelude.{Option, Some, None, slice_get}
 use Rattle.bits.specs.Cells.{Cells}
 use Rattle.bits.specs.Tiles.{row_word}
 use Rattle.map_core.specs.declared.command.Command.{Command}
-use Rattle.map_core.specs.declared.reader.Place.{Place}
+use Rattle.map_core.specs.declared.reader.Standing.{Standing}
 use Rattle.map_core.specs.Story.{newest, IsKept}
 use Rattle.map_core.specs.Blocks.{directory_of, own_list, mapped}
 use Rattle.map_core.specs.Words.{tiles, map_at, tile_at, slot_of, next_slot}
 use Rattle.map_core.specs.Views.{State, story_of, blocks_of_state}
 use Rattle.map_core.specs.Steps.{own_positions, tile_steps, tile_write, map_write}
-use Rattle.map_core.specs.Kept.{Summary, Room, IsConsistent}
+use Rattle.map_core.specs.Consistent.{Summary, Room, IsConsistent}
 use Rattle.map_core.proofs.LogLemmas.{places-legal}
 use Rattle.map_core.proofs.SpareLemmas.{own_within}
 use Rattle.map_core.proofs.SoundCommit.{mapped_none}
 use Rattle.map_core.proofs.StepLemmas.{tidy_of}
 
 -- what is kept is right of a world under another name
-pub consistent_of : (w v : State) (hand : Option Command) (steps : ℕ) (places : List Place) (u : Summary) (room : Room) → v ≡ w → IsConsistent v hand steps places u room
-    → IsConsistent w hand steps places u room
-consistent_of w v hand steps places u room same consistent = subst (λ (x : State). IsConsistent x hand steps places u room) same consistent
+pub consistent_of : (w v : State) (hand : Option Command) (steps : ℕ) (standings : List Standing) (u : Summary) (room : Room) → v ≡ w → IsConsistent v hand steps standings u room
+    → IsConsistent w hand steps standings u room
+consistent_of w v hand steps standings u room same consistent = subst (λ (x : State). IsConsistent x hand steps standings u room) same consistent
 
 -- there are few versions
-pub newest_few : (w : State) (hand : Option Command) (steps : ℕ) (places : List Place) (u : Summary) (room : Room) → IsConsistent w hand steps places u room → u.newest ≤ 1048576
-newest_few w hand steps places u room consistent =
+pub newest_few : (w : State) (hand : Option Command) (steps : ℕ) (standings : List Standing) (u : Summary) (room : Room) → IsConsistent w hand steps standings u room → u.newest ≤ 1048576
+newest_few w hand steps standings u room consistent =
     let counts = places-legal w.base w.keeper.log consistent.whole.keeper.legal in
     let fits = counts.0 in
     let few = counts.1 in
@@ -32,14 +32,14 @@ newest_few w hand steps places u room consistent =
     omega arith
 
 -- there is a block, or none, for each position
-pub own_within_tiles : (w : State) (hand : Option Command) (steps : ℕ) (places : List Place) (u : Summary) (room : Room) → IsConsistent w hand steps places u room → length u.own ≡ tiles w.base
-own_within_tiles w hand steps places u room consistent = ap length consistent.summary.own_is ∙ (tidy_of w consistent.whole).shape.own
+pub own_within_tiles : (w : State) (hand : Option Command) (steps : ℕ) (standings : List Standing) (u : Summary) (room : Room) → IsConsistent w hand steps standings u room → length u.own ≡ tiles w.base
+own_within_tiles w hand steps standings u room consistent = ap length consistent.summary.own_is ∙ (tidy_of w consistent.whole).shape.own
 
 -- where a word of the next directory goes
-pub next_at : (w : State) (hand : Option Command) (steps : ℕ) (places : List Place) (u : Summary) (room : Room) → IsConsistent w hand steps places u room → (p at : ℕ)
+pub next_at : (w : State) (hand : Option Command) (steps : ℕ) (standings : List Standing) (u : Summary) (room : Room) → IsConsistent w hand steps standings u room → (p at : ℕ)
     → at ≡ map_at w.base (slot_of w.base (story_of w) (u.newest + 1)) p → at ≡ (map_write w.base (story_of w) (blocks_of_state w) p).at
 unfolding slot_of next_slot map_write
-next_at w hand steps places u room consistent p at is = is ∙ ap (λ (n : ℕ). map_at w.base ((n + 1) % w.base.setting.versions) p) consistent.summary.newest_is
+next_at w hand steps standings u room consistent p at is = is ∙ ap (λ (n : ℕ). map_at w.base ((n + 1) % w.base.setting.versions) p) consistent.summary.newest_is
 
 -- the new directory has the draft's own block
 mapped_some : (own : List (Option ℕ)) (bs : List ℕ) (p b : ℕ) (o : Option ℕ) → length own ≡ length bs → p < length own → get_or own p o ≡ Some b → get_or (mapped own bs) p 0 ≡ b
@@ -56,32 +56,32 @@ none_at (x ∷ own) zero o h is = ap (λ (y : Option ℕ). Some y) is
 none_at (x ∷ own) (suc p) o h is = none_at own p o (omega arith) is
 
 -- the directory of newest is as long as there are positions
-newest_long : (w : State) (hand : Option Command) (steps : ℕ) (places : List Place) (u : Summary) (room : Room) → IsConsistent w hand steps places u room
+newest_long : (w : State) (hand : Option Command) (steps : ℕ) (standings : List Standing) (u : Summary) (room : Room) → IsConsistent w hand steps standings u room
     → length (blocks_of_state w).own ≡ length (directory_of (blocks_of_state w) (newest (story_of w)))
-newest_long w hand steps places u room consistent =
+newest_long w hand steps standings u room consistent =
     let tidy = tidy_of w consistent.whole in
     tidy.shape.own ∙ sym (tidy.shape.directory (newest (story_of w)) (omega arith))
 
 -- the word of a position with a block of its own
-pub word_own : (w : State) (hand : Option Command) (steps : ℕ) (places : List Place) (u : Summary) (room : Room) → IsConsistent w hand steps places u room → (p b : ℕ) (o : Option ℕ) → p < tiles w.base
+pub word_own : (w : State) (hand : Option Command) (steps : ℕ) (standings : List Standing) (u : Summary) (room : Room) → IsConsistent w hand steps standings u room → (p b : ℕ) (o : Option ℕ) → p < tiles w.base
     → get_or u.own p o ≡ Some b → b ≡ (map_write w.base (story_of w) (blocks_of_state w) p).word
 unfolding map_write
-word_own w hand steps places u room consistent p b o inside is =
+word_own w hand steps standings u room consistent p b o inside is =
     let long = (tidy_of w consistent.whole).shape.own in
-    sym (mapped_some (blocks_of_state w).own (directory_of (blocks_of_state w) (newest (story_of w))) p b o (newest_long w hand steps places u room consistent) (omega arith)
+    sym (mapped_some (blocks_of_state w).own (directory_of (blocks_of_state w) (newest (story_of w))) p b o (newest_long w hand steps standings u room consistent) (omega arith)
     (ap (λ (own : List (Option ℕ)). get_or own p o) (sym consistent.summary.own_is) ∙ is))
 
 -- the word of a position without one is newest's
-pub word_newest : (w : State) (hand : Option Command) (steps : ℕ) (places : List Place) (u : Summary) (room : Room) → IsConsistent w hand steps places u room → (p at word : ℕ) (o : Option ℕ) → p < tiles w.base
+pub word_newest : (w : State) (hand : Option Command) (steps : ℕ) (standings : List Standing) (u : Summary) (room : Room) → IsConsistent w hand steps standings u room → (p at word : ℕ) (o : Option ℕ) → p < tiles w.base
     → get_or u.own p o ≡ None → at ≡ map_at w.base (slot_of w.base (story_of w) u.newest) p → word ≡ get_or w.words at 0 → word ≡ (map_write w.base (story_of w) (blocks_of_state w) p).word
 unfolding map_write IsKept
-word_newest w hand steps places u room consistent p at word o inside is at_is read =
+word_newest w hand steps standings u room consistent p at word o inside is at_is read =
     let tidy = tidy_of w consistent.whole in
     let long = tidy.shape.own in
     let shows = consistent.whole.keeper.shows (newest (story_of w)) (tidy.floor_in, omega arith) in
     let place = at_is ∙ ap (λ (n : ℕ). map_at w.base (slot_of w.base (story_of w) n) p) consistent.summary.newest_is in
     read ∙ (ap (λ (n : ℕ). get_or w.words n 0) place ∙ (shows.mapped p inside
-    ∙ sym (mapped_none (blocks_of_state w).own (directory_of (blocks_of_state w) (newest (story_of w))) p (newest_long w hand steps places u room consistent)
+    ∙ sym (mapped_none (blocks_of_state w).own (directory_of (blocks_of_state w) (newest (story_of w))) p (newest_long w hand steps standings u room consistent)
     (none_at (blocks_of_state w).own p o (omega arith) (ap (λ (own : List (Option ℕ)). get_or own p o) (sym consistent.summary.own_is) ∙ is)))))
 
 -- the position of a tile with a block of its own is one of the map's
@@ -99,18 +99,18 @@ pub record IsFound (w : State) (own : List (Option ℕ)) (number position block 
   pub block_is : block ≡ get_or (own_list own) (number / 64) 0
 
 -- its block is one of the map's
-pub found_block : (w : State) (hand : Option Command) (steps : ℕ) (places : List Place) (u : Summary) (room : Room) → IsConsistent w hand steps places u room → (own : List (Option ℕ)) (n p b : ℕ)
+pub found_block : (w : State) (hand : Option Command) (steps : ℕ) (standings : List Standing) (u : Summary) (room : Room) → IsConsistent w hand steps standings u room → (own : List (Option ℕ)) (n p b : ℕ)
     → IsFound w own n p b → b < w.base.setting.blocks
-found_block w hand steps places u room consistent own n p b found =
+found_block w hand steps standings u room consistent own n p b found =
     let within = found.within in
     let is : b ≡ get_or (own_list (blocks_of_state w).own) (n / 64) 0 = found.block_is ∙ ap (λ (os : List (Option ℕ)). get_or (own_list os) (n / 64) 0) found.own_is in
     let few = own_within w.base (story_of w) (blocks_of_state w) (tidy_of w consistent.whole) (n / 64) (omega arith) in
     omega arith
 
 -- its position is one of the map's
-pub found_position : (w : State) (hand : Option Command) (steps : ℕ) (places : List Place) (u : Summary) (room : Room) → IsConsistent w hand steps places u room → (own : List (Option ℕ)) (n p b : ℕ)
+pub found_position : (w : State) (hand : Option Command) (steps : ℕ) (standings : List Standing) (u : Summary) (room : Room) → IsConsistent w hand steps standings u room → (own : List (Option ℕ)) (n p b : ℕ)
     → IsFound w own n p b → p < tiles w.base
-found_position w hand steps places u room consistent own n p b found =
+found_position w hand steps standings u room consistent own n p b found =
     let within = found.within in
     let long = (tidy_of w consistent.whole).shape.own in
     let is : p ≡ get_or (own_positions 0 (blocks_of_state w).own) (n / 64) 0 = found.position_is ∙ ap (λ (os : List (Option ℕ)). get_or (own_positions 0 os) (n / 64) 0) found.own_is in
@@ -126,10 +126,10 @@ tile_word_at w own n p b row at found row_is is =
     is ∙ (ap (λ (x : ℕ). tile_at w.base x row) block ∙ ap (λ (i : ℕ). tile_at w.base (get_or (own_list (blocks_of_state w).own) (n / 64) 0) i) row_is)
 
 -- and what it is
-pub tile_word_is : (w : State) (hand : Option Command) (steps : ℕ) (places : List Place) (u : Summary) (room : Room) → IsConsistent w hand steps places u room → (own : List (Option ℕ)) (n p b row word : ℕ)
+pub tile_word_is : (w : State) (hand : Option Command) (steps : ℕ) (standings : List Standing) (u : Summary) (room : Room) → IsConsistent w hand steps standings u room → (own : List (Option ℕ)) (n p b row word : ℕ)
     → IsFound w own n p b → row ≡ n % 64 → word ≡ row_word u.draft p row → word ≡ (tile_write w.base (story_of w) (blocks_of_state w) n).word
 unfolding tile_write
-tile_word_is w hand steps places u room consistent own n p b row word found row_is is =
+tile_word_is w hand steps standings u room consistent own n p b row word found row_is is =
     let position = found.position_is ∙ ap (λ (os : List (Option ℕ)). get_or (own_positions 0 os) (n / 64) 0) found.own_is in
     is ∙ (ap (λ (d : Cells). row_word d p row) consistent.summary.draft_is
     ∙ (ap (λ (q : ℕ). row_word (story_of w).draft q row) position ∙ ap (row_word (story_of w).draft (get_or (own_positions 0 (blocks_of_state w).own) (n / 64) 0)) row_is))

@@ -10,4 +10,4 @@ pub mod Safe
 pub mod Runs
 pub mod Tidy
 pub mod Sound
-pub mod Kept
+pub mod Consistent

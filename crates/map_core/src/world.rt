@@ -8,13 +8,13 @@ mod open;
 #[cfg(test)]
 mod open_tests;
 mod order;
-mod places;
 mod reads;
+mod words;
 
 use crate::blocks::Retired;
 use crate::command::{Command, Entry};
 use crate::event::{Event, NotEnabled, StepReply};
-use crate::reader::Place;
+use crate::reader::Standing;
 use crate::setting::Setting;
 use bits::Bitmap;
 use std::alloc::Global;
@@ -35,7 +35,7 @@ pub struct World {
     done: u32,
     steps: u32,
     scanned: Vec<u64>,
-    readers: Vec<Place>,
+    readers: Vec<Standing>,
     // What the log says: the newest version, the least that is kept, the draft, and the newest version's bitmap.
     newest: u32,
     floor: u32,
@@ -56,7 +56,7 @@ impl Model for World {
 
     ghost Value = { State };
 
-    ghost use Rattle.map_core.specs.Kept.{state_of, IsConsistent};
+    ghost use Rattle.map_core.specs.Consistent.{state_of, IsConsistent};
     ghost use Rattle.std.specs.Vec.{vec_capacity};
     ghost use Rattle.std.specs.VecDeque.{deque_capacity};
 

@@ -1,24 +1,17 @@
 //! The last steps of commands: each stores NOW, and appends its entry to the log.
 
 ghost use Rattle.std.specs.Prelude.{◌≡◌, fold, Ok};
-ghost use Rattle.map_core.specs.Words.{now_word};
 ghost use Rattle.map_core.specs.Steps.{lowered};
 ghost use Rattle.map_core.specs.Runs.{SafeStep};
 ghost use Rattle.map_core.specs.declared.event.Event.TheVariants.{Keep};
 ghost use Rattle.map_core.specs.declared.command.Command.TheVariants.{Publish, Revert, Collect};
-ghost use Rattle.map_core.specs.Kept.{IsLastOf, IsDrawing};
+ghost use Rattle.map_core.specs.Consistent.{IsLastOf, IsDrawing};
 
 use crate::blocks::{give_back_own, give_back_retired, publish_own, take_blocks};
 use crate::command::{Command, Entry, Reply};
 use crate::event::StepReply;
 use crate::world::World;
-
-/// The word NOW, where the log has this many entries and this is the newest version.
-fn now_word(places: u32, newest: u32) -> u64
-    ensures { result ≡ now_word places newest }
-{
-    u64::from(places) * (1 << 32) + u64::from(newest)
-}
+use crate::world::words::{NOW_AT, now_word};
 
 /// The least of a version and of those that some readers' words announce.
 fn least_announced(newest: u32, words: &[u64]) -> u32
@@ -54,7 +47,7 @@ impl World {
         let place = self.log.len() as u32 + 1;
         let reply = Reply::Painted { place, changed };
         self.log.push_reserved(Entry { command, reply });
-        self.words[0] = now_word(place, self.newest);
+        self.words[NOW_AT] = now_word(place, self.newest);
         StepReply::Committed { reply }
     }
 
@@ -63,7 +56,7 @@ impl World {
         requires { IsLastOf self.old Publish }
         ensures { SafeStep self.old Keep (Ok result) self.new }
     {
-        let first = self.map_place(self.newest, 0);
+        let first = self.map_at(self.newest, 0);
         let tiles = usize::from(self.opening.tiles());
         publish_own(
             self.newest,
@@ -80,7 +73,7 @@ impl World {
             command: Command::Publish,
             reply,
         });
-        self.words[0] = now_word(place, version);
+        self.words[NOW_AT] = now_word(place, version);
         self.newest = version;
         self.hand = None;
         StepReply::Committed { reply }
@@ -99,7 +92,7 @@ impl World {
             command: Command::Revert,
             reply,
         });
-        self.words[0] = now_word(place, self.newest);
+        self.words[NOW_AT] = now_word(place, self.newest);
         self.hand = None;
         StepReply::Committed { reply }
     }
@@ -124,7 +117,7 @@ impl World {
             command: Command::Collect,
             reply,
         });
-        self.words[0] = now_word(place, self.newest);
+        self.words[NOW_AT] = now_word(place, self.newest);
         self.floor = floor;
         self.hand = None;
         StepReply::Committed { reply }

@@ -7,12 +7,13 @@ ghost use Rattle.map_core.specs.Steps.{steps_before, tile_steps, tile_write, map
 ghost use Rattle.map_core.specs.Runs.{SafeStep};
 ghost use Rattle.map_core.specs.declared.event.Event.TheVariants.{Keep};
 ghost use Rattle.map_core.specs.declared.command.Command.TheVariants.{Publish, Collect};
-ghost use Rattle.map_core.specs.Kept.{IsStepOf};
+ghost use Rattle.map_core.specs.Consistent.{IsStepOf};
 
 use crate::command::Command;
 use crate::event::{NotEnabled, StepReply};
 use crate::tiles::{count_own, nth_own};
 use crate::world::World;
+use crate::world::words::pin_at;
 
 impl World {
     /// A step of a collect: the next reader's word is loaded.
@@ -21,7 +22,7 @@ impl World {
         ensures { SafeStep self.old Keep (Ok result) self.new }
     {
         let reader = self.done;
-        let word = self.words[1 + reader as usize];
+        let word = self.words[pin_at(reader)];
         self.scanned.push_reserved(word);
         self.done += 1;
         StepReply::Scanned { reader, word }
@@ -34,10 +35,10 @@ impl World {
         ensures word { result.1 ≡ (map_write self.now.base (story_of self.now) (blocks_of_state self.now) position).word }
         ensures within { result.0 < length self.now.words }
     {
-        let place = self.map_place(self.newest + 1, position);
+        let place = self.map_at(self.newest + 1, position);
         let word = match self.own[position as usize] {
             Some(block) => u64::from(block),
-            None => self.words[self.map_place(self.newest, position)],
+            None => self.words[self.map_at(self.newest, position)],
         };
         (place, word)
     }
@@ -50,12 +51,12 @@ impl World {
         ensures within { result.0 < length self.now.words }
     {
         let Some((position, block)) = nth_own(self.own.as_slice(), number / 64) else {
-            return (0, 0);
+            unreachable!()
         };
-        let place = self.tile_place(block, (number % 64) as u32);
+        let row = number % 64;
         (
-            place,
-            self.draft.tile_row(position as u16, (number % 64) as u16),
+            self.tile_at(block, row as u32),
+            self.draft.tile_row(position as u16, row as u16),
         )
     }
 

@@ -11,7 +11,7 @@ ghost use Rattle.map_core.specs.Words.{word_count, map_at, tile_at};
 ghost use Rattle.map_core.specs.Steps.{steps_left};
 ghost use Rattle.map_core.specs.Runs.{IsOpened, AreOpeningWords};
 
-use crate::reader::Place;
+use crate::reader::Standing;
 use crate::setting::Setting;
 use crate::world::World;
 use bits::Bitmap;
@@ -20,7 +20,7 @@ use std::alloc::Global;
 use std::collections::VecDeque;
 
 /// A reader before its first event: it has seen the empty log, whose newest version is 0.
-const FRESH: Place = Place {
+const FRESH: Standing = Standing {
     seen: 0,
     version: 0,
     announced: None,

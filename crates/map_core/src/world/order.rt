@@ -16,6 +16,11 @@ use crate::world::World;
 use metric::Refusal;
 use std::alloc::Global;
 
+/// The answer to an order that finds no memory.
+const NO_MEMORY: StepReply = StepReply::Refused {
+    refusal: Refusal::Memory,
+};
+
 impl World {
     /// Why a paint or a stamp within the map is refused for want of blocks, if it is. It draws on the scratch bitmap alone.
     fn judge_blocks(&mut self, command: &Command) -> Option<Refusal>
@@ -97,14 +102,10 @@ impl World {
         }
         let steps = self.steps_before(command);
         let Ok(copy) = command.try_copy(alloc) else {
-            return Ok(StepReply::Refused {
-                refusal: Refusal::Memory,
-            });
+            return Ok(NO_MEMORY);
         };
         if self.log.reserve(1).is_err() {
-            return Ok(StepReply::Refused {
-                refusal: Refusal::Memory,
-            });
+            return Ok(NO_MEMORY);
         }
         self.scanned.clear();
         self.done = 0;

@@ -10,28 +10,27 @@ ghost use Rattle.map_core.specs.Runs.{SafeStep};
 ghost use Rattle.map_core.specs.declared.event.Event.TheVariants.{Announce, Load, LookMap, LookTile, Leave};
 
 use crate::event::{NotEnabled, StepReply};
-use crate::reader::Place;
+use crate::reader::Standing;
 use crate::world::World;
+use crate::world::words::{NOW_AT, pin_at, place_told, version_told};
 
 impl World {
     /// A reader that hasn't announced stores the newest version that it has seen.
     pub(super) fn announce(&mut self, reader: u32) -> Result<StepReply, NotEnabled>
         ensures { SafeStep self.old (Announce reader) result self.new }
     {
-        let reader = reader as usize;
-        if self.readers.len() <= reader {
+        let Some(standing) = Standing::of(self.readers.as_slice(), reader) else {
             return Err(NotEnabled);
-        }
-        let place = self.readers[reader];
-        if place.announced.is_some() {
-            return Err(NotEnabled);
-        }
-        let version = place.version;
-        self.readers[reader] = Place {
-            announced: Some(version),
-            ..place
         };
-        self.words[1 + reader] = u64::from(version) + 1;
+        if standing.announced.is_some() {
+            return Err(NotEnabled);
+        }
+        let version = standing.version;
+        self.readers[reader as usize] = Standing {
+            announced: Some(version),
+            ..standing
+        };
+        self.words[pin_at(reader)] = u64::from(version) + 1;
         Ok(StepReply::Announced { version })
     }
 
@@ -39,21 +38,19 @@ impl World {
     pub(super) fn load(&mut self, reader: u32) -> Result<StepReply, NotEnabled>
         ensures { SafeStep self.old (Load reader) result self.new }
     {
-        let reader = reader as usize;
-        if self.readers.len() <= reader {
+        let Some(standing) = Standing::of(self.readers.as_slice(), reader) else {
             return Err(NotEnabled);
-        }
-        let place = self.readers[reader];
-        let word = self.words[0];
-        let version = (word % (1 << 32)) as u32;
-        self.readers[reader] = Place {
+        };
+        let word = self.words[NOW_AT];
+        let version = version_told(word);
+        self.readers[reader as usize] = Standing {
             seen: self.log.len(),
             version: self.newest,
-            announced: place.announced,
-            holds: place.next_hold(version),
+            announced: standing.announced,
+            holds: standing.next_hold(version),
         };
         Ok(StepReply::Now {
-            place: (word / (1 << 32)) as u32,
+            place: place_told(word),
             version,
         })
     }
@@ -63,12 +60,7 @@ impl World {
         ensures held { result ≡ hold_of (slice_get self.now.readers reader) }
         ensures whole { IsWhole self.now }
     {
-        let reader = reader as usize;
-        if reader < self.readers.len() {
-            self.readers[reader].holds
-        } else {
-            None
-        }
+        Standing::of(self.readers.as_slice(), reader)?.holds
     }
 
     /// A reader loads the block of a position in the version that it holds.
@@ -81,7 +73,7 @@ impl World {
         if u32::from(self.opening.tiles()) <= position {
             return Err(NotEnabled);
         }
-        let place = self.map_place(version, position);
+        let place = self.map_at(version, position);
         Ok(StepReply::Block {
             block: self.words[place] as u32,
         })
@@ -89,13 +81,12 @@ impl World {
 
     /// Whether a version that is kept maps a block.
     fn maps(&self, version: u32, block: u32) -> bool
+        requires whole { IsWhole self.now }
         requires kept { IsKept (story_of self.now) version }
         ensures { result ≡ is_mapped (blocks_of_state self.now) version block }
     {
-        // Reading a field shows the proof what is kept of the world.
-        let _ = &self.floor;
         for position in 0..u32::from(self.opening.tiles()) {
-            if self.words[self.map_place(version, position)] == u64::from(block) {
+            if self.words[self.map_at(version, position)] == u64::from(block) {
                 return true;
             }
         }
@@ -120,7 +111,7 @@ impl World {
         if 64 <= row {
             return Err(NotEnabled);
         }
-        let place = self.tile_place(block, row);
+        let place = self.tile_at(block, row);
         Ok(StepReply::Word {
             word: self.words[place],
         })
@@ -130,20 +121,18 @@ impl World {
     pub(super) fn leave(&mut self, reader: u32) -> Result<StepReply, NotEnabled>
         ensures { SafeStep self.old (Leave reader) result self.new }
     {
-        let reader = reader as usize;
-        if self.readers.len() <= reader {
+        let Some(standing) = Standing::of(self.readers.as_slice(), reader) else {
+            return Err(NotEnabled);
+        };
+        if standing.announced.is_none() {
             return Err(NotEnabled);
         }
-        let place = self.readers[reader];
-        if place.announced.is_none() {
-            return Err(NotEnabled);
-        }
-        self.readers[reader] = Place {
+        self.readers[reader as usize] = Standing {
             announced: None,
             holds: None,
-            ..place
+            ..standing
         };
-        self.words[1 + reader] = 0;
+        self.words[pin_at(reader)] = 0;
         Ok(StepReply::Left)
     }
 }

@@ -1,9 +1,9 @@
 -- The last step of a collect.
 use Rattle.std.proofs.Common.{◌≡◌, ◌+◌, ◌-◌, arith, refl, length}
 use Rattle.map_core.proofs.CollectWorld.{summary_collect, freed_collect, reply_collect, now_collect, room_retired, floor_risen, stay_few}
-use Rattle.map_core.proofs.CommitWorld.{last_known, last_does, consistent_commit, log_few, now_within}
+use Rattle.map_core.proofs.CommitWorld.{last_known, last_does, consistent_commit, log_few}
 use Rattle.map_core.proofs.StepLemmas.{tidy_of}
-use Rattle.map_core.proofs.WorldLemmas.{safe_done}
+use Rattle.map_core.proofs.WorldLemmas.{safe_done, now_word_there}
 use Rattle.map_core.proofs.world.World.collect.Goals as goal
 
 pub give_back_retired-requires : goal.give_back_retired-requires
@@ -23,7 +23,7 @@ pub overflow_add-place : goal.overflow_add-place
 overflow_add-place c = omega (arith, log_few _ _ _ _ _ _ c.self.invariant, c.len-2.ensures, c.self.inside.log.ok)
 
 pub index_mut-requires : goal.index_mut-requires
-index_mut-requires c = omega (arith, now_within _ _ _ _ _ _ c.self.invariant, c.self.inside.words.ok)
+index_mut-requires c = omega (arith, now_word_there _ _ _ _ _ _ c.self.invariant, c.self.inside.words.ok)
 
 pub invariant_of-self : goal.invariant_of-self
 invariant_of-self c =

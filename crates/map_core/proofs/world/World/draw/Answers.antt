@@ -1,12 +1,12 @@
 -- The step of a paint or a stamp.
 use Rattle.std.proofs.Common.{◌≡◌, ◌+◌, arith, refl, ap, subst, sym, ◌∙◌, length}
 use Rattle.bits.specs.Cells.{Cells, IsBitmap}
-use Rattle.map_core.proofs.CommitWorld.{last_does, consistent_commit, log_few, now_within}
+use Rattle.map_core.proofs.CommitWorld.{last_does, consistent_commit, log_few}
 use Rattle.map_core.proofs.DrawWorld.{drawing_known, hand_inside, reply_draw, now_draw, count_draw, summary_draw, written_back}
 use Rattle.map_core.proofs.JudgeLemmas.{draft_of_map, same_width, same_height, drawn_of_map, own_long}
 use Rattle.map_core.proofs.StepLemmas.{tidy_of}
 use Rattle.map_core.proofs.TidyDraft.{tile_count-of_map}
-use Rattle.map_core.proofs.WorldLemmas.{safe_done}
+use Rattle.map_core.proofs.WorldLemmas.{safe_done, now_word_there}
 use Rattle.map_core.proofs.world.World.draw.Goals as goal
 
 pub copy_from-requires-clause-width : goal.copy_from-requires-clause-width
@@ -45,7 +45,7 @@ pub overflow_add-place : goal.overflow_add-place
 overflow_add-place c = omega (arith, log_few _ _ _ _ _ _ c.self.invariant, c.len.ensures, c.self.inside.log.ok)
 
 pub index_mut-requires : goal.index_mut-requires
-index_mut-requires c = omega (arith, now_within _ _ _ _ _ _ c.self.invariant, c.self.inside.words.ok)
+index_mut-requires c = omega (arith, now_word_there _ _ _ _ _ _ c.self.invariant, c.self.inside.words.ok)
 
 pub invariant_of-self : goal.invariant_of-self
 invariant_of-self c =

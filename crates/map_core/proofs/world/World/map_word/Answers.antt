@@ -12,10 +12,10 @@ index-requires c =
     omega (arith, c.self.inside.own.ok, own_within_tiles _ _ _ _ _ _ (consistent_of c.args.self.now _ _ _ _ _ _ c.self.view_is c.self.invariant), c.requires)
 
 pub returns-in-Some-clause-place : goal.returns-in-Some-clause-place
-returns-in-Some-clause-place c = next_at _ _ _ _ _ _ (consistent_of c.args.self.now _ _ _ _ _ _ c.self.view_is c.self.invariant) _ _ c.map_place-place.ensures.place
+returns-in-Some-clause-place c = next_at _ _ _ _ _ _ (consistent_of c.args.self.now _ _ _ _ _ _ c.self.view_is c.self.invariant) _ _ c.map_at-place.ensures.place
 
 pub returns-in-None-clause-place : goal.returns-in-None-clause-place
-returns-in-None-clause-place c = next_at _ _ _ _ _ _ (consistent_of c.args.self.now _ _ _ _ _ _ c.self.view_is c.self.invariant) _ _ c.map_place-place.ensures.place
+returns-in-None-clause-place c = next_at _ _ _ _ _ _ (consistent_of c.args.self.now _ _ _ _ _ _ c.self.view_is c.self.invariant) _ _ c.map_at-place.ensures.place
 
 pub returns-in-Some-clause-word : goal.returns-in-Some-clause-word
 returns-in-Some-clause-word c =
@@ -23,5 +23,5 @@ returns-in-Some-clause-word c =
 
 pub returns-in-None-clause-word : goal.returns-in-None-clause-word
 returns-in-None-clause-word c =
-    word_newest _ _ _ _ _ _ (consistent_of c.args.self.now _ _ _ _ _ _ c.self.view_is c.self.invariant) _ c.map_place.result _ c.index.result.now c.requires (sym c.index.ensures ∙ c.in-None.is) c.map_place.ensures.place
-    (word_read c.args.self.now _ _ c.map_place.result c.index-in-None.result.now _ record { same = c.self.view_is; count = refl; words_are = refl; read = c.index-in-None.ensures; within = c.map_place.ensures.within })
+    word_newest _ _ _ _ _ _ (consistent_of c.args.self.now _ _ _ _ _ _ c.self.view_is c.self.invariant) _ c.map_at.result _ c.index.result.now c.requires (sym c.index.ensures ∙ c.in-None.is) c.map_at.ensures.place
+    (word_read c.args.self.now _ _ c.map_at.result c.index-in-None.result.now _ record { same = c.self.view_is; count = refl; words_are = refl; read = c.index-in-None.ensures; within = c.map_at.ensures.within })

@@ -32,7 +32,7 @@ overflow_add-place c = omega (arith, log_few _ _ _ _ _ _ c.self.invariant, c.len
 
 pub slice_bounds-publish_own-end : goal.slice_bounds-publish_own-end
 slice_bounds-publish_own-end c =
-    let part = newest_part _ _ _ _ _ c.self.view_is (c.from-tiles.ensures ∙ c.tiles.ensures.tiles) c.map_place-first.ensures.place in
+    let part = newest_part _ _ _ _ _ c.self.view_is (c.from-tiles.ensures ∙ c.tiles.ensures.tiles) c.map_at-first.ensures.place in
     omega (arith, c.deref.ensures.len, c.self.inside.words.ok, part_within _ _ _ _ _ _ c.self.invariant _ _ part)
 
 pub publish_own-requires-clause-few : goal.publish_own-requires-clause-few
@@ -40,12 +40,12 @@ publish_own-requires-clause-few c = omega (arith, ap length c.as_mut_slice.ensur
 
 pub publish_own-requires-clause-directory : goal.publish_own-requires-clause-directory
 publish_own-requires-clause-directory c =
-    let part = newest_part _ _ _ _ _ c.self.view_is (c.from-tiles.ensures ∙ c.tiles.ensures.tiles) c.map_place-first.ensures.place in
+    let part = newest_part _ _ _ _ _ c.self.view_is (c.from-tiles.ensures ∙ c.tiles.ensures.tiles) c.map_at-first.ensures.place in
     rw (c.deref.ensures.value, part_is _ _ _ _ _ _ c.self.invariant _ _ part, c.as_mut_slice.ensures.value) (directory_long _ _ _ _ _ _ c.self.invariant)
 
 pub publish_own-requires-clause-blocks : goal.publish_own-requires-clause-blocks
 publish_own-requires-clause-blocks c = λ p h.
-    let part = newest_part _ _ _ _ _ c.self.view_is (c.from-tiles.ensures ∙ c.tiles.ensures.tiles) c.map_place-first.ensures.place in
+    let part = newest_part _ _ _ _ _ c.self.view_is (c.from-tiles.ensures ∙ c.tiles.ensures.tiles) c.map_at-first.ensures.place in
     let small = part_small _ _ _ _ _ _ c.self.invariant p (omega (arith, ap length c.as_mut_slice.ensures.value)) in
     rw (c.deref.ensures.value, part_is _ _ _ _ _ _ c.self.invariant _ _ part) (omega arith)
 
@@ -57,7 +57,7 @@ invariant_of-self c =
     let known = last_known c.args.self.now _ _ c.self.inside.hand _ _ c.self.view_is refl c.requires in
     let place : c.len.result + 1 ≡ length c.self.inside.log.items + 1 = omega (arith, c.len.ensures, c.self.inside.log.ok) in
     let tidy = tidy_of _ c.self.invariant.whole in
-    let part = newest_part _ _ _ _ _ c.self.view_is (c.from-tiles.ensures ∙ c.tiles.ensures.tiles) c.map_place-first.ensures.place in
+    let part = newest_part _ _ _ _ _ c.self.view_is (c.from-tiles.ensures ∙ c.tiles.ensures.tiles) c.map_at-first.ensures.place in
     let does = last_does _ _ _ _ _ _ _ _ _ _ _ _ _ c.now_word.result c.self.invariant known (reply_publish _ _ _ _ _ _ place c.self.invariant.summary.newest_is refl) (now_publish _ _ _ tidy.shape _ _ _ _ _ place c.self.invariant.summary.newest_is refl c.now_word.ensures) in
     rw (c.push_reserved.ensures.items)
     (consistent_commit _ _ _ _ _ _ c.self.inside.done _ _ _ c.self.inside.scanned.items _ _ _ _ _ _ _ _ c.self.invariant does

@@ -1,9 +1,9 @@
 -- The last step of a revert.
 use Rattle.std.proofs.Common.{◌≡◌, ◌+◌, arith, refl, sym, ◌∙◌, length}
-use Rattle.map_core.proofs.CommitWorld.{last_known, last_does, consistent_commit, log_few, now_within, room_back, published_of_map, reply_revert, now_revert, summary_revert}
+use Rattle.map_core.proofs.CommitWorld.{last_known, last_does, consistent_commit, log_few, room_back, published_of_map, reply_revert, now_revert, summary_revert}
 use Rattle.map_core.proofs.GiveBack.{cleared_back}
 use Rattle.map_core.proofs.JudgeLemmas.{draft_of_map}
-use Rattle.map_core.proofs.WorldLemmas.{safe_done}
+use Rattle.map_core.proofs.WorldLemmas.{safe_done, now_word_there}
 use Rattle.map_core.proofs.world.World.revert.Goals as goal
 
 pub copy_from-requires-clause-width : goal.copy_from-requires-clause-width
@@ -22,7 +22,7 @@ pub overflow_add-place : goal.overflow_add-place
 overflow_add-place c = omega (arith, log_few _ _ _ _ _ _ c.self.invariant, c.len.ensures, c.self.inside.log.ok)
 
 pub index_mut-requires : goal.index_mut-requires
-index_mut-requires c = omega (arith, now_within _ _ _ _ _ _ c.self.invariant, c.self.inside.words.ok)
+index_mut-requires c = omega (arith, now_word_there _ _ _ _ _ _ c.self.invariant, c.self.inside.words.ok)
 
 pub invariant_of-self : goal.invariant_of-self
 invariant_of-self c =

@@ -5,7 +5,7 @@ use Rattle.map_core.specs.declared.blocks.Retired.{Retired}
 use Rattle.map_core.specs.declared.command.Command.{Command}
 use Rattle.map_core.specs.declared.command.Command.TheVariants.{Paint, Stamp}
 use Rattle.map_core.specs.declared.command.Entry.{Entry}
-use Rattle.map_core.specs.declared.reader.Place.{Place}
+use Rattle.map_core.specs.declared.reader.Standing.{Standing}
 use Rattle.map_core.specs.declared.setting.Setting.{Setting}
 use Rattle.map_core.specs.Story.{Story, newest, bitmap_of, came}
 use Rattle.map_core.specs.Blocks.{Blocks}
@@ -16,7 +16,7 @@ use Rattle.map_core.specs.Tidy.{IsOfMap}
 use Rattle.map_core.specs.Sound.{IsWhole}
 
 -- a reader, by how many entries of the log it has seen
-abbrev pub reader_of : List Entry → Place → Reader
+abbrev pub reader_of : List Entry → Standing → Reader
 reader_of log p = record { seen = take p.seen log; announced = p.announced; holds = p.holds }
 
 -- the command in hand, with how many steps are done and what its scan has seen
@@ -25,12 +25,12 @@ hand_of None done scanned = None
 hand_of (Some c) done scanned = Some record { command = c; done = done; scanned = scanned }
 
 -- a world by its parts
-abbrev pub state_of : Setting → Cells → List ℕ → List Entry → Option Command → ℕ → List ℕ → List Place → State
-state_of setting opening words log hand done scanned places =
-    record { base = record { setting = setting; opening = opening }; words = words; keeper = record { log = log; hand = hand_of hand done scanned }; readers = map (reader_of log) places }
+abbrev pub state_of : Setting → Cells → List ℕ → List Entry → Option Command → ℕ → List ℕ → List Standing → State
+state_of setting opening words log hand done scanned standings =
+    record { base = record { setting = setting; opening = opening }; words = words; keeper = record { log = log; hand = hand_of hand done scanned }; readers = map (reader_of log) standings }
 
 -- what is kept of a reader is what the entries that it has seen tell
-pub record IsPlace (k : Base) (log : List Entry) (p : Place) : Type 0 where
+pub record IsStanding (k : Base) (log : List Entry) (p : Standing) : Type 0 where
   pub within : p.seen ≤ length log
   pub version_is : p.version ≡ newest (story k (take p.seen log))
   pub small : p.version < 2 ^ 32
@@ -75,10 +75,10 @@ pub record IsRoomy (w : State) (room : Room) : Type 0 where
   pub retired : w.base.setting.blocks ≤ room.retired
 
 -- the world is whole, and what is kept beside its words is what its log says
-pub record IsConsistent (w : State) (hand : Option Command) (steps_in_hand : ℕ) (places : List Place) (u : Summary) (room : Room) : Type 0 where
+pub record IsConsistent (w : State) (hand : Option Command) (steps_in_hand : ℕ) (standings : List Standing) (u : Summary) (room : Room) : Type 0 where
   pub whole : IsWhole w
   pub steps : IfSome hand (λ c. steps_in_hand ≡ steps_before w.base (blocks w.base w.keeper.log) c)
-  pub place : (r : ℕ) (p : Place) → slice_get places r ≡ Some p → IsPlace w.base w.keeper.log p
+  pub standing : (r : ℕ) (p : Standing) → slice_get standings r ≡ Some p → IsStanding w.base w.keeper.log p
   pub summary : IsSummary w.base (story w.base w.keeper.log) (blocks w.base w.keeper.log) u
   pub roomy : IsRoomy w room
 

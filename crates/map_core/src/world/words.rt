@@ -1,14 +1,48 @@
-//! Where the words of a world stand.
+//! The words of a world: where each stands, and what NOW says.
 
 ghost use Rattle.std.specs.Prelude.{◌≡◌, ◌<◌, length};
-ghost use Rattle.map_core.specs.Words.{tiles, map_at, tile_at, slot_of};
+ghost use Rattle.map_core.specs.Words.{tiles, pin_at, map_at, tile_at, slot_of, now_word, place_told, version_told};
 ghost use Rattle.map_core.specs.Views.{story_of};
 
 use crate::world::World;
 
+/// Where the word NOW stands.
+pub const NOW_AT: usize = 0;
+
+/// What NOW is for each entry of the log.
+const PLACE: u64 = 1 << 32;
+
+/// The word NOW, where the log has so many entries and this is the newest version.
+pub fn now_word(places: u32, newest: u32) -> u64
+    ensures { result ≡ now_word places newest }
+{
+    u64::from(places) * PLACE + u64::from(newest)
+}
+
+/// The place of the last entry, as the word NOW tells it.
+pub fn place_told(word: u64) -> u32
+    ensures { result ≡ place_told word }
+{
+    (word / PLACE) as u32
+}
+
+/// The newest version, as the word NOW tells it.
+pub fn version_told(word: u64) -> u32
+    ensures { result ≡ version_told word }
+{
+    (word % PLACE) as u32
+}
+
+/// Where a reader's word stands.
+pub fn pin_at(reader: u32) -> usize
+    ensures { result ≡ pin_at reader }
+{
+    1 + reader as usize
+}
+
 impl World {
     /// Where the word stands that has the block of a position in a version's slot.
-    pub(super) fn map_place(&self, version: u32, position: u32) -> usize
+    pub(super) fn map_at(&self, version: u32, position: u32) -> usize
         requires { position < tiles self.now.base }
         ensures place { result ≡ map_at self.now.base (slot_of self.now.base (story_of self.now) version) position }
         ensures within { result < length self.now.words }
@@ -19,7 +53,7 @@ impl World {
     }
 
     /// Where the word stands that has a row of a block.
-    pub(super) fn tile_place(&self, block: u32, row: u32) -> usize
+    pub(super) fn tile_at(&self, block: u32, row: u32) -> usize
         requires block { block < self.now.base.setting.blocks }
         requires row { row < 64 }
         ensures place { result ≡ tile_at self.now.base block row }
