@@ -1,5 +1,5 @@
 -- The last step of a command, on a world by its parts.
-use Rattle.std.proofs.Common.{◌≡◌, ℕ, suc, ◌+◌, ◌<◌, ◌≤◌, false, List, [], ◌∷◌, ◌++◌, length, set, map, take, replicate, refl, ap, subst, sym, ◌∙◌, arith}
+use Rattle.std.proofs.Common.{◌≡◌, ℕ, suc, ◌+◌, ◌≤◌, false, List, [], ◌∷◌, ◌++◌, length, set, map, take, replicate, refl, ap, subst, sym, ◌∙◌, arith}
 use Rattle.std.specs.Prelude.{Option, Some, None, nat_lt, slice_get}
 use Rattle.std.proofs.lemmas.Bool.Decides.{nat_tests}
 use Rattle.std.proofs.lemmas.List.{take-append-le, length-append}
@@ -16,7 +16,7 @@ use Rattle.map_core.specs.declared.setting.Setting.{Setting}
 use Rattle.map_core.specs.Story.{Story, newest, bitmap_of}
 use Rattle.map_core.specs.Legal.{told}
 use Rattle.map_core.specs.Blocks.{Blocks, own_list, given_back, moved}
-use Rattle.map_core.specs.Words.{Base, word_count, now_at, now_word, now_of}
+use Rattle.map_core.specs.Words.{Base, now_at, now_word, now_of}
 use Rattle.map_core.specs.Views.{Hand, Reader, State, story, blocks, story_of, blocks_of_state}
 use Rattle.map_core.specs.Steps.{Outcome, does, keep, steps_before, reply_of}
 use Rattle.map_core.specs.Consistent.{hand_of, reader_of, state_of, Summary, IsSummary, Room, IsConsistent, IsLastOf}

@@ -13,7 +13,7 @@ use std::alloc::Global;
 
 impl Command {
     /// Whether the command's area lies in the map; a command without an area lies in it.
-    pub(crate) fn lies_in(&self, map: &Bitmap) -> bool
+    pub fn lies_in(&self, map: &Bitmap) -> bool
         ensures { result ≡ is_inside map.now self.now }
     {
         match self {
@@ -27,7 +27,7 @@ impl Command {
     }
 
     /// Gives the cells of a bitmap the command's values, and answers how many became another.
-    pub(crate) fn draw(&self, draft: &mut Bitmap) -> u32
+    pub fn draw(&self, draft: &mut Bitmap) -> u32
         requires inside { is_inside draft.old self.now ≡ true }
         requires bitmap { IsBitmap draft.old }
         ensures drawn { draft.new ≡ drawn draft.old self.now }
@@ -43,7 +43,7 @@ impl Command {
     }
 
     /// A copy. Refused for want of memory alone.
-    pub(crate) fn try_copy(&self, alloc: Global) -> Result<Self, Refusal>
+    pub fn try_copy(&self, alloc: Global) -> Result<Self, Refusal>
         ensures copy { IfOk result (λ copy. copy ≡ self.now) }
         ensures memory { IfErr result (λ refusal. refusal ≡ Memory) }
     {

@@ -7,6 +7,7 @@ mod draw;
 mod event;
 mod history;
 mod laws;
+mod now;
 mod reader;
 mod setting;
 #[cfg(test)]
@@ -18,5 +19,7 @@ pub use command::{Command, Entry, Reply};
 pub use event::{Event, NotEnabled, StepReply};
 pub use history::{Answers, run};
 pub use laws::{blocks_are_sound, events_keep_a_world_safe, free_blocks_are_counted};
+pub use now::Now;
 pub use setting::Setting;
+pub use tiles::tile_differs;
 pub use world::World;

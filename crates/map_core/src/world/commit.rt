@@ -10,8 +10,9 @@ ghost use Rattle.map_core.specs.Consistent.{IsLastOf, IsDrawing};
 use crate::blocks::{give_back_own, give_back_retired, publish_own, take_blocks};
 use crate::command::{Command, Entry, Reply};
 use crate::event::StepReply;
+use crate::now::Now;
 use crate::world::World;
-use crate::world::words::{NOW_AT, now_word};
+use crate::world::words::NOW_AT;
 
 /// The least of a version and of those that some readers' words announce.
 fn least_announced(newest: u32, words: &[u64]) -> u32
@@ -47,7 +48,8 @@ impl World {
         let place = self.log.len() as u32 + 1;
         let reply = Reply::Painted { place, changed };
         self.log.push_reserved(Entry { command, reply });
-        self.words[NOW_AT] = now_word(place, self.newest);
+        let version = self.newest;
+        self.words[NOW_AT] = Now { place, version }.word();
         StepReply::Committed { reply }
     }
 
@@ -73,7 +75,7 @@ impl World {
             command: Command::Publish,
             reply,
         });
-        self.words[NOW_AT] = now_word(place, version);
+        self.words[NOW_AT] = Now { place, version }.word();
         self.newest = version;
         self.hand = None;
         StepReply::Committed { reply }
@@ -92,7 +94,8 @@ impl World {
             command: Command::Revert,
             reply,
         });
-        self.words[NOW_AT] = now_word(place, self.newest);
+        let version = self.newest;
+        self.words[NOW_AT] = Now { place, version }.word();
         self.hand = None;
         StepReply::Committed { reply }
     }
@@ -117,7 +120,8 @@ impl World {
             command: Command::Collect,
             reply,
         });
-        self.words[NOW_AT] = now_word(place, self.newest);
+        let version = self.newest;
+        self.words[NOW_AT] = Now { place, version }.word();
         self.floor = floor;
         self.hand = None;
         StepReply::Committed { reply }

@@ -10,9 +10,10 @@ ghost use Rattle.map_core.specs.Runs.{SafeStep};
 ghost use Rattle.map_core.specs.declared.event.Event.TheVariants.{Announce, Load, LookMap, LookTile, Leave};
 
 use crate::event::{NotEnabled, StepReply};
+use crate::now::Now;
 use crate::reader::Standing;
 use crate::world::World;
-use crate::world::words::{NOW_AT, pin_at, place_told, version_told};
+use crate::world::words::{NOW_AT, pin_at};
 
 impl World {
     /// A reader that hasn't announced stores the newest version that it has seen.
@@ -41,18 +42,14 @@ impl World {
         let Some(standing) = Standing::of(self.readers.as_slice(), reader) else {
             return Err(NotEnabled);
         };
-        let word = self.words[NOW_AT];
-        let version = version_told(word);
+        let Now { place, version } = Now::of(self.words[NOW_AT]);
         self.readers[reader as usize] = Standing {
             seen: self.log.len(),
             version: self.newest,
             announced: standing.announced,
             holds: standing.next_hold(version),
         };
-        Ok(StepReply::Now {
-            place: place_told(word),
-            version,
-        })
+        Ok(StepReply::Now { place, version })
     }
 
     /// The version that a reader holds, if there is a reader of this number and it holds one.

@@ -1,37 +1,13 @@
-//! The words of a world: where each stands, and what NOW says.
+//! Where the words of a world stand.
 
 ghost use Rattle.std.specs.Prelude.{◌≡◌, ◌<◌, length};
-ghost use Rattle.map_core.specs.Words.{tiles, pin_at, map_at, tile_at, slot_of, now_word, place_told, version_told};
+ghost use Rattle.map_core.specs.Words.{tiles, pin_at, map_at, tile_at, slot_of};
 ghost use Rattle.map_core.specs.Views.{story_of};
 
 use crate::world::World;
 
 /// Where the word NOW stands.
 pub const NOW_AT: usize = 0;
-
-/// What NOW is for each entry of the log.
-const PLACE: u64 = 1 << 32;
-
-/// The word NOW, where the log has so many entries and this is the newest version.
-pub fn now_word(places: u32, newest: u32) -> u64
-    ensures { result ≡ now_word places newest }
-{
-    u64::from(places) * PLACE + u64::from(newest)
-}
-
-/// The place of the last entry, as the word NOW tells it.
-pub fn place_told(word: u64) -> u32
-    ensures { result ≡ place_told word }
-{
-    (word / PLACE) as u32
-}
-
-/// The newest version, as the word NOW tells it.
-pub fn version_told(word: u64) -> u32
-    ensures { result ≡ version_told word }
-{
-    (word % PLACE) as u32
-}
 
 /// Where a reader's word stands.
 pub fn pin_at(reader: u32) -> usize

@@ -33,7 +33,7 @@ invariant_of-self c =
     let tidy = tidy_of _ c.self.invariant.whole in
     let count : c.len-before.result - c.len.result ≡ length c.self.inside.retired.items - length c.give_back_retired.new.retired.items = omega (arith, c.len.ensures, c.len-before.ensures, c.self.inside.retired.ok, c.give_back_retired.new.retired.ok) in
     let freed = freed_collect _ _ _ _ _ _ _ tidy c.self.invariant.summary risen.low risen.high c.give_back_retired.ensures.retired count in
-    let does = last_does _ _ _ _ _ _ _ _ _ _ _ _ _ c.now_word.result c.self.invariant known (reply_collect _ _ _ _ _ _ place risen.floor_is freed) (now_collect _ _ _ _ _ _ place c.self.invariant.summary.newest_is c.now_word.ensures) in
+    let does = last_does _ _ _ _ _ _ _ _ _ _ _ _ _ c.word.result c.self.invariant known (reply_collect _ _ _ _ _ _ place risen.floor_is freed) (now_collect _ _ _ _ _ _ place c.self.invariant.summary.newest_is c.word.ensures) in
     rw (c.push_reserved.ensures.items)
     (consistent_commit _ _ _ _ _ _ c.self.inside.done _ _ _ c.self.inside.scanned.items _ _ _ _ _ _ _ _ c.self.invariant does
     (summary_collect _ _ _ _ _ _ _ _ _ tidy c.self.invariant.summary risen.high c.give_back_retired.ensures.retired c.give_back_retired.ensures.free)
@@ -49,4 +49,4 @@ returns c =
     let freed = freed_collect _ _ _ _ _ _ _ tidy c.self.invariant.summary risen.low risen.high c.give_back_retired.ensures.retired count in
     rw (← c.self.view_is, c.push_reserved.ensures.items)
     (safe_done _ _ _ c.self.invariant.whole
-    (last_does _ _ _ _ _ _ _ _ _ _ _ _ _ c.now_word.result c.self.invariant known (reply_collect _ _ _ _ _ _ place risen.floor_is freed) (now_collect _ _ _ _ _ _ place c.self.invariant.summary.newest_is c.now_word.ensures)))
+    (last_does _ _ _ _ _ _ _ _ _ _ _ _ _ c.word.result c.self.invariant known (reply_collect _ _ _ _ _ _ place risen.floor_is freed) (now_collect _ _ _ _ _ _ place c.self.invariant.summary.newest_is c.word.ensures)))

@@ -52,9 +52,9 @@ invariant_of-self c =
     let known = drawing_known c.args.self.now _ _ _ _ _ c.self.view_is refl c.requires (sym c.take.ensures.value ∙ c.in-Some.is) in
     let place : c.len.result + 1 ≡ length c.self.inside.log.items + 1 = omega (arith, c.len.ensures, c.self.inside.log.ok) in
     let size : length c.take_blocks.new.own ≡ length c.self.inside.own.items = omega (arith, ap length c.as_mut_slice.ensures.value) in
-    let does = last_does _ _ _ _ _ _ _ _ _ _ _ _ _ c.now_word.result c.self.invariant known.last
+    let does = last_does _ _ _ _ _ _ _ _ _ _ _ _ _ c.word.result c.self.invariant known.last
     (reply_draw _ _ _ _ _ _ known.draws place (count_draw _ _ _ _ _ _ c.self.invariant _ _ _ c.copy_from.ensures c.draw-changed.ensures.changed))
-    (now_draw _ _ _ _ _ _ _ known.draws place c.self.invariant.summary.newest_is c.now_word.ensures) in
+    (now_draw _ _ _ _ _ _ _ known.draws place c.self.invariant.summary.newest_is c.word.ensures) in
     rw (c.push_reserved.ensures.items, c.take.ensures.after)
     (consistent_commit _ _ _ _ _ _ c.self.inside.done _ _ _ c.self.inside.scanned.items _ _ _ _ _ _ _ _ c.self.invariant does
     (summary_draw _ _ _ _ _ _ _ _ _ _ c.self.invariant.summary (tidy_of _ c.self.invariant.whole).shape.changed known.draws
@@ -73,6 +73,6 @@ returns c =
     let place : c.len.result + 1 ≡ length c.self.inside.log.items + 1 = omega (arith, c.len.ensures, c.self.inside.log.ok) in
     rw (← c.self.view_is, c.push_reserved.ensures.items, c.take.ensures.after)
     (safe_done _ _ _ c.self.invariant.whole
-    (last_does _ _ _ _ _ _ _ _ _ _ _ _ _ c.now_word.result c.self.invariant known.last
+    (last_does _ _ _ _ _ _ _ _ _ _ _ _ _ c.word.result c.self.invariant known.last
     (reply_draw _ _ _ _ _ _ known.draws place (count_draw _ _ _ _ _ _ c.self.invariant _ _ _ c.copy_from.ensures c.draw-changed.ensures.changed))
-    (now_draw _ _ _ _ _ _ _ known.draws place c.self.invariant.summary.newest_is c.now_word.ensures)))
+    (now_draw _ _ _ _ _ _ _ known.draws place c.self.invariant.summary.newest_is c.word.ensures)))

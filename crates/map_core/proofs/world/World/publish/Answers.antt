@@ -58,7 +58,7 @@ invariant_of-self c =
     let place : c.len.result + 1 ≡ length c.self.inside.log.items + 1 = omega (arith, c.len.ensures, c.self.inside.log.ok) in
     let tidy = tidy_of _ c.self.invariant.whole in
     let part = newest_part _ _ _ _ _ c.self.view_is (c.from-tiles.ensures ∙ c.tiles.ensures.tiles) c.map_at-first.ensures.place in
-    let does = last_does _ _ _ _ _ _ _ _ _ _ _ _ _ c.now_word.result c.self.invariant known (reply_publish _ _ _ _ _ _ place c.self.invariant.summary.newest_is refl) (now_publish _ _ _ tidy.shape _ _ _ _ _ place c.self.invariant.summary.newest_is refl c.now_word.ensures) in
+    let does = last_does _ _ _ _ _ _ _ _ _ _ _ _ _ c.word.result c.self.invariant known (reply_publish _ _ _ _ _ _ place c.self.invariant.summary.newest_is refl) (now_publish _ _ _ tidy.shape _ _ _ _ _ place c.self.invariant.summary.newest_is refl c.word.ensures) in
     rw (c.push_reserved.ensures.items)
     (consistent_commit _ _ _ _ _ _ c.self.inside.done _ _ _ c.self.inside.scanned.items _ _ _ _ _ _ _ _ c.self.invariant does
     (summary_publish _ _ _ _ _ _ _ _ _ _ c.self.invariant.summary tidy refl c.copy_from.ensures
@@ -74,4 +74,4 @@ returns c =
     let tidy = tidy_of _ c.self.invariant.whole in
     rw (← c.self.view_is, c.push_reserved.ensures.items)
     (safe_done _ _ _ c.self.invariant.whole
-    (last_does _ _ _ _ _ _ _ _ _ _ _ _ _ c.now_word.result c.self.invariant known (reply_publish _ _ _ _ _ _ place c.self.invariant.summary.newest_is refl) (now_publish _ _ _ tidy.shape _ _ _ _ _ place c.self.invariant.summary.newest_is refl c.now_word.ensures)))
+    (last_does _ _ _ _ _ _ _ _ _ _ _ _ _ c.word.result c.self.invariant known (reply_publish _ _ _ _ _ _ place c.self.invariant.summary.newest_is refl) (now_publish _ _ _ tidy.shape _ _ _ _ _ place c.self.invariant.summary.newest_is refl c.word.ensures)))

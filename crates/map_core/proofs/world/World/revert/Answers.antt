@@ -28,7 +28,7 @@ pub invariant_of-self : goal.invariant_of-self
 invariant_of-self c =
     let known = last_known c.args.self.now _ _ c.self.inside.hand _ _ c.self.view_is refl c.requires in
     let place : c.len.result + 1 ≡ length c.self.inside.log.items + 1 = omega (arith, c.len.ensures, c.self.inside.log.ok) in
-    let does = last_does _ _ _ _ _ _ _ _ _ _ _ _ _ c.now_word.result c.self.invariant known (reply_revert _ _ _ _ place) (now_revert _ _ _ _ _ _ place c.self.invariant.summary.newest_is c.now_word.ensures) in
+    let does = last_does _ _ _ _ _ _ _ _ _ _ _ _ _ c.word.result c.self.invariant known (reply_revert _ _ _ _ place) (now_revert _ _ _ _ _ _ place c.self.invariant.summary.newest_is c.word.ensures) in
     rw (c.push_reserved.ensures.items)
     (consistent_commit _ _ _ _ _ _ c.self.inside.done _ _ _ c.self.inside.scanned.items _ _ _ _ _ _ _ _ c.self.invariant does
     (summary_revert _ _ _ _ _ _ _ _ c.self.invariant.summary c.copy_from.ensures
@@ -42,4 +42,4 @@ returns c =
     let place : c.len.result + 1 ≡ length c.self.inside.log.items + 1 = omega (arith, c.len.ensures, c.self.inside.log.ok) in
     rw (← c.self.view_is, c.push_reserved.ensures.items)
     (safe_done _ _ _ c.self.invariant.whole
-    (last_does _ _ _ _ _ _ _ _ _ _ _ _ _ c.now_word.result c.self.invariant known (reply_revert _ _ _ _ place) (now_revert _ _ _ _ _ _ place c.self.invariant.summary.newest_is c.now_word.ensures)))
+    (last_does _ _ _ _ _ _ _ _ _ _ _ _ _ c.word.result c.self.invariant known (reply_revert _ _ _ _ place) (now_revert _ _ _ _ _ _ place c.self.invariant.summary.newest_is c.word.ensures)))
