@@ -2,7 +2,7 @@
 use Rattle.std.proofs.Common.{◌≡◌, ℕ, ◌+◌, ◌<◌, ◌≤◌, length, Bool, true, false, if◌then◌else◌, List, [], ◌∷◌, ◌++◌, refl, ap, sym, ◌∙◌, arith}
 use Rattle.std.specs.Prelude.{Option, Some, None, nat_le}
 use Rattle.std.proofs.lemmas.Bool.Decides.{nat_tests}
-use Rattle.std.proofs.lemmas.List.{length-append, append-nil, append_assoc}
+use Rattle.std.proofs.lemmas.List.{length-append, append-nil, append_assoc, get_or_append_left}
 use Rattle.metric.specs.declared.refusal.Refusal.{Refusal}
 use Rattle.metric.specs.declared.refusal.Refusal.TheVariants.{OutOfRange, LogFull}
 use Rattle.map_core.specs.declared.command.Command.{Command}
@@ -11,7 +11,7 @@ use Rattle.map_core.specs.declared.command.Reply.{Reply}
 use Rattle.map_core.specs.declared.command.Entry.{Entry}
 use Rattle.map_core.specs.declared.setting.Setting.{Setting}
 use Rattle.map_core.specs.Drawing.{is_inside}
-use Rattle.map_core.specs.Story.{Story, opened, kept_log, newest}
+use Rattle.map_core.specs.Story.{Story, opened, kept_log, newest, no_bitmap, bitmap_of}
 use Rattle.map_core.specs.Legal.{refused, told, after, IsLegalFrom, IsLegal}
 use Rattle.map_core.specs.Words.{Base}
 use Rattle.map_core.specs.Views.{story}
@@ -81,6 +81,36 @@ newest-beginning k seen log h =
     let whole : after (after (opened k.opening) seen) h.rest ≡ after (opened k.opening) log = sym (after-append (opened k.opening) seen h.rest) ∙ ap (after (opened k.opening)) h.whole in
     let same = ap newest whole in
     omega arith
+
+-- what was published stays: the bitmap of a version, and that there is one
+published-told : (s : Story) (c : Command) (reply : Reply) (v : ℕ) → v < length s.published → (bitmap_of (told s c reply) v ≡ bitmap_of s v) × (v < length (told s c reply).published)
+unfolding told bitmap_of
+published-told s (Paint r black) reply v within = (refl, within)
+published-told s (Stamp x y b) reply v within = (refl, within)
+published-told s Publish reply v within = (get_or_append_left s.published (s.draft ∷ []) no_bitmap v within, omega (arith, length-append s.published (s.draft ∷ [])))
+published-told s Revert reply v within = (refl, within)
+published-told s Collect reply v within = (refl, within)
+
+-- over some entries too
+published-after : (s : Story) (log : List Entry) (v : ℕ) → v < length s.published → (bitmap_of (after s log) v ≡ bitmap_of s v) × (v < length (after s log).published)
+published-after s [] v within = (refl, within)
+published-after s (e ∷ es) v within =
+    let one = published-told s e.command e.reply v within in
+    let rest = published-after (told s e.command e.reply) es v one.1 in
+    (rest.0 ∙ one.0, rest.1)
+
+-- a beginning of a log tells the same bitmap for each version that it has
+pub bitmap-beginning : (k : Base) (seen log : List Entry) → IsBeginning seen log → (v : ℕ) → v ≤ newest (story k seen) → bitmap_of (story k log) v ≡ bitmap_of (story k seen) v
+unfolding story newest opened
+bitmap-beginning k seen log h v within =
+    let s = after (opened k.opening) seen in
+    let first = (published-after (opened k.opening) seen 0 (first_published k)).1 in
+    let kept = published-after s h.rest v (omega (arith, first)) in
+    let whole : after s h.rest ≡ after (opened k.opening) log = sym (after-append (opened k.opening) seen h.rest) ∙ ap (after (opened k.opening)) h.whole in
+    sym (ap (λ (t : Story). bitmap_of t v) whole) ∙ kept.0
+  where
+    first_published : (k : Base) → 0 < length (opened k.opening).published
+    first_published k = omega arith
 
 -- a log begins with itself
 pub beginning_itself : (log : List Entry) → IsBeginning log log

@@ -1,0 +1,139 @@
+-- Where each reader was given up once, what they made adds up to the log's length.
+use Rattle.std.proofs.Common.{◌≡◌, ◌≢◌, ◌==◌, ℕ, zero, suc, ◌+◌, ◌<◌, ◌≤◌, cond, Bool, List, [], ◌∷◌, length, refl, ap, sym, ◌∙◌, subst, arith, eq-eqb, ne_eqb}
+use Rattle.std.specs.Prelude.{All, sum_by}
+use Rattle.std.proofs.lemmas.List.Sums.{sum_by-cons}
+use mathlib.Core.Logic.{dite}
+use native.Mathlib.Decide.{ℕ_discrete, dec_le}
+use Rattle.map_core.specs.Safe.{times}
+use Rattle.shelf.specs.declared.signed.Signed.{Signed}
+use Rattle.shelf.specs.Roles.{KeeperView, ReaderView, made_by}
+use Rattle.shelf.specs.Rule.{Fits}
+use Rattle.shelf.specs.Steps.{without}
+use Rattle.shelf.specs.Close.{IsClosing}
+
+-- 1 where two numbers are one, else 0
+abbrev one_if : ℕ → ℕ → ℕ
+one_if n m = cond (n == m) 1 0
+
+-- where they are
+equal : (n m : ℕ) → n ≡ m → one_if n m ≡ 1
+equal n m is = ap (λ (b : Bool). let one : ℕ = cond b 1 0 in one) (eq-eqb n m is)
+
+-- where they aren't
+other : (n m : ℕ) → n ≢ m → one_if n m ≡ 0
+other n m else = ap (λ (b : Bool). let one : ℕ = cond b 1 0 in one) (ne_eqb n m else)
+
+-- the numbers below d, each by a function
+abbrev sum_below : ℕ → (ℕ → ℕ) → ℕ
+sum_below zero f = 0
+sum_below (suc d) f = f d + sum_below d f
+
+-- of two functions
+sum_below-plus : (d : ℕ) (f g : ℕ → ℕ) → sum_below d (λ n. f n + g n) ≡ sum_below d f + sum_below d g
+sum_below-plus zero f g = refl
+sum_below-plus (suc d) f g = let rest = sum_below-plus d f g in omega arith
+
+-- of none
+sum_below-none : (d : ℕ) → sum_below d (λ n. 0) ≡ 0
+sum_below-none zero = refl
+sum_below-none (suc d) = let rest = sum_below-none d in omega arith
+
+-- a number that isn't below d counts for nothing
+sum_below-past : (d m : ℕ) → d ≤ m → sum_below d (λ n. one_if n m) ≡ 0
+sum_below-past zero m le = refl
+sum_below-past (suc d) m le =
+    let rest = sum_below-past d m (omega arith) in
+    let here = other d m (λ is. absurd (omega arith)) in
+    omega arith
+
+-- and one that is counts once
+sum_below-once : (d m : ℕ) → m < d → sum_below d (λ n. one_if n m) ≡ 1
+sum_below-once zero m below = absurd (omega arith)
+sum_below-once (suc d) m below =
+    dite (ℕ_discrete d m)
+    (λ is. let here = equal d m is in let rest = sum_below-past d m (omega arith) in omega arith)
+    (λ else. let here = other d m else in let rest = sum_below-once d m (omega arith) in omega arith)
+
+-- a list of numbers below d has as many as these stand in it
+all_counted : (d : ℕ) (ns : List ℕ) → ((n : ℕ) → d ≤ n → times n ns ≡ 0) → sum_below d (λ n. times n ns) ≡ length ns
+all_counted d [] below = sum_below-none d
+all_counted d (m ∷ ms) below =
+    let rest = all_counted d ms (λ n le. let none_of = below n le in omega arith) in
+    let split = sum_below-plus d (λ n. one_if n m) (λ n. times n ms) in
+    let first = sum_below-once d m (is_below (dec_le d m)) in
+    omega arith
+  where
+    is_below : Dec (d ≤ m) → m < d
+    is_below (yes le) = let none_of = below m le in let one = equal m m refl in absurd (omega arith)
+    is_below (no less) = omega arith
+
+-- terms of at most 1 add up to no more than their number
+at_most : (d : ℕ) (f : ℕ → ℕ) → ((n : ℕ) → f n ≤ 1) → sum_below d f ≤ d
+at_most zero f small = omega arith
+at_most (suc d) f small = let rest = at_most d f small in let last = small d in omega arith
+
+-- and where they add up to it, each is 1
+each_one : (d : ℕ) (f : ℕ → ℕ) → ((n : ℕ) → f n ≤ 1) → sum_below d f ≡ d → (n : ℕ) → n < d → f n ≡ 1
+each_one zero f small all n below = absurd (omega arith)
+each_one (suc d) f small all n below =
+    let rest = at_most d f small in
+    let last = small d in
+    dite (ℕ_discrete n d) (λ is. subst (λ m. f m ≡ 1) (sym is) (let here : f d ≡ 1 = omega arith in here))
+    (λ else. each_one d f small (omega arith) n (omega arith))
+
+-- what is summed over a list, of two functions
+sum_by-plus : (f g : ℕ → ℕ) (ns : List ℕ) → sum_by (λ n. f n + g n) ns ≡ sum_by f ns + sum_by g ns
+sum_by-plus f g [] = refl
+sum_by-plus f g (n ∷ ns) = let rest = sum_by-plus f g ns in omega (arith, sum_by-cons (λ m. f m + g m) n ns, sum_by-cons f n ns, sum_by-cons g n ns)
+
+-- of none
+sum_by-none : (ns : List ℕ) → sum_by (λ n. 0) ns ≡ 0
+sum_by-none [] = refl
+sum_by-none (n ∷ ns) = let rest = sum_by-none ns in omega (arith, sum_by-cons (λ m. 0) n ns)
+
+-- how often a number stands in a list, summed over the list
+sum_by-times : (m : ℕ) (ns : List ℕ) → sum_by (λ n. one_if n m) ns ≡ times m ns
+sum_by-times m [] = refl
+sum_by-times m (n ∷ ns) = let rest = sum_by-times m ns in let same = turned n m in omega (arith, sum_by-cons (λ k. one_if k m) n ns)
+  where
+    turned : (n m : ℕ) → one_if n m ≡ one_if m n
+    turned n m = dite (ℕ_discrete n m) (λ is. equal n m is ∙ sym (equal m n (sym is))) (λ else. other n m else ∙ sym (other m n (λ e. else (sym e))))
+
+-- where each caller stands once in a list, the numbers of the list have made all entries
+made_by_all : (ns : List ℕ) (log : List Signed) → All (λ e. times e.by ns ≡ 1) log → sum_by (λ n. made_by n log) ns ≡ length log
+made_by_all ns [] once = sum_by-none ns
+made_by_all ns (e ∷ es) once =
+    let rest = made_by_all ns es (λ k d h. once (suc k) d (omega arith)) in
+    let split = sum_by-plus (λ n. one_if n e.by) (λ n. made_by n es) ns in
+    let first = sum_by-times e.by ns in
+    let one : times e.by ns ≡ 1 = once 0 e (omega arith) in
+    omega arith
+
+-- where all readers were given up, what they made adds up to the log's length
+pub closed_sum : (k : KeeperView) → IsClosing k → All (λ e. e.by < k.dealt) k.log → length k.gone ≡ k.dealt → sum_by (λ n. made_by n k.log) k.gone ≡ length k.log
+closed_sum k closing callers all =
+    let counted : sum_below k.dealt (λ n. times n k.gone) ≡ k.dealt = all_counted k.dealt k.gone closing.below ∙ all in
+    made_by_all k.gone k.log (λ i d h. each_one k.dealt (λ n. times n k.gone) closing.once counted _ (callers i d h))
+
+-- a reader that is given up wasn't before
+pub closing-without : (k : KeeperView) (x : ReaderView) → Fits k x → IsClosing k → IsClosing (without k x)
+closing-without k x fits closing =
+    record {
+      hand = closing.hand;
+      unmet = closing.unmet;
+      once = λ n. once n;
+      below = λ n le. below n le;
+    }
+  where
+    once : (n : ℕ) → times n (x.number ∷ k.gone) ≤ 1
+    once n =
+        dite (ℕ_discrete n x.number)
+        (λ is. let one = equal n x.number is in let here : times n k.gone ≡ 0 = ap (λ m. times m k.gone) is ∙ fits.here in omega arith)
+        (λ else. let none_of = other n x.number else in let before = closing.once n in omega arith)
+
+    below : (n : ℕ) → k.dealt ≤ n → times n (x.number ∷ k.gone) ≡ 0
+    below n le =
+        let dealt = fits.dealt in
+        let none_of = other n x.number (λ is. absurd (omega arith)) in
+        let before = closing.below n le in
+        omega arith

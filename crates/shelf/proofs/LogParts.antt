@@ -1,0 +1,68 @@
+-- Logs with callers: what a beginning has, what one more entry adds, and how many entries a reader has.
+use Rattle.std.proofs.Common.{◌≡◌, ◌==◌, ℕ, ◌+◌, ◌<◌, ◌≤◌, cond, Bool, true, false, List, [], ◌∷◌, ◌++◌, length, map, refl, ap, sym, ◌∙◌, arith, append-nil, append_assoc}
+use Rattle.std.specs.Prelude.{All, zero, suc, slice_index_or}
+use Rattle.std.proofs.lemmas.Bool.Decides.{nat_tests}
+use Rattle.std.proofs.lemmas.List.{map-append, length-map}
+use Rattle.std.proofs.lemmas.List.Elements.{All-append}
+use mathlib.Core.List.{IsPrefix}
+use Rattle.map_core.specs.Safe.{times, IsBeginning}
+use Rattle.map_core.proofs.TimesLemmas.{times-append}
+use Rattle.shelf.specs.declared.signed.Signed.{Signed}
+use Rattle.shelf.specs.Roles.{entries, made_by}
+
+-- a log begins with itself
+pub prefix-itself : (log : List Signed) → IsPrefix log log
+prefix-itself log = ([], append-nil log)
+
+-- a beginning of a log begins it with one more entry too
+pub prefix-push : (seen log : List Signed) (e : Signed) → IsPrefix seen log → IsPrefix seen (log ++ e ∷ [])
+prefix-push seen log e p = (p.0 ++ e ∷ [], sym (append_assoc seen p.0 (e ∷ [])) ∙ ap (λ (l : List Signed). l ++ e ∷ []) p.1)
+
+-- without callers too it is a beginning
+pub prefix-entries : (seen log : List Signed) → IsPrefix seen log → IsBeginning (entries seen) (entries log)
+prefix-entries seen log p = record { rest = entries p.0; whole = sym (map-append (λ (e : Signed). e.entry) seen p.0) ∙ ap entries p.1 }
+
+-- one more entry
+pub entries-push : (log : List Signed) (e : Signed) → entries (log ++ e ∷ []) ≡ entries log ++ e.entry ∷ []
+entries-push log e = map-append (λ (f : Signed). f.entry) log (e ∷ [])
+
+-- a log without its callers is as long
+pub length-entries : (log : List Signed) → length (entries log) ≡ length log
+length-entries log = length-map log (λ (e : Signed). e.entry)
+
+-- the entries of a reader in two parts of a log
+pub made_by-append : (n : ℕ) (log more : List Signed) → made_by n (log ++ more) ≡ made_by n log + made_by n more
+made_by-append n log more = ap (times n) (map-append (λ (e : Signed). e.by) log more) ∙ times-append n (map (λ (e : Signed). e.by) log) (map (λ (e : Signed). e.by) more)
+
+-- a beginning has no more entries of a reader than the log
+pub made_by-prefix : (n : ℕ) (seen log : List Signed) → IsPrefix seen log → made_by n seen ≤ made_by n log
+made_by-prefix n seen log p =
+    let parts = made_by-append n seen p.0 in
+    let whole : made_by n (seen ++ p.0) ≡ made_by n log = ap (made_by n) p.1 in
+    omega arith
+
+-- a reader has no more entries than the log
+pub made_by-fits : (n : ℕ) (log : List Signed) → made_by n log ≤ length log
+made_by-fits n [] = omega arith
+made_by-fits n (e ∷ es) = let rest = made_by-fits n es in let one = at_most_one (n == e.by) in omega arith
+  where
+    at_most_one : (b : Bool) → cond b 1 0 ≤ 1
+    at_most_one true = omega arith
+    at_most_one false = omega arith
+
+-- a number that no caller reaches has no entry
+pub made_by-none : (n d : ℕ) (log : List Signed) → All (λ e. e.by < d) log → d ≤ n → made_by n log ≡ 0
+made_by-none n d [] all le = refl
+made_by-none n d (e ∷ es) all le =
+    let first : e.by < d = all 0 e (omega arith) in
+    let rest : made_by n es ≡ 0 = made_by-none n d es (λ k x h. all (suc k) x (omega arith)) le in
+    let test : (n == e.by) ≡ false = grind (arith, nat_tests) in
+    rw test (omega arith)
+
+-- the callers of a log with one more entry
+pub callers-push : (d : ℕ) (log : List Signed) (e : Signed) → All (λ f. f.by < d) log → e.by < d → All (λ f. f.by < d) (log ++ e ∷ [])
+callers-push d log e all one = All-append (λ (f : Signed). f.by < d) log (e ∷ []) all (λ k x h. only k x e d h one)
+  where
+    only : (k : ℕ) (x e : Signed) (d : ℕ) → k < length (e ∷ []) → e.by < d → (slice_index_or (e ∷ []) k x).by < d
+    only zero x e d h one = one
+    only (suc k) x e d h one = absurd (omega arith)

@@ -1,0 +1,19 @@
+-- The last load tells that each caller was a reader that was dealt, so that the counts of all readers add up.
+use Rattle.std.proofs.Common.{ap, sym, ◌∙◌}
+use Rattle.shelf.specs.Roles.{keeper_in}
+use Rattle.shelf.proofs.OwnTable.{at_own, has_own_word}
+use Rattle.shelf.proofs.KeeperSteps.{ends_it}
+use Rattle.shelf.proofs.ClosingSums.{closed_sum}
+use Rattle.shelf.proofs.closing.Closing.end.Goals as goal
+
+pub load-requires : goal.load-requires
+load-requires g c =
+    let of = c.self.invariant.0 in
+    let role = ap (λ m. m.0) c.self.invariant.1 in
+    rw c.deref.ensures (at_own _ _ _ _ of, has_own_word _ _ _ _ of, rw of.basis_is (ends_it g.Id.StoreName.store.base _ _ _ (keeper_in c.self.inside.seat.me.0) role))
+
+pub returns-clause-made : goal.returns-clause-made
+returns-clause-made g c =
+    let k = keeper_in c.self.inside.seat.me.0 in
+    let told = c.load.ensures.2 k (ap (λ m. m.0) c.self.invariant.1) in
+    rw (← c.self.view_is) (λ all. closed_sum k c.self.invariant.2 told.1.callers (all ∙ sym c.self.invariant.3))

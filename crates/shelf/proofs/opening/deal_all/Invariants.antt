@@ -1,0 +1,16 @@
+-- So many readers are dealt, by number, and there is room for the others.
+use Rattle.std.proofs.Common.{◌≡◌, ◌≤◌, [], vec_capacity}
+use Rattle.std.specs.Arc.{arc_value}
+use Rattle.shelf.specs.Roles.{keeping, resting}
+use Rattle.shelf.specs.Seats.{store_at}
+use Rattle.shelf.specs.Open.{newcomers}
+use Rattle.shelf.proofs.opening.deal_all.Given as goal
+
+abbrev pub invariant-loop-number : goal.invariant-loop-number
+invariant-loop-number l =
+    record {
+      table : l.keeper.table_id ≡ l.fn.keeper.table_id;
+      role : l.keeper.me ≡ (keeping (resting l.number []), []);
+      dealt : l.dealt.items ≡ newcomers (store_at l.fn.keeper.table_id (arc_value l.words).shared.key) l.number;
+      room : l.readers ≤ vec_capacity l.dealt;
+    }

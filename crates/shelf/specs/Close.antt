@@ -1,0 +1,23 @@
+-- A store that is closed, reader by reader: this project's own rule.
+use Rattle.std.specs.Prelude.{◌≡◌, ℕ, ◌≤◌, List, length, sum_by, None}
+use Rattle.map_core.specs.Safe.{times}
+use Rattle.shelf.specs.declared.signed.Signed.{Signed}
+use Rattle.shelf.specs.Roles.{KeeperView, made_by}
+
+-- what callers see of a store that is closed
+pub record Closed : Type 0 where
+  pub log : List Signed
+  -- how many readers were given up, and how many entries these have made
+  pub readers : ℕ
+  pub made : ℕ
+
+-- what the keeper knows says how many readers were given up, and what these have made
+abbrev pub closed_of : KeeperView → Closed
+closed_of k = record { log = k.log; readers = length k.gone; made = sum_by (λ n. made_by n k.log) k.gone }
+
+-- no command is in hand, each commit was met, and each reader was given up once at most
+pub record IsClosing (k : KeeperView) : Type 0 where
+  pub hand : k.hand ≡ None
+  pub unmet : k.unmet ≡ None
+  pub once : (n : ℕ) → times n k.gone ≤ 1
+  pub below : (n : ℕ) → k.dealt ≤ n → times n k.gone ≡ 0

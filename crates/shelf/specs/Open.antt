@@ -1,0 +1,21 @@
+-- Readers at an opening, before their store has a name: this project's own rule.
+use Rattle.std.specs.Prelude.{ℕ, List, map}
+use Rattle.std.specs.List.{range_with_len}
+use Rattle.shelf.specs.Store.{StoreId, readers_of}
+
+-- a reader at an opening: its number, and the store that it is of
+pub record Newcomer : Type 0 where
+  pub number : ℕ
+  pub store : StoreId
+
+-- the reader of this number
+abbrev pub newcomer : ℕ → StoreId → Newcomer
+newcomer number store = record { number = number; store = store }
+
+-- the first readers of a store, so many, by number
+abbrev pub newcomers : StoreId → ℕ → List Newcomer
+newcomers store count = map (λ n. newcomer n store) (range_with_len 0 count)
+
+-- all readers of a store
+abbrev pub all_newcomers : StoreId → List Newcomer
+all_newcomers store = newcomers store (readers_of store)

@@ -1,0 +1,22 @@
+-- Which store a seat is of: this project's own rule.
+use Rattle.std.specs.Prelude.{ℕ, []}
+use Rattle.atomic_table.specs.Seated.{TableId}
+use Rattle.map_core.specs.Story.{no_bitmap}
+use Rattle.map_core.specs.Words.{Base}
+
+-- a store: its table, and what it was opened with
+pub record StoreId : Type 0 where
+  pub table : TableId
+  pub base : Base
+
+-- how many readers a store has: their numbers are below it
+abbrev pub readers_of : StoreId → ℕ
+readers_of store = store.base.setting.sessions
+
+-- a name stands for this store until it is given to another
+abbrev pub no_store : StoreId
+no_store =
+    record {
+      table = record { words = 0; slots = 0; views_name = 0; atom = 0; block = 0; offset = 0; slot_names = [] };
+      base = record { setting = record { blocks = 0; versions = 0; sessions = 0; log = 0 }; opening = no_bitmap };
+    }

@@ -1,0 +1,93 @@
+//! The seats of a store that has no name yet.
+
+ghost use Rattle.std.specs.Prelude.{◌≡◌, []};
+ghost use Rattle.shelf.specs.Roles.{resting, fresh_reader};
+ghost use Rattle.shelf.specs.Store.{readers_of};
+
+use crate::keeper::KeeperSeat;
+use crate::name::StoreName;
+use crate::reader::ReaderSeat;
+use crate::table::{TableSeat, View, Words};
+use atomic_table::Badge;
+use std::alloc::Global;
+use std::marker::{Model, PhantomData};
+use std::sync::Arc;
+
+/// The keeper's seat of a store that has no name yet. Contracts see it as the store.
+#[derive(Drop)]
+pub struct FreshKeeper {
+    pub(crate) seat: TableSeat,
+    pub(crate) words: Arc<Words, Global>,
+}
+
+impl Model for FreshKeeper {
+    ghost use Rattle.std.specs.Arc.{arc_value};
+    ghost use Rattle.shelf.specs.Seats.{store_at, IsFreshKeeper};
+    ghost use Rattle.shelf.specs.Store.{StoreId};
+
+    ghost Value = { StoreId };
+
+    ghost view = { λ s. store_at s.seat.table_id (arc_value s.words).shared.key };
+
+    ghost invariant = { λ s. IsFreshKeeper (arc_value s.words).shared.table_id (arc_value s.words).shared.key s.seat.table_id s.seat.me };
+}
+
+impl FreshKeeper {
+    /// The keeper's seat of the store with this name.
+    pub fn named<Id: StoreName>(self) -> KeeperSeat<Id>
+        requires { self ≡ Id.store }
+        ensures { result ≡ resting (readers_of Id.store) [] }
+    {
+        let FreshKeeper { seat, words } = self;
+        KeeperSeat {
+            seat,
+            words,
+            place: 0,
+            version: 0,
+            publishes: false,
+            unmet: false,
+            of: PhantomData,
+        }
+    }
+}
+
+/// A reader's seat of a store that has no name yet. Contracts see it as the reader's number and the store.
+#[derive(Drop)]
+pub struct FreshReader {
+    pub(crate) seat: Badge<View>,
+    pub(crate) words: Arc<Words, Global>,
+    pub(crate) number: u32,
+}
+
+impl Model for FreshReader {
+    ghost use Rattle.std.specs.Arc.{arc_value};
+    ghost use Rattle.shelf.specs.Open.{Newcomer, newcomer};
+    ghost use Rattle.shelf.specs.Seats.{store_at, IsFreshReader};
+
+    ghost Value = { Newcomer };
+
+    ghost view = { λ s. newcomer s.number (store_at s.seat.table_id (arc_value s.words).shared.key) };
+
+    ghost invariant = { λ s. IsFreshReader (arc_value s.words).shared.table_id (arc_value s.words).shared.key s.seat.table_id s.seat.views s.number };
+}
+
+impl FreshReader {
+    /// The reader's seat of the store with this name.
+    pub fn named<Id: StoreName>(self) -> ReaderSeat<Id>
+        requires { self.store ≡ Id.store }
+        ensures { result ≡ fresh_reader self.number }
+    {
+        let FreshReader {
+            seat,
+            words,
+            number,
+        } = self;
+        ReaderSeat {
+            seat,
+            words,
+            number,
+            made: 0,
+            of: PhantomData,
+        }
+    }
+}

@@ -1,0 +1,102 @@
+//! Opening a store: its table, the keeper's seat and the readers' seats, before the store has a name.
+
+ghost use Rattle.std.specs.Prelude.{◌≡◌, ◌+◌, ◌<◌, [], None, OnOk, IfOk, IfErr};
+ghost use Rattle.std.specs.Arc.{arc_value};
+ghost use Rattle.bits.specs.Tiles.{tile_count};
+ghost use Rattle.metric.specs.declared.refusal.Refusal.TheVariants.{Memory};
+ghost use Rattle.map_core.specs.Setting.{bad_field};
+ghost use Rattle.shelf.specs.Roles.{keeping, resting};
+ghost use Rattle.shelf.specs.Seats.{store_at};
+ghost use Rattle.shelf.specs.Store.{readers_of};
+ghost use Rattle.shelf.specs.Open.{newcomer, newcomers};
+
+use crate::fresh::{FreshKeeper, FreshReader};
+use crate::opened::Opening;
+use crate::plays::Deal;
+use crate::table::{Basis, TableSeat, Words};
+use bits::Bitmap;
+use map_core::Setting;
+use metric::Refusal;
+use std::alloc::Global;
+use std::snapshot::Snapshot;
+use std::sync::Arc;
+
+/// Deals the next reader.
+fn deal(
+    words: &Arc<Words, Global>,
+    keeper: &mut TableSeat,
+    number: u32,
+) -> Result<FreshReader, Refusal>
+    requires table { (keeper.old.table_id ≡ (arc_value words.now).shared.table_id) × (keeper.old.table_id.words ≡ 1) }
+    requires keeper { keeper.old.me ≡ (keeping (resting number []), []) }
+    requires below { number < readers_of (store_at keeper.old.table_id (arc_value words.now).shared.key) }
+    ensures table { keeper.new.table_id ≡ keeper.old.table_id }
+    ensures keeper { OnOk result (keeper.new.me ≡ (keeping (resting (number + 1) []), [])) }
+    ensures reader { IfOk result (λ reader. reader ≡ newcomer number (store_at keeper.old.table_id (arc_value words.now).shared.key)) }
+    ensures memory { IfErr result (λ refusal. refusal ≡ Memory) }
+{
+    let Ok(own) = Arc::try_clone(words) else {
+        return Err(Refusal::Memory);
+    };
+    let seat = words.shared.split_seat::<Deal>(keeper).into_badge();
+    Ok(FreshReader {
+        seat,
+        words: own,
+        number,
+    })
+}
+
+/// Deals so many readers.
+fn deal_all(
+    alloc: Global,
+    words: &Arc<Words, Global>,
+    keeper: &mut TableSeat,
+    readers: u32,
+) -> Result<Vec<FreshReader>, Refusal>
+    requires table { (keeper.old.table_id ≡ (arc_value words.now).shared.table_id) × (keeper.old.table_id.words ≡ 1) }
+    requires keeper { keeper.old.me ≡ (keeping (resting 0 []), []) }
+    requires below { readers ≡ readers_of (store_at keeper.old.table_id (arc_value words.now).shared.key) }
+    ensures table { keeper.new.table_id ≡ keeper.old.table_id }
+    ensures keeper { OnOk result (keeper.new.me ≡ (keeping (resting readers []), [])) }
+    ensures readers { IfOk result (λ dealt. dealt.items ≡ newcomers (store_at keeper.old.table_id (arc_value words.now).shared.key) readers) }
+    ensures memory { IfErr result (λ refusal. refusal ≡ Memory) }
+{
+    let Ok(mut dealt) = Vec::with_capacity(alloc, readers as usize) else {
+        return Err(Refusal::Memory);
+    };
+    for number in 0..readers {
+        let reader = deal(words, keeper, number)?;
+        dealt.push_reserved(reader);
+    }
+    Ok(dealt)
+}
+
+impl Opening {
+    /// Makes the table of a store that is opened on a bitmap, the keeper's seat, and a seat for each session, numbered from 0, that has
+    /// seen the empty log.
+    ///
+    /// Refused for want of memory alone.
+    pub fn of(alloc: Global, setting: Setting, map: &Bitmap) -> Result<Opening, Refusal>
+        requires { bad_field (tile_count map.now) setting ≡ None }
+        ensures base { IfOk result (λ opening. opening.keeper.base ≡ record { setting = setting; opening = map.now }) }
+        ensures memory { IfErr result (λ refusal. refusal ≡ Memory) }
+    {
+        // A bitmap has a cell.
+        prove!(0 < map.width());
+        let basis = Basis {
+            setting,
+            opening: Snapshot::of(map),
+        };
+        let Ok((table, mut seat)) = Words::of_words(alloc, &[0], &basis) else {
+            return Err(Refusal::Memory);
+        };
+        let Ok(words) = Arc::new(alloc, table) else {
+            return Err(Refusal::Memory);
+        };
+        let readers = deal_all(alloc, &words, &mut seat, setting.sessions)?;
+        Ok(Opening {
+            keeper: FreshKeeper { seat, words },
+            readers,
+        })
+    }
+}

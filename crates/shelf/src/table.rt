@@ -1,0 +1,46 @@
+//! The table that a store's seats share. Its one word is NOW, and it has no slots.
+
+use crate::signed::Signed;
+use atomic_table::{Seat, Table, TableRule};
+use bits::Bitmap;
+use map_core::Setting;
+use std::alloc::Global;
+use std::marker::Model;
+use std::snapshot::Snapshot;
+
+/// What a seat knows. Contracts see it as the seat's role, and no value of it is made.
+pub struct View {
+    _none: u8,
+}
+
+impl Model for View {
+    ghost use Rattle.shelf.specs.Roles.{Role, idle};
+
+    ghost Value = { Role };
+
+    ghost view = { λ _. idle };
+}
+
+/// What a table is told as it is made: the setting, and the opening bitmap as contracts see it.
+#[derive(Drop)]
+pub struct Basis {
+    pub setting: Setting,
+    pub opening: Snapshot<Bitmap>,
+}
+
+/// The rule of the table.
+pub struct Law;
+
+impl TableRule<Signed, View, Basis> for Law {
+    ghost use Rattle.std.specs.Prelude.{[]};
+    ghost use Rattle.shelf.specs.Roles.{keeping, resting};
+    ghost use Rattle.shelf.specs.Rule.{Agrees};
+
+    ghost holds = { λ basis. Agrees record { setting = basis.setting; opening = basis.opening.value } };
+
+    ghost first = { λ _. keeping (resting 0 []) };
+}
+
+pub type Words = Table<Signed, View, Basis, Law, Global>;
+
+pub type TableSeat = Seat<Signed, View>;
