@@ -1,0 +1,16 @@
+pub mod CollectLemmas
+pub mod CountLemmas
+pub mod DraftLemmas
+pub mod DrawLemmas
+pub mod JudgeLemmas
+pub mod MarkLemmas
+pub mod OpenLemmas
+pub mod PublishLemmas
+pub mod RangeLemmas
+pub mod RevertLemmas
+pub mod SlotLemmas
+pub mod StoryLemmas
+pub mod WholeLemmas
+pub mod DeskLemmas
+pub mod PinLemmas
+pub mod OpenedLemmas

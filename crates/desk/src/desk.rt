@@ -1,0 +1,32 @@
+//! The desk of a store: the value behind the writers' lock.
+
+mod close;
+mod commands;
+mod fresh;
+mod pins;
+
+use crate::sheets::Sheets;
+pub use fresh::FreshDesk;
+use shelf::{KeeperSeat, Signed, StoreName};
+use std::marker::Model;
+
+/// The value behind the writers' lock of a store. Contracts see it as its log, and for each session the version that it has pinned.
+///
+/// The type keeps that the log is legal, that draft and kept versions are what the log tells, that each pinned version is kept, and that
+/// the keeper's seat rests at the log.
+pub struct Desk<Id: StoreName> {
+    keeper: KeeperSeat<Id>,
+    sheets: Sheets,
+    log: Vec<Signed>,
+    pins: Vec<Option<u32>>,
+}
+
+impl<Id: StoreName> Model for Desk<Id> {
+    ghost use Rattle.desk.specs.Desks.{DeskView, IsDesk};
+
+    ghost Value = { DeskView };
+
+    ghost view = { λ d. record { log = d.log.items; pins = d.pins.items } };
+
+    ghost invariant = { λ d. IsDesk Id.store record { log = d.log.items; pins = d.pins.items } d.keeper d.sheets.contents };
+}

@@ -1,0 +1,165 @@
+//! The commands of a desk. Each lends a session's seat, which has seen the whole log at its end.
+
+ghost use Rattle.std.specs.Prelude.{◌≡◌, ◌<◌, ◌⊎◌, ℕ, List, length, Some, None, IfOk, IfErr, IfNone, IfSome};
+ghost use Rattle.std.specs.Vec.{vec_capacity};
+ghost use mathlib.Core.List.{IsPrefix};
+ghost use Rattle.metric.specs.declared.refusal.Refusal.TheVariants.{Memory};
+ghost use Rattle.map_core.specs.declared.command.Command.TheVariants.{Paint, Stamp, Publish, Revert, Collect};
+ghost use Rattle.desk.specs.Contents.{IsJudged, Judges};
+ghost use Rattle.desk.specs.Desks.{IsAccepted, IsRefused};
+
+use crate::desk::Desk;
+use crate::sheets::Sheets;
+use bits::Bitmap;
+use epoch::floor_after;
+use map_core::{Command, Entry, Reply};
+use metric::{Rect, Refusal};
+use shelf::{ReaderSeat, Signed, StoreName, meet};
+
+/// Why a command is refused, if it is: by what the sheets hold, or for want of room for its entry.
+fn refusal_of(sheets: &mut Sheets, log: &mut Vec<Signed>, command: &Command) -> Option<Refusal>
+    ensures as_before { sheets.new.contents ≡ sheets.old.contents }
+    ensures log { log.new.items ≡ log.old.items }
+    ensures refused { IfSome result (λ refusal. Judges sheets.old.contents command.now (Some refusal) ⊎ (Judges sheets.old.contents command.now None × (refusal ≡ Memory))) }
+    ensures judged { IfNone result (IsJudged sheets.new command.now) }
+    ensures room { IfNone result (length log.new.items < vec_capacity log.new) }
+{
+    if let Some(refusal) = sheets.judge(command) {
+        return Some(refusal);
+    }
+    if log.reserve(1).is_err() {
+        return Some(Refusal::Memory);
+    }
+    None
+}
+
+impl<Id: StoreName> Desk<Id> {
+    /// Does a command, or hands it back with why it is refused.
+    fn run(
+        &mut self,
+        seat: &mut ReaderSeat<Id>,
+        command: Command,
+    ) -> Result<Reply, (Command, Refusal)>
+        ensures accepted { IfOk result (λ reply. IsAccepted Id.store self.old seat.old command reply self.new seat.new) }
+        ensures refused { IfErr result (λ back. (back.0 ≡ command) × IsRefused Id.store self.old seat.old command back.1 self.new seat.new) }
+        ensures seen { seat.new.seen ≡ self.new.log }
+        ensures began { IsPrefix seat.old.seen seat.new.seen }
+    {
+        if let Some(refusal) = refusal_of(&mut self.sheets, &mut self.log, &command) {
+            meet(&mut self.keeper, seat);
+            return Err((command, refusal));
+        }
+        let floor = floor_after(
+            self.sheets.floor(),
+            self.sheets.newest(),
+            self.pins.as_slice(),
+        );
+        let reply = self.sheets.commit(&command, floor);
+        let signed = Signed {
+            by: seat.number(),
+            entry: Entry { command, reply },
+        };
+        self.keeper.order(&signed);
+        self.keeper.commit();
+        self.log.push_reserved(signed);
+        meet(&mut self.keeper, seat);
+        Ok(reply)
+    }
+
+    /// Gives the cells of a rectangle of the draft one value: `Reply::Painted`.
+    ///
+    /// Refused, in this order, where the rectangle isn't in the map (`OutOfRange`), for want of room in the log (`LogFull`), of blocks
+    /// (`BlocksFull`) and of memory. Refused or not, the seat has then seen the whole log.
+    pub fn paint(
+        &mut self,
+        seat: &mut ReaderSeat<Id>,
+        rect: Rect,
+        black: bool,
+    ) -> Result<Reply, Refusal>
+        ensures accepted { IfOk result (λ reply. IsAccepted Id.store self.old seat.old (Paint rect black) reply self.new seat.new) }
+        ensures refused { IfErr result (λ refusal. IsRefused Id.store self.old seat.old (Paint rect black) refusal self.new seat.new) }
+        ensures seen { seat.new.seen ≡ self.new.log }
+        ensures began { IsPrefix seat.old.seen seat.new.seen }
+    {
+        match self.run(seat, Command::Paint { rect, black }) {
+            Ok(reply) => Ok(reply),
+            Err((_, refusal)) => Err(refusal),
+        }
+    }
+
+    /// Gives each cell of the rectangle at `(x, y)` of the bitmap's size the bitmap's value, obstacle or not: `Reply::Painted`.
+    ///
+    /// Refused as `paint` is; the bitmap is handed back.
+    pub fn stamp(
+        &mut self,
+        seat: &mut ReaderSeat<Id>,
+        x: u16,
+        y: u16,
+        bitmap: Bitmap,
+    ) -> Result<Reply, (Bitmap, Refusal)>
+        ensures accepted { IfOk result (λ reply. IsAccepted Id.store self.old seat.old (Stamp x y bitmap) reply self.new seat.new) }
+        ensures refused { IfErr result (λ back. (back.0 ≡ bitmap) × IsRefused Id.store self.old seat.old (Stamp x y bitmap) back.1 self.new seat.new) }
+        ensures seen { seat.new.seen ≡ self.new.log }
+        ensures began { IsPrefix seat.old.seen seat.new.seen }
+    {
+        match self.run(seat, Command::Stamp { x, y, bitmap }) {
+            Ok(reply) => Ok(reply),
+            Err((command, refusal)) => match command {
+                Command::Stamp { bitmap, .. } => Err((bitmap, refusal)),
+                _ => unreachable!(),
+            },
+        }
+    }
+
+    /// Appends the draft as the next version, also where nothing changed: `Reply::Published`.
+    ///
+    /// Refused, in this order, for want of room in the log (`LogFull`), of a slot (`VersionsFull`) and of memory.
+    pub fn publish(&mut self, seat: &mut ReaderSeat<Id>) -> Result<Reply, Refusal>
+        ensures accepted { IfOk result (λ reply. IsAccepted Id.store self.old seat.old Publish reply self.new seat.new) }
+        ensures refused { IfErr result (λ refusal. IsRefused Id.store self.old seat.old Publish refusal self.new seat.new) }
+        ensures seen { seat.new.seen ≡ self.new.log }
+        ensures began { IsPrefix seat.old.seen seat.new.seen }
+    {
+        match self.run(seat, Command::Publish) {
+            Ok(reply) => Ok(reply),
+            Err((_, refusal)) => Err(refusal),
+        }
+    }
+
+    /// Makes the draft the newest version: `Reply::Reverted`.
+    ///
+    /// Refused for want of room in the log (`LogFull`), and of memory.
+    pub fn revert(&mut self, seat: &mut ReaderSeat<Id>) -> Result<Reply, Refusal>
+        ensures accepted { IfOk result (λ reply. IsAccepted Id.store self.old seat.old Revert reply self.new seat.new) }
+        ensures refused { IfErr result (λ refusal. IsRefused Id.store self.old seat.old Revert refusal self.new seat.new) }
+        ensures seen { seat.new.seen ≡ self.new.log }
+        ensures began { IsPrefix seat.old.seen seat.new.seen }
+    {
+        match self.run(seat, Command::Revert) {
+            Ok(reply) => Ok(reply),
+            Err((_, refusal)) => Err(refusal),
+        }
+    }
+
+    /// Raises the floor, the least version that is kept, to the least of newest and the pinned versions: `Reply::Collected`.
+    ///
+    /// Refused for want of room in the log (`LogFull`), and of memory.
+    pub fn collect(&mut self, seat: &mut ReaderSeat<Id>) -> Result<Reply, Refusal>
+        ensures accepted { IfOk result (λ reply. IsAccepted Id.store self.old seat.old Collect reply self.new seat.new) }
+        ensures refused { IfErr result (λ refusal. IsRefused Id.store self.old seat.old Collect refusal self.new seat.new) }
+        ensures seen { seat.new.seen ≡ self.new.log }
+        ensures began { IsPrefix seat.old.seen seat.new.seen }
+    {
+        match self.run(seat, Command::Collect) {
+            Ok(reply) => Ok(reply),
+            Err((_, refusal)) => Err(refusal),
+        }
+    }
+
+    /// The log: each command that was accepted, with its reply and its session.
+    pub fn log(&self) -> &[Signed]
+        ensures { result.now ≡ self.now.log }
+    {
+        self.log.as_slice()
+    }
+}

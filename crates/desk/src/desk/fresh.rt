@@ -1,0 +1,81 @@
+//! A desk before its store has a name.
+
+ghost use Rattle.std.specs.Prelude.{◌≡◌, [], replicate, None, IfOk, IfErr};
+ghost use Rattle.bits.specs.Tiles.{tile_count};
+ghost use Rattle.metric.specs.declared.refusal.Refusal.TheVariants.{Memory};
+ghost use Rattle.map_core.specs.Setting.{bad_field};
+ghost use Rattle.shelf.specs.Store.{readers_of};
+
+use crate::desk::Desk;
+use crate::sheets::Sheets;
+use bits::Bitmap;
+use map_core::Setting;
+use metric::Refusal;
+use shelf::{FreshKeeper, Signed, StoreName};
+use std::alloc::Global;
+use std::marker::Model;
+
+/// A desk of a store that has no name yet. Contracts see it as the store.
+#[derive(Drop)]
+pub struct FreshDesk {
+    keeper: FreshKeeper,
+    sheets: Sheets,
+    log: Vec<Signed>,
+    pins: Vec<Option<u32>>,
+}
+
+impl Model for FreshDesk {
+    ghost use Rattle.std.specs.Prelude.{◌≡◌, [], replicate, None};
+    ghost use Rattle.shelf.specs.Store.{StoreId, readers_of};
+    ghost use Rattle.desk.specs.Contents.{IsTold};
+
+    ghost Value = { StoreId };
+
+    ghost view = { λ d. d.keeper };
+
+    ghost invariant = { λ d. IsTold d.keeper.base [] d.sheets.contents × (d.log.items ≡ []) × (d.pins.items ≡ replicate (readers_of d.keeper) None) };
+}
+
+impl FreshDesk {
+    /// A desk with an empty log on this bitmap. All room but that of the log is taken here. Refused for want of memory alone.
+    pub fn of(
+        alloc: Global,
+        setting: Setting,
+        map: &Bitmap,
+        keeper: FreshKeeper,
+    ) -> Result<FreshDesk, Refusal>
+        requires fits { bad_field (tile_count map.now) setting ≡ None }
+        requires base { keeper.base ≡ record { setting = setting; opening = map.now } }
+        ensures desk { IfOk result (λ desk. desk ≡ keeper) }
+        ensures memory { IfErr result (λ refusal. refusal ≡ Memory) }
+    {
+        let Ok(pins) = vec![in alloc; None; setting.sessions as usize] else {
+            return Err(Refusal::Memory);
+        };
+        Ok(FreshDesk {
+            keeper,
+            sheets: Sheets::of(alloc, setting, map)?,
+            log: Vec::new(alloc),
+            pins,
+        })
+    }
+
+    /// The desk of the store with this name.
+    pub fn named<Id: StoreName>(self) -> Desk<Id>
+        requires { self ≡ Id.store }
+        ensures { result ≡ record { log = []; pins = replicate (readers_of Id.store) None } }
+    {
+        let FreshDesk {
+            keeper,
+            sheets,
+            log,
+            pins,
+        } = self;
+        Desk {
+            keeper: keeper.named::<Id>(),
+            sheets,
+            log,
+            pins,
+        }
+    }
+}
