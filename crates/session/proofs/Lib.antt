@@ -1,0 +1,3 @@
+pub mod PinLemmas
+pub mod OpeningLemmas
+pub mod ClosingLemmas

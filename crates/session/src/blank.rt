@@ -1,0 +1,78 @@
+//! A store before it has a name.
+
+ghost use Rattle.std.specs.Prelude.{◌≡◌, MatchOption, IfOk, IfErr, Err};
+ghost use Rattle.bits.specs.Tiles.{tile_count};
+ghost use Rattle.metric.specs.declared.refusal.Refusal.TheVariants.{BadSetting, Memory};
+ghost use Rattle.map_core.specs.Setting.{bad_field};
+ghost use Rattle.shelf.specs.Open.{all_newcomers};
+
+use bits::Bitmap;
+use desk::FreshDesk;
+use map_core::Setting;
+use metric::Refusal;
+use shelf::{FreshReader, Opening};
+use std::alloc::Global;
+use std::marker::Model;
+
+/// A store that has no name yet: its word, its seats and its desk. Contracts see it as the store.
+///
+/// It can't be let go: it is opened, or discarded.
+pub struct Blank {
+    pub(crate) desk: FreshDesk,
+    pub(crate) readers: Vec<FreshReader>,
+    pub(crate) map: Bitmap,
+}
+
+impl Model for Blank {
+    ghost use Rattle.std.specs.Prelude.{◌≡◌};
+    ghost use Rattle.shelf.specs.Store.{StoreId};
+    ghost use Rattle.shelf.specs.Open.{all_newcomers};
+
+    ghost Value = { StoreId };
+
+    ghost view = { λ b. b.desk };
+
+    ghost invariant = { λ b. (b.readers.items ≡ all_newcomers b.desk) × (b.map ≡ b.desk.base.opening) };
+}
+
+/// The desk and the readers of a store on this bitmap.
+fn parts(
+    alloc: Global,
+    setting: Setting,
+    map: &Bitmap,
+) -> Result<(FreshDesk, Vec<FreshReader>), Refusal>
+    ensures base { IfOk result (λ parts. parts.0.base ≡ record { setting = setting; opening = map.now }) }
+    ensures readers { IfOk result (λ parts. parts.1.items ≡ all_newcomers parts.0) }
+    ensures refused { MatchOption (bad_field (tile_count map.now) setting) (IfErr result (λ refusal. refusal ≡ Memory)) (λ field. result ≡ Err (BadSetting field)) }
+{
+    setting.fits(map)?;
+    let Opening { keeper, readers } = Opening::of(alloc, setting, map)?;
+    let desk = FreshDesk::of(alloc, setting, map, keeper)?;
+    Ok((desk, readers))
+}
+
+impl Blank {
+    /// A store on this bitmap, which is its version 0. Its log is empty, and no session has a pin.
+    ///
+    /// Refused, in this order, for the first field of the setting that isn't within its limits for this map, and for want of memory; the
+    /// bitmap is handed back.
+    pub fn of(alloc: Global, setting: Setting, map: Bitmap) -> Result<Blank, (Bitmap, Refusal)>
+        ensures base { IfOk result (λ blank. blank.base ≡ record { setting = setting; opening = map }) }
+        ensures refused { MatchOption (bad_field (tile_count map) setting) (IfErr result (λ back. back.1 ≡ Memory)) (λ field. IfErr result (λ back. back.1 ≡ BadSetting field)) }
+        ensures back { IfErr result (λ back. back.0 ≡ map) }
+    {
+        match parts(alloc, setting, &map) {
+            Ok((desk, readers)) => Ok(Blank { desk, readers, map }),
+            Err(refusal) => Err((map, refusal)),
+        }
+    }
+
+    /// Lets it go: nothing was opened.
+    pub fn discard(self) {
+        let Blank {
+            desk: _,
+            readers: _,
+            map: _,
+        } = self;
+    }
+}

@@ -1,0 +1,97 @@
+//! A session, and its commands.
+
+ghost use Rattle.std.specs.Prelude.{◌≡◌, IfOk, IfErr};
+ghost use mathlib.Core.List.{IsPrefix};
+ghost use Rattle.map_core.specs.declared.command.Command.TheVariants.{Paint, Stamp, Publish, Revert, Collect};
+ghost use Rattle.desk.specs.Desks.{IsAccepted, IsRefused};
+
+use bits::Bitmap;
+use desk::Desk;
+use map_core::Reply;
+use metric::{Rect, Refusal};
+use shelf::{ReaderSeat, StoreName};
+use std::marker::Model;
+
+/// A session of a store: it makes commands, and pins versions. Contracts see it as its number, what it has seen of the log, and how many
+/// entries of it are its own.
+///
+/// It can't be let go: a store that is closed takes it back.
+pub struct Session<Id: StoreName> {
+    pub(crate) seat: ReaderSeat<Id>,
+}
+
+impl<Id: StoreName> Model for Session<Id> {
+    ghost use Rattle.shelf.specs.Roles.{ReaderView};
+
+    ghost Value = { ReaderView };
+
+    ghost view = { λ s. s.seat };
+}
+
+impl<Id: StoreName> Session<Id> {
+    /// Its seat.
+    pub(crate) fn into_seat(self) -> ReaderSeat<Id>
+        ensures { result ≡ self }
+    {
+        let Session { seat } = self;
+        seat
+    }
+
+    /// How many of its commands were accepted.
+    pub fn made(&self) -> u32
+        ensures { result ≡ self.now.made }
+    {
+        self.seat.made()
+    }
+
+    /// Gives the cells of a rectangle of the draft one value, as `Desk::paint` does with this session's seat.
+    pub fn paint(&mut self, desk: &mut Desk<Id>, rect: Rect, black: bool) -> Result<Reply, Refusal>
+        ensures accepted { IfOk result (λ reply. IsAccepted Id.store desk.old self.old (Paint rect black) reply desk.new self.new) }
+        ensures refused { IfErr result (λ refusal. IsRefused Id.store desk.old self.old (Paint rect black) refusal desk.new self.new) }
+        ensures seen { IsPrefix self.old.seen self.new.seen }
+    {
+        desk.paint(&mut self.seat, rect, black)
+    }
+
+    /// Stamps a bitmap on the draft, as `Desk::stamp` does with this session's seat.
+    pub fn stamp(
+        &mut self,
+        desk: &mut Desk<Id>,
+        x: u16,
+        y: u16,
+        bitmap: Bitmap,
+    ) -> Result<Reply, (Bitmap, Refusal)>
+        ensures accepted { IfOk result (λ reply. IsAccepted Id.store desk.old self.old (Stamp x y bitmap) reply desk.new self.new) }
+        ensures refused { IfErr result (λ back. (back.0 ≡ bitmap) × IsRefused Id.store desk.old self.old (Stamp x y bitmap) back.1 desk.new self.new) }
+        ensures seen { IsPrefix self.old.seen self.new.seen }
+    {
+        desk.stamp(&mut self.seat, x, y, bitmap)
+    }
+
+    /// Appends the draft as the next version, as `Desk::publish` does with this session's seat.
+    pub fn publish(&mut self, desk: &mut Desk<Id>) -> Result<Reply, Refusal>
+        ensures accepted { IfOk result (λ reply. IsAccepted Id.store desk.old self.old Publish reply desk.new self.new) }
+        ensures refused { IfErr result (λ refusal. IsRefused Id.store desk.old self.old Publish refusal desk.new self.new) }
+        ensures seen { IsPrefix self.old.seen self.new.seen }
+    {
+        desk.publish(&mut self.seat)
+    }
+
+    /// Makes the draft the newest version, as `Desk::revert` does with this session's seat.
+    pub fn revert(&mut self, desk: &mut Desk<Id>) -> Result<Reply, Refusal>
+        ensures accepted { IfOk result (λ reply. IsAccepted Id.store desk.old self.old Revert reply desk.new self.new) }
+        ensures refused { IfErr result (λ refusal. IsRefused Id.store desk.old self.old Revert refusal desk.new self.new) }
+        ensures seen { IsPrefix self.old.seen self.new.seen }
+    {
+        desk.revert(&mut self.seat)
+    }
+
+    /// Raises the floor, as `Desk::collect` does with this session's seat.
+    pub fn collect(&mut self, desk: &mut Desk<Id>) -> Result<Reply, Refusal>
+        ensures accepted { IfOk result (λ reply. IsAccepted Id.store desk.old self.old Collect reply desk.new self.new) }
+        ensures refused { IfErr result (λ refusal. IsRefused Id.store desk.old self.old Collect refusal desk.new self.new) }
+        ensures seen { IsPrefix self.old.seen self.new.seen }
+    {
+        desk.collect(&mut self.seat)
+    }
+}

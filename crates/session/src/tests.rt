@@ -1,0 +1,453 @@
+//! What no clause says: that memory is found, and worked runs of sessions with answers from outside.
+
+ghost use Rattle.std.specs.Prelude.{◌≡◌};
+
+use crate::{Blank, Pinned, Session, Store};
+use bits::Bitmap;
+use map_core::{Reply, Setting};
+use metric::{Cell, City, Euclid2, Field, Near, Rect, Refusal};
+use shelf::StoreName;
+use std::alloc::Global;
+use std::marker::Brand;
+use std::process::Abort;
+use std::sync::Wait;
+use std::test::Fail;
+use std::thread::{Threads, for_each_mut};
+
+/// A store on a map of this size without an obstacle.
+fn blank(alloc: Global, setting: Setting, width: u16, height: u16) -> Result<Blank, Fail> {
+    if width == 0 || 4096 < width || height == 0 || 4096 < height {
+        return Err(Fail::from("a side that no map has"));
+    }
+    let map = Bitmap::blank(alloc, width, height)?;
+    match Blank::of(alloc, setting, map) {
+        Ok(blank) => Ok(blank),
+        Err((_, refusal)) => Err(Fail::from(refusal)),
+    }
+}
+
+/// Opens a store.
+fn open<Id: StoreName>(alloc: Global, blank: Blank) -> Result<(Store<Id>, Vec<Session<Id>>), Fail>
+    requires { blank ≡ Id.store }
+{
+    match Store::<Id>::open(alloc, blank) {
+        Ok(opened) => Ok(opened),
+        Err((blank, refusal)) => {
+            blank.discard();
+            Err(Fail::from(refusal))
+        }
+    }
+}
+
+/// Paints the cells of a rectangle.
+fn paint<Id: StoreName, R: Wait + Abort>(
+    rt: &R,
+    store: &Store<Id>,
+    session: &mut Session<Id>,
+    corners: [u16; 4],
+) -> Result<Reply, Refusal> {
+    let [x0, y0, x1, y1] = corners;
+    let rect = Rect::new(x0, y0, x1, y1).expect(rt, "a rectangle");
+    session.paint(&mut store.lock(rt), rect, true)
+}
+
+/// Pins the newest version.
+fn pin<Id: StoreName, R: Wait + Abort>(
+    rt: &R,
+    alloc: Global,
+    store: &Store<Id>,
+    session: Session<Id>,
+) -> Pinned<Id> {
+    match store.pin(rt, alloc, session) {
+        Ok(pinned) => pinned,
+        Err(_) => panic!(rt; "no memory for a pin"),
+    }
+}
+
+/// The next session.
+fn next<Id: StoreName>(rt: &impl Abort, sessions: &mut Vec<Session<Id>>) -> Session<Id> {
+    sessions.pop().expect(rt, "a session")
+}
+
+/// Puts a session back among the others.
+fn hand_back<Id: StoreName>(
+    rt: &impl Abort,
+    sessions: &mut Vec<Session<Id>>,
+    session: Session<Id>,
+) {
+    match sessions.push(session) {
+        Ok(()) => {}
+        Err(_) => panic!(rt; "no room for a session"),
+    }
+}
+
+#[test]
+fn a_pin_keeps_its_version(rt: HostRuntime) -> Result<(), Fail> {
+    let setting = Setting {
+        blocks: 3,
+        versions: 2,
+        sessions: 3,
+        log: 10,
+    };
+    let blank = blank(rt.alloc(), setting, 64, 64)?;
+    pins_beside_publishes::<Brand, _>(&rt, rt.alloc(), blank)
+}
+
+/// One session pins, another publishes and collects, and a third pins what was published.
+fn pins_beside_publishes<Id: StoreName, R: Wait + Abort>(
+    rt: &R,
+    alloc: Global,
+    blank: Blank,
+) -> Result<(), Fail>
+    requires { blank ≡ Id.store }
+{
+    let (store, mut sessions) = open::<Id>(alloc, blank)?;
+    let c = next(rt, &mut sessions);
+    let mut b = next(rt, &mut sessions);
+    let a = next(rt, &mut sessions);
+    let cell = Cell { x: 3, y: 4 };
+    let obstacle = Near {
+        dist: 25,
+        cell: Cell { x: 0, y: 0 },
+    };
+
+    let a = pin(rt, alloc, &store, a);
+    assert_eq!(rt; a.version(), 0);
+    assert_eq!(rt;
+        paint(rt, &store, &mut b, [0, 0, 1, 1]),
+        Ok(Reply::Painted {
+            place: 1,
+            changed: 1
+        })
+    );
+    assert_eq!(rt;
+        b.publish(&mut store.lock(rt)),
+        Ok(Reply::Published {
+            place: 2,
+            version: 1
+        })
+    );
+    assert_eq!(rt; a.at::<Euclid2>(alloc, cell), Ok(None));
+    let c = pin(rt, alloc, &store, c);
+    assert_eq!(rt; c.version(), 1);
+    assert_eq!(rt; c.at::<Euclid2>(alloc, cell), Ok(Some(obstacle)));
+
+    assert_eq!(rt;
+        b.collect(&mut store.lock(rt)),
+        Ok(Reply::Collected {
+            place: 3,
+            floor: 0,
+            freed: 0
+        })
+    );
+    assert_eq!(rt; b.publish(&mut store.lock(rt)), Err(Refusal::VersionsFull));
+    assert_eq!(rt; store.lock(rt).log().len(), 3);
+
+    let a = store.unpin(rt, a);
+    assert_eq!(rt;
+        b.collect(&mut store.lock(rt)),
+        Ok(Reply::Collected {
+            place: 4,
+            floor: 1,
+            freed: 1
+        })
+    );
+    assert_eq!(rt;
+        b.publish(&mut store.lock(rt)),
+        Ok(Reply::Published {
+            place: 5,
+            version: 2
+        })
+    );
+    assert_eq!(rt; c.at::<Euclid2>(alloc, cell), Ok(Some(obstacle)));
+    let c = store.unpin(rt, c);
+    assert_eq!(rt; (a.made(), b.made(), c.made()), (0, 5, 0));
+    hand_back(rt, &mut sessions, a);
+    hand_back(rt, &mut sessions, b);
+    hand_back(rt, &mut sessions, c);
+    assert_eq!(rt; store.close(sessions).len(), 5);
+    Ok(())
+}
+
+/// What a call of a session answers, without its name: places and counts, or the refusal.
+fn told(answer: Result<Reply, Refusal>) -> Result<[u32; 3], Refusal> {
+    match answer? {
+        Reply::Painted { place, changed } => Ok([place, changed, 0]),
+        Reply::Published { place, version } => Ok([place, version, 0]),
+        Reply::Reverted { place } => Ok([place, 0, 0]),
+        Reply::Collected {
+            place,
+            floor,
+            freed,
+        } => Ok([place, floor, freed]),
+    }
+}
+
+#[test]
+fn blocks_come_back_by_a_collect(rt: HostRuntime) -> Result<(), Fail> {
+    let setting = Setting {
+        blocks: 2,
+        versions: 2,
+        sessions: 1,
+        log: 10,
+    };
+    let blank = blank(rt.alloc(), setting, 64, 64)?;
+    collects_between_paints::<Brand, _>(&rt, rt.alloc(), blank)
+}
+
+/// A paint finds no block until a collect gives one back.
+fn collects_between_paints<Id: StoreName, R: Wait + Abort>(
+    rt: &R,
+    alloc: Global,
+    blank: Blank,
+) -> Result<(), Fail>
+    requires { blank ≡ Id.store }
+{
+    let (store, mut sessions) = open::<Id>(alloc, blank)?;
+    let mut a = next(rt, &mut sessions);
+    let short = Refusal::BlocksFull { needed: 1, free: 0 };
+    assert_eq!(rt;
+        told(paint(rt, &store, &mut a, [0, 0, 1, 1])),
+        Ok([1, 1, 0])
+    );
+    assert_eq!(rt; told(a.publish(&mut store.lock(rt))), Ok([2, 1, 0]));
+    assert_eq!(rt; told(paint(rt, &store, &mut a, [1, 0, 2, 1])), Err(short));
+    assert_eq!(rt; told(a.collect(&mut store.lock(rt))), Ok([3, 1, 1]));
+    assert_eq!(rt;
+        told(paint(rt, &store, &mut a, [1, 0, 2, 1])),
+        Ok([4, 1, 0])
+    );
+    hand_back(rt, &mut sessions, a);
+    assert_eq!(rt; store.close(sessions).len(), 4);
+    Ok(())
+}
+
+#[test]
+fn a_full_log_leaves_the_draft(rt: HostRuntime) -> Result<(), Fail> {
+    let setting = Setting {
+        blocks: 3,
+        versions: 2,
+        sessions: 2,
+        log: 2,
+    };
+    let blank = blank(rt.alloc(), setting, 64, 64)?;
+    fills_the_log::<Brand, _>(&rt, rt.alloc(), blank)
+}
+
+/// The log has room for two entries, and a pin sees the version that the second one published.
+fn fills_the_log<Id: StoreName, R: Wait + Abort>(
+    rt: &R,
+    alloc: Global,
+    blank: Blank,
+) -> Result<(), Fail>
+    requires { blank ≡ Id.store }
+{
+    let (store, mut sessions) = open::<Id>(alloc, blank)?;
+    let b = next(rt, &mut sessions);
+    let mut a = next(rt, &mut sessions);
+    assert_eq!(rt;
+        told(paint(rt, &store, &mut a, [0, 0, 1, 1])),
+        Ok([1, 1, 0])
+    );
+    assert_eq!(rt; told(a.publish(&mut store.lock(rt))), Ok([2, 1, 0]));
+    assert_eq!(rt;
+        told(paint(rt, &store, &mut a, [1, 0, 2, 1])),
+        Err(Refusal::LogFull)
+    );
+    assert_eq!(rt; told(a.revert(&mut store.lock(rt))), Err(Refusal::LogFull));
+    let b = pin(rt, alloc, &store, b);
+    assert_eq!(rt; b.version(), 1);
+    let b = store.unpin(rt, b);
+    hand_back(rt, &mut sessions, a);
+    hand_back(rt, &mut sessions, b);
+    assert_eq!(rt; store.close(sessions).len(), 2);
+    Ok(())
+}
+
+#[test]
+fn positions_are_counted(rt: HostRuntime) -> Result<(), Fail> {
+    let setting = Setting {
+        blocks: 3,
+        versions: 2,
+        sessions: 1,
+        log: 10,
+    };
+    let blank = blank(rt.alloc(), setting, 128, 1)?;
+    paints_two_positions::<Brand, _>(&rt, rt.alloc(), blank)
+}
+
+/// A map of two tiles with one block to spare.
+fn paints_two_positions<Id: StoreName, R: Wait + Abort>(
+    rt: &R,
+    alloc: Global,
+    blank: Blank,
+) -> Result<(), Fail>
+    requires { blank ≡ Id.store }
+{
+    let (store, mut sessions) = open::<Id>(alloc, blank)?;
+    let mut a = next(rt, &mut sessions);
+    let two = Refusal::BlocksFull { needed: 2, free: 1 };
+    let one = Refusal::BlocksFull { needed: 1, free: 0 };
+    assert_eq!(rt; told(paint(rt, &store, &mut a, [0, 0, 128, 1])), Err(two));
+    assert_eq!(rt;
+        told(paint(rt, &store, &mut a, [0, 0, 1, 1])),
+        Ok([1, 1, 0])
+    );
+    assert_eq!(rt;
+        told(paint(rt, &store, &mut a, [0, 0, 2, 1])),
+        Ok([2, 1, 0])
+    );
+    assert_eq!(rt; told(paint(rt, &store, &mut a, [64, 0, 65, 1])), Err(one));
+    assert_eq!(rt; told(a.revert(&mut store.lock(rt))), Ok([3, 0, 0]));
+    assert_eq!(rt;
+        told(paint(rt, &store, &mut a, [64, 0, 65, 1])),
+        Ok([4, 1, 0])
+    );
+    hand_back(rt, &mut sessions, a);
+    assert_eq!(rt; store.close(sessions).len(), 4);
+    Ok(())
+}
+
+#[test]
+fn two_sessions_in_two_threads(rt: HostRuntime) -> Result<(), Fail> {
+    let setting = Setting {
+        blocks: 8,
+        versions: 8,
+        sessions: 2,
+        log: 10,
+    };
+    let blank = blank(rt.alloc(), setting, 64, 64)?;
+    a_painter_beside_a_planner::<Brand, _>(&rt, rt.alloc(), blank)
+}
+
+/// A painter publishes three versions, of which each has one obstacle more.
+fn publish_three<Id: StoreName, R: Wait + Abort>(
+    rt: &R,
+    store: &Store<Id>,
+    slot: &mut Option<Session<Id>>,
+) {
+    let session = slot.as_mut().expect(rt, "the painter");
+    for x in 0..3u16 {
+        let painted = paint(rt, store, session, [x, 0, x + 1, 1]);
+        assert!(rt; painted.is_ok(), "paint {x}");
+        let published = session.publish(&mut store.lock(rt));
+        assert!(rt; published.is_ok(), "publish {x}");
+    }
+}
+
+/// Pins the newest version, and answers its number once the pin has shown its obstacles: as many as its number says.
+fn pin_once<Id: StoreName, R: Wait + Abort>(
+    rt: &R,
+    alloc: Global,
+    store: &Store<Id>,
+    session: Session<Id>,
+) -> (u32, Session<Id>) {
+    let pinned = pin(rt, alloc, store, session);
+    let version = pinned.version();
+    let corner = Cell { x: 63, y: 0 };
+    let dist = match pinned.at::<City>(alloc, corner) {
+        Ok(near) => near.map(|near| near.dist),
+        Err(_) => panic!(rt; "no memory for a query"),
+    };
+    let expected = [None, Some(63), Some(62), Some(61)];
+    assert_eq!(rt;
+        Some(dist),
+        expected.get(version as usize).copied(),
+        "version {version}"
+    );
+    (version, store.unpin(rt, pinned))
+}
+
+/// A planner pins three times, and the version never falls.
+fn pin_three<Id: StoreName, R: Wait + Abort>(
+    rt: &R,
+    alloc: Global,
+    store: &Store<Id>,
+    slot: &mut Option<Session<Id>>,
+) {
+    let mut newest = 0;
+    for _ in 0..3 {
+        let session = slot.take().expect(rt, "a session");
+        let (version, session) = pin_once(rt, alloc, store, session);
+        assert!(rt; newest <= version, "from {newest} to {version}");
+        newest = version;
+        match slot.replace(session) {
+            None => {}
+            Some(_) => panic!(rt; "two sessions"),
+        }
+    }
+}
+
+/// The first session paints, and the second one pins.
+fn work<Id: StoreName, R: Wait + Abort>(
+    rt: &R,
+    alloc: Global,
+    store: &Store<Id>,
+    number: usize,
+    slot: &mut Option<Session<Id>>,
+) {
+    if number == 0 {
+        publish_three(rt, store, slot);
+    } else {
+        pin_three(rt, alloc, store, slot);
+    }
+}
+
+/// Each session in a thread of its own.
+fn side_by_side<Id: StoreName + Send + Sync, R: Threads + Wait + Abort + Sync>(
+    rt: &R,
+    alloc: Global,
+    store: &Store<Id>,
+    slots: &mut [Option<Session<Id>>],
+) {
+    for_each_mut(
+        rt,
+        slots,
+        2,
+        &|number, slot: &mut Option<Session<Id>>| { work(rt, alloc, store, number, slot) },
+    );
+}
+
+/// A store whose painter publishes while its planner pins.
+fn a_painter_beside_a_planner<Id: StoreName + Send + Sync, R: Threads + Wait + Abort + Sync>(
+    rt: &R,
+    alloc: Global,
+    blank: Blank,
+) -> Result<(), Fail>
+    requires { blank ≡ Id.store }
+{
+    let (store, mut sessions) = open::<Id>(alloc, blank)?;
+    let planner = next(rt, &mut sessions);
+    let painter = next(rt, &mut sessions);
+    let mut slots = [Some(painter), Some(planner)];
+    side_by_side(rt, alloc, &store, &mut slots);
+    let [painter, planner] = slots;
+    let painter = painter.expect(rt, "the painter");
+    assert_eq!(rt; painter.made(), 6);
+    hand_back(rt, &mut sessions, painter);
+    hand_back(rt, &mut sessions, planner.expect(rt, "the planner"));
+    assert_eq!(rt; store.close(sessions).len(), 6);
+    Ok(())
+}
+
+#[test]
+fn a_setting_is_judged_first(rt: HostRuntime) -> Result<(), Fail> {
+    let map = Bitmap::blank(rt.alloc(), 128, 1)?;
+    let setting = Setting {
+        blocks: 1,
+        versions: 1,
+        sessions: 0,
+        log: 0,
+    };
+    match Blank::of(rt.alloc(), setting, map) {
+        Ok(blank) => {
+            blank.discard();
+            Err(Fail::from("too few blocks were taken"))
+        }
+        Err((map, refusal)) => {
+            assert_eq!(rt; (map.width(), map.height()), (128, 1));
+            assert_eq!(rt; refusal, Refusal::BadSetting(Field::Blocks));
+            Ok(())
+        }
+    }
+}
