@@ -26,20 +26,22 @@ seen_one log x began k d within = subst (λ (s : ReaderView). IsPrefix s.seen lo
     first : k ≡ 0
     first = omega arith
 
--- the last of them is given up
-pub counted_next : (closing after before : Closed) (left rest all : List ReaderView) (x : ReaderView) → IsCounted closing left before all → left ≡ rest ++ x ∷ []
-    → after ≡ record closing { readers = closing.readers + 1; made = closing.made + x.made } → IsPrefix x.seen closing.log → IsCounted after rest before all
-counted_next closing after before left rest all x counted left_is after_is began =
+-- the last of them is given up: x, whose seat is y
+pub counted_next : (closing after before : Closed) (left rest all : List ReaderView) (x y : ReaderView) → IsCounted closing left before all → left ≡ rest ++ x ∷ [] → y ≡ x
+    → after ≡ record closing { readers = closing.readers + 1; made = closing.made + y.made } → IsPrefix y.seen closing.log → IsCounted after rest before all
+counted_next closing after before left rest all x y counted left_is seat_is after_is began =
     let long = length-append rest (x ∷ []) in
     let sum = sum_by-append (λ (s : ReaderView). s.made) rest (x ∷ []) in
+    let made_same = ap (λ (s : ReaderView). s.made) seat_is in
     let readers = counted.readers in
     let made = counted.made in
+    let seen_here : IsPrefix x.seen before.log = subst (IsPrefix x.seen) counted.log (subst (λ (s : ReaderView). IsPrefix s.seen closing.log) seat_is began) in
     record {
       log = ap (λ (c : Closed). c.log) after_is ∙ counted.log;
       readers = omega (arith, ap (λ (c : Closed). c.readers) after_is, ap length left_is);
       made = omega (arith, ap (λ (c : Closed). c.made) after_is, ap (sum_by (λ (s : ReaderView). s.made)) left_is);
       seen = λ seen. counted.seen (subst (All (λ (s : ReaderView). IsPrefix s.seen before.log)) (sym left_is)
-          (All-append (λ (s : ReaderView). IsPrefix s.seen before.log) rest (x ∷ []) seen (seen_one before.log x (subst (IsPrefix x.seen) counted.log began))));
+          (All-append (λ (s : ReaderView). IsPrefix s.seen before.log) rest (x ∷ []) seen (seen_one before.log x seen_here)));
     }
 
 -- what each session has seen begins the log that is handed out

@@ -58,7 +58,7 @@ impl Blank {
     /// bitmap is handed back.
     pub fn of(alloc: Global, setting: Setting, map: Bitmap) -> Result<Blank, (Bitmap, Refusal)>
         ensures base { IfOk result (λ blank. blank.base ≡ record { setting = setting; opening = map }) }
-        ensures refused { MatchOption (bad_field (tile_count map) setting) (IfErr result (λ back. back.1 ≡ Memory)) (λ field. IfErr result (λ back. back.1 ≡ BadSetting field)) }
+        ensures refused { MatchOption (bad_field (tile_count map) setting) (IfErr result (λ back. back.1 ≡ Memory)) (λ field. result ≡ Err (map, BadSetting field)) }
         ensures back { IfErr result (λ back. back.0 ≡ map) }
     {
         match parts(alloc, setting, &map) {
