@@ -1,4 +1,4 @@
-//! The desk of a map: its draft and its kept versions as whole bitmaps, and what each command does to them.
+//! The desk of a store: its log, its draft and its kept versions behind the writers' lock, and what each command does to them.
 #![tactic(auto)]
 
 mod desk;

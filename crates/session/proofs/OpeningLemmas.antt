@@ -8,7 +8,7 @@ use Rattle.std.proofs.Math.Seq.{get_or-append_seam}
 use Rattle.shelf.specs.Open.{Newcomer, all_newcomers}
 use Rattle.shelf.specs.Roles.{ReaderView, fresh_reader}
 use Rattle.shelf.specs.Store.{StoreId, readers_of}
-use Rattle.session.specs.Pins.{all_fresh}
+use Rattle.session.specs.Sessions.{all_fresh}
 
 -- each of these readers is the store's
 stores : (z : StoreId) (ns : List ℕ) → All (λ (n : Newcomer). n.store ≡ z) (map (λ n. record { number = n; store = z }) ns)

@@ -6,7 +6,7 @@ use Rattle.map_core.proofs.LogLemmas.{newest-beginning, bitmap-beginning}
 use Rattle.shelf.specs.Roles.{ReaderView, entries}
 use Rattle.shelf.specs.Store.{StoreId}
 use Rattle.shelf.proofs.LogParts.{prefix-entries}
-use Rattle.session.specs.Pins.{PinView, IsPin}
+use Rattle.session.specs.Sessions.{PinView, IsPin}
 
 -- it holds the same version, which has the same bitmap
 pub pin_stays : (z : StoreId) (p : PinView) (y : ReaderView) (bitmap : Cells) → IsPin z p bitmap → IsPrefix p.seat.seen y.seen → IsPin z record { seat = y; version = p.version } bitmap

@@ -1,1 +1,1 @@
-pub mod Pins
+pub mod Sessions

@@ -6,7 +6,7 @@ ghost use Rattle.metric.specs.Nearest.{IsNear};
 ghost use Rattle.bits.specs.Cells.{IsInside, IsObstacle};
 ghost use Rattle.clearance.specs.Answers.{IsClearOf, IsLeastOf, IsRefusalFor, LiesIn, cells_of_rect};
 ghost use Rattle.clearance.specs.Paths.{IsPathRefusal, cells_of_path, path_refusal};
-ghost use Rattle.session.specs.Pins.{bitmap_pinned};
+ghost use Rattle.session.specs.Sessions.{bitmap_pinned};
 
 mod commands;
 
@@ -26,7 +26,7 @@ pub struct Pinned<Id: StoreName> {
 }
 
 impl<Id: StoreName> Model for Pinned<Id> {
-    ghost use Rattle.session.specs.Pins.{PinView, IsPin};
+    ghost use Rattle.session.specs.Sessions.{PinView, IsPin};
 
     ghost Value = { PinView };
 
@@ -58,6 +58,8 @@ impl<Id: StoreName> Pinned<Id> {
     }
 
     /// The nearest obstacle of a cell in the version that it holds, as `clearance::at` answers.
+    ///
+    /// Refused, in this order, for a cell outside the map (`OutOfRange`) and for want of memory.
     pub fn at<M: Metric>(&self, alloc: Global, cell: Cell) -> Result<Option<Near>, Refusal>
         ensures inside { IfOk result (λ _. IsInside (bitmap_pinned Id.store self.now) cell.x cell.y) }
         ensures near { IfOk result (λ near. IsNear M.distance (IsObstacle (bitmap_pinned Id.store self.now)) cell.x cell.y near) }
@@ -67,6 +69,8 @@ impl<Id: StoreName> Pinned<Id> {
     }
 
     /// The least distance over a rectangle in the version that it holds, as `clearance::least_in` answers.
+    ///
+    /// Refused, in this order, for a rectangle that isn't wholly in the map (`OutOfRange`) and for want of memory.
     pub fn least_in<M: Metric>(
         &self,
         alloc: Global,
@@ -80,6 +84,9 @@ impl<Id: StoreName> Pinned<Id> {
     }
 
     /// The least distance along a path in the version that it holds, as `clearance::along` answers.
+    ///
+    /// Refused, in this order, for no point or over 1000 (`BadPath`), a point outside the map (`OutOfRange`), the first point that is in
+    /// neither the row nor the column of the one before it (`Crooked`), and want of memory.
     pub fn along<M: Metric>(
         &self,
         alloc: Global,
@@ -92,7 +99,8 @@ impl<Id: StoreName> Pinned<Id> {
         clearance::along::<M>(alloc, self.bitmap(), points)
     }
 
-    /// Whether a path keeps clear in the version that it holds, as `clearance::clear_of` answers.
+    /// Whether each cell of a path is at least `d` away from the obstacles of the version that it holds, in the metric's unit, as
+    /// `clearance::clear_of` answers. Refused as `along` is.
     pub fn clear_of<M: Metric>(
         &self,
         alloc: Global,

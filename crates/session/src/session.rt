@@ -48,7 +48,7 @@ impl<Id: StoreName> Session<Id> {
     pub fn paint(&mut self, desk: &mut Desk<Id>, rect: Rect, black: bool) -> Result<Reply, Refusal>
         ensures accepted { IfOk result (λ reply. IsAccepted Id.store desk.old self.old (Paint rect black) reply desk.new self.new) }
         ensures refused { IfErr result (λ refusal. IsRefused Id.store desk.old self.old (Paint rect black) refusal desk.new self.new) }
-        ensures seen { IsPrefix self.old.seen self.new.seen }
+        ensures began { IsPrefix self.old.seen self.new.seen }
     {
         desk.paint(&mut self.seat, rect, black)
     }
@@ -63,7 +63,7 @@ impl<Id: StoreName> Session<Id> {
     ) -> Result<Reply, (Bitmap, Refusal)>
         ensures accepted { IfOk result (λ reply. IsAccepted Id.store desk.old self.old (Stamp x y bitmap) reply desk.new self.new) }
         ensures refused { IfErr result (λ back. (back.0 ≡ bitmap) × IsRefused Id.store desk.old self.old (Stamp x y bitmap) back.1 desk.new self.new) }
-        ensures seen { IsPrefix self.old.seen self.new.seen }
+        ensures began { IsPrefix self.old.seen self.new.seen }
     {
         desk.stamp(&mut self.seat, x, y, bitmap)
     }
@@ -72,7 +72,7 @@ impl<Id: StoreName> Session<Id> {
     pub fn publish(&mut self, desk: &mut Desk<Id>) -> Result<Reply, Refusal>
         ensures accepted { IfOk result (λ reply. IsAccepted Id.store desk.old self.old Publish reply desk.new self.new) }
         ensures refused { IfErr result (λ refusal. IsRefused Id.store desk.old self.old Publish refusal desk.new self.new) }
-        ensures seen { IsPrefix self.old.seen self.new.seen }
+        ensures began { IsPrefix self.old.seen self.new.seen }
     {
         desk.publish(&mut self.seat)
     }
@@ -81,7 +81,7 @@ impl<Id: StoreName> Session<Id> {
     pub fn revert(&mut self, desk: &mut Desk<Id>) -> Result<Reply, Refusal>
         ensures accepted { IfOk result (λ reply. IsAccepted Id.store desk.old self.old Revert reply desk.new self.new) }
         ensures refused { IfErr result (λ refusal. IsRefused Id.store desk.old self.old Revert refusal desk.new self.new) }
-        ensures seen { IsPrefix self.old.seen self.new.seen }
+        ensures began { IsPrefix self.old.seen self.new.seen }
     {
         desk.revert(&mut self.seat)
     }
@@ -90,7 +90,7 @@ impl<Id: StoreName> Session<Id> {
     pub fn collect(&mut self, desk: &mut Desk<Id>) -> Result<Reply, Refusal>
         ensures accepted { IfOk result (λ reply. IsAccepted Id.store desk.old self.old Collect reply desk.new self.new) }
         ensures refused { IfErr result (λ refusal. IsRefused Id.store desk.old self.old Collect refusal desk.new self.new) }
-        ensures seen { IsPrefix self.old.seen self.new.seen }
+        ensures began { IsPrefix self.old.seen self.new.seen }
     {
         desk.collect(&mut self.seat)
     }

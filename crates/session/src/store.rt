@@ -8,7 +8,7 @@ ghost use Rattle.shelf.specs.Roles.{entries};
 ghost use Rattle.std.specs.Vec.{vec_capacity};
 ghost use Rattle.shelf.specs.Open.{all_newcomers};
 ghost use Rattle.shelf.specs.Store.{readers_of};
-ghost use Rattle.session.specs.Pins.{newest_seen, all_fresh};
+ghost use Rattle.session.specs.Sessions.{IsIn, newest_seen, all_fresh};
 
 use crate::blank::Blank;
 use crate::pinned::Pinned;
@@ -26,7 +26,7 @@ use std::sync::{Mutex, MutexGuard, Wait};
 pub struct Store<Id: StoreName> {
     desk: Mutex<Desk<Id>>,
     map: Bitmap,
-    pub ghost map_is: { map ≡ Id.store.base.opening },
+    ghost map_is: { map ≡ Id.store.base.opening },
 }
 
 /// Names readers, and makes each a session.
@@ -49,7 +49,7 @@ fn sessions_of<Id: StoreName>(
 /// Gives sessions up, one after another.
 fn give_up<Id: StoreName>(closing: &mut Closing<Id>, mut sessions: Vec<Session<Id>>)
     ensures counts { closing.new ≡ record closing.old { readers = closing.old.readers + length sessions.items; made = closing.old.made + sum_by (λ s. s.made) sessions.items } }
-    ensures seen { All (λ s. IsPrefix s.seen closing.old.log) sessions.items }
+    ensures sessions { All (IsIn closing.old.log) sessions.items }
 {
     while let Some(session) = sessions.pop() {
         closing.give_up(session.into_seat());
@@ -58,7 +58,7 @@ fn give_up<Id: StoreName>(closing: &mut Closing<Id>, mut sessions: Vec<Session<I
 }
 
 impl<Id: StoreName> Store<Id> {
-    /// Opens a store, and gives its sessions, numbered from 0. Each has seen the empty log.
+    /// Opens a store, and gives its sessions, numbered from 0. Each has seen the empty log. Condition: the name is the blank's store.
     ///
     /// Refused for want of memory alone; the blank is handed back.
     pub fn open(
@@ -93,7 +93,7 @@ impl<Id: StoreName> Store<Id> {
         session: Session<Id>,
     ) -> Result<Pinned<Id>, (Session<Id>, Refusal)>
         ensures seat { IfOk result (λ pinned. pinned.seat ≡ record session { seen = pinned.seat.seen }) }
-        ensures seen { IfOk result (λ pinned. IsPrefix session.seen pinned.seat.seen) }
+        ensures began { IfOk result (λ pinned. IsPrefix session.seen pinned.seat.seen) }
         ensures version { IfOk result (λ pinned. pinned.version ≡ newest_seen Id.store pinned.seat) }
         ensures refused { IfErr result (λ back. (back.0 ≡ session) × (back.1 ≡ Memory)) }
     {
@@ -123,12 +123,12 @@ impl<Id: StoreName> Store<Id> {
         Session { seat }
     }
 
-    /// Closes the store: its log, which begins with what each session has seen.
+    /// Closes the store: its log, which begins with what each session has seen, and has as many entries by it as it counts.
     ///
-    /// Where all sessions are handed in, the commands that these count are the log's entries, each one's.
+    /// Where all sessions are handed in, their counts add up to the log's length.
     pub fn close(self, sessions: Vec<Session<Id>>) -> Vec<Signed>
         ensures legal { IsLegal Id.store.base.setting Id.store.base.opening (entries result.items) }
-        ensures seen { All (λ s. IsPrefix s.seen result.items) sessions.items }
+        ensures sessions { All (IsIn result.items) sessions.items }
         ensures made { length sessions.items ≡ readers_of Id.store → sum_by (λ s. s.made) sessions.items ≡ length result.items }
     {
         let Store { desk, map: _ } = self;

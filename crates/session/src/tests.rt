@@ -2,6 +2,7 @@
 
 ghost use Rattle.std.specs.Prelude.{◌≡◌};
 
+mod pins;
 mod threads;
 
 use crate::{Blank, Pinned, Session, Store};
@@ -14,6 +15,33 @@ use std::marker::Brand;
 use std::process::Abort;
 use std::sync::Wait;
 use std::test::Fail;
+
+/// What a command is answered.
+type Answer = Result<Reply, Refusal>;
+
+/// So many cells changed.
+fn painted(place: u32, changed: u32) -> Answer {
+    Ok(Reply::Painted { place, changed })
+}
+
+/// This version was published.
+fn published(place: u32, version: u32) -> Answer {
+    Ok(Reply::Published { place, version })
+}
+
+/// The draft is the newest version again.
+fn reverted(place: u32) -> Answer {
+    Ok(Reply::Reverted { place })
+}
+
+/// The floor rose to this version, and so many blocks came back.
+fn collected(place: u32, floor: u32, freed: u32) -> Answer {
+    Ok(Reply::Collected {
+        place,
+        floor,
+        freed,
+    })
+}
 
 /// A store on a map of this size without an obstacle.
 fn blank(alloc: Global, setting: Setting, width: u16, height: u16) -> Result<Blank, Fail> {
@@ -40,16 +68,21 @@ fn open<Id: StoreName>(alloc: Global, blank: Blank) -> Result<(Store<Id>, Vec<Se
     }
 }
 
+/// The rectangle with these corners.
+fn rect(rt: &impl Abort, corners: [u16; 4]) -> Rect {
+    let [x0, y0, x1, y1] = corners;
+    Rect::new(x0, y0, x1, y1).expect(rt, "a rectangle")
+}
+
 /// Paints the cells of a rectangle.
 fn paint<Id: StoreName, R: Wait + Abort>(
     rt: &R,
     store: &Store<Id>,
     session: &mut Session<Id>,
     corners: [u16; 4],
-) -> Result<Reply, Refusal> {
-    let [x0, y0, x1, y1] = corners;
-    let rect = Rect::new(x0, y0, x1, y1).expect(rt, "a rectangle");
-    session.paint(&mut store.lock(rt), rect, true)
+) -> Answer {
+    let area = rect(rt, corners);
+    session.paint(&mut store.lock(rt), area, true)
 }
 
 /// Pins the newest version.
@@ -114,52 +147,20 @@ fn pins_beside_publishes<Id: StoreName, R: Wait + Abort>(
 
     let a = pin(rt, alloc, &store, a);
     assert_eq!(rt; a.version(), 0);
-    assert_eq!(rt;
-        paint(rt, &store, &mut b, [0, 0, 1, 1]),
-        Ok(Reply::Painted {
-            place: 1,
-            changed: 1
-        })
-    );
-    assert_eq!(rt;
-        b.publish(&mut store.lock(rt)),
-        Ok(Reply::Published {
-            place: 2,
-            version: 1
-        })
-    );
+    assert_eq!(rt; paint(rt, &store, &mut b, [0, 0, 1, 1]), painted(1, 1));
+    assert_eq!(rt; b.publish(&mut store.lock(rt)), published(2, 1));
     assert_eq!(rt; a.at::<Euclid2>(alloc, cell), Ok(None));
     let c = pin(rt, alloc, &store, c);
     assert_eq!(rt; c.version(), 1);
     assert_eq!(rt; c.at::<Euclid2>(alloc, cell), Ok(Some(obstacle)));
 
-    assert_eq!(rt;
-        b.collect(&mut store.lock(rt)),
-        Ok(Reply::Collected {
-            place: 3,
-            floor: 0,
-            freed: 0
-        })
-    );
+    assert_eq!(rt; b.collect(&mut store.lock(rt)), collected(3, 0, 0));
     assert_eq!(rt; b.publish(&mut store.lock(rt)), Err(Refusal::VersionsFull));
     assert_eq!(rt; store.lock(rt).log().len(), 3);
 
     let a = store.unpin(rt, a);
-    assert_eq!(rt;
-        b.collect(&mut store.lock(rt)),
-        Ok(Reply::Collected {
-            place: 4,
-            floor: 1,
-            freed: 1
-        })
-    );
-    assert_eq!(rt;
-        b.publish(&mut store.lock(rt)),
-        Ok(Reply::Published {
-            place: 5,
-            version: 2
-        })
-    );
+    assert_eq!(rt; b.collect(&mut store.lock(rt)), collected(4, 1, 1));
+    assert_eq!(rt; b.publish(&mut store.lock(rt)), published(5, 2));
     assert_eq!(rt; c.at::<Euclid2>(alloc, cell), Ok(Some(obstacle)));
     let c = store.unpin(rt, c);
     assert_eq!(rt; (a.made(), b.made(), c.made()), (0, 5, 0));
@@ -168,20 +169,6 @@ fn pins_beside_publishes<Id: StoreName, R: Wait + Abort>(
     hand_back(rt, &mut sessions, c);
     assert_eq!(rt; store.close(sessions).len(), 5);
     Ok(())
-}
-
-/// What a call of a session answers, without its name: places and counts, or the refusal.
-fn told(answer: Result<Reply, Refusal>) -> Result<[u32; 3], Refusal> {
-    match answer? {
-        Reply::Painted { place, changed } => Ok([place, changed, 0]),
-        Reply::Published { place, version } => Ok([place, version, 0]),
-        Reply::Reverted { place } => Ok([place, 0, 0]),
-        Reply::Collected {
-            place,
-            floor,
-            freed,
-        } => Ok([place, floor, freed]),
-    }
 }
 
 #[test]
@@ -207,24 +194,18 @@ fn collects_between_paints<Id: StoreName, R: Wait + Abort>(
     let (store, mut sessions) = open::<Id>(alloc, blank)?;
     let mut a = next(rt, &mut sessions);
     let short = Refusal::BlocksFull { needed: 1, free: 0 };
-    assert_eq!(rt;
-        told(paint(rt, &store, &mut a, [0, 0, 1, 1])),
-        Ok([1, 1, 0])
-    );
-    assert_eq!(rt; told(a.publish(&mut store.lock(rt))), Ok([2, 1, 0]));
-    assert_eq!(rt; told(paint(rt, &store, &mut a, [1, 0, 2, 1])), Err(short));
-    assert_eq!(rt; told(a.collect(&mut store.lock(rt))), Ok([3, 1, 1]));
-    assert_eq!(rt;
-        told(paint(rt, &store, &mut a, [1, 0, 2, 1])),
-        Ok([4, 1, 0])
-    );
+    assert_eq!(rt; paint(rt, &store, &mut a, [0, 0, 1, 1]), painted(1, 1));
+    assert_eq!(rt; a.publish(&mut store.lock(rt)), published(2, 1));
+    assert_eq!(rt; paint(rt, &store, &mut a, [1, 0, 2, 1]), Err(short));
+    assert_eq!(rt; a.collect(&mut store.lock(rt)), collected(3, 1, 1));
+    assert_eq!(rt; paint(rt, &store, &mut a, [1, 0, 2, 1]), painted(4, 1));
     hand_back(rt, &mut sessions, a);
     assert_eq!(rt; store.close(sessions).len(), 4);
     Ok(())
 }
 
 #[test]
-fn a_full_log_leaves_the_draft(rt: HostRuntime) -> Result<(), Fail> {
+fn a_full_log_refuses_all(rt: HostRuntime) -> Result<(), Fail> {
     let setting = Setting {
         blocks: 3,
         versions: 2,
@@ -246,16 +227,13 @@ fn fills_the_log<Id: StoreName, R: Wait + Abort>(
     let (store, mut sessions) = open::<Id>(alloc, blank)?;
     let b = next(rt, &mut sessions);
     let mut a = next(rt, &mut sessions);
+    assert_eq!(rt; paint(rt, &store, &mut a, [0, 0, 1, 1]), painted(1, 1));
+    assert_eq!(rt; a.publish(&mut store.lock(rt)), published(2, 1));
     assert_eq!(rt;
-        told(paint(rt, &store, &mut a, [0, 0, 1, 1])),
-        Ok([1, 1, 0])
-    );
-    assert_eq!(rt; told(a.publish(&mut store.lock(rt))), Ok([2, 1, 0]));
-    assert_eq!(rt;
-        told(paint(rt, &store, &mut a, [1, 0, 2, 1])),
+        paint(rt, &store, &mut a, [1, 0, 2, 1]),
         Err(Refusal::LogFull)
     );
-    assert_eq!(rt; told(a.revert(&mut store.lock(rt))), Err(Refusal::LogFull));
+    assert_eq!(rt; a.revert(&mut store.lock(rt)), Err(Refusal::LogFull));
     let b = pin(rt, alloc, &store, b);
     assert_eq!(rt; b.version(), 1);
     let b = store.unpin(rt, b);
@@ -289,23 +267,46 @@ fn paints_two_positions<Id: StoreName, R: Wait + Abort>(
     let mut a = next(rt, &mut sessions);
     let two = Refusal::BlocksFull { needed: 2, free: 1 };
     let one = Refusal::BlocksFull { needed: 1, free: 0 };
-    assert_eq!(rt; told(paint(rt, &store, &mut a, [0, 0, 128, 1])), Err(two));
-    assert_eq!(rt;
-        told(paint(rt, &store, &mut a, [0, 0, 1, 1])),
-        Ok([1, 1, 0])
-    );
-    assert_eq!(rt;
-        told(paint(rt, &store, &mut a, [0, 0, 2, 1])),
-        Ok([2, 1, 0])
-    );
-    assert_eq!(rt; told(paint(rt, &store, &mut a, [64, 0, 65, 1])), Err(one));
-    assert_eq!(rt; told(a.revert(&mut store.lock(rt))), Ok([3, 0, 0]));
-    assert_eq!(rt;
-        told(paint(rt, &store, &mut a, [64, 0, 65, 1])),
-        Ok([4, 1, 0])
-    );
+    assert_eq!(rt; paint(rt, &store, &mut a, [0, 0, 128, 1]), Err(two));
+    assert_eq!(rt; paint(rt, &store, &mut a, [0, 0, 1, 1]), painted(1, 1));
+    assert_eq!(rt; paint(rt, &store, &mut a, [0, 0, 2, 1]), painted(2, 1));
+    assert_eq!(rt; paint(rt, &store, &mut a, [64, 0, 65, 1]), Err(one));
+    assert_eq!(rt; a.revert(&mut store.lock(rt)), reverted(3));
+    assert_eq!(rt; paint(rt, &store, &mut a, [64, 0, 65, 1]), painted(4, 1));
     hand_back(rt, &mut sessions, a);
     assert_eq!(rt; store.close(sessions).len(), 4);
+    Ok(())
+}
+
+#[test]
+fn clearing_free_cells_takes_no_block(rt: HostRuntime) -> Result<(), Fail> {
+    let setting = Setting {
+        blocks: 1,
+        versions: 2,
+        sessions: 1,
+        log: 10,
+    };
+    let blank = blank(rt.alloc(), setting, 64, 64)?;
+    clears_without_a_block::<Brand, _>(&rt, rt.alloc(), blank)
+}
+
+/// A map whose only block is version 0's.
+fn clears_without_a_block<Id: StoreName, R: Wait + Abort>(
+    rt: &R,
+    alloc: Global,
+    blank: Blank,
+) -> Result<(), Fail>
+    requires { blank ≡ Id.store }
+{
+    let (store, mut sessions) = open::<Id>(alloc, blank)?;
+    let mut a = next(rt, &mut sessions);
+    let all = rect(rt, [0, 0, 64, 64]);
+    assert_eq!(rt; a.paint(&mut store.lock(rt), all, false), painted(1, 0));
+    let beside = paint(rt, &store, &mut a, [63, 63, 65, 64]);
+    assert_eq!(rt; beside, Err(Refusal::OutOfRange));
+    assert!(rt; Rect::new(0, 0, 0, 5).is_none());
+    hand_back(rt, &mut sessions, a);
+    assert_eq!(rt; store.close(sessions).len(), 1);
     Ok(())
 }
 

@@ -30,6 +30,10 @@ fits-behind k x f =
       whole = λ other. let none_left = none_unmet x.number k.unmet other in (omega arith, omega arith);
     }
 
+-- a seat has one role
+two_roles : (x : ReaderView) (k : KeeperView) (y : ReaderView) → some (reading x) ≡ some (meeting k y) → ⊥
+two_roles x k y same = cc
+
 -- the words and the seats have the keeper's log
 pub one_log : (z : Base) (s : State Signed Role) → Agrees z s → HasOneLog z s
 one_log z s r =
@@ -49,4 +53,8 @@ one_log z s r =
           let told = r.each_seat j (meeting k x) at in
           (ap (λ (l : KeeperView). l.log) told.1, ap (λ (l : KeeperView). l.unmet) told.1, fits-behind r.k x told.3);
       apart = λ i j x y at_i at_j same. sym (knows i x at_i).0 ∙ (ap r.owner same ∙ (knows j y at_j).0);
+      apart_together = λ i j x y k at_i at_j same.
+          let here : i ≡ j = sym (knows i x at_i).0 ∙ (ap r.owner same ∙ (r.each_seat j (meeting k y) at_j).2) in
+          two_roles x k y (sym at_i ∙ (ap (λ (n : ℕ). get_elem? s.views n) here ∙ at_j));
+      one_keeper = λ i j k l at_i at_j. (r.each_seat i (keeping k) at_i).0 ∙ sym (r.each_seat j (keeping l) at_j).0;
     }

@@ -37,3 +37,6 @@ pub record HasOneLog (z : Base) (s : State Signed Role) : Type 0 where
   pub reader : (j : ℕ) (x : ReaderView) → get_elem? s.views j ≡ maybe.some (reading x) → IsBehind log unmet x
   pub together : (j : ℕ) (k : KeeperView) (x : ReaderView) → get_elem? s.views j ≡ maybe.some (meeting k x) → (k.log ≡ log) × (k.unmet ≡ unmet) × IsBehind log unmet x
   pub apart : (i j : ℕ) (x y : ReaderView) → get_elem? s.views i ≡ maybe.some (reading x) → get_elem? s.views j ≡ maybe.some (reading y) → x.number ≡ y.number → i ≡ j
+  pub apart_together : (i j : ℕ) (x y : ReaderView) (k : KeeperView) → get_elem? s.views i ≡ maybe.some (reading x) → get_elem? s.views j ≡ maybe.some (meeting k y) → x.number ≢ y.number
+  -- one seat at most is the keeper's
+  pub one_keeper : (i j : ℕ) (k l : KeeperView) → get_elem? s.views i ≡ maybe.some (keeping k) → get_elem? s.views j ≡ maybe.some (keeping l) → i ≡ j

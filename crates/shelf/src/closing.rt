@@ -3,7 +3,7 @@
 ghost use Rattle.std.specs.Prelude.{◌≡◌, ◌+◌, [], length};
 ghost use mathlib.Core.List.{IsPrefix};
 ghost use Rattle.map_core.specs.Legal.{IsLegal};
-ghost use Rattle.shelf.specs.Roles.{keeping, resting, keeper_in, reader_on, entries};
+ghost use Rattle.shelf.specs.Roles.{keeping, resting, keeper_in, reader_on, entries, made_by};
 ghost use Rattle.shelf.specs.Seats.{base_of, AreAt, AreKeeperAndReader};
 ghost use Rattle.shelf.specs.Store.{readers_of};
 ghost use Rattle.shelf.specs.Steps.{without, Meets};
@@ -83,6 +83,7 @@ impl<Id: StoreName> Closing<Id> {
     pub fn give_up(&mut self, reader: ReaderSeat<Id>)
         ensures counts { self.new ≡ record self.old { readers = self.old.readers + 1; made = self.old.made + reader.made } }
         ensures began { IsPrefix reader.seen self.old.log }
+        ensures own { made_by reader.number self.old.log ≡ reader.made }
     {
         let ReaderSeat {
             seat,
@@ -94,7 +95,7 @@ impl<Id: StoreName> Closing<Id> {
         give_up_on::<Id>(&self.words, &mut self.seat, seat);
     }
 
-    /// Ends the keeper's seat. Where all readers were given up, the entries that they made are those of the log, which is legal.
+    /// Ends the keeper's seat. The log is legal; where all readers were given up, what they count adds up to its length.
     pub fn end(self)
         ensures legal { IsLegal Id.store.base.setting Id.store.base.opening (entries self.log) }
         ensures made { self.readers ≡ readers_of Id.store → self.made ≡ length self.log }

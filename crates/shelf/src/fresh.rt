@@ -33,7 +33,7 @@ impl Model for FreshKeeper {
 }
 
 impl FreshKeeper {
-    /// The keeper's seat of the store with this name.
+    /// The keeper's seat of the store with this name. Condition: the name is its store's.
     pub fn named<Id: StoreName>(self) -> KeeperSeat<Id>
         requires { self ≡ Id.store }
         ensures { result ≡ resting (readers_of Id.store) [] }
@@ -72,7 +72,7 @@ impl Model for FreshReader {
 }
 
 impl FreshReader {
-    /// The reader's seat of the store with this name.
+    /// The reader's seat of the store with this name. Condition: the name is its store's.
     pub fn named<Id: StoreName>(self) -> ReaderSeat<Id>
         requires { self.store ≡ Id.store }
         ensures { result ≡ fresh_reader self.number }

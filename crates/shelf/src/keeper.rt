@@ -44,7 +44,7 @@ impl<Id: StoreName> Model for KeeperSeat<Id> {
 }
 
 impl<Id: StoreName> KeeperSeat<Id> {
-    /// Takes an entry in hand: the command that is next, with its reply and its caller. NOW stays.
+    /// Takes an entry in hand: the command that is next, with its reply and its caller. NOW stays. Condition: none is in hand.
     pub fn order(&mut self, signed: &Signed)
         requires { self.old.hand ≡ None }
         ensures { self.new ≡ ordered self.old signed.now }
@@ -61,6 +61,9 @@ impl<Id: StoreName> KeeperSeat<Id> {
     }
 
     /// Stores NOW. The log is then longer by the entry in hand.
+    ///
+    /// Conditions: an entry is in hand, which is an answer to its command after the log and is by one of the store's readers, and the
+    /// reader of the last commit has met the keeper.
     pub fn commit(&mut self)
         requires { MayCommit Id.store.base self.old }
         ensures committed { (e : Signed) → self.old.hand ≡ Some e → self.new ≡ committed self.old e }

@@ -45,6 +45,8 @@ fn meet_on<Id: StoreName>(words: &Words, keeper: &mut TableSeat, reader: Badge<V
 
 /// The reader sees the keeper's whole log. After a commit of an entry by this reader it counts that entry.
 ///
+/// Condition: no entry by another reader was committed since that reader met the keeper.
+///
 /// It loads NOW three times, since two seats in hand know nothing of each other: a join and a cut of views tell nothing.
 pub fn meet<Id: StoreName>(keeper: &mut KeeperSeat<Id>, reader: &mut ReaderSeat<Id>)
     requires { (keeper.old.unmet ≡ None) ⊎ (keeper.old.unmet ≡ Some reader.old.number) }

@@ -66,7 +66,8 @@ impl<Id: StoreName> Desk<Id> {
         Ok(reply)
     }
 
-    /// Gives the cells of a rectangle of the draft one value: `Reply::Painted`.
+    /// Gives the cells of a rectangle of the draft one value: `Reply::Painted`, with the command's place in the log, from 1, and how many
+    /// cells became another.
     ///
     /// Refused, in this order, where the rectangle isn't in the map (`OutOfRange`), for want of room in the log (`LogFull`), of blocks
     /// (`BlocksFull`) and of memory. Refused or not, the seat has then seen the whole log.
@@ -128,7 +129,7 @@ impl<Id: StoreName> Desk<Id> {
 
     /// Makes the draft the newest version: `Reply::Reverted`.
     ///
-    /// Refused for want of room in the log (`LogFull`), and of memory.
+    /// Refused, in this order, for want of room in the log (`LogFull`) and of memory.
     pub fn revert(&mut self, seat: &mut ReaderSeat<Id>) -> Result<Reply, Refusal>
         ensures accepted { IfOk result (λ reply. IsAccepted Id.store self.old seat.old Revert reply self.new seat.new) }
         ensures refused { IfErr result (λ refusal. IsRefused Id.store self.old seat.old Revert refusal self.new seat.new) }
@@ -141,9 +142,10 @@ impl<Id: StoreName> Desk<Id> {
         }
     }
 
-    /// Raises the floor, the least version that is kept, to the least of newest and the pinned versions: `Reply::Collected`.
+    /// Raises the floor, the least version that is kept, to the least of newest and the pinned versions: `Reply::Collected`, with the floor
+    /// and how many blocks came back.
     ///
-    /// Refused for want of room in the log (`LogFull`), and of memory.
+    /// Refused, in this order, for want of room in the log (`LogFull`) and of memory.
     pub fn collect(&mut self, seat: &mut ReaderSeat<Id>) -> Result<Reply, Refusal>
         ensures accepted { IfOk result (λ reply. IsAccepted Id.store self.old seat.old Collect reply self.new seat.new) }
         ensures refused { IfErr result (λ refusal. IsRefused Id.store self.old seat.old Collect refusal self.new seat.new) }

@@ -38,6 +38,8 @@ impl Model for FreshDesk {
 
 impl FreshDesk {
     /// A desk with an empty log on this bitmap. All room but that of the log is taken here. Refused for want of memory alone.
+    ///
+    /// Conditions: the setting is within its limits for the map, and the keeper's store was opened with both.
     pub fn of(
         alloc: Global,
         setting: Setting,
@@ -60,7 +62,7 @@ impl FreshDesk {
         })
     }
 
-    /// The desk of the store with this name.
+    /// The desk of the store with this name. Condition: the name is its store's.
     pub fn named<Id: StoreName>(self) -> Desk<Id>
         requires { self ≡ Id.store }
         ensures { result ≡ record { log = []; pins = replicate (readers_of Id.store) None } }

@@ -10,9 +10,10 @@ use bits::Bitmap;
 use shelf::{ReaderSeat, StoreName, meet};
 
 impl<Id: StoreName> Desk<Id> {
-    /// Pins the newest version for the seat's session, makes the bitmap its bitmap, and answers its number. The seat has then seen the whole log.
+    /// Pins the newest version for the seat's session, copies that version into the bitmap, and answers the version's number. The seat
+    /// has then seen the whole log.
     ///
-    /// The bitmap has the map's size. It takes no memory.
+    /// Condition: the bitmap has the map's size. The call takes no memory.
     pub fn hold(&mut self, seat: &mut ReaderSeat<Id>, bitmap: &mut Bitmap) -> u32
         requires width { bitmap.old.width ≡ Id.store.base.opening.width }
         requires height { bitmap.old.height ≡ Id.store.base.opening.height }

@@ -18,7 +18,7 @@ impl<Id: StoreName> Pinned<Id> {
         ensures accepted { IfOk result (λ reply. IsAccepted Id.store desk.old self.old.seat (Paint rect black) reply desk.new self.new.seat) }
         ensures refused { IfErr result (λ refusal. IsRefused Id.store desk.old self.old.seat (Paint rect black) refusal desk.new self.new.seat) }
         ensures version { self.new.version ≡ self.old.version }
-        ensures seen { IsPrefix self.old.seat.seen self.new.seat.seen }
+        ensures began { IsPrefix self.old.seat.seen self.new.seat.seen }
     {
         desk.paint(&mut self.seat, rect, black)
     }
@@ -34,7 +34,7 @@ impl<Id: StoreName> Pinned<Id> {
         ensures accepted { IfOk result (λ reply. IsAccepted Id.store desk.old self.old.seat (Stamp x y bitmap) reply desk.new self.new.seat) }
         ensures refused { IfErr result (λ back. (back.0 ≡ bitmap) × IsRefused Id.store desk.old self.old.seat (Stamp x y bitmap) back.1 desk.new self.new.seat) }
         ensures version { self.new.version ≡ self.old.version }
-        ensures seen { IsPrefix self.old.seat.seen self.new.seat.seen }
+        ensures began { IsPrefix self.old.seat.seen self.new.seat.seen }
     {
         desk.stamp(&mut self.seat, x, y, bitmap)
     }
@@ -44,7 +44,7 @@ impl<Id: StoreName> Pinned<Id> {
         ensures accepted { IfOk result (λ reply. IsAccepted Id.store desk.old self.old.seat Publish reply desk.new self.new.seat) }
         ensures refused { IfErr result (λ refusal. IsRefused Id.store desk.old self.old.seat Publish refusal desk.new self.new.seat) }
         ensures version { self.new.version ≡ self.old.version }
-        ensures seen { IsPrefix self.old.seat.seen self.new.seat.seen }
+        ensures began { IsPrefix self.old.seat.seen self.new.seat.seen }
     {
         desk.publish(&mut self.seat)
     }
@@ -54,7 +54,7 @@ impl<Id: StoreName> Pinned<Id> {
         ensures accepted { IfOk result (λ reply. IsAccepted Id.store desk.old self.old.seat Revert reply desk.new self.new.seat) }
         ensures refused { IfErr result (λ refusal. IsRefused Id.store desk.old self.old.seat Revert refusal desk.new self.new.seat) }
         ensures version { self.new.version ≡ self.old.version }
-        ensures seen { IsPrefix self.old.seat.seen self.new.seat.seen }
+        ensures began { IsPrefix self.old.seat.seen self.new.seat.seen }
     {
         desk.revert(&mut self.seat)
     }
@@ -64,7 +64,7 @@ impl<Id: StoreName> Pinned<Id> {
         ensures accepted { IfOk result (λ reply. IsAccepted Id.store desk.old self.old.seat Collect reply desk.new self.new.seat) }
         ensures refused { IfErr result (λ refusal. IsRefused Id.store desk.old self.old.seat Collect refusal desk.new self.new.seat) }
         ensures version { self.new.version ≡ self.old.version }
-        ensures seen { IsPrefix self.old.seat.seen self.new.seat.seen }
+        ensures began { IsPrefix self.old.seat.seen self.new.seat.seen }
     {
         desk.collect(&mut self.seat)
     }

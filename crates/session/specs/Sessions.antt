@@ -1,9 +1,11 @@
--- What contracts see of a pin: this project's own rule.
+-- What contracts see of pins and of sessions: this project's own rule.
 use Rattle.std.specs.Prelude.{◌≡◌, ◌≤◌, ℕ, List, map}
+use mathlib.Core.List.{IsPrefix}
 use Rattle.std.specs.List.{range_with_len}
 use Rattle.bits.specs.Cells.{Cells}
 use Rattle.map_core.specs.Story.{newest, bitmap_of}
-use Rattle.shelf.specs.Roles.{ReaderView, fresh_reader}
+use Rattle.shelf.specs.declared.signed.Signed.{Signed}
+use Rattle.shelf.specs.Roles.{ReaderView, fresh_reader, made_by}
 use Rattle.shelf.specs.Store.{StoreId, readers_of}
 use Rattle.desk.specs.Desks.{story_told}
 
@@ -28,3 +30,7 @@ pub record IsPin (store : StoreId) (p : PinView) (bitmap : Cells) : Type 0 where
 -- the sessions of a store that was just opened, by number
 abbrev pub all_fresh : StoreId → List ReaderView
 all_fresh store = map fresh_reader (range_with_len 0 (readers_of store))
+
+-- a log begins with what a session has seen, and has as many entries by it as it counts
+abbrev pub IsIn : List Signed → ReaderView → Type 0
+IsIn log s = IsPrefix s.seen log × (made_by s.number log ≡ s.made)
