@@ -44,7 +44,7 @@ impl<Id: StoreName> Session<Id> {
         self.seat.made()
     }
 
-    /// Gives the cells of a rectangle of the draft one value, as `Desk::paint` does with this session's seat.
+    /// Gives the cells of a rectangle of the draft one value, as `Desk::paint` does with its seat.
     pub fn paint(&mut self, desk: &mut Desk<Id>, rect: Rect, black: bool) -> Result<Reply, Refusal>
         ensures accepted { IfOk result (λ reply. IsAccepted Id.store desk.old self.old (Paint rect black) reply desk.new self.new) }
         ensures refused { IfErr result (λ refusal. IsRefused Id.store desk.old self.old (Paint rect black) refusal desk.new self.new) }
@@ -53,7 +53,7 @@ impl<Id: StoreName> Session<Id> {
         desk.paint(&mut self.seat, rect, black)
     }
 
-    /// Stamps a bitmap on the draft, as `Desk::stamp` does with this session's seat.
+    /// Stamps a bitmap on the draft, as `Desk::stamp` does with its seat.
     pub fn stamp(
         &mut self,
         desk: &mut Desk<Id>,
@@ -68,7 +68,7 @@ impl<Id: StoreName> Session<Id> {
         desk.stamp(&mut self.seat, x, y, bitmap)
     }
 
-    /// Appends the draft as the next version, as `Desk::publish` does with this session's seat.
+    /// Appends the draft as the next version, as `Desk::publish` does with its seat.
     pub fn publish(&mut self, desk: &mut Desk<Id>) -> Result<Reply, Refusal>
         ensures accepted { IfOk result (λ reply. IsAccepted Id.store desk.old self.old Publish reply desk.new self.new) }
         ensures refused { IfErr result (λ refusal. IsRefused Id.store desk.old self.old Publish refusal desk.new self.new) }
@@ -77,7 +77,7 @@ impl<Id: StoreName> Session<Id> {
         desk.publish(&mut self.seat)
     }
 
-    /// Makes the draft the newest version, as `Desk::revert` does with this session's seat.
+    /// Makes the draft the newest version, as `Desk::revert` does with its seat.
     pub fn revert(&mut self, desk: &mut Desk<Id>) -> Result<Reply, Refusal>
         ensures accepted { IfOk result (λ reply. IsAccepted Id.store desk.old self.old Revert reply desk.new self.new) }
         ensures refused { IfErr result (λ refusal. IsRefused Id.store desk.old self.old Revert refusal desk.new self.new) }
@@ -86,7 +86,7 @@ impl<Id: StoreName> Session<Id> {
         desk.revert(&mut self.seat)
     }
 
-    /// Raises the floor, as `Desk::collect` does with this session's seat.
+    /// Raises the floor, as `Desk::collect` does with its seat.
     pub fn collect(&mut self, desk: &mut Desk<Id>) -> Result<Reply, Refusal>
         ensures accepted { IfOk result (λ reply. IsAccepted Id.store desk.old self.old Collect reply desk.new self.new) }
         ensures refused { IfErr result (λ refusal. IsRefused Id.store desk.old self.old Collect refusal desk.new self.new) }

@@ -13,7 +13,7 @@ use metric::{Rect, Refusal};
 use shelf::StoreName;
 
 impl<Id: StoreName> Pinned<Id> {
-    /// Gives the cells of a rectangle of the draft one value, as `Desk::paint` does with this session's seat.
+    /// Gives the cells of a rectangle of the draft one value, as `Desk::paint` does with the pin's seat.
     pub fn paint(&mut self, desk: &mut Desk<Id>, rect: Rect, black: bool) -> Result<Reply, Refusal>
         ensures accepted { IfOk result (λ reply. IsAccepted Id.store desk.old self.old.seat (Paint rect black) reply desk.new self.new.seat) }
         ensures refused { IfErr result (λ refusal. IsRefused Id.store desk.old self.old.seat (Paint rect black) refusal desk.new self.new.seat) }
@@ -23,7 +23,7 @@ impl<Id: StoreName> Pinned<Id> {
         desk.paint(&mut self.seat, rect, black)
     }
 
-    /// Stamps a bitmap on the draft, as `Desk::stamp` does with this session's seat.
+    /// Stamps a bitmap on the draft, as `Desk::stamp` does with the pin's seat.
     pub fn stamp(
         &mut self,
         desk: &mut Desk<Id>,
@@ -39,7 +39,7 @@ impl<Id: StoreName> Pinned<Id> {
         desk.stamp(&mut self.seat, x, y, bitmap)
     }
 
-    /// Appends the draft as the next version, as `Desk::publish` does with this session's seat.
+    /// Appends the draft as the next version, as `Desk::publish` does with the pin's seat.
     pub fn publish(&mut self, desk: &mut Desk<Id>) -> Result<Reply, Refusal>
         ensures accepted { IfOk result (λ reply. IsAccepted Id.store desk.old self.old.seat Publish reply desk.new self.new.seat) }
         ensures refused { IfErr result (λ refusal. IsRefused Id.store desk.old self.old.seat Publish refusal desk.new self.new.seat) }
@@ -49,7 +49,7 @@ impl<Id: StoreName> Pinned<Id> {
         desk.publish(&mut self.seat)
     }
 
-    /// Makes the draft the newest version, as `Desk::revert` does with this session's seat.
+    /// Makes the draft the newest version, as `Desk::revert` does with the pin's seat.
     pub fn revert(&mut self, desk: &mut Desk<Id>) -> Result<Reply, Refusal>
         ensures accepted { IfOk result (λ reply. IsAccepted Id.store desk.old self.old.seat Revert reply desk.new self.new.seat) }
         ensures refused { IfErr result (λ refusal. IsRefused Id.store desk.old self.old.seat Revert refusal desk.new self.new.seat) }
@@ -59,7 +59,7 @@ impl<Id: StoreName> Pinned<Id> {
         desk.revert(&mut self.seat)
     }
 
-    /// Raises the floor, as `Desk::collect` does with this session's seat.
+    /// Raises the floor, as `Desk::collect` does with the pin's seat.
     pub fn collect(&mut self, desk: &mut Desk<Id>) -> Result<Reply, Refusal>
         ensures accepted { IfOk result (λ reply. IsAccepted Id.store desk.old self.old.seat Collect reply desk.new self.new.seat) }
         ensures refused { IfErr result (λ refusal. IsRefused Id.store desk.old self.old.seat Collect refusal desk.new self.new.seat) }
