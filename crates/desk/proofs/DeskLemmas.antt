@@ -36,6 +36,14 @@ why_is z d k contents c refusal desk (inr judged) = inr (sym (judged.0 z.base (e
 met_at_rest : (log : List Signed) (readers : ℕ) (x : ReaderView) → met_by (resting readers log) x ≡ record x { seen = log }
 met_at_rest log readers x = ap (λ (n : ℕ). record x { seen = log; made = n }) (add-zero x.made)
 
+-- a desk whose keeper has met a reader is as before
+pub desk_met : (z : StoreId) (d : DeskView) (k after : KeeperView) (contents : Contents) → IsDesk z d k contents → after ≡ met k → IsDesk z d after contents
+desk_met z d k after contents desk is = record { keeper_is = is ∙ ap met desk.keeper_is; told = desk.told; pin_each = desk.pin_each; pinned = desk.pinned }
+
+-- a reader that has met the keeper of a desk has seen its log
+pub reader_met : (z : StoreId) (d : DeskView) (k : KeeperView) (contents : Contents) (x y : ReaderView) → IsDesk z d k contents → y ≡ met_by k x → y ≡ record x { seen = d.log }
+reader_met z d k contents x y desk is = is ∙ (ap (λ (u : KeeperView). met_by u x) desk.keeper_is ∙ met_at_rest d.log (readers_of z) x)
+
 -- after a refusal
 pub refused_is : (z : StoreId) (d new : DeskView) (k : KeeperView) (contents : Contents) (x y : ReaderView) (c : Command) (refusal : Refusal) → IsDesk z d k contents
     → Judges contents c (Some refusal) ⊎ (Judges contents c None × (refusal ≡ Memory)) → new ≡ d → y ≡ met_by k x → IsRefused z d x c refusal new y

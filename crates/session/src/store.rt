@@ -95,6 +95,7 @@ impl<Id: StoreName> Store<Id> {
         ensures seat { IfOk result (λ pinned. pinned.seat ≡ record session { seen = pinned.seat.seen }) }
         ensures began { IfOk result (λ pinned. IsPrefix session.seen pinned.seat.seen) }
         ensures version { IfOk result (λ pinned. pinned.version ≡ newest_seen Id.store pinned.seat) }
+        ensures legal { IfOk result (λ pinned. IsLegal Id.store.base.setting Id.store.base.opening (entries pinned.seat.seen)) }
         ensures refused { IfErr result (λ back. (back.0 ≡ session) × (back.1 ≡ Memory)) }
     {
         let mut bitmap = match self.map.try_copy(alloc) {

@@ -1,4 +1,4 @@
-//! The commands of a desk. Each lends a session's seat, which has seen the whole log at its end.
+//! The commands of a desk. Each lends a session's seat, which has seen a beginning of the log before its command's place, and the whole log at its end.
 
 ghost use Rattle.std.specs.Prelude.{◌≡◌, ◌<◌, ◌⊎◌, ℕ, List, length, Some, None, IfOk, IfErr, IfNone, IfSome};
 ghost use Rattle.std.specs.Vec.{vec_capacity};
@@ -6,6 +6,8 @@ ghost use mathlib.Core.List.{IsPrefix};
 ghost use Rattle.metric.specs.declared.refusal.Refusal.TheVariants.{Memory};
 ghost use Rattle.map_core.specs.declared.command.Command.TheVariants.{Paint, Stamp, Publish, Revert, Collect};
 ghost use Rattle.desk.specs.Contents.{IsJudged, Judges};
+ghost use Rattle.map_core.specs.Legal.{IsLegal};
+ghost use Rattle.shelf.specs.Roles.{entries};
 ghost use Rattle.desk.specs.Desks.{IsAccepted, IsRefused};
 
 use crate::desk::Desk;
@@ -43,10 +45,12 @@ impl<Id: StoreName> Desk<Id> {
         ensures accepted { IfOk result (λ reply. IsAccepted Id.store self.old seat.old command reply self.new seat.new) }
         ensures refused { IfErr result (λ back. (back.0 ≡ command) × IsRefused Id.store self.old seat.old command back.1 self.new seat.new) }
         ensures seen { seat.new.seen ≡ self.new.log }
-        ensures began { IsPrefix seat.old.seen seat.new.seen }
+        ensures began { IsPrefix seat.old.seen self.old.log }
+        ensures grows { IsPrefix seat.old.seen seat.new.seen }
+        ensures legal { IsLegal Id.store.base.setting Id.store.base.opening (entries self.new.log) }
     {
+        meet(&mut self.keeper, seat);
         if let Some(refusal) = refusal_of(&mut self.sheets, &mut self.log, &command) {
-            meet(&mut self.keeper, seat);
             return Err((command, refusal));
         }
         let floor = floor_after(
@@ -80,7 +84,9 @@ impl<Id: StoreName> Desk<Id> {
         ensures accepted { IfOk result (λ reply. IsAccepted Id.store self.old seat.old (Paint rect black) reply self.new seat.new) }
         ensures refused { IfErr result (λ refusal. IsRefused Id.store self.old seat.old (Paint rect black) refusal self.new seat.new) }
         ensures seen { seat.new.seen ≡ self.new.log }
-        ensures began { IsPrefix seat.old.seen seat.new.seen }
+        ensures began { IsPrefix seat.old.seen self.old.log }
+        ensures grows { IsPrefix seat.old.seen seat.new.seen }
+        ensures legal { IsLegal Id.store.base.setting Id.store.base.opening (entries self.new.log) }
     {
         match self.run(seat, Command::Paint { rect, black }) {
             Ok(reply) => Ok(reply),
@@ -101,7 +107,9 @@ impl<Id: StoreName> Desk<Id> {
         ensures accepted { IfOk result (λ reply. IsAccepted Id.store self.old seat.old (Stamp x y bitmap) reply self.new seat.new) }
         ensures refused { IfErr result (λ back. (back.0 ≡ bitmap) × IsRefused Id.store self.old seat.old (Stamp x y bitmap) back.1 self.new seat.new) }
         ensures seen { seat.new.seen ≡ self.new.log }
-        ensures began { IsPrefix seat.old.seen seat.new.seen }
+        ensures began { IsPrefix seat.old.seen self.old.log }
+        ensures grows { IsPrefix seat.old.seen seat.new.seen }
+        ensures legal { IsLegal Id.store.base.setting Id.store.base.opening (entries self.new.log) }
     {
         match self.run(seat, Command::Stamp { x, y, bitmap }) {
             Ok(reply) => Ok(reply),
@@ -119,7 +127,9 @@ impl<Id: StoreName> Desk<Id> {
         ensures accepted { IfOk result (λ reply. IsAccepted Id.store self.old seat.old Publish reply self.new seat.new) }
         ensures refused { IfErr result (λ refusal. IsRefused Id.store self.old seat.old Publish refusal self.new seat.new) }
         ensures seen { seat.new.seen ≡ self.new.log }
-        ensures began { IsPrefix seat.old.seen seat.new.seen }
+        ensures began { IsPrefix seat.old.seen self.old.log }
+        ensures grows { IsPrefix seat.old.seen seat.new.seen }
+        ensures legal { IsLegal Id.store.base.setting Id.store.base.opening (entries self.new.log) }
     {
         match self.run(seat, Command::Publish) {
             Ok(reply) => Ok(reply),
@@ -134,7 +144,9 @@ impl<Id: StoreName> Desk<Id> {
         ensures accepted { IfOk result (λ reply. IsAccepted Id.store self.old seat.old Revert reply self.new seat.new) }
         ensures refused { IfErr result (λ refusal. IsRefused Id.store self.old seat.old Revert refusal self.new seat.new) }
         ensures seen { seat.new.seen ≡ self.new.log }
-        ensures began { IsPrefix seat.old.seen seat.new.seen }
+        ensures began { IsPrefix seat.old.seen self.old.log }
+        ensures grows { IsPrefix seat.old.seen seat.new.seen }
+        ensures legal { IsLegal Id.store.base.setting Id.store.base.opening (entries self.new.log) }
     {
         match self.run(seat, Command::Revert) {
             Ok(reply) => Ok(reply),
@@ -150,7 +162,9 @@ impl<Id: StoreName> Desk<Id> {
         ensures accepted { IfOk result (λ reply. IsAccepted Id.store self.old seat.old Collect reply self.new seat.new) }
         ensures refused { IfErr result (λ refusal. IsRefused Id.store self.old seat.old Collect refusal self.new seat.new) }
         ensures seen { seat.new.seen ≡ self.new.log }
-        ensures began { IsPrefix seat.old.seen seat.new.seen }
+        ensures began { IsPrefix seat.old.seen self.old.log }
+        ensures grows { IsPrefix seat.old.seen seat.new.seen }
+        ensures legal { IsLegal Id.store.base.setting Id.store.base.opening (entries self.new.log) }
     {
         match self.run(seat, Command::Collect) {
             Ok(reply) => Ok(reply),
@@ -160,7 +174,8 @@ impl<Id: StoreName> Desk<Id> {
 
     /// The log: each command that was accepted, with its reply and its session.
     pub fn log(&self) -> &[Signed]
-        ensures { result.now ≡ self.now.log }
+        ensures all { result.now ≡ self.now.log }
+        ensures legal { IsLegal Id.store.base.setting Id.store.base.opening (entries result.now) }
     {
         self.log.as_slice()
     }

@@ -3,6 +3,8 @@
 ghost use Rattle.std.specs.Prelude.{◌≡◌, slice_set, Some, None};
 ghost use mathlib.Core.List.{IsPrefix};
 ghost use Rattle.map_core.specs.Story.{newest, bitmap_of};
+ghost use Rattle.map_core.specs.Legal.{IsLegal};
+ghost use Rattle.shelf.specs.Roles.{entries};
 ghost use Rattle.desk.specs.Desks.{story_told};
 
 use crate::desk::Desk;
@@ -21,7 +23,8 @@ impl<Id: StoreName> Desk<Id> {
         ensures bitmap { bitmap.new ≡ bitmap_of (story_told Id.store self.old.log) result }
         ensures desk { self.new ≡ record self.old { pins = slice_set self.old.pins seat.old.number (Some result) } }
         ensures seat { seat.new ≡ record seat.old { seen = self.old.log } }
-        ensures began { IsPrefix seat.old.seen seat.new.seen }
+        ensures began { IsPrefix seat.old.seen self.old.log }
+        ensures legal { IsLegal Id.store.base.setting Id.store.base.opening (entries self.new.log) }
     {
         meet(&mut self.keeper, seat);
         let version = self.sheets.newest();

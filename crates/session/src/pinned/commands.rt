@@ -3,6 +3,8 @@
 ghost use Rattle.std.specs.Prelude.{◌≡◌, IfOk, IfErr};
 ghost use mathlib.Core.List.{IsPrefix};
 ghost use Rattle.map_core.specs.declared.command.Command.TheVariants.{Paint, Stamp, Publish, Revert, Collect};
+ghost use Rattle.map_core.specs.Legal.{IsLegal};
+ghost use Rattle.shelf.specs.Roles.{entries};
 ghost use Rattle.desk.specs.Desks.{IsAccepted, IsRefused};
 
 use crate::pinned::Pinned;
@@ -18,7 +20,9 @@ impl<Id: StoreName> Pinned<Id> {
         ensures accepted { IfOk result (λ reply. IsAccepted Id.store desk.old self.old.seat (Paint rect black) reply desk.new self.new.seat) }
         ensures refused { IfErr result (λ refusal. IsRefused Id.store desk.old self.old.seat (Paint rect black) refusal desk.new self.new.seat) }
         ensures version { self.new.version ≡ self.old.version }
-        ensures began { IsPrefix self.old.seat.seen self.new.seat.seen }
+        ensures began { IsPrefix self.old.seat.seen desk.old.log }
+        ensures grows { IsPrefix self.old.seat.seen self.new.seat.seen }
+        ensures legal { IsLegal Id.store.base.setting Id.store.base.opening (entries desk.new.log) }
     {
         desk.paint(&mut self.seat, rect, black)
     }
@@ -34,7 +38,9 @@ impl<Id: StoreName> Pinned<Id> {
         ensures accepted { IfOk result (λ reply. IsAccepted Id.store desk.old self.old.seat (Stamp x y bitmap) reply desk.new self.new.seat) }
         ensures refused { IfErr result (λ back. (back.0 ≡ bitmap) × IsRefused Id.store desk.old self.old.seat (Stamp x y bitmap) back.1 desk.new self.new.seat) }
         ensures version { self.new.version ≡ self.old.version }
-        ensures began { IsPrefix self.old.seat.seen self.new.seat.seen }
+        ensures began { IsPrefix self.old.seat.seen desk.old.log }
+        ensures grows { IsPrefix self.old.seat.seen self.new.seat.seen }
+        ensures legal { IsLegal Id.store.base.setting Id.store.base.opening (entries desk.new.log) }
     {
         desk.stamp(&mut self.seat, x, y, bitmap)
     }
@@ -44,7 +50,9 @@ impl<Id: StoreName> Pinned<Id> {
         ensures accepted { IfOk result (λ reply. IsAccepted Id.store desk.old self.old.seat Publish reply desk.new self.new.seat) }
         ensures refused { IfErr result (λ refusal. IsRefused Id.store desk.old self.old.seat Publish refusal desk.new self.new.seat) }
         ensures version { self.new.version ≡ self.old.version }
-        ensures began { IsPrefix self.old.seat.seen self.new.seat.seen }
+        ensures began { IsPrefix self.old.seat.seen desk.old.log }
+        ensures grows { IsPrefix self.old.seat.seen self.new.seat.seen }
+        ensures legal { IsLegal Id.store.base.setting Id.store.base.opening (entries desk.new.log) }
     {
         desk.publish(&mut self.seat)
     }
@@ -54,7 +62,9 @@ impl<Id: StoreName> Pinned<Id> {
         ensures accepted { IfOk result (λ reply. IsAccepted Id.store desk.old self.old.seat Revert reply desk.new self.new.seat) }
         ensures refused { IfErr result (λ refusal. IsRefused Id.store desk.old self.old.seat Revert refusal desk.new self.new.seat) }
         ensures version { self.new.version ≡ self.old.version }
-        ensures began { IsPrefix self.old.seat.seen self.new.seat.seen }
+        ensures began { IsPrefix self.old.seat.seen desk.old.log }
+        ensures grows { IsPrefix self.old.seat.seen self.new.seat.seen }
+        ensures legal { IsLegal Id.store.base.setting Id.store.base.opening (entries desk.new.log) }
     {
         desk.revert(&mut self.seat)
     }
@@ -64,7 +74,9 @@ impl<Id: StoreName> Pinned<Id> {
         ensures accepted { IfOk result (λ reply. IsAccepted Id.store desk.old self.old.seat Collect reply desk.new self.new.seat) }
         ensures refused { IfErr result (λ refusal. IsRefused Id.store desk.old self.old.seat Collect refusal desk.new self.new.seat) }
         ensures version { self.new.version ≡ self.old.version }
-        ensures began { IsPrefix self.old.seat.seen self.new.seat.seen }
+        ensures began { IsPrefix self.old.seat.seen desk.old.log }
+        ensures grows { IsPrefix self.old.seat.seen self.new.seat.seen }
+        ensures legal { IsLegal Id.store.base.setting Id.store.base.opening (entries desk.new.log) }
     {
         desk.collect(&mut self.seat)
     }

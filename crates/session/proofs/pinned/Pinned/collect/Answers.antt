@@ -3,4 +3,4 @@ use Rattle.session.proofs.PinLemmas.{pin_stays}
 use Rattle.session.proofs.pinned.Pinned.collect.Goals as goal
 
 pub invariant_of-self : goal.invariant_of-self
-invariant_of-self g c = pin_stays _ _ _ _ c.self.invariant c.collect.ensures.began
+invariant_of-self g c = pin_stays _ _ _ _ c.self.invariant c.collect.ensures.grows
