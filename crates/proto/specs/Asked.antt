@@ -1,17 +1,16 @@
--- What a line asks: this project's own rule. The first word is the command; a line of no known command is refused as such, whatever else is in it.
+-- What a query asks: this project's own rule.
 use Rattle.std.specs.Prelude.{ℕ, ◌==◌, ◌||◌, nat_lt, List, [], ◌∷◌, length, Option, Some, None, Result, Ok, Err, bytes_eq, codes, option_and_then, option_map, if◌then◌else◌}
 use Rattle.metric.specs.Kind.{metric_named}
 use Rattle.metric.specs.declared.cell.Cell.{Cell}
 use Rattle.metric.specs.declared.kind.MetricKind.{MetricKind}
 use Rattle.metric.specs.declared.refusal.Refusal.{Refusal}
-use Rattle.metric.specs.declared.refusal.Refusal.TheVariants.{BadArguments, BadPath, UnknownCommand}
-use Rattle.proto.specs.declared.line.Line.{Line}
-use Rattle.proto.specs.declared.line.Line.TheVariants as lines
+use Rattle.metric.specs.declared.refusal.Refusal.TheVariants.{BadArguments, BadPath}
 use Rattle.proto.specs.declared.query.Query.{Query}
 use Rattle.proto.specs.declared.query.Query.TheVariants as queries
+use Rattle.proto.specs.declared.verb.QueryKind.{QueryKind}
+use Rattle.proto.specs.declared.verb.QueryKind.TheVariants as kinds
 use Rattle.proto.specs.Numbers.{number, points, only, pair}
 use Rattle.proto.specs.Corners.{corners_of}
-use Rattle.proto.specs.Words.{words}
 
 -- a query: the distance of a cell, the least over a rectangle or a path, or whether a path is clear of d
 pub data Asked : Type 0 where
@@ -20,12 +19,12 @@ pub data Asked : Type 0 where
   path : MetricKind → List Cell → Asked
   clear_of : MetricKind → ℕ → List Cell → Asked
 
--- what a line of the program asks
-abbrev pub seen : Line → Asked
-seen (lines.At metric cell) = at metric cell
-seen (lines.Rect metric r) = rect metric r.x0 r.y0 r.x1 r.y1
-seen (lines.Path metric points) = path metric points.items
-seen (lines.ClearOf metric d points) = clear_of metric d points.items
+-- what a query of the program asks
+abbrev pub asked_by : Query → Asked
+asked_by (queries.At metric cell) = at metric cell
+asked_by (queries.Rect metric r) = rect metric r.x0 r.y0 r.x1 r.y1
+asked_by (queries.Path metric points) = path metric points.items
+asked_by (queries.ClearOf metric d points) = clear_of metric d points.items
 
 -- it has points, for which memory is needed
 abbrev pub HasPoints : Asked → Type 0
@@ -35,12 +34,12 @@ HasPoints (path metric points) = Unit {0}
 HasPoints (clear_of metric d points) = Unit {0}
 
 -- the query of this name, in capital letters
-abbrev pub query_named : List ℕ → Option Query
+abbrev pub query_named : List ℕ → Option QueryKind
 query_named word =
-    if bytes_eq word (codes "AT") then Some queries.At
-    else if bytes_eq word (codes "RECT") then Some queries.Rect
-    else if bytes_eq word (codes "PATH") then Some queries.Path
-    else if bytes_eq word (codes "CLEAROF") then Some queries.ClearOf
+    if bytes_eq word (codes "AT") then Some kinds.At
+    else if bytes_eq word (codes "RECT") then Some kinds.Rect
+    else if bytes_eq word (codes "PATH") then Some kinds.Path
+    else if bytes_eq word (codes "CLEAROF") then Some kinds.ClearOf
     else None
 
 -- arguments of the wrong number or form
@@ -68,24 +67,14 @@ first_of told [] = None
 first_of told (word ∷ others) = option_map (λ value. (value, others)) (told word)
 
 -- what a query asks of the words behind the metric
-abbrev pub query_asked : Query → MetricKind → List (List ℕ) → Result Asked Refusal
-query_asked queries.At metric words = or_bad (option_map (λ cell. at metric cell) (only (points words)))
-query_asked queries.Rect metric words = or_bad (option_and_then (λ corners. rect_of metric corners) (pair (points words)))
-query_asked queries.Path metric words = about (path metric) (path_of (points words))
-query_asked queries.ClearOf metric words =
+abbrev pub query_asked : QueryKind → MetricKind → List (List ℕ) → Result Asked Refusal
+query_asked kinds.At metric words = or_bad (option_map (λ cell. at metric cell) (only (points words)))
+query_asked kinds.Rect metric words = or_bad (option_and_then (λ corners. rect_of metric corners) (pair (points words)))
+query_asked kinds.Path metric words = about (path metric) (path_of (points words))
+query_asked kinds.ClearOf metric words =
     elim (first_of number words) as (λ _. Result Asked Refusal) [ None ↦ Err BadArguments | Some distance ↦ about (clear_of metric distance.0) (path_of (points distance.1)) ]
 
 -- the arguments of a query: a metric first
-abbrev pub arguments_asked : Query → List (List ℕ) → Result Asked Refusal
-arguments_asked query words =
-    elim (first_of metric_named words) as (λ _. Result Asked Refusal) [ None ↦ Err BadArguments | Some metric ↦ query_asked query metric.0 metric.1 ]
-
--- what words ask
-abbrev pub asked_of : List (List ℕ) → Result Asked Refusal
-asked_of [] = Err UnknownCommand
-asked_of (command ∷ arguments) =
-    elim (query_named command) as (λ _. Result Asked Refusal) [ None ↦ Err UnknownCommand | Some query ↦ arguments_asked query arguments ]
-
--- what a line asks
-unfoldable pub asked : List ℕ → Result Asked Refusal
-asked bytes = asked_of (words bytes)
+abbrev pub arguments_asked : QueryKind → List (List ℕ) → Result Asked Refusal
+arguments_asked kind words =
+    elim (first_of metric_named words) as (λ _. Result Asked Refusal) [ None ↦ Err BadArguments | Some metric ↦ query_asked kind metric.0 metric.1 ]

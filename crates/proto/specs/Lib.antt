@@ -1,7 +1,9 @@
 pub mod Corners
 pub mod Asked
 pub mod Numbers
+pub mod Queries
 pub mod Replies
+pub mod Said
 pub mod Words
 pub mod Told
 pub mod Hex

@@ -1,4 +1,4 @@
--- The reply lines of queries and commands: this project's own rule. Numbers are plain decimal, with one blank between two words; each line ends in LF.
+-- The reply lines: this project's own rule. Numbers are plain decimal, with one blank between two words; each line ends in LF.
 use Rattle.std.specs.Prelude.{ℕ, List, [], ◌∷◌, ◌++◌, codes, Some, None}
 use Rattle.std.specs.Fmt.{decimal}
 use Rattle.metric.specs.Refusal.{refusal_text}
@@ -33,7 +33,11 @@ numbers_of (Published place version) = place ∷ version ∷ []
 numbers_of (Reverted place) = place ∷ []
 numbers_of (Collected place floor freed) = place ∷ floor ∷ freed ∷ []
 
--- the reply to a query or a command, without its LF
+-- a number behind `OK`
+abbrev pub one_text : ℕ → List ℕ
+one_text number = codes "OK" ++ numbers_text (number ∷ [])
+
+-- the reply to a line, without its LF; the bytes of a dump are no part of it
 abbrev pub answer_text : Answer → List ℕ
 answer_text (answers.Near None) = codes "NONE"
 answer_text (answers.Near (Some near)) = near_text near
@@ -42,6 +46,9 @@ answer_text (answers.Found (Some found)) = found_text found
 answer_text (answers.Clear None) = codes "OK CLEAR"
 answer_text (answers.Clear (Some found)) = found_text found
 answer_text (answers.Done reply) = codes "OK" ++ numbers_text (numbers_of reply)
+answer_text (answers.Version version) = one_text version
+answer_text (answers.Dumped bytes) = one_text bytes
+answer_text answers.Bye = codes "BYE"
 answer_text (answers.Refused refusal) = refusal_text refusal
 
 -- the reply line

@@ -1,15 +1,11 @@
--- What a line tells the keeper of the map to do: this project's own rule. The first word is the command, in capital letters; a line of no known command is refused as such, whatever else is in it.
-use Rattle.std.specs.Prelude.{ℕ, Bool, true, false, List, [], ◌∷◌, Option, Some, None, Result, Err, bytes_eq, codes, option_and_then, option_map, if◌then◌else◌}
-use Rattle.metric.specs.declared.refusal.Refusal.{Refusal}
-use Rattle.metric.specs.declared.refusal.Refusal.TheVariants.{UnknownCommand}
+-- What a command tells the keeper of the map to do: this project's own rule.
+use Rattle.std.specs.Prelude.{ℕ, Bool, true, false, List, [], ◌∷◌, Option, Some, None, bytes_eq, codes, option_and_then, option_map, if◌then◌else◌}
 use Rattle.map_core.specs.declared.command.Command.{Command}
 use Rattle.map_core.specs.declared.command.Command.TheVariants as commands
-use Rattle.proto.specs.declared.order.Order.{Order}
-use Rattle.proto.specs.declared.order.Order.TheVariants as orders
-use Rattle.proto.specs.Asked.{or_bad}
+use Rattle.proto.specs.declared.verb.Order.{Order}
+use Rattle.proto.specs.declared.verb.Order.TheVariants as orders
 use Rattle.proto.specs.Corners.{Corners, corners_of, seen_corners}
 use Rattle.proto.specs.Numbers.{points, pair}
-use Rattle.proto.specs.Words.{words}
 
 -- what the keeper is told: to give the cells of a rectangle one value, to stamp, which no line tells by itself, to publish, to revert, or to collect
 pub data Told : Type 0 where
@@ -37,10 +33,10 @@ order_named word =
     else if bytes_eq word (codes "COLLECT") then Some orders.Collect
     else None
 
--- a command that has no arguments, with the words behind its name
-abbrev pub alone : Told → List (List ℕ) → Option Told
-alone told [] = Some told
-alone told (word ∷ words) = None
+-- what has no arguments, with the words behind its name
+abbrev pub alone : {A : Type 0} → A → List (List ℕ) → Option A
+alone value [] = Some value
+alone value (word ∷ words) = None
 
 -- the rectangle of the words behind a name
 abbrev pub rect_told : List (List ℕ) → Option Corners
@@ -53,13 +49,3 @@ order_told orders.Clear words = option_map (draw false) (rect_told words)
 order_told orders.Publish words = alone publish words
 order_told orders.Revert words = alone revert words
 order_told orders.Collect words = alone collect words
-
--- what words tell
-abbrev pub told_of : List (List ℕ) → Result Told Refusal
-told_of [] = Err UnknownCommand
-told_of (command ∷ arguments) =
-    elim (order_named command) as (λ _. Result Told Refusal) [ None ↦ Err UnknownCommand | Some order ↦ or_bad (order_told order arguments) ]
-
--- what a line tells
-unfoldable pub told : List ℕ → Result Told Refusal
-told bytes = told_of (words bytes)

@@ -3,7 +3,7 @@
 use map_core::Reply;
 use metric::{Cell, Near, Refusal};
 
-/// The answer to a query or to a command.
+/// The answer to a line.
 #[derive(Clone, Copy, Debug)]
 pub enum Answer {
     /// The nearest obstacle of a cell; none where there is no obstacle.
@@ -12,8 +12,14 @@ pub enum Answer {
     Found(Option<(Cell, Near)>),
     /// The first cell along the path that is nearer to an obstacle than was asked for, with its nearest obstacle; none where each cell is clear.
     Clear(Option<(Cell, Near)>),
-    /// The command was accepted, with this reply.
+    /// The command to the keeper of the map was accepted, with this reply.
     Done(Reply),
-    /// The query or the command was refused.
+    /// The version that was pinned, or whose pin was left.
+    Version(u32),
+    /// The number of bytes of the pinned bitmap, which follow the line.
+    Dumped(u32),
+    /// The stream ends.
+    Bye,
+    /// The line was refused.
     Refused(Refusal),
 }

@@ -1,14 +1,30 @@
-//! A line to the keeper of the map, and the command that it is.
+//! The commands of a line that take no memory.
 
-ghost use Rattle.std.specs.Prelude.{◌≡◌, Ok, Err, option_map, IfOk, IfErr};
-ghost use Rattle.proto.specs.Told.{alone, draw, order_told, rect_told, told, told_by};
+ghost use Rattle.std.specs.Prelude.{◌≡◌, option_map};
+ghost use Rattle.proto.specs.Numbers.{number_triple, numbers};
+ghost use Rattle.proto.specs.Said.{said_by, stamp_of};
+ghost use Rattle.proto.specs.Told.{alone, draw, order_told, rect_told, told_by};
 ghost use Rattle.proto.specs.Words.{words_left};
 
 use crate::arguments::read_rect;
-use crate::order::{Order, order_of};
-use crate::words::split_word;
+use crate::line::Line;
+use crate::numbers::number_triple;
+use crate::points::coordinate;
+use crate::verb::Order;
 use map_core::Command;
-use metric::Refusal;
+
+/// The command to the keeper of this name, with what is left of the line as its arguments.
+pub fn read_order(order: Order, rest: Option<&[u8]>) -> Option<Command>
+    ensures { option_map told_by result ≡ order_told order (words_left rest.entry) }
+{
+    match order {
+        Order::Paint => paint(rest, true),
+        Order::Clear => paint(rest, false),
+        Order::Publish => bare_order(rest, Command::Publish),
+        Order::Revert => bare_order(rest, Command::Revert),
+        Order::Collect => bare_order(rest, Command::Collect),
+    }
+}
 
 /// The command that gives the cells of the rectangle that is left of a line this value.
 fn paint(rest: Option<&[u8]>, black: bool) -> Option<Command>
@@ -18,40 +34,28 @@ fn paint(rest: Option<&[u8]>, black: bool) -> Option<Command>
     Some(Command::Paint { rect, black })
 }
 
-/// A command without arguments, where nothing is left of the line.
-fn alone(rest: Option<&[u8]>, command: Command) -> Option<Command>
+/// A command to the keeper without arguments, where nothing is left of the line.
+fn bare_order(rest: Option<&[u8]>, command: Command) -> Option<Command>
     ensures { option_map told_by result ≡ alone (told_by command) (words_left rest.entry) }
 {
     if rest.is_some() { None } else { Some(command) }
 }
 
-/// The command of this name, with what is left of the line as its arguments.
-fn command_of(order: Order, rest: Option<&[u8]>) -> Option<Command>
-    ensures { option_map told_by result ≡ order_told order (words_left rest.entry) }
+/// A line without arguments, where nothing is left of it.
+pub fn bare_line(rest: Option<&[u8]>, line: Line) -> Option<Line>
+    ensures { option_map said_by result ≡ alone (said_by line) (words_left rest.entry) }
 {
-    match order {
-        Order::Paint => paint(rest, true),
-        Order::Clear => paint(rest, false),
-        Order::Publish => alone(rest, Command::Publish),
-        Order::Revert => alone(rest, Command::Revert),
-        Order::Collect => alone(rest, Command::Collect),
-    }
+    if rest.is_some() { None } else { Some(line) }
 }
 
-/// The command to the keeper of the map that a line is, without its LF: PAINT, CLEAR, PUBLISH, REVERT or COLLECT.
-///
-/// Refused, in this order: a first word that is none of these, whatever follows it; another number or form of arguments, a rectangle without a cell, or a corner over 4096.
-#[tactic(auto, unfolding(crate::specs::Told::told))]
-pub fn parse_command(bytes: &[u8]) -> Result<Command, Refusal>
-    ensures command { IfOk result (λ command. told bytes.now ≡ Ok (told_by command)) }
-    ensures refusal { IfErr result (λ refusal. told bytes.now ≡ Err refusal) }
+/// The place of a stamp, and the number of its bytes, which are all that is left of a line.
+pub fn read_stamp(rest: Option<&[u8]>) -> Option<Line>
+    ensures { option_map said_by result ≡ option_map stamp_of (number_triple (numbers (words_left rest.entry))) }
 {
-    let (word, rest) = split_word(bytes);
-    let Some(order) = order_of(word) else {
-        return Err(Refusal::UnknownCommand);
-    };
-    match command_of(order, rest) {
-        Some(command) => Ok(command),
-        None => Err(Refusal::BadArguments),
-    }
+    let (x, y, length) = number_triple(rest)?;
+    Some(Line::Stamp {
+        x: coordinate(x),
+        y: coordinate(y),
+        length,
+    })
 }

@@ -1,9 +1,10 @@
-//! The lines and replies of the protocol: what a line asks, and the text of what it is answered.
+//! The lines and replies of the protocol: what a line says, and the text of what it is answered.
 //!
 //! A line here has no LF at its end, nor a CR before it. A reply line ends in LF.
 #![tactic(auto)]
 
 mod answer;
+mod answering;
 mod arguments;
 mod command;
 #[cfg(test)]
@@ -12,20 +13,22 @@ mod laws;
 mod line;
 mod number;
 mod numbers;
-mod order;
 mod points;
 mod query;
 mod reply;
 #[cfg(test)]
 mod tests;
 mod text;
+mod verb;
 mod words;
 
 pub use answer::Answer;
-pub use command::parse_command;
+pub use answering::answer_query;
 pub use laws::{line_of_words, words_of_line};
 pub use line::{Line, parse_line};
 pub use numbers::{next_number, number_pair, number_triple, only_number};
+pub use query::Query;
 pub use reply::{put_answer, reply_text};
 pub use text::Text;
+pub use verb::{Order, QueryKind, Verb, verb_of};
 pub use words::split_word;

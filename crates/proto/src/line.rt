@@ -1,99 +1,69 @@
-//! A line, and what it asks.
+//! A line, and what it says.
 
-ghost use Rattle.std.specs.Prelude.{◌≡◌, ◌≢◌, option_map, option_and_then, IfOk, IfErr, IsOkAnd, Ok, Err};
+ghost use Rattle.std.specs.Prelude.{◌≡◌, ◌≢◌, IfOk, IfErr, IsOkAnd, Ok, Err};
 ghost use Rattle.metric.specs.declared.refusal.Refusal.{Refusal};
-ghost use Rattle.proto.specs.Asked.{asked, seen, query_asked, rect_of, HasPoints};
-ghost use Rattle.proto.specs.Numbers.{points, pair};
+ghost use Rattle.proto.specs.Said.{said, said_by, verb_said, HasPoints};
 ghost use Rattle.proto.specs.Words.{words_left};
 
-use crate::arguments::{read_metric, read_rect};
-use crate::numbers::next_number;
-use crate::points::{read_path, read_point};
-use crate::query::{Query, query_of};
+use crate::command::{bare_line, read_order, read_stamp};
+use crate::query::{Query, read_query};
+use crate::verb::{Verb, verb_named};
 use crate::words::split_word;
-use metric::{Cell, MetricKind, Rect, Refusal};
+use map_core::Command;
+use metric::Refusal;
 use std::alloc::Global;
 
-/// What a line asks. A coordinate that 16 bits don't hold stands as 65535, which is outside of every map as well.
+/// What a line says.
 #[derive(Debug, Drop)]
 pub enum Line {
-    /// The distance of a cell.
-    At {
-        metric: MetricKind,
-        cell: Cell,
-    },
-    /// The least distance of the cells of a rectangle.
-    Rect {
-        metric: MetricKind,
-        rect: Rect,
-    },
-    /// The least distance of the cells of a path.
-    Path {
-        metric: MetricKind,
-        points: Vec<Cell>,
-    },
-    /// Whether each cell of a path has a distance of `d` at least.
-    ClearOf {
-        metric: MetricKind,
-        d: u32,
-        points: Vec<Cell>,
-    },
+    /// A command to the keeper of the map; never a stamp, whose image comes behind its line.
+    Command(Command),
+    /// A stamp at a place, whose image is in so many bytes behind the line. A coordinate that 16 bits don't hold stands as 65535, which is outside of every map as well; the number of bytes has no limit here.
+    Stamp { x: u16, y: u16, length: u32 },
+    /// Pins the newest version.
+    Pin,
+    /// Leaves the pin.
+    Unpin,
+    /// A query on the pinned version.
+    Query(Query),
+    /// Asks for the pinned bitmap.
+    Dump,
+    /// Ends the stream.
+    Quit,
 }
 
-/// The query of the rectangle that is left of a line.
-fn parse_rect(metric: MetricKind, rest: Option<&[u8]>) -> Option<Line>
-    ensures { option_map seen result ≡ option_and_then (λ corners. rect_of metric corners) (pair (points (words_left rest.entry))) }
+/// What a command says with what is left of its line.
+fn line_of(alloc: Global, verb: Verb, rest: Option<&[u8]>) -> Result<Line, Refusal>
+    ensures line { IfOk result (λ line. verb_said verb (words_left rest.entry) ≡ Ok (said_by line)) }
+    ensures refusal { IfErr result (λ refusal. refusal ≢ Refusal.Memory → verb_said verb (words_left rest.entry) ≡ Err refusal) }
+    ensures memory { result ≡ Err Refusal.Memory → IsOkAnd (verb_said verb (words_left rest.entry)) HasPoints }
 {
-    let rect = read_rect(rest)?;
-    Some(Line::Rect { metric, rect })
-}
-
-/// What a query asks of what is left of a line behind the metric.
-fn parse_query(
-    alloc: Global,
-    query: Query,
-    metric: MetricKind,
-    rest: Option<&[u8]>,
-) -> Result<Line, Refusal>
-    ensures line { IfOk result (λ line. query_asked query metric (words_left rest.entry) ≡ Ok (seen line)) }
-    ensures refusal { IfErr result (λ refusal. refusal ≢ Refusal.Memory → query_asked query metric (words_left rest.entry) ≡ Err refusal) }
-    ensures memory { result ≡ Err Refusal.Memory → IsOkAnd (query_asked query metric (words_left rest.entry)) HasPoints }
-{
-    match query {
-        Query::At => match read_point(rest) {
-            Some(cell) => Ok(Line::At { metric, cell }),
+    match verb {
+        Verb::Order(order) => match read_order(order, rest) {
+            Some(command) => Ok(Line::Command(command)),
             None => Err(Refusal::BadArguments),
         },
-        Query::Rect => parse_rect(metric, rest).ok_or(Refusal::BadArguments),
-        Query::Path => {
-            let points = read_path(alloc, rest)?;
-            Ok(Line::Path { metric, points })
-        }
-        Query::ClearOf => {
-            let Some((d, rest)) = next_number(rest) else {
-                return Err(Refusal::BadArguments);
-            };
-            let points = read_path(alloc, rest)?;
-            Ok(Line::ClearOf { metric, d, points })
-        }
+        Verb::Ask(kind) => Ok(Line::Query(read_query(alloc, kind, rest)?)),
+        Verb::Stamp => read_stamp(rest).ok_or(Refusal::BadArguments),
+        Verb::Pin => bare_line(rest, Line::Pin).ok_or(Refusal::BadArguments),
+        Verb::Unpin => bare_line(rest, Line::Unpin).ok_or(Refusal::BadArguments),
+        Verb::Dump => bare_line(rest, Line::Dump).ok_or(Refusal::BadArguments),
+        Verb::Quit => bare_line(rest, Line::Quit).ok_or(Refusal::BadArguments),
     }
 }
 
-/// What a line asks, without its LF.
+/// What a line says, without its LF and the CR before it. A number has 1 to 10 digits, and 4294967295 at most.
 ///
-/// Memory can be wanting for the points of a path alone, and only where the line is good.
-#[tactic(auto, unfolding(crate::specs::Asked::asked))]
+/// Refused, in this order: a first word that is none of the fourteen commands, whatever follows it; another number or form of arguments, a rectangle without a cell, or one with a corner over 4096; a path of no point or over 1000; want of memory, for the points of a path alone, and only where the line is good.
+#[tactic(auto, unfolding(crate::specs::Said::said))]
 pub fn parse_line(alloc: Global, bytes: &[u8]) -> Result<Line, Refusal>
-    ensures line { IfOk result (λ line. asked bytes.now ≡ Ok (seen line)) }
-    ensures refusal { IfErr result (λ refusal. refusal ≢ Refusal.Memory → asked bytes.now ≡ Err refusal) }
-    ensures memory { result ≡ Err Refusal.Memory → IsOkAnd (asked bytes.now) HasPoints }
+    ensures line { IfOk result (λ line. said bytes.now ≡ Ok (said_by line)) }
+    ensures refusal { IfErr result (λ refusal. refusal ≢ Refusal.Memory → said bytes.now ≡ Err refusal) }
+    ensures memory { result ≡ Err Refusal.Memory → IsOkAnd (said bytes.now) HasPoints }
 {
-    let (command, rest) = split_word(bytes);
-    let Some(query) = query_of(command) else {
-        return Err(Refusal::UnknownCommand);
-    };
-    let Some((metric, rest)) = read_metric(rest) else {
-        return Err(Refusal::BadArguments);
-    };
-    parse_query(alloc, query, metric, rest)
+    let (word, rest) = split_word(bytes);
+    match verb_named(word) {
+        Some(verb) => line_of(alloc, verb, rest),
+        None => Err(Refusal::UnknownCommand),
+    }
 }

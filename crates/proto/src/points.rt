@@ -15,7 +15,7 @@ use std::alloc::Global;
 const MOST_POINTS: usize = 1000;
 
 /// A coordinate; one that 16 bits don't hold stands as their greatest value.
-fn coordinate(number: u32) -> u16
+pub fn coordinate(number: u32) -> u16
     ensures { result ≡ coordinate number }
 {
     if number < 65535 { number as u16 } else { 65535 }

@@ -1,30 +1,109 @@
-//! The names of the queries.
+//! A query, and what it asks.
 
-ghost use Rattle.std.specs.Prelude.{◌≡◌};
-ghost use Rattle.proto.specs.Asked.{query_named};
+ghost use Rattle.std.specs.Prelude.{◌≡◌, ◌≢◌, option_map, option_and_then, IfOk, IfErr, IsOkAnd, Ok, Err};
+ghost use Rattle.metric.specs.declared.refusal.Refusal.{Refusal};
+ghost use Rattle.proto.specs.Asked.{arguments_asked, asked_by, query_asked, rect_of, HasPoints};
+ghost use Rattle.proto.specs.Numbers.{points, pair};
+ghost use Rattle.proto.specs.Words.{words_left};
 
-/// A query, by its name alone.
-#[derive(Clone, Copy)]
+use crate::arguments::{read_metric, read_rect};
+use crate::numbers::next_number;
+use crate::points::{read_path, read_point};
+use crate::verb::QueryKind;
+use metric::{Cell, MetricKind, Rect, Refusal};
+use std::alloc::Global;
+
+/// A query on a bitmap. A coordinate that 16 bits don't hold stands as 65535, which is outside of every map as well.
+#[derive(Debug, Drop)]
 pub enum Query {
-    At,
-    Rect,
-    Path,
-    ClearOf,
+    /// The distance of a cell.
+    At {
+        metric: MetricKind,
+        cell: Cell,
+    },
+    /// The least distance of the cells of a rectangle.
+    Rect {
+        metric: MetricKind,
+        rect: Rect,
+    },
+    /// The least distance of the cells of a path.
+    Path {
+        metric: MetricKind,
+        points: Vec<Cell>,
+    },
+    /// Whether each cell of a path has a distance of `d` at least.
+    ClearOf {
+        metric: MetricKind,
+        d: u32,
+        points: Vec<Cell>,
+    },
 }
 
-/// The query of this name.
-pub fn query_of(word: &[u8]) -> Option<Query>
-    ensures { result ≡ query_named word.now }
+impl Query {
+    ghost use Rattle.proto.specs.Queries.{metric_asked};
+
+    /// The metric by which distances are asked for.
+    pub fn metric(&self) -> MetricKind
+        ensures { result ≡ metric_asked (asked_by self.now) }
+    {
+        match self {
+            Query::At { metric, .. }
+            | Query::Rect { metric, .. }
+            | Query::Path { metric, .. }
+            | Query::ClearOf { metric, .. } => *metric,
+        }
+    }
+}
+
+/// The query of this name, with what is left of the line as its arguments: a metric first.
+///
+/// Refused, in this order: another number or form of arguments; a path of no point or over 1000; want of memory, for the points of a path alone.
+pub fn read_query(alloc: Global, kind: QueryKind, rest: Option<&[u8]>) -> Result<Query, Refusal>
+    ensures query { IfOk result (λ query. arguments_asked kind (words_left rest.entry) ≡ Ok (asked_by query)) }
+    ensures refusal { IfErr result (λ refusal. refusal ≢ Refusal.Memory → arguments_asked kind (words_left rest.entry) ≡ Err refusal) }
+    ensures memory { result ≡ Err Refusal.Memory → IsOkAnd (arguments_asked kind (words_left rest.entry)) HasPoints }
 {
-    if word == b"AT".as_slice() {
-        Some(Query::At)
-    } else if word == b"RECT".as_slice() {
-        Some(Query::Rect)
-    } else if word == b"PATH".as_slice() {
-        Some(Query::Path)
-    } else if word == b"CLEAROF".as_slice() {
-        Some(Query::ClearOf)
-    } else {
-        None
+    let Some((metric, rest)) = read_metric(rest) else {
+        return Err(Refusal::BadArguments);
+    };
+    query_by(alloc, kind, metric, rest)
+}
+
+/// The query of the rectangle that is left of a line.
+fn rect_query(metric: MetricKind, rest: Option<&[u8]>) -> Option<Query>
+    ensures { option_map asked_by result ≡ option_and_then (λ corners. rect_of metric corners) (pair (points (words_left rest.entry))) }
+{
+    let rect = read_rect(rest)?;
+    Some(Query::Rect { metric, rect })
+}
+
+/// What a query asks of what is left of a line behind the metric.
+fn query_by(
+    alloc: Global,
+    kind: QueryKind,
+    metric: MetricKind,
+    rest: Option<&[u8]>,
+) -> Result<Query, Refusal>
+    ensures query { IfOk result (λ query. query_asked kind metric (words_left rest.entry) ≡ Ok (asked_by query)) }
+    ensures refusal { IfErr result (λ refusal. refusal ≢ Refusal.Memory → query_asked kind metric (words_left rest.entry) ≡ Err refusal) }
+    ensures memory { result ≡ Err Refusal.Memory → IsOkAnd (query_asked kind metric (words_left rest.entry)) HasPoints }
+{
+    match kind {
+        QueryKind::At => match read_point(rest) {
+            Some(cell) => Ok(Query::At { metric, cell }),
+            None => Err(Refusal::BadArguments),
+        },
+        QueryKind::Rect => rect_query(metric, rest).ok_or(Refusal::BadArguments),
+        QueryKind::Path => {
+            let points = read_path(alloc, rest)?;
+            Ok(Query::Path { metric, points })
+        }
+        QueryKind::ClearOf => {
+            let Some((d, rest)) = next_number(rest) else {
+                return Err(Refusal::BadArguments);
+            };
+            let points = read_path(alloc, rest)?;
+            Ok(Query::ClearOf { metric, d, points })
+        }
     }
 }

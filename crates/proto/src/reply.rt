@@ -3,7 +3,7 @@
 ghost use Rattle.std.specs.Prelude.{◌≡◌, ◌≤◌, ◌+◌, [], ◌∷◌, ◌++◌, codes, length};
 ghost use Rattle.std.specs.Fmt.{decimal};
 ghost use Rattle.metric.specs.Refusal.{refusal_text};
-ghost use Rattle.proto.specs.Replies.{answer_text, cell_text, found_text, near_text, numbers_of, numbers_text, reply_line};
+ghost use Rattle.proto.specs.Replies.{answer_text, cell_text, found_text, near_text, numbers_of, numbers_text, one_text, reply_line};
 
 use crate::answer::Answer;
 use crate::text::Text;
@@ -69,6 +69,16 @@ fn put_done(text: &mut Text, reply: Reply)
     }
 }
 
+/// Writes a number behind `OK`.
+fn put_one(text: &mut Text, number: u32)
+    requires { text.old ≡ [] }
+    ensures text { text.new ≡ one_text number }
+    ensures few { length text.new ≤ 100 }
+{
+    text.put(b"OK");
+    put_detail(text, number);
+}
+
 /// Adds two numbers.
 fn put_pair(text: &mut Text, first: u32, second: u32)
     requires { length text.old + 22 ≤ 128 }
@@ -132,11 +142,13 @@ pub fn put_answer(text: &mut Text, answer: Answer)
         Answer::Near(None) | Answer::Found(None) => text.put(b"NONE"),
         Answer::Clear(None) => text.put(b"OK CLEAR"),
         Answer::Done(reply) => put_done(text, reply),
+        Answer::Version(number) | Answer::Dumped(number) => put_one(text, number),
+        Answer::Bye => text.put(b"BYE"),
         Answer::Refused(refusal) => put_refusal(text, refusal),
     }
 }
 
-/// Writes the reply line of an answer over what the text held. Each fits a text.
+/// Writes the reply line of an answer over what the text held. Each fits a text. The bytes of a dump, which follow its line, are no part of it.
 pub fn reply_text(answer: &Answer, text: &mut Text)
     ensures line { text.new ≡ reply_line answer.now }
     ensures fits { length text.new ≤ 128 }

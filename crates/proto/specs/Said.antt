@@ -1,0 +1,94 @@
+-- What a line of the protocol says: this project's own rule. Words are separated by exactly one blank, and the first one is the command, in capital letters.
+-- A line of no known command is refused as such, whatever else is in it; then come arguments of the wrong number or form, and then a path of no point or over 1000.
+use Rattle.std.specs.Prelude.{ℕ, List, [], ◌∷◌, Option, Some, None, Result, Ok, Err, bytes_eq, codes, option_map, if◌then◌else◌}
+use Rattle.metric.specs.declared.refusal.Refusal.{Refusal}
+use Rattle.metric.specs.declared.refusal.Refusal.TheVariants.{UnknownCommand}
+use Rattle.proto.specs.declared.line.Line.{Line}
+use Rattle.proto.specs.declared.line.Line.TheVariants as lines
+use Rattle.proto.specs.declared.verb.Verb.{Verb}
+use Rattle.proto.specs.declared.verb.Verb.TheVariants as verbs
+use Rattle.proto.specs.Asked as queries
+use Rattle.proto.specs.Asked.{Asked, arguments_asked, asked_by, or_bad, query_named}
+use Rattle.proto.specs.Numbers.{coordinate, number_triple, numbers}
+use Rattle.proto.specs.Told.{Told, alone, order_named, order_told, told_by}
+use Rattle.proto.specs.Words.{words}
+
+-- what a line says: a command to the keeper of the map, a stamp with its place and the number of its bytes, a pin or its end, a query, a dump, or the end of the stream
+pub data Said : Type 0 where
+  told : Told → Said
+  stamp : (x y n : ℕ) → Said
+  pin : Said
+  unpin : Said
+  asked : Asked → Said
+  dump : Said
+  quit : Said
+
+-- what a line of the program says
+abbrev pub said_by : Line → Said
+said_by (lines.Command command) = told (told_by command)
+said_by (lines.Stamp x y n) = stamp x y n
+said_by lines.Pin = pin
+said_by lines.Unpin = unpin
+said_by (lines.Query query) = asked (asked_by query)
+said_by lines.Dump = dump
+said_by lines.Quit = quit
+
+-- it has points, for which memory is needed
+abbrev pub HasPoints : Said → Type 0
+HasPoints (asked query) = queries.HasPoints query
+HasPoints other = ⊥
+
+-- the command of this name that is neither an order nor a query
+abbrev pub bare_named : List ℕ → Option Verb
+bare_named word =
+    if bytes_eq word (codes "STAMP") then Some verbs.Stamp
+    else if bytes_eq word (codes "PIN") then Some verbs.Pin
+    else if bytes_eq word (codes "UNPIN") then Some verbs.Unpin
+    else if bytes_eq word (codes "DUMP") then Some verbs.Dump
+    else if bytes_eq word (codes "QUIT") then Some verbs.Quit
+    else None
+
+-- the command of this name, in capital letters: an order, a query, or one of the others
+abbrev pub verb_named : List ℕ → Option Verb
+verb_named word =
+    elim (order_named word) as (λ _. Option Verb) [
+      | Some order ↦ Some (verbs.Order order)
+      | None ↦ elim (query_named word) as (λ _. Option Verb) [ Some kind ↦ Some (verbs.Ask kind) | None ↦ bare_named word ]
+    ]
+
+-- the command that words name: the first of them
+abbrev pub first_verb : List (List ℕ) → Option Verb
+first_verb [] = None
+first_verb (word ∷ others) = verb_named word
+
+-- the command that a line names, whatever follows it
+unfoldable pub verb_in : List ℕ → Option Verb
+verb_in bytes = first_verb (words bytes)
+
+-- a stamp at a place, with so many bytes
+abbrev pub stamp_of : ℕ × ℕ × ℕ → Said
+stamp_of (x, y, n) = stamp (coordinate x) (coordinate y) n
+
+-- what is said by a query, or why it is refused
+abbrev pub asks : Result Asked Refusal → Result Said Refusal
+asks (Ok query) = Ok (asked query)
+asks (Err refusal) = Err refusal
+
+-- what a command says with the words behind its name
+abbrev pub verb_said : Verb → List (List ℕ) → Result Said Refusal
+verb_said (verbs.Order order) words = or_bad (option_map (λ command. told command) (order_told order words))
+verb_said (verbs.Ask kind) words = asks (arguments_asked kind words)
+verb_said verbs.Stamp words = or_bad (option_map stamp_of (number_triple (numbers words)))
+verb_said verbs.Pin words = or_bad (alone pin words)
+verb_said verbs.Unpin words = or_bad (alone unpin words)
+verb_said verbs.Dump words = or_bad (alone dump words)
+verb_said verbs.Quit words = or_bad (alone quit words)
+
+-- what words say
+abbrev pub said_of : List (List ℕ) → Result Said Refusal
+said_of [] = Err UnknownCommand
+said_of (word ∷ arguments) = elim (verb_named word) as (λ _. Result Said Refusal) [ None ↦ Err UnknownCommand | Some verb ↦ verb_said verb arguments ]
+
+-- what a line says, without its LF and the CR before it
+unfoldable pub said : List ℕ → Result Said Refusal
+said bytes = said_of (words bytes)
