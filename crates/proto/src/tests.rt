@@ -58,7 +58,7 @@ const UNKNOWN: [&[u8]; 8] = [
     b" AT city 0 0",
     b"AT2 city 0 0",
     b"at city 0 0",
-    b"QUIT",
+    b"QUITS",
     b"AT\tcity 0 0",
     b"CLEARO city 1 0 0",
 ];
@@ -118,8 +118,12 @@ fn near(dist: u32, x: u16, y: u16) -> Near {
 }
 
 /// Answers, and their reply lines.
-fn replies() -> [(Answer, &'static [u8]); 16] {
+fn replies() -> [(Answer, &'static [u8]); 20] {
     [
+        (Answer::Version(0), b"OK 0\n"),
+        (Answer::Version(4294967295), b"OK 4294967295\n"),
+        (Answer::Dumped(15), b"OK 15\n"),
+        (Answer::Bye, b"BYE\n"),
         (Answer::Near(Some(near(1, 0, 0))), b"OK 1 0 0\n"),
         (
             Answer::Near(Some(near(33538050, 0, 0))),
@@ -176,7 +180,7 @@ fn are_points(cells: &[Cell], points: &[(u16, u16)]) -> bool {
 fn cells_are_asked_for(rt: HostRuntime) {
     for (number, (bytes, kind, x, y)) in CELLS.iter().enumerate() {
         match parse_line(rt.alloc(), bytes) {
-            Ok(Line::At { metric, cell }) => {
+            Ok(Line::Query(Query::At { metric, cell })) => {
                 assert!(rt;
                     metric == *kind && cell.x == *x && cell.y == *y,
                     "cell {number}"
@@ -191,7 +195,7 @@ fn cells_are_asked_for(rt: HostRuntime) {
 fn rectangles_are_asked_for(rt: HostRuntime) {
     for (number, (bytes, kind, corners)) in RECTS.iter().enumerate() {
         match parse_line(rt.alloc(), bytes) {
-            Ok(Line::Rect { metric, rect }) => {
+            Ok(Line::Query(Query::Rect { metric, rect })) => {
                 assert!(rt;
                     metric == *kind && [rect.x0, rect.y0, rect.x1, rect.y1] == *corners,
                     "rectangle {number}"
@@ -205,7 +209,7 @@ fn rectangles_are_asked_for(rt: HostRuntime) {
 /// Whether the line asks for this path.
 fn is_path(line: &Line, kind: MetricKind, want: &[(u16, u16)]) -> bool {
     match line {
-        Line::Path { metric, points } => *metric == kind && are_points(points, want),
+        Line::Query(Query::Path { metric, points }) => *metric == kind && are_points(points, want),
         _ => false,
     }
 }
@@ -213,7 +217,7 @@ fn is_path(line: &Line, kind: MetricKind, want: &[(u16, u16)]) -> bool {
 /// Whether the line asks if this path is clear of a distance.
 fn is_clear_of(line: &Line, kind: MetricKind, least: u32, want: &[(u16, u16)]) -> bool {
     match line {
-        Line::ClearOf { metric, d, points } => {
+        Line::Query(Query::ClearOf { metric, d, points }) => {
             *metric == kind && *d == least && are_points(points, want)
         }
         _ => false,
@@ -289,7 +293,7 @@ fn long_path<R: AllocGlobal>(rt: &R, points: usize, end: &[u8]) -> Result<Vec<u8
 fn asks_for_a_thousand<R: AllocGlobal>(rt: &R, bytes: &[u8]) -> bool {
     match parse_line(rt.alloc(), bytes) {
         Ok(line) => match &line {
-            Line::Path { points, .. } => {
+            Line::Query(Query::Path { points, .. }) => {
                 points.len() == 1000 && points.iter().all(|cell| cell.x == 3 && cell.y == 4)
             }
             _ => false,
