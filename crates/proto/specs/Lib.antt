@@ -7,3 +7,7 @@ pub mod Said
 pub mod Words
 pub mod Told
 pub mod Hex
+pub mod Wire
+pub mod Callers
+pub mod Exchanges
+pub mod Served

@@ -17,7 +17,7 @@ pub enum Answer {
     /// The version that was pinned, or whose pin was left.
     Version(u32),
     /// The number of bytes of the pinned bitmap, which follow the line.
-    Dumped(u32),
+    Dumped(u64),
     /// The stream ends.
     Bye,
     /// The line was refused.

@@ -16,11 +16,13 @@ mod numbers;
 mod points;
 mod query;
 mod reply;
+mod serve;
 #[cfg(test)]
 mod tests;
 mod text;
 mod verb;
 mod words;
+mod workers;
 
 pub use answer::Answer;
 pub use answering::answer_query;
@@ -29,6 +31,8 @@ pub use line::{Line, parse_line};
 pub use numbers::{next_number, number_pair, number_triple, only_number};
 pub use query::Query;
 pub use reply::{put_answer, reply_text};
+pub use serve::{End, serve_stream};
 pub use text::Text;
 pub use verb::{Order, QueryKind, Verb, verb_of};
 pub use words::split_word;
+pub use workers::{Streams, pool};

@@ -70,13 +70,13 @@ fn put_done(text: &mut Text, reply: Reply)
 }
 
 /// Writes a number behind `OK`.
-fn put_one(text: &mut Text, number: u32)
+fn put_one(text: &mut Text, number: u64)
     requires { text.old ≡ [] }
     ensures text { text.new ≡ one_text number }
     ensures few { length text.new ≤ 100 }
 {
-    text.put(b"OK");
-    put_detail(text, number);
+    text.put(b"OK ");
+    text.put_long(number);
 }
 
 /// Adds two numbers.
@@ -142,7 +142,8 @@ pub fn put_answer(text: &mut Text, answer: Answer)
         Answer::Near(None) | Answer::Found(None) => text.put(b"NONE"),
         Answer::Clear(None) => text.put(b"OK CLEAR"),
         Answer::Done(reply) => put_done(text, reply),
-        Answer::Version(number) | Answer::Dumped(number) => put_one(text, number),
+        Answer::Version(version) => put_one(text, u64::from(version)),
+        Answer::Dumped(length) => put_one(text, length),
         Answer::Bye => text.put(b"BYE"),
         Answer::Refused(refusal) => put_refusal(text, refusal),
     }

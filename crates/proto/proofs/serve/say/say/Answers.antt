@@ -1,0 +1,10 @@
+use Rattle.std.proofs.lemmas.Result.{on_err_weaker}
+use Rattle.proto.specs.Replies.{reply_line}
+use Rattle.proto.proofs.Wires.{failed_first, failed_on}
+use Rattle.proto.proofs.serve.say.say.Goals as goal
+
+pub returns-in-Err-clause-front : goal.returns-in-Err-clause-front
+returns-in-Err-clause-front g c = failed_first _ _ (reply_line c.args.answer.now) c.args.body.now (rw (c.as_bytes.ensures, c.reply_text.ensures.line) at c.in-Err.ensures.front)
+
+pub returns-in-Ok-clause-front : goal.returns-in-Ok-clause-front
+returns-in-Ok-clause-front g c = on_err_weaker c.put_body.result (failed_on _ _ _ (reply_line c.args.answer.now) c.args.body.now (rw (c.as_bytes.ensures, c.reply_text.ensures.line) at c.in-Ok.ensures.whole)) c.put_body.ensures.front

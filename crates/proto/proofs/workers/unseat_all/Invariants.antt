@@ -1,0 +1,14 @@
+use Rattle.std.proofs.Common.{◌≡◌, ◌≤◌, ◌+◌, All, length, vec_capacity}
+use Rattle.std.specs.Prelude.{IsSome}
+use Rattle.proto.proofs.workers.unseat_all.Given as goal
+
+-- those that were taken from their seats are handed back
+abbrev pub invariant-seats : goal.invariant-seats
+invariant-seats g l = record {
+  all : length l.sessions.items + length l.seats.items ≡ length l.fn.seats.items;
+  full : All IsSome l.seats.items;
+  room : length l.fn.seats.items ≤ vec_capacity l.sessions;
+}
+
+abbrev pub decreases-seats : goal.decreases-seats
+decreases-seats g l = goal.left-seats g l

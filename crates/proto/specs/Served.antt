@@ -1,0 +1,182 @@
+-- What a stream is answered from its first byte to its end: this project's own rule.
+use Rattle.std.specs.Prelude.{◌≡◌, ◌≢◌, ℕ, ◌+◌, ◌<◌, ◌⊎◌, List, [], ◌∷◌, ◌++◌, length, All, Option, Some, None, Result, Ok, Err, IsOkAnd, Vec}
+use Rattle.std.specs.List.{flat_map}
+use Rattle.metric.specs.Stream.{Appends, AppendsFront, Takes}
+use Rattle.metric.specs.declared.refusal.Refusal.{Refusal}
+use Rattle.metric.specs.declared.refusal.Refusal.TheVariants as refusals
+use Rattle.shelf.specs.Store.{StoreId}
+use Rattle.proto.specs.declared.serve.end.End.{End}
+use Rattle.proto.specs.declared.serve.end.End.TheVariants as ends
+use Rattle.proto.specs.declared.answer.Answer.{Answer}
+use Rattle.proto.specs.declared.answer.Answer.TheVariants as answers
+use Rattle.proto.specs.Replies.{reply_line}
+use Rattle.proto.specs.Said.{Said, HasPoints}
+use Rattle.proto.specs.Said as saids
+use Rattle.proto.specs.Callers.{CallerValue}
+use Rattle.proto.specs.Exchanges.{Exchange, IsExchange, IsLine, IsLineAnswer, asks, body_of, counts}
+use Rattle.proto.specs.Wire.{Wire, HasNotWritten, HasRead, HasWritten, IsReadOut}
+
+-- the bytes of an exchange: its line, LF, and the bytes that it counts
+abbrev pub bytes_of : Exchange → List ℕ
+bytes_of x = x.line ++ (10 ∷ x.counted)
+
+-- the text of an exchange: its reply line, and what follows it
+abbrev pub text_of : Exchange → List ℕ
+text_of x = reply_line x.answer ++ x.body
+
+-- exchanges of one caller, one after another
+abbrev pub AreExchanges : StoreId → List Exchange → CallerValue → CallerValue → Type 0
+AreExchanges store [] old new = new ≡ old
+AreExchanges store (x ∷ xs) old new = (between : CallerValue) × IsExchange store x old between × AreExchanges store xs between new
+
+-- a line with its LF, and fewer bytes than it counts
+pub record IsShort (bytes : List ℕ) : Type 0 where
+  pub line : List ℕ
+  pub line_is : IsLine line
+  pub counted : List ℕ
+  pub few : length counted < counts (asks line)
+  pub bytes_are : bytes ≡ line ++ (10 ∷ counted)
+
+-- a part of an exchange: a beginning of a line, or a line with fewer bytes than it counts
+abbrev pub IsPart : List ℕ → Type 0
+IsPart bytes = IsLine bytes ⊎ IsShort bytes
+
+-- a line with its LF that says QUIT
+pub record IsQuit (bytes : List ℕ) : Type 0 where
+  pub line : List ℕ
+  pub line_is : IsLine line
+  pub bytes_are : bytes ≡ line ++ (10 ∷ [])
+  pub quits : asks line ≡ Ok saids.quit
+
+-- more bytes than a line may have, and no LF among them
+pub record IsTooLong (bytes : List ℕ) : Type 0 where
+  pub plain : All (λ byte. byte ≢ 10) bytes
+  pub many : length bytes ≡ 16385
+
+-- a line with its LF that counts more bytes than a stamp may have
+pub record IsTooMuch (bytes : List ℕ) : Type 0 where
+  pub line : List ℕ
+  pub line_is : IsLine line
+  pub bytes_are : bytes ≡ line ++ (10 ∷ [])
+  pub many : 17100000 < counts (asks line)
+
+-- a last text behind the exchanges, which the bytes behind them are answered: that of QUIT, of a line too long, of too many bytes
+abbrev pub IsFarewell : List ℕ → List ℕ → Type 0
+IsFarewell tail last =
+    (IsQuit tail × (last ≡ reply_line answers.Bye))
+    ⊎ (IsTooLong tail × (last ≡ reply_line (answers.Refused refusals.LineTooLong)))
+    ⊎ (IsTooMuch tail × (last ≡ reply_line (answers.Refused refusals.TooMuchData)))
+
+-- what stands behind the exchanges where a stream ends so, or goes on: the bytes that were read, and a last text
+abbrev pub IsTail : Option End → List ℕ → List ℕ → Type 0
+IsTail None tail last = (tail ≡ []) × (last ≡ [])
+IsTail (Some ends.Quit) tail last = IsQuit tail × (last ≡ reply_line answers.Bye)
+IsTail (Some ends.EndOfInput) tail last = IsPart tail × (last ≡ [])
+IsTail (Some ends.LineTooLong) tail last = IsTooLong tail × (last ≡ reply_line (answers.Refused refusals.LineTooLong))
+IsTail (Some ends.TooMuchData) tail last = IsTooMuch tail × (last ≡ reply_line (answers.Refused refusals.TooMuchData))
+IsTail (Some ends.ReadFailed) tail last = IsPart tail × (last ≡ [])
+IsTail (Some ends.WriteFailed) tail last = ((tail ≡ []) × (last ≡ [])) ⊎ IsFarewell tail last
+IsTail (Some ends.Memory) tail last = ⊥
+
+-- the caller behind the last exchange: at an end its pin is left
+abbrev pub IsLeft : Option End → CallerValue → CallerValue → Type 0
+IsLeft None last new = new ≡ last
+IsLeft (Some end) last new = new.seat ≡ last.seat
+
+-- a stream that has ended so, or goes on: what was read is whole exchanges and a tail, and what is written is their texts and a last text
+pub record Served (store : StoreId) (end : Option End) (bytes : List ℕ) (old new : CallerValue) (out : List ℕ) : Type 0 where
+  pub exchanges : List Exchange
+  pub tail : List ℕ
+  pub last : List ℕ
+  pub behind : CallerValue
+  pub run : AreExchanges store exchanges old behind
+  pub left : IsLeft end behind new
+  pub ends : IsTail end tail last
+  pub bytes_are : bytes ≡ flat_map bytes_of exchanges ++ tail
+  pub out_is : out ≡ flat_map text_of exchanges ++ last
+
+-- at the end of the input nothing is left to read
+abbrev pub IsReached : Option End → Option (List ℕ) → Type 0
+IsReached (Some ends.EndOfInput) rest = IsReadOut rest
+IsReached end rest = Unit {0}
+
+-- the text stands behind what was written before; after a failed write a beginning of it
+abbrev pub IsWritten : Option End → Option (List ℕ) → List ℕ → Option (List ℕ) → Type 0
+IsWritten (Some ends.WriteFailed) before text after = AppendsFront before text after
+IsWritten end before text after = Appends before text after
+
+-- how many reads fail before such an end
+abbrev pub read_faults : Option End → ℕ
+read_faults (Some ends.ReadFailed) = 1
+read_faults end = 0
+
+-- how many writes fail before such an end
+abbrev pub write_faults : Option End → ℕ
+write_faults (Some ends.WriteFailed) = 1
+write_faults end = 0
+
+-- these bytes were read and this text was written, up to such an end
+pub record HasMoved (end : Option End) (old : Wire) (bytes text : List ℕ) (new : Wire) : Type 0 where
+  pub taken : Takes old.rest bytes new.rest
+  pub reached : IsReached end new.rest
+  pub written : IsWritten end old.held text new.held
+  pub reads : new.failed_reads ≡ old.failed_reads + read_faults end
+  pub writes : new.failed_writes ≡ old.failed_writes + write_faults end
+
+-- the input was cut off behind these bytes: it ended, or a read failed
+abbrev pub IsCut : End → Wire → List ℕ → Wire → Type 0
+IsCut ends.EndOfInput old bytes new = HasRead 0 old bytes new × IsReadOut new.rest
+IsCut ends.ReadFailed old bytes new = HasRead 1 old bytes new
+IsCut end old bytes new = ⊥
+
+-- why a line wasn't read to its LF: these bytes are too many, or the input was cut off behind them
+abbrev pub IsLineStop : End → Wire → List ℕ → Wire → Type 0
+IsLineStop ends.LineTooLong old bytes new = IsTooLong bytes × HasRead 0 old bytes new
+IsLineStop end old bytes new = IsLine bytes × IsCut end old bytes new
+
+-- the bytes that were counted are kept, where there was memory for them
+abbrev pub AreKept : {A : Type 0} → Option (Vec ℕ A) → List ℕ → Type 0
+AreKept None bytes = Unit {0}
+AreKept (Some kept) bytes = kept.items ≡ bytes
+
+-- so many bytes were read, and kept where there was memory for them
+pub record HasCounted {A : Type 0} (count : ℕ) (kept : Option (Vec ℕ A)) (old new : Wire) : Type 0 where
+  pub bytes : List ℕ
+  pub as_many : length bytes ≡ count
+  pub kept_are : AreKept kept bytes
+  pub read : HasRead 0 old bytes new
+
+-- the input was cut off before so many bytes were read
+pub record IsCutShort (count : ℕ) (end : End) (old new : Wire) : Type 0 where
+  pub bytes : List ℕ
+  pub few : length bytes < count
+  pub cut : IsCut end old bytes new
+
+-- a last text was written behind which the stream ends as it was to, or a write failed
+abbrev pub HasSaid : End → End → Wire → List ℕ → Wire → Type 0
+HasSaid planned end old text new = ((end ≡ planned) × HasWritten old text new) ⊎ ((end ≡ ends.WriteFailed) × HasNotWritten old text new)
+
+-- what a line was parsed as: what it says; or there was no memory for its points
+abbrev pub IsHeard : Result Said Refusal → Result Said Refusal → Type 0
+IsHeard said heard = (heard ≡ said) ⊎ ((heard ≡ Err refusals.Memory) × IsOkAnd said HasPoints)
+
+-- what was said is written whole, and the stream goes on; or a write failed
+abbrev pub IsSaid : Option End → Wire → List ℕ → Wire → Type 0
+IsSaid None old text new = HasWritten old text new
+IsSaid (Some ends.WriteFailed) old text new = HasNotWritten old text new
+IsSaid end old text new = ⊥
+
+-- a line, with the bytes that were kept, was answered, and its answer was said
+pub record HasAnswered {A : Type 0} (store : StoreId) (heard : Result Said Refusal) (kept : Option (Vec ℕ A)) (end : Option End) (wire : Wire) (old : CallerValue) (wire_after : Wire) (new : CallerValue) : Type 0 where
+  pub answer : Answer
+  pub body : List ℕ
+  pub answered : (bytes : List ℕ) → AreKept kept bytes → IsLineAnswer store heard bytes old answer new
+  pub body_is : body ≡ body_of store old answer
+  pub said : IsSaid end wire (reply_line answer ++ body) wire_after
+
+-- a caller was served over a wire up to such an end: there are bytes that were read and a text that was written, and they are served so
+pub record IsServed (store : StoreId) (end : Option End) (wire : Wire) (old : CallerValue) (wire_after : Wire) (new : CallerValue) : Type 0 where
+  pub bytes : List ℕ
+  pub text : List ℕ
+  pub served : Served store end bytes old new text
+  pub moved : HasMoved end wire bytes text wire_after

@@ -1,0 +1,50 @@
+-- What a contract sees of a stream that is read and written: this project's own rule.
+use Rattle.std.specs.Prelude.{◌≡◌, ℕ, ◌+◌, List, [], ◌∷◌, Option, Some, None}
+use Rattle.metric.specs.Stream.{Appends, AppendsFront, CanFail, Takes}
+
+-- what is left to read and what was written, where the stream tells them, and how many reads and writes have failed
+pub record Wire : Type 0 where
+  pub rest : Option (List ℕ)
+  pub held : Option (List ℕ)
+  pub failed_reads : ℕ
+  pub failed_writes : ℕ
+
+-- the wire of a stream, by what the stream tells
+abbrev pub wire_of : {S : Type 0} → (S → Option (List ℕ)) → (S → Option (List ℕ)) → (S → ℕ) → (S → ℕ) → S → Wire
+wire_of rest held failed_reads failed_writes s = record { rest = rest s; held = held s; failed_reads = failed_reads s; failed_writes = failed_writes s }
+
+-- one more failed read and one more failed write can be counted
+pub record CanGoOn (w : Wire) : Type 0 where
+  pub reads : CanFail w.failed_reads
+  pub writes : CanFail w.failed_writes
+
+-- these bytes were read, so many reads failed, and nothing was written
+pub record HasRead (faults : ℕ) (old : Wire) (bytes : List ℕ) (new : Wire) : Type 0 where
+  pub taken : Takes old.rest bytes new.rest
+  pub held : new.held ≡ old.held
+  pub reads : new.failed_reads ≡ old.failed_reads + faults
+  pub writes : new.failed_writes ≡ old.failed_writes
+
+-- nothing is left to read, where the stream tells it
+abbrev pub IsReadOut : Option (List ℕ) → Type 0
+IsReadOut None = Unit {0}
+IsReadOut (Some left) = left ≡ []
+
+-- the next byte was read, or the end was met
+abbrev pub HasTaken : Option ℕ → Wire → Wire → Type 0
+HasTaken (Some byte) old new = HasRead 0 old (byte ∷ []) new
+HasTaken None old new = HasRead 0 old [] new × IsReadOut new.rest
+
+-- this text was written, no write failed, and nothing was read
+pub record HasWritten (old : Wire) (text : List ℕ) (new : Wire) : Type 0 where
+  pub rest : new.rest ≡ old.rest
+  pub appended : Appends old.held text new.held
+  pub reads : new.failed_reads ≡ old.failed_reads
+  pub writes : new.failed_writes ≡ old.failed_writes
+
+-- a write failed, before which a beginning of this text was written, and nothing was read
+pub record HasNotWritten (old : Wire) (text : List ℕ) (new : Wire) : Type 0 where
+  pub rest : new.rest ≡ old.rest
+  pub front : AppendsFront old.held text new.held
+  pub reads : new.failed_reads ≡ old.failed_reads
+  pub writes : new.failed_writes ≡ old.failed_writes + 1

@@ -1,0 +1,61 @@
+//! Streams that are served: lines and what they count, each with its answer.
+
+ghost use Rattle.std.specs.Prelude.{◌≡◌, ◌≢◌, Some};
+ghost use Rattle.proto.specs.Callers.{free};
+ghost use Rattle.proto.specs.Served.{IsServed};
+ghost use Rattle.proto.specs.Wire.{CanGoOn, wire_of};
+
+mod caller;
+mod counted;
+mod end;
+mod exchange;
+mod line_buffer;
+mod orders;
+mod say;
+mod stream_line;
+mod wire;
+
+use crate::text::Text;
+use caller::Caller;
+pub use end::End;
+use line_buffer::LineBuffer;
+use metric::Stream;
+use session::{Session, Store};
+use shelf::StoreName;
+use std::alloc::Global;
+use std::sync::Wait;
+use stream_line::serve_line;
+
+/// Serves a stream of protocol lines with a session: each line is read to its LF, with the bytes that it counts, and answered before the next one is read.
+///
+/// What was read is the lines and counted bytes that were answered, one after another, and a tail that the end tells; what was written is their answers' texts, and a last text. Commands wait for the store's lock, and are entries of its log by this session: `made` has risen by those that were accepted, also where the reply couldn't be written. At each end the pin is left, at QUIT before its reply. Behind QUIT's LF nothing is read.
+///
+/// After a failed call of the stream it isn't called again. It ends with `Memory` only where the buffers of a line and of a reply line can't be made, and nothing was read or written then.
+pub fn serve_stream<Id: StoreName, R: Wait, S: Stream>(
+    rt: &R,
+    alloc: Global,
+    store: &Store<Id>,
+    session: Session<Id>,
+    stream: &mut S,
+) -> (Session<Id>, End)
+    requires { CanGoOn (wire_of S.rest S.held S.failed_reads S.failed_writes stream.old) }
+    ensures served { result.1 ≢ End.Memory → IsServed Id.store (Some result.1) (wire_of S.rest S.held S.failed_reads S.failed_writes stream.old) (free session) (wire_of S.rest S.held S.failed_reads S.failed_writes stream.new) (free result.0) }
+    ensures session { result.1 ≡ End.Memory → result.0 ≡ session }
+    ensures untouched { result.1 ≡ End.Memory → wire_of S.rest S.held S.failed_reads S.failed_writes stream.new ≡ wire_of S.rest S.held S.failed_reads S.failed_writes stream.old }
+{
+    let Ok(mut line) = LineBuffer::new(alloc) else {
+        return (session, End::Memory);
+    };
+    let Ok(mut text) = Text::new(alloc) else {
+        return (session, End::Memory);
+    };
+    let mut caller = Caller::new(session);
+    'lines: for _ in rt.forever() {
+        let (next, end) = serve_line(rt, alloc, store, caller, stream, &mut line, &mut text);
+        caller = next;
+        if let Some(end) = end {
+            return (caller.into_session(rt, store), end);
+        }
+    }
+    unreachable!()
+}

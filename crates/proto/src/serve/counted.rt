@@ -1,0 +1,61 @@
+//! The bytes that a line counts, which follow it.
+
+ghost use Rattle.std.specs.Prelude.{◌≡◌, ◌≤◌, [], length, vec_capacity, None, Some, IfOk, IfErr, OnOk};
+ghost use Rattle.proto.specs.Served.{HasCounted, IsCutShort};
+ghost use Rattle.proto.specs.Wire.{CanGoOn, wire_of};
+
+use crate::serve::end::End;
+use crate::serve::wire::take_byte;
+use metric::Stream;
+use std::alloc::Global;
+
+/// Reads so many bytes; `None` where there was no memory to keep them. Otherwise it answers how the stream ends before the last of them.
+pub fn read_counted<S: Stream>(
+    alloc: Global,
+    stream: &mut S,
+    count: u32,
+) -> Result<Option<Vec<u8>>, End>
+    requires { CanGoOn (wire_of S.rest S.held S.failed_reads S.failed_writes stream.old) }
+    ensures counted { IfOk result (λ kept. HasCounted count kept (wire_of S.rest S.held S.failed_reads S.failed_writes stream.old) (wire_of S.rest S.held S.failed_reads S.failed_writes stream.new)) }
+    ensures cut { IfErr result (λ end. IsCutShort count end (wire_of S.rest S.held S.failed_reads S.failed_writes stream.old) (wire_of S.rest S.held S.failed_reads S.failed_writes stream.new)) }
+{
+    match Vec::with_capacity(alloc, count as usize) {
+        Ok(room) => keep(stream, room, count),
+        Err(_) => skip(stream, count),
+    }
+}
+
+/// Reads so many bytes, for which there is room.
+fn keep<S: Stream>(stream: &mut S, room: Vec<u8>, count: u32) -> Result<Option<Vec<u8>>, End>
+    requires stream { CanGoOn (wire_of S.rest S.held S.failed_reads S.failed_writes stream.old) }
+    requires room { count ≤ vec_capacity room }
+    requires empty { room.items ≡ [] }
+    ensures counted { IfOk result (λ kept. HasCounted count kept (wire_of S.rest S.held S.failed_reads S.failed_writes stream.old) (wire_of S.rest S.held S.failed_reads S.failed_writes stream.new)) }
+    ensures cut { IfErr result (λ end. IsCutShort count end (wire_of S.rest S.held S.failed_reads S.failed_writes stream.old) (wire_of S.rest S.held S.failed_reads S.failed_writes stream.new)) }
+{
+    let mut bytes = room;
+    'bytes: for _ in 0..count {
+        match take_byte(stream) {
+            Ok(Some(byte)) => bytes.push_reserved(byte),
+            Ok(None) => return Err(End::EndOfInput),
+            Err(_) => return Err(End::ReadFailed),
+        }
+    }
+    Ok(Some(bytes))
+}
+
+/// Reads so many bytes and keeps none.
+fn skip<S: Stream>(stream: &mut S, count: u32) -> Result<Option<Vec<u8>>, End>
+    requires { CanGoOn (wire_of S.rest S.held S.failed_reads S.failed_writes stream.old) }
+    ensures counted { IfOk result (λ kept. HasCounted count kept (wire_of S.rest S.held S.failed_reads S.failed_writes stream.old) (wire_of S.rest S.held S.failed_reads S.failed_writes stream.new)) }
+    ensures cut { IfErr result (λ end. IsCutShort count end (wire_of S.rest S.held S.failed_reads S.failed_writes stream.old) (wire_of S.rest S.held S.failed_reads S.failed_writes stream.new)) }
+{
+    'bytes: for _ in 0..count {
+        match take_byte(stream) {
+            Ok(Some(_)) => {}
+            Ok(None) => return Err(End::EndOfInput),
+            Err(_) => return Err(End::ReadFailed),
+        }
+    }
+    Ok(None)
+}

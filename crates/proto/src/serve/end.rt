@@ -1,0 +1,20 @@
+//! How a served stream ends.
+
+/// Why a stream is served no longer.
+#[derive(Clone, Copy, Debug, PartialEq, Eq)]
+pub enum End {
+    /// The client said QUIT.
+    Quit,
+    /// The input ended, at a line's end or within a line or a stamp's bytes.
+    EndOfInput,
+    /// A line had 16,385 bytes without an LF.
+    LineTooLong,
+    /// A stamp counted over 17,100,000 bytes.
+    TooMuchData,
+    /// A read failed.
+    ReadFailed,
+    /// A write failed.
+    WriteFailed,
+    /// There was no memory for the buffer of a line. Nothing was read then, or written.
+    Memory,
+}

@@ -1,0 +1,68 @@
+//! What a client is told: a reply line, and what follows it.
+
+ghost use Rattle.std.specs.Prelude.{◌≡◌, ◌++◌, OnOk, OnErr};
+ghost use Rattle.proto.specs.Replies.{reply_line};
+ghost use Rattle.proto.specs.Served.{HasSaid};
+ghost use Rattle.proto.specs.Wire.{CanGoOn, HasNotWritten, HasWritten, wire_of};
+
+use crate::answer::Answer;
+use crate::reply::reply_text;
+use crate::serve::end::End;
+use crate::serve::wire::{pass_on, put};
+use crate::text::Text;
+use metric::{Stream, WriteFault};
+
+/// Writes a reply line and what follows it.
+pub fn say<S: Stream>(
+    stream: &mut S,
+    text: &mut Text,
+    answer: &Answer,
+    body: &[u8],
+) -> Result<(), WriteFault>
+    requires { CanGoOn (wire_of S.rest S.held S.failed_reads S.failed_writes stream.old) }
+    ensures whole { OnOk result (HasWritten (wire_of S.rest S.held S.failed_reads S.failed_writes stream.old) (reply_line answer.now ++ body.now) (wire_of S.rest S.held S.failed_reads S.failed_writes stream.new)) }
+    ensures front { OnErr result (HasNotWritten (wire_of S.rest S.held S.failed_reads S.failed_writes stream.old) (reply_line answer.now ++ body.now) (wire_of S.rest S.held S.failed_reads S.failed_writes stream.new)) }
+{
+    reply_text(answer, text);
+    match put(stream, text.as_bytes()) {
+        Ok(()) => put_body(stream, body),
+        Err(fault) => Err(fault),
+    }
+}
+
+/// Writes what follows a reply line, if anything does.
+fn put_body<S: Stream>(stream: &mut S, body: &[u8]) -> Result<(), WriteFault>
+    requires { CanGoOn (wire_of S.rest S.held S.failed_reads S.failed_writes stream.old) }
+    ensures whole { OnOk result (HasWritten (wire_of S.rest S.held S.failed_reads S.failed_writes stream.old) body.now (wire_of S.rest S.held S.failed_reads S.failed_writes stream.new)) }
+    ensures front { OnErr result (HasNotWritten (wire_of S.rest S.held S.failed_reads S.failed_writes stream.old) body.now (wire_of S.rest S.held S.failed_reads S.failed_writes stream.new)) }
+{
+    if body.is_empty() {
+        Ok(())
+    } else {
+        put(stream, body)
+    }
+}
+
+/// Writes the last reply line of a stream, which is passed on at once. Answers how the stream ends: as it was to, or by a failed write.
+pub fn say_last<S: Stream>(stream: &mut S, text: &mut Text, answer: &Answer, end: End) -> End
+    requires { CanGoOn (wire_of S.rest S.held S.failed_reads S.failed_writes stream.old) }
+    ensures { HasSaid end result (wire_of S.rest S.held S.failed_reads S.failed_writes stream.old) (reply_line answer.now) (wire_of S.rest S.held S.failed_reads S.failed_writes stream.new) }
+{
+    reply_text(answer, text);
+    match put_now(stream, text.as_bytes()) {
+        Ok(()) => end,
+        Err(_) => End::WriteFailed,
+    }
+}
+
+/// Writes a text and passes it on.
+fn put_now<S: Stream>(stream: &mut S, text: &[u8]) -> Result<(), WriteFault>
+    requires { CanGoOn (wire_of S.rest S.held S.failed_reads S.failed_writes stream.old) }
+    ensures whole { OnOk result (HasWritten (wire_of S.rest S.held S.failed_reads S.failed_writes stream.old) text.now (wire_of S.rest S.held S.failed_reads S.failed_writes stream.new)) }
+    ensures front { OnErr result (HasNotWritten (wire_of S.rest S.held S.failed_reads S.failed_writes stream.old) text.now (wire_of S.rest S.held S.failed_reads S.failed_writes stream.new)) }
+{
+    match put(stream, text) {
+        Ok(()) => pass_on(stream),
+        Err(fault) => Err(fault),
+    }
+}

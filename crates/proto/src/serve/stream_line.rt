@@ -1,0 +1,133 @@
+//! One line of a stream: read, answered, and its answer said.
+
+ghost use Rattle.std.specs.Prelude.{◌≡◌, ◌≢◌, ◌∷◌, ◌++◌, [], Ok};
+ghost use Rattle.std.specs.Str.Lines.{strip_carriage_return};
+ghost use Rattle.proto.specs.Exchanges.{IsLine, asks, counts, seen_in};
+ghost use Rattle.proto.specs.Said as saids;
+ghost use Rattle.proto.specs.Served.{HasAnswered, HasCounted, IsHeard, IsServed};
+ghost use Rattle.proto.specs.Wire.{CanGoOn, HasRead, Wire, wire_of};
+
+use crate::answer::Answer;
+use crate::line::{Line, parse_line};
+use crate::serve::caller::Caller;
+use crate::serve::counted::read_counted;
+use crate::serve::end::End;
+use crate::serve::exchange::{answer_line, says_quit};
+use crate::serve::line_buffer::LineBuffer;
+use crate::serve::say::{say, say_last};
+use crate::text::Text;
+use metric::{Refusal, Stream};
+use session::Store;
+use shelf::StoreName;
+use std::alloc::Global;
+use std::sync::Wait;
+
+/// The most bytes of a stamp's image: the plain image of the largest map fits.
+const MOST_COUNTED: u32 = 17_100_000;
+
+/// Serves one line of a stream. Answers how the stream ends there, if it does.
+pub fn serve_line<Id: StoreName, R: Wait, S: Stream>(
+    rt: &R,
+    alloc: Global,
+    store: &Store<Id>,
+    caller: Caller<Id>,
+    stream: &mut S,
+    line: &mut LineBuffer,
+    text: &mut Text,
+) -> (Caller<Id>, Option<End>)
+    requires { CanGoOn (wire_of S.rest S.held S.failed_reads S.failed_writes stream.old) }
+    ensures { IsServed Id.store result.1 (wire_of S.rest S.held S.failed_reads S.failed_writes stream.old) caller (wire_of S.rest S.held S.failed_reads S.failed_writes stream.new) result.0 }
+{
+    match line.read(stream) {
+        Ok(()) => serve_read(rt, alloc, store, caller, stream, line.as_bytes(), text),
+        Err(End::LineTooLong) => {
+            let answer = Answer::Refused(Refusal::LineTooLong);
+            let end = say_last(stream, text, &answer, End::LineTooLong);
+            (caller, Some(end))
+        }
+        Err(end) => (caller, Some(end)),
+    }
+}
+
+/// Serves a line that was read to its LF.
+fn serve_read<Id: StoreName, R: Wait, S: Stream>(
+    rt: &R,
+    alloc: Global,
+    store: &Store<Id>,
+    caller: Caller<Id>,
+    stream: &mut S,
+    line: &[u8],
+    text: &mut Text,
+) -> (Caller<Id>, Option<End>)
+    requires wire { CanGoOn (wire_of S.rest S.held S.failed_reads S.failed_writes stream.old) }
+    requires line { IsLine line.now }
+    ensures { (before : Wire) → HasRead 0 before (line.now ++ 10 ∷ []) (wire_of S.rest S.held S.failed_reads S.failed_writes stream.old)
+        → IsServed Id.store result.1 before caller (wire_of S.rest S.held S.failed_reads S.failed_writes stream.new) result.0 }
+{
+    let asked = hear(alloc, line);
+    if says_quit(&asked) {
+        let caller = Caller::new(caller.into_session(rt, store));
+        let end = say_last(stream, text, &Answer::Bye, End::Quit);
+        return (caller, Some(end));
+    }
+    let count = count_of(&asked);
+    if count > MOST_COUNTED {
+        let answer = Answer::Refused(Refusal::TooMuchData);
+        let end = say_last(stream, text, &answer, End::TooMuchData);
+        return (caller, Some(end));
+    }
+    match read_counted(alloc, stream, count) {
+        Ok(kept) => serve_whole(rt, alloc, store, caller, asked, kept, stream, text),
+        Err(end) => (caller, Some(end)),
+    }
+}
+
+/// Serves a line whose bytes were read.
+fn serve_whole<Id: StoreName, R: Wait, S: Stream>(
+    rt: &R,
+    alloc: Global,
+    store: &Store<Id>,
+    caller: Caller<Id>,
+    asked: Result<Line, Refusal>,
+    kept: Option<Vec<u8>>,
+    stream: &mut S,
+    text: &mut Text,
+) -> (Caller<Id>, Option<End>)
+    requires wire { CanGoOn (wire_of S.rest S.held S.failed_reads S.failed_writes stream.old) }
+    requires quit { seen_in asked ≢ Ok saids.quit }
+    ensures { HasAnswered Id.store (seen_in asked) kept result.1 (wire_of S.rest S.held S.failed_reads S.failed_writes stream.old) caller (wire_of S.rest S.held S.failed_reads S.failed_writes stream.new) result.0 }
+{
+    let (caller, spoken) = answer_line(rt, alloc, store, caller, asked, kept);
+    match say(stream, text, &spoken.answer, spoken.body.as_slice()) {
+        Ok(()) => (caller, None),
+        Err(_) => (caller, Some(End::WriteFailed)),
+    }
+}
+
+/// What a line of a stream says, without the CR at its end.
+fn hear(alloc: Global, line: &[u8]) -> Result<Line, Refusal>
+    ensures { IsHeard (asks line.now) (seen_in result) }
+{
+    parse_line(alloc, without_cr(line))
+}
+
+/// A line without the CR at its end, if it has one.
+fn without_cr(line: &[u8]) -> &[u8]
+    ensures { result.now ≡ strip_carriage_return line.now }
+{
+    if !line.is_empty() && line[line.len() - 1] == b'\r' {
+        &line[..line.len() - 1]
+    } else {
+        line
+    }
+}
+
+/// How many bytes behind its LF a line counts: those of a stamp's image.
+fn count_of(asked: &Result<Line, Refusal>) -> u32
+    ensures { result ≡ counts (seen_in asked.now) }
+{
+    match asked {
+        Ok(Line::Stamp { length, .. }) => *length,
+        _ => 0,
+    }
+}

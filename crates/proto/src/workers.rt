@@ -1,0 +1,152 @@
+//! Workers that serve streams, each with a session of its own.
+
+ghost use Rattle.std.specs.Prelude.{◌≡◌, ◌≤◌, ◌+◌, [], All, length, vec_capacity, IfOk, IfErr, IfSome, IsSome};
+ghost use Rattle.metric.specs.declared.refusal.Refusal.TheVariants.{Memory};
+ghost use Rattle.proto.specs.Wire.{CanGoOn, wire_of};
+
+use crate::serve::serve_stream;
+use metric::{Refusal, Stream};
+use session::{Session, Store};
+use shelf::StoreName;
+use std::alloc::Global;
+use std::sync::{Mutex, Wait};
+use std::thread::{Threads, for_each_mut};
+
+/// Where streams come from, one after another.
+pub trait Streams {
+    /// A stream that is served.
+    type S: Stream + Drop + Send;
+
+    /// The next stream, no call of which has failed; `None` where no more come.
+    fn next(&mut self) -> Option<Self::S>
+        ensures { IfSome result (λ stream. CanGoOn (wire_of Self.S.rest Self.S.held Self.S.failed_reads Self.S.failed_writes stream)) };
+}
+
+/// Serves streams until no more come, with one worker for each session: each asks for the next stream, lets the others ask, and serves it. Where a thread can't be started, the calling thread is that worker.
+///
+/// As many sessions are handed back. Refused for want of memory alone, and then they are as before, and no stream was asked for.
+pub fn pool<Id: StoreName + Send + Sync, R: Wait + Threads + Sync, T: Streams + Send + Drop>(
+    rt: &R,
+    alloc: Global,
+    store: &Store<Id>,
+    sessions: Vec<Session<Id>>,
+    streams: T,
+) -> Result<Vec<Session<Id>>, (Vec<Session<Id>>, Refusal)>
+    ensures all { IfOk result (λ back. length back.items ≡ length sessions.items) }
+    ensures refused { IfErr result (λ back. (back.0.items ≡ sessions.items) × (back.1 ≡ Memory)) }
+{
+    let Ok(room) = Vec::with_capacity(alloc, sessions.len()) else {
+        return Err((sessions, Refusal::Memory));
+    };
+    let (empty, mut seats) = seat_all(sessions, room);
+    let streams = Mutex::new(streams);
+    work_all(rt, alloc, store, &streams, seats.as_mut_slice());
+    Ok(unseat_all(seats, empty))
+}
+
+/// Serves streams until no more come, with a worker for each seat.
+fn work_all<Id: StoreName + Send + Sync, R: Wait + Threads + Sync, T: Streams + Send>(
+    rt: &R,
+    alloc: Global,
+    store: &Store<Id>,
+    streams: &Mutex<T>,
+    seats: &mut [Option<Session<Id>>],
+)
+    requires { All IsSome seats.old }
+    ensures full { All IsSome seats.new }
+    ensures as_many { length seats.new ≡ length seats.old }
+{
+    let count = seats.len().max(1);
+    for_each_mut(
+        rt,
+        seats,
+        count,
+        &|_, seat: &mut Option<Session<Id>>|
+            requires { IsSome seat.now }
+            ensures { IsSome seat.exit.now }
+        { work(rt, alloc, store, streams, seat) },
+    );
+}
+
+/// Serves streams with a session until no more come.
+fn work<Id: StoreName, R: Wait, T: Streams>(
+    rt: &R,
+    alloc: Global,
+    store: &Store<Id>,
+    streams: &Mutex<T>,
+    seat: &mut Option<Session<Id>>,
+)
+    requires { IsSome seat.old }
+    ensures { IsSome seat.new }
+{
+    let Some(session) = seat.take() else {
+        return;
+    };
+    let session = serve_all(rt, alloc, store, streams, session);
+    match seat.replace(session) {
+        None => {}
+        Some(_) => unreachable!(),
+    }
+}
+
+/// Serves streams with a session until no more come, and gives it back. Each stream is asked for under the lock, which is let go before it is served.
+fn serve_all<Id: StoreName, R: Wait, T: Streams>(
+    rt: &R,
+    alloc: Global,
+    store: &Store<Id>,
+    streams: &Mutex<T>,
+    session: Session<Id>,
+) -> Session<Id> {
+    let mut session = session;
+    'streams: for _ in rt.forever() {
+        let next = streams.lock(rt).next();
+        let Some(mut stream) = next else {
+            return session;
+        };
+        let (back, _) = serve_stream(rt, alloc, store, session, &mut stream);
+        session = back;
+    }
+    unreachable!()
+}
+
+/// Puts each session into a seat, for which there is room. Answers what held them, and the seats.
+fn seat_all<Id: StoreName>(
+    sessions: Vec<Session<Id>>,
+    room: Vec<Option<Session<Id>>>,
+) -> (Vec<Session<Id>>, Vec<Option<Session<Id>>>)
+    requires empty { room.items ≡ [] }
+    requires room { length sessions.items ≤ vec_capacity room }
+    ensures empty { result.0.items ≡ [] }
+    ensures room { length sessions.items ≤ vec_capacity result.0 }
+    ensures seats { length result.1.items ≡ length sessions.items }
+    ensures full { All IsSome result.1.items }
+{
+    let mut sessions = sessions;
+    let mut seats = room;
+    'sessions: while let Some(session) = sessions.pop() {
+        seats.push_reserved(Some(session));
+    }
+    (sessions, seats)
+}
+
+/// Takes the sessions out of their seats, in the order in which they were before.
+fn unseat_all<Id: StoreName>(
+    seats: Vec<Option<Session<Id>>>,
+    empty: Vec<Session<Id>>,
+) -> Vec<Session<Id>>
+    requires empty { empty.items ≡ [] }
+    requires room { length seats.items ≤ vec_capacity empty }
+    requires full { All IsSome seats.items }
+    ensures { length result.items ≡ length seats.items }
+{
+    let mut seats = seats;
+    let mut sessions = empty;
+    'seats: while let Some(seat) = seats.pop() {
+        match seat {
+            Some(session) => sessions.push_reserved(session),
+            None => unreachable!(),
+        }
+    }
+    seats.destroy_empty();
+    sessions
+}
