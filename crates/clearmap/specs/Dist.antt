@@ -10,10 +10,9 @@ use Rattle.bits.specs.Cells.{Cells}
 use Rattle.pbm.specs.Faults.{image}
 use Rattle.pbm.specs.Image.{Reads}
 use Rattle.field.specs.Rows.{AreNears}
-use Rattle.proto.specs.Asked.{asked}
 use Rattle.proto.specs.Replies.{reply_line}
 use Rattle.proto.specs.declared.answer.Answer.{Answer}
-use Rattle.clearmap.specs.Query.{IsReplyTo, status_of}
+use Rattle.clearmap.specs.Query.{IsReplyTo, asked_in, status_of}
 use Rattle.clearmap.specs.declared.arguments.DistOptions.{DistOptions}
 use Rattle.clearmap.specs.Table.{table_text}
 
@@ -33,7 +32,7 @@ pub record IsReply (line bytes text : List ℕ) (status : ℕ) : Type 0 where
   pub cells : Cells
   pub answer : Answer
   pub reads : Reads bytes taken cells
-  pub replies : IsReplyTo cells (asked line) answer
+  pub replies : IsReplyTo cells (asked_in line) answer
   pub text_is : text ≡ reply_line answer
   pub status_is : status ≡ status_of answer
 

@@ -1,6 +1,7 @@
 pub mod CommandLine
 pub mod Dist
 pub mod Query
+pub mod Refusals
 pub mod Replied
 pub mod Table
 pub mod Tabled

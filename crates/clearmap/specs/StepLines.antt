@@ -1,12 +1,15 @@
 -- What a line of steps says: this project's own rule. The first word is a letter, and what follows it are numbers; behind `C` a command line follows.
 use Rattle.std.specs.Prelude.{ℕ, List, [], ◌∷◌, Option, Some, None, Result, Ok, Err, bytes_eq, codes, option_map, unwrap_or, if◌then◌else◌}
 use Rattle.metric.specs.declared.refusal.Refusal.{Refusal}
-use Rattle.metric.specs.declared.refusal.Refusal.TheVariants.{UnknownCommand}
 use Rattle.map_core.specs.declared.event.Event.{Event}
 use Rattle.map_core.specs.declared.event.Event.TheVariants as events
 use Rattle.proto.specs.Numbers.{numbers, number_pair, number_triple, only_number}
-use Rattle.proto.specs.Told.{Told, told_by, told_of}
+use Rattle.proto.specs.Said as protocol
+use Rattle.proto.specs.Said.{first_verb, said_of}
+use Rattle.proto.specs.Told.{Told, told_by}
 use Rattle.proto.specs.Words.{words}
+use Rattle.proto.specs.declared.verb.Verb.{Verb}
+use Rattle.proto.specs.declared.verb.Verb.TheVariants as verbs
 use Rattle.clearmap.specs.declared.steps.line.Letter.{Letter}
 use Rattle.clearmap.specs.declared.steps.line.Letter.TheVariants as letters
 use Rattle.clearmap.specs.declared.steps.line.StepLine.{StepLine}
@@ -58,11 +61,11 @@ letter_named word =
     else if bytes_eq word (codes "K") then Some letters.Keep
     else None
 
--- what a command line says: one of no known command is nothing that is known
-abbrev pub order_said : Result Told Refusal → Said
-order_said (Ok command) = event (order command)
-order_said (Err UnknownCommand) = bad
-order_said (Err refusal) = refused refusal
+-- what a line of the protocol says: one that names no command to the keeper is nothing that is known
+abbrev pub order_said : Option Verb → Result protocol.Said Refusal → Said
+order_said (Some (verbs.Order named)) (Ok (protocol.told command)) = event (order command)
+order_said (Some (verbs.Order named)) (Err refusal) = refused refusal
+order_said other line = bad
 
 -- what a letter says with the words behind it; another number or form of them is nothing that is known
 abbrev pub letter_said : Letter → List (List ℕ) → Said
@@ -71,14 +74,14 @@ letter_said letters.Load words = unwrap_or (option_map (λ reader. event (load r
 letter_said letters.LookMap words = unwrap_or (option_map (λ n. event (look_map n.0 n.1)) (number_pair (numbers words))) bad
 letter_said letters.LookTile words = unwrap_or (option_map (λ n. event (look_tile n.0 n.1 n.2)) (number_triple (numbers words))) bad
 letter_said letters.Leave words = unwrap_or (option_map (λ reader. event (leave reader)) (only_number (numbers words))) bad
-letter_said letters.Order words = order_said (told_of words)
+letter_said letters.Order words = order_said (first_verb words) (said_of words)
 letter_said letters.Keep words = unwrap_or (option_map (λ count. keeps count) (only_number (numbers words))) bad
 
 -- what words say
-abbrev pub said_of : List (List ℕ) → Said
-said_of [] = bad
-said_of (word ∷ others) = elim (letter_named word) as (λ _. Said) [ None ↦ bad | Some letter ↦ letter_said letter others ]
+abbrev pub step_of : List (List ℕ) → Said
+step_of [] = bad
+step_of (word ∷ others) = elim (letter_named word) as (λ _. Said) [ None ↦ bad | Some letter ↦ letter_said letter others ]
 
 -- what a line says
 unfoldable pub said : List ℕ → Said
-said line = said_of (words line)
+said line = step_of (words line)

@@ -8,11 +8,11 @@ ghost use Rattle.clearmap.specs.Table.{table_text};
 
 use crate::arguments::DistOptions;
 use crate::input::{InputStop, read_to_end};
-use crate::output::{write_table, write_text};
+use crate::output::{write_refusal, write_table, write_text};
 use crate::reply::Reply;
 use crate::table::Table;
 use crate::{DONE, REFUSED};
-use metric::{PbmFault, Sink, Source, WriteFault};
+use metric::{PbmFault, Refusal, Sink, Source, WriteFault};
 use std::alloc::Global;
 
 /// Reads an image to the end of the reader, and writes its cells' distances to their nearest obstacles, a line a row, as the options ask. Answers the status.
@@ -98,23 +98,5 @@ fn write_fault<W: Sink>(writer: &mut W, fault: PbmFault) -> Result<u8, WriteFaul
     ensures front { OnErr result (AppendsFront (W.held writer.old) (image_text fault ++ 10 ∷ []) (W.held writer.new)) }
     ensures counts { Counts (W.failed_writes writer.old) result (W.failed_writes writer.new) }
 {
-    write_text(writer, fault_line(fault).as_bytes(), REFUSED)
-}
-
-/// The line of a refused image.
-fn fault_line(fault: PbmFault) -> &'static str
-    ensures { result.now ≡ image_text fault ++ 10 ∷ [] }
-{
-    match fault {
-        PbmFault::BadMagic => "ERR 15 BadImage BadMagic\n",
-        PbmFault::MissingSpace => "ERR 15 BadImage MissingSpace\n",
-        PbmFault::BadComment => "ERR 15 BadImage BadComment\n",
-        PbmFault::BadNumber => "ERR 15 BadImage BadNumber\n",
-        PbmFault::ZeroSize => "ERR 15 BadImage ZeroSize\n",
-        PbmFault::TooLarge => "ERR 15 BadImage TooLarge\n",
-        PbmFault::BadPixel => "ERR 15 BadImage BadPixel\n",
-        PbmFault::Truncated => "ERR 15 BadImage Truncated\n",
-        PbmFault::JunkNotSpaced => "ERR 15 BadImage JunkNotSpaced\n",
-        PbmFault::Memory => "ERR 5 Memory\n",
-    }
+    write_refusal(writer, Refusal::BadImage(fault))
 }

@@ -1,23 +1,37 @@
 //! The answer to one query line on a bitmap.
 
-ghost use Rattle.std.specs.Prelude.{◌≡◌};
-ghost use Rattle.proto.specs.Asked.{asked, seen};
-ghost use Rattle.clearmap.specs.Query.{IsAnswerBy, IsReplyTo, metric_asked, status_of};
-ghost use Rattle.metric.specs.Kind.{distance_of};
+ghost use Rattle.std.specs.Prelude.{◌≡◌, ◌≢◌, IfOk, IfErr, IsOkAnd, Ok, Err};
+ghost use Rattle.metric.specs.declared.refusal.Refusal.{Refusal};
+ghost use Rattle.proto.specs.Asked.{asked_by, HasPoints};
+ghost use Rattle.clearmap.specs.Query.{IsReplyTo, asked_in, status_of};
 
 use bits::Bitmap;
-use clearance::{along, at, clear_of, least_in};
-use metric::{Chess, City, Euclid2, Metric, MetricKind};
-use proto::{Answer, Line, parse_line};
+use metric::Refusal;
+use proto::{Answer, Line, Query, Verb, answer_query, parse_line, verb_of};
 use std::alloc::Global;
 
 /// The answer to a line, a refusal of the line or of its query included.
 pub fn answer_line(alloc: Global, bitmap: &Bitmap, line: &[u8]) -> Answer
-    ensures { IsReplyTo bitmap.now (asked line.now) result }
+    ensures { IsReplyTo bitmap.now (asked_in line.now) result }
 {
-    match parse_line(alloc, line) {
-        Ok(line) => answer(alloc, bitmap, &line),
+    match query_in(alloc, line) {
+        Ok(query) => answer_query(alloc, bitmap, &query),
         Err(refusal) => Answer::Refused(refusal),
+    }
+}
+
+/// The query that a line is. A command that is no query is unknown here, whatever its arguments.
+fn query_in(alloc: Global, line: &[u8]) -> Result<Query, Refusal>
+    ensures query { IfOk result (λ query. asked_in line.now ≡ Ok (asked_by query)) }
+    ensures refusal { IfErr result (λ refusal. refusal ≢ Refusal.Memory → asked_in line.now ≡ Err refusal) }
+    ensures memory { result ≡ Err Refusal.Memory → IsOkAnd (asked_in line.now) HasPoints }
+{
+    let Some(Verb::Ask(_)) = verb_of(line) else {
+        return Err(Refusal::UnknownCommand);
+    };
+    match parse_line(alloc, line)? {
+        Line::Query(query) => Ok(query),
+        _ => Err(Refusal::UnknownCommand),
     }
 }
 
@@ -27,55 +41,6 @@ pub fn status(answer: &Answer) -> u8
 {
     match answer {
         Answer::Refused(_) => 1,
-        Answer::Near(_) | Answer::Found(_) | Answer::Clear(_) | Answer::Done(_) => 0,
-    }
-}
-
-/// The answer to a query, by its own metric.
-fn answer(alloc: Global, bitmap: &Bitmap, line: &Line) -> Answer
-    ensures { IsAnswerBy (distance_of (metric_asked (seen line.now))) bitmap.now (seen line.now) result }
-{
-    match metric_of(line) {
-        MetricKind::Euclid2 => answer_by::<Euclid2>(alloc, bitmap, line),
-        MetricKind::City => answer_by::<City>(alloc, bitmap, line),
-        MetricKind::Chess => answer_by::<Chess>(alloc, bitmap, line),
-    }
-}
-
-/// The metric of a query.
-fn metric_of(line: &Line) -> MetricKind
-    ensures { result ≡ metric_asked (seen line.now) }
-{
-    match line {
-        Line::At { metric, .. }
-        | Line::Rect { metric, .. }
-        | Line::Path { metric, .. }
-        | Line::ClearOf { metric, .. } => *metric,
-    }
-}
-
-/// The answer to a query by this metric.
-fn answer_by<M: Metric>(alloc: Global, bitmap: &Bitmap, line: &Line) -> Answer
-    ensures { IsAnswerBy M.distance bitmap.now (seen line.now) result }
-{
-    match line {
-        Line::At { cell, .. } => match at::<M>(alloc, bitmap, *cell) {
-            Ok(near) => Answer::Near(near),
-            Err(refusal) => Answer::Refused(refusal),
-        },
-        Line::Rect { rect, .. } => match least_in::<M>(alloc, bitmap, *rect) {
-            Ok(found) => Answer::Found(found),
-            Err(refusal) => Answer::Refused(refusal),
-        },
-        Line::Path { points, .. } => match along::<M>(alloc, bitmap, points.as_slice()) {
-            Ok(found) => Answer::Found(found),
-            Err(refusal) => Answer::Refused(refusal),
-        },
-        Line::ClearOf { d, points, .. } => {
-            match clear_of::<M>(alloc, bitmap, points.as_slice(), *d) {
-                Ok(found) => Answer::Clear(found),
-                Err(refusal) => Answer::Refused(refusal),
-            }
-        }
+        _ => 0,
     }
 }

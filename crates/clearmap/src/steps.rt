@@ -16,7 +16,7 @@ use crate::REFUSED;
 use crate::input::{InputStop, read_to_end};
 use metric::{Sink, Source};
 use opening::NotOpened;
-use run::{write_refusal, write_steps};
+use run::{write_steps, write_stop};
 use std::alloc::Global;
 
 /// Reads a text to the end of the reader, opens the world that its first line tells, and writes one answer line for it and for each line behind it. Answers the status.
@@ -41,7 +41,7 @@ pub fn steps_run<R: Source, W: Sink>(alloc: Global, reader: &mut R, writer: &mut
 {
     match read_to_end(alloc, reader) {
         Ok(bytes) => write_steps(alloc, bytes.as_slice(), writer).unwrap_or(REFUSED),
-        Err(InputStop::Memory) => write_refusal(writer, NotOpened::Memory).unwrap_or(REFUSED),
+        Err(InputStop::Memory) => write_stop(writer, NotOpened::Memory).unwrap_or(REFUSED),
         Err(InputStop::Failed) => REFUSED,
     }
 }

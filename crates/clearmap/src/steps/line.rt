@@ -1,13 +1,14 @@
 //! A line of steps, and what it says.
 
 ghost use Rattle.std.specs.Prelude.{◌≡◌};
-ghost use Rattle.proto.specs.Told.{told_of};
+ghost use Rattle.proto.specs.Said.{first_verb, said_of};
 ghost use Rattle.proto.specs.Words.{words_left};
 ghost use Rattle.clearmap.specs.StepLines.{letter_named, letter_said, order_said, said, said_by};
 
 use map_core::Event;
 use metric::Refusal;
-use proto::{number_pair, number_triple, only_number, parse_command, split_word};
+use proto::{Line, Verb, number_pair, number_triple, only_number, parse_line, split_word, verb_of};
+use std::alloc::Global;
 
 /// What a line says.
 #[derive(Debug, Drop)]
@@ -57,23 +58,26 @@ fn letter_of(word: &[u8]) -> Option<Letter>
     }
 }
 
-/// What the command line that is left of a line says.
-#[tactic(auto, unfolding(proto::specs::Told::told))]
-fn order(rest: Option<&[u8]>) -> StepLine
-    ensures { said_by result ≡ order_said (told_of (words_left rest.entry)) }
+/// What the line of the protocol that is left of a line says. Only a command to the keeper says anything.
+#[tactic(auto, unfolding(proto::specs::Said::said, proto::specs::Said::verb_in))]
+fn order(alloc: Global, rest: Option<&[u8]>) -> StepLine
+    ensures { said_by result ≡ order_said (first_verb (words_left rest.entry)) (said_of (words_left rest.entry)) }
 {
     let Some(line) = rest else {
         return StepLine::Bad;
     };
-    match parse_command(line) {
-        Ok(command) => StepLine::Event(Event::Order { command }),
-        Err(Refusal::UnknownCommand) => StepLine::Bad,
+    let Some(Verb::Order(_)) = verb_of(line) else {
+        return StepLine::Bad;
+    };
+    match parse_line(alloc, line) {
+        Ok(Line::Command(command)) => StepLine::Event(Event::Order { command }),
+        Ok(_) => StepLine::Bad,
         Err(refusal) => StepLine::Refused(refusal),
     }
 }
 
 /// What a letter says with what is left of its line.
-fn letter_line(letter: Letter, rest: Option<&[u8]>) -> StepLine
+fn letter_line(alloc: Global, letter: Letter, rest: Option<&[u8]>) -> StepLine
     ensures { said_by result ≡ letter_said letter (words_left rest.entry) }
 {
     match letter {
@@ -97,7 +101,7 @@ fn letter_line(letter: Letter, rest: Option<&[u8]>) -> StepLine
             Some(reader) => StepLine::Event(Event::Leave { reader }),
             None => StepLine::Bad,
         },
-        Letter::Order => order(rest),
+        Letter::Order => order(alloc, rest),
         Letter::Keep => match only_number(rest) {
             Some(count) => StepLine::Keep { count },
             None => StepLine::Bad,
@@ -107,12 +111,12 @@ fn letter_line(letter: Letter, rest: Option<&[u8]>) -> StepLine
 
 /// What a line says, without its LF and the CR before it.
 #[tactic(auto, unfolding(crate::specs::StepLines::said))]
-pub fn parse_step(line: &[u8]) -> StepLine
+pub fn parse_step(alloc: Global, line: &[u8]) -> StepLine
     ensures { said_by result ≡ said line.now }
 {
     let (word, rest) = split_word(line);
     match letter_of(word) {
-        Some(letter) => letter_line(letter, rest),
+        Some(letter) => letter_line(alloc, letter, rest),
         None => StepLine::Bad,
     }
 }

@@ -1,8 +1,7 @@
 //! The first line of steps, and the world that it opens.
 
-ghost use Rattle.std.specs.Prelude.{◌≡◌, ◌≢◌, ◌∷◌, ◌++◌, [], Ok, Err, true, false, option_and_then, IfOk, IfErr, IfSome, IsSome, MatchOption};
+ghost use Rattle.std.specs.Prelude.{◌≡◌, ◌≢◌, Ok, Err, true, false, option_and_then, IfOk, IfErr, IfSome, IsSome, MatchOption};
 ghost use Rattle.bits.specs.Cells.{IsSide};
-ghost use Rattle.metric.specs.Refusal.{refusal_text};
 ghost use Rattle.map_core.specs.Runs.{IsOpened};
 ghost use Rattle.map_core.specs.Words.{tiles};
 ghost use Rattle.proto.specs.Numbers.{numbers};
@@ -45,17 +44,14 @@ pub struct Opened {
 }
 
 impl NotOpened {
-    /// The line that tells it.
-    pub fn line(self) -> &'static str
-        ensures { result.now ≡ refusal_text (refusal_of self) ++ 10 ∷ [] }
+    /// The refusal that tells it.
+    pub fn refusal(self) -> Refusal
+        ensures { result ≡ refusal_of self }
     {
         match self {
-            NotOpened::BadArguments => "ERR 12 BadArguments\n",
-            NotOpened::BadSetting(Field::Blocks) => "ERR 16 BadSetting Blocks\n",
-            NotOpened::BadSetting(Field::Versions) => "ERR 16 BadSetting Versions\n",
-            NotOpened::BadSetting(Field::Sessions) => "ERR 16 BadSetting Sessions\n",
-            NotOpened::BadSetting(Field::Log) => "ERR 16 BadSetting Log\n",
-            NotOpened::Memory => "ERR 5 Memory\n",
+            NotOpened::BadArguments => Refusal::BadArguments,
+            NotOpened::BadSetting(field) => Refusal::BadSetting(field),
+            NotOpened::Memory => Refusal::Memory,
         }
     }
 }

@@ -9,12 +9,12 @@ ghost use Rattle.clearmap.specs.StepRuns.{IsAnswerLine, IsDone, IsDoneInPart, Is
 ghost use Rattle.clearmap.specs.Steps.{IsBegun, IsWritten, KeepsAll};
 ghost use Rattle.clearmap.specs.TextLines.{lines_of};
 
-use crate::output::write_text;
+use crate::DONE;
+use crate::output::write_refusal;
 use crate::steps::answer::{bad_line, opened_line, step_line};
 use crate::steps::line::{StepLine, parse_step};
 use crate::steps::opening::{NotOpened, Opened};
 use crate::steps::text::split_line;
-use crate::{DONE, REFUSED};
 use map_core::{Event, NotEnabled, StepReply, World};
 use metric::{Sink, WriteFault};
 use proto::{Answer, Text, reply_text};
@@ -39,7 +39,7 @@ fn answer_line(alloc: Global, world: &mut World, line: &[u8], text: &mut Text)
     ensures answered { IsAnswerLine (said line.now) world.old text.new world.new }
     ensures fits { length text.new ≤ 128 }
 {
-    match parse_step(line) {
+    match parse_step(alloc, line) {
         StepLine::Event(event) => step_line(world.step(alloc, event), text),
         StepLine::Keep { count } => step_line(keep(alloc, world, count), text),
         StepLine::Refused(refusal) => reply_text(&Answer::Refused(refusal), text),
@@ -95,14 +95,14 @@ fn write_world<W: Sink>(
 }
 
 /// Writes the line that tells why no world was opened.
-pub fn write_refusal<W: Sink>(writer: &mut W, stop: NotOpened) -> Result<u8, WriteFault>
+pub fn write_stop<W: Sink>(writer: &mut W, stop: NotOpened) -> Result<u8, WriteFault>
     requires { CanFail (W.failed_writes writer.old) }
     ensures status { IfOk result (λ status. status ≡ 1) }
     ensures whole { OnOk result (Appends (W.held writer.old) (refusal_text (refusal_of stop) ++ 10 ∷ []) (W.held writer.new)) }
     ensures front { OnErr result (AppendsFront (W.held writer.old) (refusal_text (refusal_of stop) ++ 10 ∷ []) (W.held writer.new)) }
     ensures counts { Counts (W.failed_writes writer.old) result (W.failed_writes writer.new) }
 {
-    write_text(writer, stop.line().as_bytes(), REFUSED)
+    write_refusal(writer, stop.refusal())
 }
 
 /// Writes the answer to a text.
@@ -113,10 +113,10 @@ pub fn write_steps<W: Sink>(alloc: Global, bytes: &[u8], writer: &mut W) -> Resu
     ensures counts { Counts (W.failed_writes writer.old) result (W.failed_writes writer.new) }
 {
     let Some((first, later)) = split_line(bytes) else {
-        return write_refusal(writer, NotOpened::BadArguments);
+        return write_stop(writer, NotOpened::BadArguments);
     };
     match Opened::of(alloc, first) {
         Ok(opened) => write_world(alloc, opened, later, writer),
-        Err(stop) => write_refusal(writer, stop),
+        Err(stop) => write_stop(writer, stop),
     }
 }

@@ -1,0 +1,16 @@
+-- Refusals whose lines have no number: this project's own rule.
+use Rattle.std.specs.Prelude.{ℕ, List, [], ◌∷◌, Option, Some, None}
+use Rattle.std.specs.Borrow.{Bor}
+use Rattle.metric.specs.declared.refusal.Refusal.{Refusal}
+use Rattle.metric.specs.declared.refusal.Refusal.TheVariants as refusals
+
+-- no number stands in the line of the refusal
+abbrev pub HasWordsAlone : Refusal → Type 0
+HasWordsAlone (refusals.BlocksFull needed free) = ⊥
+HasWordsAlone (refusals.Crooked index) = ⊥
+HasWordsAlone other = Unit {0}
+
+-- a name behind a title, where there is one
+abbrev pub name_text : Option (Bor (List ℕ)) → List ℕ
+name_text None = []
+name_text (Some name) = 32 ∷ name.now
