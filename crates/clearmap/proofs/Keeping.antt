@@ -1,12 +1,11 @@
 -- Steps of the keeper, one after another.
-use Rattle.std.proofs.Common.{ℕ, ◌+◌, List, [], ◌∷◌, ◌++◌, Result, refl, subst}
+use Rattle.std.proofs.Common.{ℕ, ◌+◌, [], ◌∷◌, ◌++◌, Result, refl}
 use Rattle.std.specs.Prelude.{replicate}
 use Rattle.std.proofs.lemmas.List.{replicate_more}
-use Rattle.map_core.specs.declared.event.Event.{Event}
 use Rattle.map_core.specs.declared.event.Event.TheVariants as events
 use Rattle.map_core.specs.declared.event.NotEnabled.{NotEnabled}
 use Rattle.map_core.specs.declared.event.StepReply.{StepReply}
-use Rattle.map_core.specs.Runs.{IsRun, SafeStep}
+use Rattle.map_core.specs.Runs.{SafeStep}
 use Rattle.map_core.specs.Views.{State}
 use Rattle.clearmap.specs.Steps.{Keeps}
 use Rattle.map_core.proofs.RunLemmas.{run-push}

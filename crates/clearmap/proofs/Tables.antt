@@ -1,5 +1,5 @@
 -- The text of a table, a row at a time.
-use Rattle.std.proofs.Common.{◌≡◌, ℕ, zero, suc, ◌+◌, ◌-◌, ◌*◌, ◌<◌, List, [], ◌∷◌, ◌++◌, Bool, Option, refl, ap, ◌∙◌, arith, zero-add, add-zero, one-add}
+use Rattle.std.proofs.Common.{◌≡◌, ℕ, ◌+◌, ◌-◌, ◌*◌, ◌<◌, List, [], ◌++◌, Bool, Option, refl, ap, ◌∙◌, arith, zero-add, one-add}
 use Rattle.std.specs.List.{range_with_len, slice_range, flat_map}
 use Rattle.std.proofs.lemmas.List.Concat.{flat_map-append}
 use Rattle.std.proofs.lemmas.List.{append-nil}

@@ -2,6 +2,7 @@ pub mod CommandLine
 pub mod Dist
 pub mod Query
 pub mod Replied
+pub mod Runs
 pub mod Table
 pub mod Tabled
 pub mod Opening

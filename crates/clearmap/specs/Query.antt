@@ -8,7 +8,7 @@ use Rattle.metric.specs.declared.refusal.Refusal.TheVariants.{Memory}
 use Rattle.bits.specs.Cells.{Cells, IsInside, IsObstacle}
 use Rattle.clearance.specs.Answers.{IsClearOf, IsLeastOf, IsRefusalFor, cells_of_rect}
 use Rattle.clearance.specs.Paths.{IsPathRefusal, cells_of_path, path_refusal}
-use Rattle.proto.specs.Asked.{Asked, at, rect, path, clear_of}
+use Rattle.proto.specs.Asked.{Asked, HasPoints, at, rect, path, clear_of}
 use Rattle.proto.specs.declared.answer.Answer.{Answer}
 use Rattle.proto.specs.declared.answer.Answer.TheVariants.{Near, Found, Clear, Refused}
 
@@ -35,9 +35,9 @@ IsAnswerBy distance cells (clear_of metric d points) (Clear found) = (path_refus
 IsAnswerBy distance cells (clear_of metric d points) (Refused refusal) = IsPathRefusal cells points refusal
 IsAnswerBy distance cells query answer = ⊥
 
--- an answer to a line that asks this, or is refused: by its own metric; or want of memory, for its points
+-- an answer to a line that asks this, or is refused: by its own metric; or want of memory, for its points where it has some
 abbrev pub IsReplyTo : Cells → Result Asked Refusal → Answer → Type 0
-IsReplyTo cells (Ok query) answer = IsAnswerBy (distance_of (metric_asked query)) cells query answer ⊎ (answer ≡ Refused Memory)
+IsReplyTo cells (Ok query) answer = IsAnswerBy (distance_of (metric_asked query)) cells query answer ⊎ (HasPoints query × (answer ≡ Refused Memory))
 IsReplyTo cells (Err refusal) answer = answer ≡ Refused refusal
 
 -- the status of an answer: a refusal has 1
