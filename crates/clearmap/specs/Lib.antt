@@ -3,6 +3,7 @@ pub mod Dist
 pub mod Query
 pub mod Refusals
 pub mod Replied
+pub mod Runs
 pub mod Table
 pub mod Tabled
 pub mod Opening

@@ -1,22 +1,21 @@
-//! From the process's words and standard streams to the engine that they name.
+//! From the process's words and standard streams to a run.
 
-use crate::arguments::{Fault, Options};
-use crate::dist::dist_run;
-use crate::steps::steps_run;
-use crate::words::options;
-use crate::{DONE, REFUSED};
+ghost use Rattle.std.specs.Prelude.{◌≡◌};
+
+use crate::REFUSED;
+use crate::arguments::Fault;
+use crate::engine::run_words;
+use crate::errors::ErrorSink;
+use crate::refusing::tell;
 use metric::{ReaderSource, Refusal, WriterSink};
 use std::rt::Env;
 use std::{env, io};
 
-/// The status of a command line that was refused.
-const MISTAKEN: u8 = 2;
-
-/// Runs what the process's words name, and answers its exit status.
+/// Runs what the process's words name, on the standard streams. Answers the exit status.
 pub fn run<R: Env + Input + Print + Eprint + AllocGlobal>(rt: &R) -> u8 {
     match words_of(rt) {
-        Ok(words) => run_words(rt, words.as_slice()),
-        Err(fault) => report(rt, &fault),
+        Ok(words) => run_texts(rt, words.as_slice()),
+        Err(fault) => tell_fault(rt, &fault),
     }
 }
 
@@ -26,54 +25,42 @@ fn words_of<R: Env + AllocGlobal>(rt: &R) -> Result<Vec<String>, Fault> {
 }
 
 /// Runs what these words name.
-fn run_words<R: Input + Print + Eprint + AllocGlobal>(rt: &R, words: &[String]) -> u8 {
+fn run_texts<R: Input + Print + Eprint + AllocGlobal>(rt: &R, words: &[String]) -> u8 {
     let alloc = rt.alloc();
-    let Ok(texts) = words
+    let texts = words
         .iter()
         .map(|word| word.as_str())
-        .collect::<Vec<&str>>(alloc)
-    else {
+        .collect::<Vec<&str>>(alloc);
+    let (Ok(texts), Ok(mut reader), Ok(mut writer)) = (
+        texts,
+        ReaderSource::new(alloc, rt.reader()),
+        WriterSink::new(alloc, io::writer(rt)),
+    ) else {
         return refuse(rt);
     };
-    match options(alloc, texts.as_slice()) {
-        Ok(options) => run_engine(rt, &options),
-        Err(fault) => report(rt, &fault),
-    }
+    let mut errors = ErrorSink::new(rt);
+    run_words(
+        alloc,
+        texts.as_slice(),
+        &mut reader,
+        &mut writer,
+        &mut errors,
+    )
 }
 
-/// Runs an engine on the standard streams.
-fn run_engine<R: Input + Print + AllocGlobal>(rt: &R, options: &Options<'_>) -> u8 {
+/// Tells why the process's words can't be had.
+fn tell_fault<R: Print + Eprint + AllocGlobal>(rt: &R, fault: &Fault) -> u8 {
     let alloc = rt.alloc();
-    let Ok(mut reader) = ReaderSource::new(alloc, rt.reader()) else {
-        return refuse(rt);
-    };
     let Ok(mut writer) = WriterSink::new(alloc, io::writer(rt)) else {
         return refuse(rt);
     };
-    match options {
-        Options::Dist(options) => dist_run(alloc, options, &mut reader, &mut writer),
-        Options::Steps => steps_run(alloc, &mut reader, &mut writer),
-    }
+    tell(alloc, fault, &mut writer, &mut ErrorSink::new(rt))
 }
 
-/// Tells want of memory.
-fn refuse(rt: &impl Print) -> u8 {
+/// Tells want of memory where there is none for a stream either.
+fn refuse(rt: &impl Print) -> u8
+    ensures { result ≡ 1 }
+{
     let _ = rt.println(Refusal::Memory);
     REFUSED
-}
-
-/// Tells why the words aren't a command to run, or what they asked to be told.
-fn report<R: Print + Eprint>(rt: &R, fault: &Fault) -> u8 {
-    match fault {
-        Fault::Memory => refuse(rt),
-        Fault::Words(error) => match error.print(rt) {
-            Err(_) => REFUSED,
-            Ok(()) if error.use_stderr() => MISTAKEN,
-            Ok(()) => DONE,
-        },
-        Fault::UnknownMetric | Fault::NoCommand | Fault::Unreadable(_) => {
-            let _ = eprintln!(rt; "clearmap: {fault}");
-            MISTAKEN
-        }
-    }
 }
