@@ -5,7 +5,7 @@ use Rattle.std.proofs.lemmas.Nat.{mod_below, div-mul-add, mod-mul-add, mul-add-l
 use Rattle.std.proofs.lemmas.Nat.Bits.{bit_at_cat_low, bit_at_cat_high, bit_at-zero, same_from_bits_below}
 use Rattle.std.proofs.lemmas.Bool.{cases_lt}
 use mathlib.Core.Logic.{inl, inr}
-use Rattle.bits.proofs.CellsLemmas.{same_bitmap, has-outside}
+use Rattle.bits.proofs.CellsLemmas.{has-outside}
 use Rattle.std.proofs.Math.Nat.{pow-suc, mul-le-mul_right}
 use Rattle.bits.specs.Cells.{Cells, has, IsBitmap}
 use Rattle.bits.specs.Words.{words_across, IsRowOf}
@@ -20,13 +20,6 @@ few_of false = omega arith
 bit_of : (test : Bool) → bit_at (cond test 1 0) 0 ≡ cond test 1 0
 bit_of true = refl
 bit_of false = refl
-
--- two answers that count the same are the same
-same_test : (a b : Bool) → ◌≡◌ {A = ℕ} (cond a 1 0) (cond b 1 0) → a ≡ b
-same_test true true same = refl
-same_test true false same = absurd (omega arith)
-same_test false true same = absurd (omega arith)
-same_test false false same = refl
 
 -- as many answers make a number of as many bits
 pub word_where-lt : (test : ℕ → Bool) (n : ℕ) → word_where test n < 2 ^ n
@@ -67,17 +60,6 @@ pub row_word_is : (cells : Cells) (k i word : ℕ) → word < 2 ^ 64
 row_word_is cells k i word fits says =
     same_from_bits_below 64 word (row_word cells k i) fits (row_word-lt cells k i) (λ j h. says j h ∙ sym (bit_at-row_word cells k i j h))
 
--- rows of tiles with the same cells are equal
-pub row_word-same : (a b : Cells) (k i : ℕ) → ((j : ℕ) → j < 64 → tile_has a k i j ≡ tile_has b k i j) → row_word a k i ≡ row_word b k i
-row_word-same a b k i same =
-    row_word_is b k i (row_word a k i) (row_word-lt a k i)
-    (λ j h. bit_at-row_word a k i j h ∙ ap (λ (test : Bool). cond test 1 0) (same j h))
-
--- rows of tiles that are equal have the same cells
-pub tile_has-same : (a b : Cells) (k i j : ℕ) → row_word a k i ≡ row_word b k i → j < 64 → tile_has a k i j ≡ tile_has b k i j
-tile_has-same a b k i j same h =
-    same_test _ _ (sym (bit_at-row_word a k i j h) ∙ (ap (λ (word : ℕ). bit_at word j) same ∙ bit_at-row_word b k i j h))
-
 -- a cell is found again in its tile
 pub tile_has-tile_of : (cells : Cells) (x y : ℕ) → x < cells.width → tile_has cells (tile_of cells x y) (y % 64) (x % 64) ≡ has cells x y
 tile_has-tile_of cells x y hx =
@@ -93,19 +75,6 @@ tile_of-lt cells x y hx hy =
     let column : x / 64 < words_across cells.width = omega arith in
     let row : y / 64 < tiles_down cells.height = omega arith in
     mul-add-lt (y / 64) (words_across cells.width) (x / 64) (tiles_down cells.height) row column
-
--- two bitmaps of one size whose tiles have the same rows are equal
-pub same_tiles : (a b : Cells) → IsBitmap a → IsBitmap b → a.width ≡ b.width → a.height ≡ b.height
-    → ((k i : ℕ) → k < tile_count a → i < 64 → row_word a k i ≡ row_word b k i) → a ≡ b
-same_tiles a b ha hb width_same height_same same =
-    same_bitmap a b ha hb width_same height_same (λ x y inside.
-    let k = tile_of a x y in
-    let k_same : k ≡ tile_of b x y = ap (λ (width : ℕ). y / 64 * words_across width + x / 64) width_same in
-    let row_same = same k (y % 64) (tile_of-lt a x y inside.column inside.row) (mod_below y 64 (omega arith)) in
-    sym (tile_has-tile_of a x y inside.column)
-    ∙ (tile_has-same a b k (y % 64) (x % 64) row_same (mod_below x 64 (omega arith))
-    ∙ (ap (λ (p : ℕ). tile_has b p (y % 64) (x % 64)) k_same
-    ∙ tile_has-tile_of b x y (let within : x < b.width = omega (arith, inside.column) in within))))
 
 -- the rows above a tile are rows of the bitmap
 pub tile_above : (cells : Cells) (k across : ℕ) → k < tile_count cells → across ≡ words_across cells.width

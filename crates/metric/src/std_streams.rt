@@ -1,7 +1,8 @@
 //! Readers and writers of std as streams, buffered. They tell nothing of their bytes.
 
-ghost use Rattle.std.specs.Prelude.{◌≡◌, ℕ, None, Err, IfOk, IfErr};
+ghost use Rattle.std.specs.Prelude.{◌≡◌, ◌+◌, ℕ, None, Err, IfOk, IfErr};
 ghost use Rattle.metric.specs.declared.refusal.Refusal.TheVariants.{Memory};
+ghost use Rattle.metric.specs.Stream.{CanFail};
 
 use crate::refusal::Refusal;
 use crate::stream::{ReadFault, Sink, Source, WriteFault};
@@ -62,9 +63,11 @@ impl<R: Read + Drop> Source for ReaderSource<R> {
 }
 
 /// A writer of std, written to by blocks. Contracts see how many writes and flushes have failed.
+///
+/// Once a call has failed nothing is written any more, also not what was kept back, and each later call fails.
 #[derive(Drop)]
 pub struct WriterSink<W: Write + Drop> {
-    writer: BufWriter<W>,
+    writer: Option<BufWriter<W>>,
     failed: u64,
 }
 
@@ -81,9 +84,24 @@ impl<W: Write + Drop> WriterSink<W> {
         ensures memory { IfErr result (λ refusal. refusal ≡ Memory) }
     {
         match BufWriter::new(alloc, writer) {
-            Ok(writer) => Ok(WriterSink { writer, failed: 0 }),
+            Ok(writer) => Ok(WriterSink {
+                writer: Some(writer),
+                failed: 0,
+            }),
             Err(_) => Err(Refusal::Memory),
         }
+    }
+
+    /// Counts a failed call, and lets the writer go without what was kept back for it.
+    fn fail(&mut self) -> WriteFault
+        requires { CanFail self.old }
+        ensures { self.new ≡ self.old + 1 }
+    {
+        if let Some(writer) = self.writer.take() {
+            let _unwritten = writer.into_parts();
+        }
+        self.failed += 1;
+        WriteFault
     }
 }
 
@@ -95,19 +113,21 @@ impl<W: Write + Drop> Sink for WriterSink<W> {
     ghost unread = { λ _. (None, 0) };
 
     fn write_all(&mut self, bytes: &[u8]) -> Result<(), WriteFault> {
-        if self.writer.write_all(bytes).is_err() {
-            self.failed += 1;
-            return Err(WriteFault);
+        if let Some(writer) = &mut self.writer
+            && writer.write_all(bytes).is_ok()
+        {
+            return Ok(());
         }
-        Ok(())
+        Err(self.fail())
     }
 
     fn flush(&mut self) -> Result<(), WriteFault> {
-        if self.writer.flush().is_err() {
-            self.failed += 1;
-            return Err(WriteFault);
+        if let Some(writer) = &mut self.writer
+            && writer.flush().is_ok()
+        {
+            return Ok(());
         }
-        Ok(())
+        Err(self.fail())
     }
 
     fn failed_writes(&self) -> u64 {

@@ -351,19 +351,21 @@ fn a_failed_write_is_counted(rt: HostRuntime) -> Result<(), Fail> {
         },
     )?;
 
-    // What is flushed passes at once, what a flush fails to pass on is kept for the next.
-    for (text, flushed, count) in [
-        ("ab", Ok(()), 2),
-        ("cd", Err(WriteFault), 2),
-        ("e", Ok(()), 5),
+    // What is flushed passes at once. Where a flush fails nothing passes any more: neither what it kept back, nor what comes later.
+    for (text, written, flushed, failed) in [
+        ("ab", Ok(()), Ok(()), 0),
+        ("cd", Ok(()), Err(WriteFault), 1),
+        ("e", Err(WriteFault), Err(WriteFault), 3),
     ] {
         assert!(rt; sink.failed_writes() <= 1);
-        assert_eq!(rt; sink.write_all(text.as_bytes()), Ok(()));
-        assert!(rt; sink.failed_writes() <= 1);
+        assert_eq!(rt; sink.write_all(text.as_bytes()), written, "at {text}");
+        assert!(rt; sink.failed_writes() <= 2);
         assert_eq!(rt; sink.flush(), flushed, "after {text}");
-        assert_eq!(rt; passed.get(), count, "after {text}");
+        assert_eq!(rt; sink.failed_writes(), failed, "after {text}");
+        assert_eq!(rt; passed.get(), 2, "after {text}");
     }
-    assert_eq!(rt; sink.failed_writes(), 1);
+    drop(sink);
+    assert_eq!(rt; passed.get(), 2, "nothing is let out at the end");
 
     let calls = 1;
     let mut sink = WriterSink::new(
@@ -375,6 +377,8 @@ fn a_failed_write_is_counted(rt: HostRuntime) -> Result<(), Fail> {
     )?;
     assert_eq!(rt; sink.write_all(LONG.as_slice()), Err(WriteFault));
     assert_eq!(rt; sink.failed_writes(), 1);
+    drop(sink);
+    assert_eq!(rt; passed.get(), 2, "nothing is let out at the end");
     Ok(())
 }
 
