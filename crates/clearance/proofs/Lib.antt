@@ -1,6 +1,11 @@
-pub mod Areas
+pub mod Bits
+pub mod Firsts
+pub mod NearestSearches
+pub mod PieceFirsts
+pub mod RectFirsts
+pub mod Rectangles
 pub mod Refusals
 pub mod RowSearches
 pub mod Searches
-pub mod Touches
+pub mod StripLines
 pub mod Walks

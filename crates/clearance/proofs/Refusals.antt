@@ -10,7 +10,7 @@ use Rattle.metric.specs.declared.refusal.Refusal.TheVariants.{BadPath, OutOfRang
 use Rattle.bits.specs.Cells.{Cells, IsInside}
 use Rattle.clearance.specs.Paths.{is_outside, first_crooked, crooked_point, path_refusal}
 use Rattle.clearance.specs.Segments.{IsStraight}
-use Rattle.clearance.specs.Search.{origin}
+use Rattle.clearance.specs.Firsts.{origin}
 use Rattle.std.proofs.lemmas.Bool.{or_parts}
 
 -- the test of a point in the row or column of another

@@ -1,157 +1,196 @@
--- The best cell of a path, as the cells of one row are looked at after another's.
-use Rattle.std.proofs.Common.{◌≡◌, ℕ, suc, zero, ◌*◌, ◌+◌, ◌-◌, ◌<◌, ◌≤◌, inl, inr, List, [], ◌∷◌, length, get_or, Option, None, refl, sym, ap, subst, ◌∙◌, arith}
+-- How far a row has been searched for marks, word by word to the right and to the left.
+use Rattle.std.proofs.Common.{◌≡◌, ℕ, ◌+◌, ◌-◌, ◌*◌, ◌/◌, ◌%◌, ◌<◌, ◌≤◌, inl, inr, List, length, get_or, Option, Some, None, sym, subst, ◌∙◌, arith}
+use Rattle.std.specs.Int.{bit_at}
 use Rattle.std.proofs.lemmas.Bool.{cases_lt}
-use Rattle.std.proofs.lemmas.Bool.Decides.{nat_tests}
-use Rattle.std.proofs.lemmas.List.{get_or_append_left, get_or-append_right, get_or_default}
-use Rattle.std.proofs.Common.{length-append}
-use Rattle.metric.specs.declared.cell.Cell.{Cell}
-use Rattle.metric.specs.declared.near.Near.{Near}
-use Rattle.metric.specs.Nearest.{IsNear}
-use Rattle.bits.specs.Cells.{Cells, IsObstacle}
-use Rattle.field.specs.Rows.{AreNears, AreRowNears}
-use Rattle.clearance.specs.declared.found.Wanted.{Wanted}
-use Rattle.clearance.specs.declared.found.Found.{Found}
-use Rattle.clearance.specs.declared.segment.Steps.{Steps}
-use Rattle.clearance.specs.Paths.{towards, cells_up_to, cells_behind, cells_of_path}
-use Rattle.clearance.specs.Segments.{cell_count, AreStepsInRow}
-use Rattle.clearance.specs.Search.{IsWithCell, origin, cell_in, IsBest, IsAbove, IsBefore}
-use Rattle.clearance.proofs.Refusals.{IsPath}
-use Rattle.clearance.proofs.Searches.{IsBest-same, IsBest-more}
-use Rattle.clearance.proofs.Walks.{IsWalkedTo, IsWalkedTo-step, cell_of_step, length-cells_up_to, get_or-cells_up_to}
+use Rattle.std.proofs.lemmas.List.{get_or_past}
+use Rattle.std.proofs.lemmas.Nat.Bits.{bit_at-zero}
+use Rattle.metric.specs.Crossing.{StaysNearer}
+use Rattle.metric.proofs.Growing.{of_grows_with_dx}
+use Rattle.clearance.specs.Rows.{IsMarked, IsFar, IsWhereNearer, IsNextNearer, IsLastNearer}
 
--- the nearest obstacles of one row, as of several
-pub AreRowNears-from : (distance : ℕ → ℕ → ℕ) (cells : Cells) (y : ℕ) (nears : List (Option Near)) → AreNears distance cells y (y + 1) nears → AreRowNears distance cells y cells.width nears
-AreRowNears-from distance cells y nears rows = record {
-  as_many = let one : (y + 1) - y ≡ 1 = omega arith in rows.as_many ∙ rw one (omega arith);
-  each = λ x column.
-      let place : (y - y) * cells.width + x ≡ x = (let zero_rows : y - y ≡ 0 = omega arith in rw zero_rows (omega arith)) in
-      subst (λ (i : ℕ). IsNear distance (IsObstacle cells) x y (get_or nears i None)) place (rows.each x y column (omega arith) (omega arith));
+-- no column from the first to before the last has a mark
+pub record AreUnmarked (words : List ℕ) (start end : ℕ) : Type 0 where
+  pub none : (x : ℕ) → start ≤ x → x < end → IsMarked words x → ⊥
+
+-- before any column none has a mark
+pub AreUnmarked-none : (words : List ℕ) (start end : ℕ) → end ≤ start → AreUnmarked words start end
+AreUnmarked-none words start end empty = record { none = λ x from before marked. absurd (omega arith) }
+
+-- the bit of a word that stands for a column
+pub mark_bit : (words : List ℕ) (k x : ℕ) → 64 * k ≤ x → x < 64 * (k + 1) → IsMarked words x → bit_at (get_or words k 0) (x % 64) ≡ 1
+mark_bit words k x low high marked =
+    let word : x / 64 ≡ k = omega arith in
+    subst (λ (n : ℕ). bit_at (get_or words n 0) (x % 64) ≡ 1) word marked
+
+-- a bit of a word is a mark
+pub bit_mark : (words : List ℕ) (k i : ℕ) → i < 64 → bit_at (get_or words k 0) i ≡ 1 → IsMarked words (64 * k + i)
+bit_mark words k i within is =
+    let word : k ≡ (64 * k + i) / 64 = omega arith in
+    let place : i ≡ (64 * k + i) % 64 = omega arith in
+    subst (λ (n : ℕ). bit_at (get_or words n 0) ((64 * k + i) % 64) ≡ 1) word (subst (λ (n : ℕ). bit_at (get_or words k 0) n ≡ 1) place is)
+
+-- past the words nothing is marked
+pub unmarked_past : (words : List ℕ) (x : ℕ) → 64 * length words ≤ x → IsMarked words x → ⊥
+unmarked_past words x past marked =
+    let zero_word : get_or words (x / 64) 0 ≡ 0 = get_or_past words (x / 64) 0 (omega arith) in
+    let bit : bit_at 0 (x % 64) ≡ 1 = subst (λ (n : ℕ). bit_at n (x % 64) ≡ 1) zero_word marked in
+    let none = bit_at-zero (x % 64) in
+    absurd (omega arith)
+
+-- a mark lies in the widest row
+pub mark_within : (words : List ℕ) (x : ℕ) → length words ≤ 64 → IsMarked words x → x ≤ 4095
+mark_within words x few marked = elim (cases_lt x (64 * length words)) [
+  | inl within ↦ omega arith
+  | inr past ↦ absurd (unmarked_past words x past marked)
+]
+
+-- a word of which a part is zero has no mark there, to its end
+pub unmarked_word : (words : List ℕ) (start k place front : ℕ) → ((i : ℕ) → place ≤ i → i < 64 → bit_at front i ≡ bit_at (get_or words k 0) i) → front ≡ 0
+    → AreUnmarked words start (64 * k + place) → AreUnmarked words start (64 * (k + 1))
+unmarked_word words start k place front kept blank before = record {
+  none = λ x from end marked. elim (cases_lt x (64 * k + place)) [
+    | inl earlier ↦ before.none x from earlier marked
+    | inr later ↦
+        let bit = mark_bit words k x (omega arith) end marked in
+        let same = kept (x % 64) (omega arith) (omega arith) in
+        let none : bit_at front (x % 64) ≡ 0 = rw blank (bit_at-zero (x % 64)) in
+        absurd (omega arith)
+  ];
 }
 
--- before the first cell of a row those above have been looked at
-pub IsBest-row : (distance : ℕ → ℕ → ℕ) (Obstacle : ℕ → ℕ → Type 0) (wanted : Wanted) (cells : List Cell) (y : ℕ) (best : Option Found)
-    → IsBest distance Obstacle wanted cells (IsAbove cells y) best → IsBest distance Obstacle wanted cells (IsBefore cells y 0) best
-IsBest-row distance Obstacle wanted cells y best =
-    IsBest-same distance Obstacle wanted cells (IsAbove cells y) (IsBefore cells y 0) best
-    (λ i within before. elim before [ inl above ↦ above | inr here ↦ let none = here.1 in absurd (omega arith) ])
+-- the first mark from a column on
+pub record IsFirst (words : List ℕ) (start column : ℕ) : Type 0 where
+  pub order : start ≤ column
+  pub marked : IsMarked words column
+  pub first : (x : ℕ) → start ≤ x → x < column → IsMarked words x → ⊥
 
--- behind the last cell the row has been looked at too
-pub IsBest-row_end : (distance : ℕ → ℕ → ℕ) (Obstacle : ℕ → ℕ → Type 0) (wanted : Wanted) (cells : List Cell) (y end : ℕ) (best : Option Found) → length cells ≤ end
-    → IsBest distance Obstacle wanted cells (IsBefore cells y end) best → IsBest distance Obstacle wanted cells (IsAbove cells (y + 1)) best
-IsBest-row_end distance Obstacle wanted cells y end best ended =
-    IsBest-same distance Obstacle wanted cells (IsBefore cells y end) (IsAbove cells (y + 1)) best
-    (λ i within before. elim (cases_lt (cell_in cells i).y y) [ inl above ↦ inl above | inr here ↦ inr (omega arith, omega arith) ])
+-- the lowest bit of a word's part, behind columns that have no mark, is the first mark
+pub first_in_word : (words : List ℕ) (start k place front p column : ℕ) → ((i : ℕ) → place ≤ i → i < 64 → bit_at front i ≡ bit_at (get_or words k 0) i)
+    → ((i : ℕ) → i < place → bit_at front i ≡ 0) → start ≤ 64 * k + place → AreUnmarked words start (64 * k + place)
+    → p < 64 → bit_at front p ≡ 1 → ((i : ℕ) → i < p → bit_at front i ≡ 0) → column ≡ 64 * k + p → IsFirst words start column
+first_in_word words start k place front p column kept cleared begin before within here none_below is =
+    let from : place ≤ p = elim (cases_lt p place) [ inl low ↦ (let no = cleared p low in absurd (omega arith)) | inr high ↦ high ] in
+    record {
+      order = omega arith;
+      marked = rw is (bit_mark words k p within (sym (kept p from within) ∙ here));
+      first = λ x after earlier marked. elim (cases_lt x (64 * k + place)) [
+        | inl early ↦ before.none x after early marked
+        | inr late ↦
+            let bit = mark_bit words k x (omega arith) (omega arith) marked in
+            let same = kept (x % 64) (omega arith) (omega arith) in
+            let none = none_below (x % 64) (omega arith) in
+            absurd (omega arith)
+      ];
+    }
 
--- a row in which no cell lies is passed
-pub IsBest-no_row : (distance : ℕ → ℕ → ℕ) (Obstacle : ℕ → ℕ → Type 0) (wanted : Wanted) (cells : List Cell) (y : ℕ) (best : Option Found)
-    → ((i : ℕ) → i < length cells → (cell_in cells i).y ≡ y → ⊥)
-    → IsBest distance Obstacle wanted cells (IsAbove cells y) best → IsBest distance Obstacle wanted cells (IsAbove cells (y + 1)) best
-IsBest-no_row distance Obstacle wanted cells y best none =
-    IsBest-same distance Obstacle wanted cells (IsAbove cells y) (IsAbove cells (y + 1)) best
-    (λ i within before. elim (cases_lt (cell_in cells i).y y) [ inl above ↦ above | inr here ↦ absurd (none i within (omega arith)) ])
+-- the first mark is the answer, where it's near enough
+pub IsNextNearer-first : (distance : ℕ → ℕ → ℕ) → StaysNearer distance → (words : List ℕ) (start edge gap limit column : ℕ) (found : Option ℕ)
+    → length words ≤ 64 → gap ≤ 4095 → IsFirst words start column → IsWhereNearer (distance (column - edge) gap) limit column found
+    → IsNextNearer distance words start edge gap limit found
+IsNextNearer-first distance stays words start edge gap limit column None few row is far = λ x from marked.
+    elim (cases_lt x column) [
+      | inl earlier ↦ absurd (is.first x from earlier marked)
+      | inr later ↦
+          let last = mark_within words x few marked in
+          let grown = of_grows_with_dx distance stays (column - edge) (x - edge) gap (omega arith) (omega arith) row in
+          record { not_below = let low = far.not_below in omega arith; is_limit = far.is_limit }
+    ]
+IsNextNearer-first distance stays words start edge gap limit column (Some found) few row is near = record {
+  order = let order = is.order in let same = near.0 in omega arith;
+  marked = rw (near.0) is.marked;
+  first = λ x from before. is.first x from (let same = near.0 in omega arith);
+  nearer = rw (near.0) near.1;
+}
 
--- steps of a segment that don't lie in the row are passed
-pub IsBest-gap : (distance : ℕ → ℕ → ℕ) (Obstacle : ℕ → ℕ → Type 0) (wanted : Wanted) (points : List Cell) (place j low high y : ℕ) (from : Cell) (best : Option Found)
-    → IsWalkedTo points place j from → j < length points → high ≤ cell_count from (get_or points j origin)
-    → ((k : ℕ) → low ≤ k → k < high → towards from.y (get_or points j origin).y (1 + k) ≡ y → ⊥)
-    → IsBest distance Obstacle wanted (cells_of_path points) (IsBefore (cells_of_path points) y (place + low)) best
-    → IsBest distance Obstacle wanted (cells_of_path points) (IsBefore (cells_of_path points) y (place + high)) best
-IsBest-gap distance Obstacle wanted points place j low high y from best walked more few none =
-    IsBest-same distance Obstacle wanted (cells_of_path points) (IsBefore (cells_of_path points) y (place + low)) (IsBefore (cells_of_path points) y (place + high)) best
-    (λ i within before. elim before [
-      | inl above ↦ inl above
-      | inr here ↦ elim (cases_lt i (place + low)) [
-        | inl earlier ↦ inr (here.0, earlier)
-        | inr later ↦
-            let last = here.1 in
-            let step : i - place < cell_count from (get_or points j origin) = omega arith in
-            let p = IsWalkedTo-step points place j (i - place) from walked more step in
-            let same : place + (i - place) ≡ i = omega arith in
-            let cell : cell_in (cells_of_path points) i ≡ cell_of_step from (get_or points j origin) (i - place) = subst (λ (n : ℕ). cell_in (cells_of_path points) n ≡ cell_of_step from (get_or points j origin) (i - place)) same p.1 in
-            absurd (none (i - place) (omega arith) (omega arith) (sym (ap (λ (c : Cell). c.y) cell) ∙ here.0))
-      ]
-    ])
-
--- before the first of a segment's steps in the row
-pub IsBest-segment : (distance : ℕ → ℕ → ℕ) (Obstacle : ℕ → ℕ → Type 0) (wanted : Wanted) (points : List Cell) (place j y : ℕ) (from : Cell) (steps : Steps) (best : Option Found)
-    → IsWalkedTo points place j from → j < length points → AreStepsInRow from (get_or points j origin) y steps
-    → IsBest distance Obstacle wanted (cells_of_path points) (IsBefore (cells_of_path points) y place) best
-    → IsBest distance Obstacle wanted (cells_of_path points) (IsBefore (cells_of_path points) y (place + steps.first)) best
-IsBest-segment distance Obstacle wanted points place j y from steps best walked more in_row before =
-    let order = in_row.order in
-    let few = in_row.few in
-    let start : place + 0 ≡ place = omega arith in
-    IsBest-gap distance Obstacle wanted points place j 0 steps.first y from best walked more (omega arith)
-    (λ k low high here. let inside = (in_row.no_other k (omega arith) here).0 in absurd (omega arith))
-    (rw start before)
-
--- behind the last of a segment's steps in the row
-pub IsBest-segment_end : (distance : ℕ → ℕ → ℕ) (Obstacle : ℕ → ℕ → Type 0) (wanted : Wanted) (points : List Cell) (place j y step count : ℕ) (from : Cell) (steps : Steps) (best : Option Found)
-    → IsWalkedTo points place j from → j < length points → AreStepsInRow from (get_or points j origin) y steps → steps.end ≤ step → count ≡ cell_count from (get_or points j origin)
-    → step ≤ steps.end
-    → IsBest distance Obstacle wanted (cells_of_path points) (IsBefore (cells_of_path points) y (place + step)) best
-    → IsBest distance Obstacle wanted (cells_of_path points) (IsBefore (cells_of_path points) y (place + count)) best
-IsBest-segment_end distance Obstacle wanted points place j y step count from steps best walked more in_row ended all last =
-    IsBest-gap distance Obstacle wanted points place j step count y from best walked more (omega arith)
-    (λ k low high here. let inside = (in_row.no_other k (omega arith) here).1 in absurd (omega arith))
-
--- one of a segment's steps in the row more
-pub IsBest-step : (distance : ℕ → ℕ → ℕ) (Obstacle : ℕ → ℕ → Type 0) (wanted : Wanted) (points : List Cell) (place j y step x : ℕ) (from : Cell) (steps : Steps) (best after : Option Found) (near : Option Near)
-    → IsWalkedTo points place j from → j < length points → AreStepsInRow from (get_or points j origin) y steps → steps.first ≤ step → step < steps.end
-    → x ≡ towards from.x (get_or points j origin).x (step + 1) → IsNear distance Obstacle x y near → IsWithCell wanted best (place + step) (record { x = x; y = y }) near after
-    → IsBest distance Obstacle wanted (cells_of_path points) (IsBefore (cells_of_path points) y (place + step)) best
-    → IsBest distance Obstacle wanted (cells_of_path points) (IsBefore (cells_of_path points) y (place + (step + 1))) after
-IsBest-step distance Obstacle wanted points place j y step x from steps best after near walked more in_row low high x_is near_is with =
-    let few = in_row.few in
-    let p = IsWalkedTo-step points place j step from walked more (omega arith) in
-    let next : step + 1 ≡ 1 + step = omega arith in
-    let column : x ≡ towards from.x (get_or points j origin).x (1 + step) = subst (λ (n : ℕ). x ≡ towards from.x (get_or points j origin).x n) next x_is in
-    let row : towards from.y (get_or points j origin).y (1 + step) ≡ y = in_row.in_row step low high in
-    let cell : cell_in (cells_of_path points) (place + step) ≡ record { x = x; y = y } = p.1 ∙ rw (column, row) refl in
-    IsBest-more distance Obstacle wanted (cells_of_path points) (IsBefore (cells_of_path points) y (place + step)) (IsBefore (cells_of_path points) y (place + (step + 1))) best after (place + step) (record { x = x; y = y }) near
-    p.0 cell near_is with
-    (λ i within before. elim before [
-      | inl above ↦ inl (inl above)
-      | inr here ↦ let last = here.1 in elim (cases_lt i (place + step)) [ inl earlier ↦ inl (inr (here.0, earlier)) | inr later ↦ inr (omega arith) ]
-    ])
-
--- a coordinate between two lies below what they lie below
-pub towards-below : (a b k n : ℕ) → a < n → b < n → towards a b k < n
-towards-below a b k n low high = grind (arith, nat_tests)
-
--- the points lie above this row
-abbrev AreAbove : ℕ → List Cell → Type 0
-AreAbove n points = (j : ℕ) → j < length points → (get_or points j origin).y < n
-
--- the cells behind a point lie above the row above which the points lie
-behind_above : (n : ℕ) (from : Cell) (points : List Cell) → from.y < n → AreAbove n points → AreAbove n (cells_behind from points)
-behind_above n from [] first above i within = absurd (omega arith)
-behind_above n from (to ∷ points) first above i within =
-    let here : to.y < n = above 0 (omega arith) in
-    let size : length (cells_up_to from to) ≡ cell_count from to = length-cells_up_to from to in
-    elim (cases_lt i (length (cells_up_to from to))) [
-      | inl near ↦
-          let e = get_or_append_left (cells_up_to from to) (cells_behind to points) origin i near in
-          let cell : get_or (cells_up_to from to) i origin ≡ cell_of_step from to i = get_or-cells_up_to from to i (omega arith) in
-          rw (e, cell) (towards-below from.y to.y (1 + i) n first here)
-      | inr far ↦
-          let e = get_or-append_right (cells_up_to from to) (cells_behind to points) (length (cells_up_to from to)) i origin refl far in
-          let lengths = length-append (cells_up_to from to) (cells_behind to points) in
-          rw e (behind_above n to points here (λ j inside. above (suc j) (omega arith)) (i - length (cells_up_to from to)) (omega arith))
+-- where the columns before one have no mark and that is far, so are all marks
+pub IsNextNearer-far : (distance : ℕ → ℕ → ℕ) → StaysNearer distance → (words : List ℕ) (start edge gap limit column : ℕ)
+    → length words ≤ 64 → gap ≤ 4095 → AreUnmarked words start column → IsFar (distance (column - edge) gap) limit
+    → IsNextNearer distance words start edge gap limit None
+IsNextNearer-far distance stays words start edge gap limit column few row before far = λ x from marked.
+    elim (cases_lt x column) [
+      | inl earlier ↦ absurd (before.none x from earlier marked)
+      | inr later ↦
+          let last = mark_within words x few marked in
+          let grown = of_grows_with_dx distance stays (column - edge) (x - edge) gap (omega arith) (omega arith) row in
+          record { not_below = let low = far.not_below in omega arith; is_limit = far.is_limit }
     ]
 
--- the cells of a path that isn't refused lie in the bitmap's rows
-pub path_above : (cells : Cells) (points : List Cell) (end : ℕ) → IsPath cells points → cells.height ≤ end → (i : ℕ) → i < length (cells_of_path points) → IsAbove (cells_of_path points) end i
-path_above cells [] end path ended i within = absurd (omega arith)
-path_above cells (first ∷ points) end path ended zero within = let top = (path.inside 0 path.some).row in omega arith
-path_above cells (first ∷ points) end path ended (suc i) within =
-    let top = (path.inside 0 path.some).row in
-    behind_above end first points (omega arith) (λ j inside. let row = (path.inside (suc j) (omega arith)).row in omega arith) i (omega arith)
+-- where no column has a mark, none is near
+pub IsNextNearer-none : (distance : ℕ → ℕ → ℕ) (words : List ℕ) (start edge gap limit end : ℕ) → 64 * length words ≤ end → AreUnmarked words start end
+    → IsNextNearer distance words start edge gap limit None
+IsNextNearer-none distance words start edge gap limit end all before = λ x from marked.
+    elim (cases_lt x end) [ inl within ↦ absurd (before.none x from within marked) | inr past ↦ absurd (unmarked_past words x (omega arith) marked) ]
 
--- what is read of a row's answers
-pub near_from : (distance : ℕ → ℕ → ℕ) (cells : Cells) (y x i : ℕ) (nears : List (Option Near)) (near : Option Near)
-    → AreRowNears distance cells y cells.width nears → x < cells.width → near ≡ get_or nears i near → i ≡ x → IsNear distance (IsObstacle cells) x y near
-near_from distance cells y x i nears near row column read place =
-    let many = row.as_many in
-    let same : get_or nears x None ≡ near = get_or_default nears x None near (omega arith) ∙ (ap (λ (n : ℕ). get_or nears n near) (sym place) ∙ sym read) in
-    subst (λ (o : Option Near). IsNear distance (IsObstacle cells) x y o) same (row.each x column)
+-- a word of which a part is zero has no mark there, from its beginning on
+pub unmarked_word_below : (words : List ℕ) (end k place back : ℕ) → place ≤ 64 → ((i : ℕ) → i < place → bit_at back i ≡ bit_at (get_or words k 0) i) → back ≡ 0
+    → AreUnmarked words (64 * k + place) end → AreUnmarked words (64 * k) end
+unmarked_word_below words end k place back few kept blank after = record {
+  none = λ x from before marked. elim (cases_lt x (64 * k + place)) [
+    | inl early ↦
+        let bit = mark_bit words k x from (omega arith) marked in
+        let same = kept (x % 64) (omega arith) in
+        let none : bit_at back (x % 64) ≡ 0 = rw blank (bit_at-zero (x % 64)) in
+        absurd (omega arith)
+    | inr late ↦ after.none x late before marked
+  ];
+}
+
+-- the last mark before a column
+pub record IsLast (words : List ℕ) (end column : ℕ) : Type 0 where
+  pub order : column < end
+  pub marked : IsMarked words column
+  pub last : (x : ℕ) → column < x → x < end → IsMarked words x → ⊥
+
+-- the highest bit of a word's part, before columns that have no mark, is the last mark
+pub last_in_word : (words : List ℕ) (end k place back p column : ℕ) → place ≤ 64 → ((i : ℕ) → i < place → bit_at back i ≡ bit_at (get_or words k 0) i)
+    → ((i : ℕ) → place ≤ i → i < 64 → bit_at back i ≡ 0) → 64 * k + place ≤ end → AreUnmarked words (64 * k + place) end
+    → p < 64 → bit_at back p ≡ 1 → ((i : ℕ) → p < i → bit_at back i ≡ 0) → column ≡ 64 * k + p → IsLast words end column
+last_in_word words end k place back p column few kept cleared finish after within here none_above is =
+    let below : p < place = elim (cases_lt p place) [ inl low ↦ low | inr high ↦ (let no = cleared p high within in absurd (omega arith)) ] in
+    record {
+      order = omega arith;
+      marked = rw is (bit_mark words k p within (sym (kept p below) ∙ here));
+      last = λ x behind before marked. elim (cases_lt x (64 * k + place)) [
+        | inl early ↦
+            let bit = mark_bit words k x (omega arith) (omega arith) marked in
+            let same = kept (x % 64) (omega arith) in
+            let none = none_above (x % 64) (omega arith) in
+            absurd (omega arith)
+        | inr late ↦ after.none x late before marked
+      ];
+    }
+
+-- the last mark is the answer, where it's near enough
+pub IsLastNearer-last : (distance : ℕ → ℕ → ℕ) → StaysNearer distance → (words : List ℕ) (end edge gap limit column : ℕ) (found : Option ℕ)
+    → edge ≤ 4095 → gap ≤ 4095 → IsLast words end column → IsWhereNearer (distance (edge - column) gap) limit column found
+    → IsLastNearer distance words end edge gap limit found
+IsLastNearer-last distance stays words end edge gap limit column None within row is far = λ x before marked.
+    elim (cases_lt column x) [
+      | inl later ↦ absurd (is.last x later before marked)
+      | inr earlier ↦
+          let grown = of_grows_with_dx distance stays (edge - column) (edge - x) gap (omega arith) (omega arith) row in
+          record { not_below = let low = far.not_below in omega arith; is_limit = far.is_limit }
+    ]
+IsLastNearer-last distance stays words end edge gap limit column (Some found) within row is near = record {
+  order = let order = is.order in let same = near.0 in omega arith;
+  marked = rw (near.0) is.marked;
+  last = λ x behind before. is.last x (let same = near.0 in omega arith) before;
+  nearer = rw (near.0) near.1;
+}
+
+-- where the columns from one on have no mark and the one before it is far, so are all marks
+pub IsLastNearer-far : (distance : ℕ → ℕ → ℕ) → StaysNearer distance → (words : List ℕ) (end edge gap limit column : ℕ)
+    → edge ≤ 4095 → gap ≤ 4095 → AreUnmarked words (column + 1) end → IsFar (distance (edge - column) gap) limit
+    → IsLastNearer distance words end edge gap limit None
+IsLastNearer-far distance stays words end edge gap limit column within row after far = λ x before marked.
+    elim (cases_lt column x) [
+      | inl later ↦ absurd (after.none x (omega arith) before marked)
+      | inr earlier ↦
+          let grown = of_grows_with_dx distance stays (edge - column) (edge - x) gap (omega arith) (omega arith) row in
+          record { not_below = let low = far.not_below in omega arith; is_limit = far.is_limit }
+    ]
+
+-- where no column has a mark, none is near
+pub IsLastNearer-none : (distance : ℕ → ℕ → ℕ) (words : List ℕ) (end edge gap limit : ℕ) → AreUnmarked words 0 end
+    → IsLastNearer distance words end edge gap limit None
+IsLastNearer-none distance words end edge gap limit all = λ x before marked. absurd (all.none x (omega arith) before marked)

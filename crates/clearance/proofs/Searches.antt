@@ -1,143 +1,301 @@
--- The best cell as more cells are looked at.
-use Rattle.std.proofs.Common.{◌≡◌, ℕ, ◌<◌, ◌⊎◌, inl, inr, List, length, get_or, Option, Some, None, IfSome, sym, ap, subst, ◌∙◌, arith}
+-- The least distance of a rectangle's cells, as more rows are looked at.
+use Rattle.std.proofs.Common.{◌≡◌, ℕ, ◌+◌, ◌-◌, ◌*◌, ◌/◌, ◌%◌, ◌^◌, ◌<◌, ◌≤◌, ◌⊎◌, min, max, inl, inr, Bool, true, false, cond, List, length, get_or, None, refl, sym, ap, subst, ◌∙◌, arith}
+use Rattle.std.specs.Int.{abs_diff, bit_at}
 use Rattle.std.proofs.lemmas.Bool.{cases_lt}
-use Rattle.std.proofs.lemmas.List.{get_or_default}
-use Rattle.metric.specs.declared.cell.Cell.{Cell}
-use Rattle.metric.specs.declared.near.Near.{Near}
-use Rattle.metric.specs.Nearest.{IsNearest, IsNear}
-use Rattle.metric.proofs.NearestLemmas.{IsNear-one}
-use Rattle.clearance.specs.declared.found.Wanted.{Wanted}
-use Rattle.clearance.specs.declared.found.Wanted.TheVariants.{Least, Below}
-use Rattle.clearance.specs.declared.found.Found.{Found}
-use Rattle.clearance.specs.Answers.{IsNearestAt, IsLeastOf, IsClearOf}
-use Rattle.clearance.specs.Search.{LeavesBehind, IsNew, IsWithCell, IsFound, origin, cell_in, IsSeen, IsBest, answer_of}
+use Rattle.std.proofs.lemmas.Nat.Bits.{bit_at-zero}
+use Rattle.metric.specs.declared.rect.Rect.{Rect}
+use Rattle.metric.specs.Distance.{Grows, distance_between}
+use Rattle.metric.specs.Crossing.{StaysNearer}
+use Rattle.metric.proofs.Growing.{of_grows, of_grows_with_dx}
+use Rattle.bits.specs.Cells.{Cells, has, IsBitmap, IsObstacle}
+use Rattle.bits.specs.Words.{IsRowOf}
+use Rattle.bits.proofs.CellsLemmas.{has-outside}
+use Rattle.clearance.specs.Rows.{IsMarked, IsFar, IsNextNearer, IsLastNearer, IsFirstMark, IsLastMark}
+use Rattle.clearance.specs.Search.{IsLeastBelow, column_gap, row_gap, rect_distance, IsLeastAmong, IsLeastWithin, IsLoweredBy, IsLoweredRight, IsLoweredLeft}
+use Rattle.clearance.proofs.RowSearches.{mark_within, unmarked_past}
 
--- a cell at its place, with its nearest obstacle
-abbrev found_at : ℕ → Cell → Near → Found
-found_at place cell near = record { place = place; cell = cell; near = near }
+-- what is far stays so for a lower limit
+pub IsFar-lower : (dist limit lower : ℕ) → lower ≤ limit → IsFar dist limit → IsFar dist lower
+IsFar-lower dist limit lower less far = record { not_below = let low = far.not_below in omega arith; is_limit = let small = far.is_limit in omega arith }
 
--- before any cell nothing is found
-pub IsBest-none : (distance : ℕ → ℕ → ℕ) (Obstacle : ℕ → ℕ → Type 0) (wanted : Wanted) (cells : List Cell) (Before : ℕ → Type 0)
-    → ((i : ℕ) → i < length cells → Before i → ⊥) → IsBest distance Obstacle wanted cells Before None
-IsBest-none distance Obstacle wanted cells Before none = record { found = tt; seen = λ i within before. absurd (none i within before) }
+-- what is far stays so for a greater distance
+pub IsFar-greater : (dist more limit : ℕ) → dist ≤ more → IsFar dist limit → IsFar more limit
+IsFar-greater dist more limit grown far = record { not_below = let low = far.not_below in omega arith; is_limit = far.is_limit }
 
--- the best of some places is that of the same places, said otherwise
-pub IsBest-same : (distance : ℕ → ℕ → ℕ) (Obstacle : ℕ → ℕ → Type 0) (wanted : Wanted) (cells : List Cell) (Before After : ℕ → Type 0) (best : Option Found)
-    → ((i : ℕ) → i < length cells → After i → Before i)
-    → IsBest distance Obstacle wanted cells Before best → IsBest distance Obstacle wanted cells After best
-IsBest-same distance Obstacle wanted cells Before After best back before = record { found = before.found; seen = λ i within after. before.seen i within (back i within after) }
-
--- what was left behind stays so
-kept_behind : (wanted : Wanted) (best after : Option Found) (i : ℕ) (cell : Cell) (near : Option Near)
-    → ((other : Found) → LeavesBehind wanted best other → LeavesBehind wanted after other)
-    → IfSome near (λ n. LeavesBehind wanted best (found_at i cell n)) → IfSome near (λ n. LeavesBehind wanted after (found_at i cell n))
-kept_behind wanted best after i cell None keeps behind = tt
-kept_behind wanted best after i cell (Some near) keeps behind = keeps (found_at i cell near) behind
-
--- the nearest obstacle, if there is one
-some_nearest : (distance : ℕ → ℕ → ℕ) (Obstacle : ℕ → ℕ → Type 0) (x y : ℕ) (near : Option Near) (known : Near) → near ≡ Some known → IsNear distance Obstacle x y near → IsNearest distance Obstacle x y known
-some_nearest distance Obstacle x y near known is nearest = subst (λ (o : Option Near). IsNear distance Obstacle x y o) is nearest
-
--- what is found new is a cell of the list
-found_new : (distance : ℕ → ℕ → ℕ) (Obstacle : ℕ → ℕ → Type 0) (wanted : Wanted) (cells : List Cell) (place : ℕ) (cell : Cell) (near : Option Near) (found : Found)
-    → place < length cells → cell_in cells place ≡ cell → IsNear distance Obstacle cell.x cell.y near → IsNew wanted place cell near found
-    → IsFound distance Obstacle wanted cells found
-found_new distance Obstacle wanted cells place cell near found within here near_is new =
-    let same : get_or cells place found.cell ≡ get_or cells place origin = get_or_default cells place found.cell origin within in
+-- the first mark from the rectangle's first column on lowers the least
+pub IsLoweredRight-some : (distance : ℕ → ℕ → ℕ) → StaysNearer distance → (words : List ℕ) (rect : Rect) (gap before column least : ℕ)
+    → length words ≤ 64 → gap ≤ 4095 → IsFirstMark distance words rect.x0 (rect.x1 - 1) gap before column → least ≡ distance (column - (rect.x1 - 1)) gap → least < 2 ^ 32
+    → IsLoweredRight distance words rect gap before least
+IsLoweredRight-some distance stays words rect gap before column least few row mark is small =
+    let order = mark.order in
+    let across : column_gap rect column ≡ column - (rect.x1 - 1) = omega arith in
     record {
-      within = rw new.place_is within;
-      cell_is = ap (λ (i : ℕ). get_or cells i found.cell) new.place_is ∙ (same ∙ (here ∙ sym new.cell_is));
-      near_is = subst (λ (c : Cell). IsNearest distance Obstacle c.x c.y found.near) (sym new.cell_is) (some_nearest distance Obstacle cell.x cell.y near found.near new.near_is near_is);
-      admitted = new.admitted;
+      within = let less = mark.nearer in omega arith;
+      far = λ a from marked. elim (cases_lt a column) [
+        | inl earlier ↦ absurd (mark.first a from earlier marked)
+        | inr later ↦
+            let last = mark_within words a few marked in
+            let grown = of_grows_with_dx distance stays (column - (rect.x1 - 1)) (column_gap rect a) gap (omega arith) (omega arith) row in
+            record { not_below = omega arith; is_limit = small }
+      ];
+      reached = λ less. (column, mark.marked, rw across (sym is));
     }
 
--- what is found after one more cell is a cell of the list
-found_after : (distance : ℕ → ℕ → ℕ) (Obstacle : ℕ → ℕ → Type 0) (wanted : Wanted) (cells : List Cell) (best after : Option Found) (place : ℕ) (cell : Cell) (near : Option Near)
-    → place < length cells → cell_in cells place ≡ cell → IsNear distance Obstacle cell.x cell.y near → IsWithCell wanted best place cell near after
-    → IfSome best (IsFound distance Obstacle wanted cells) → IfSome after (IsFound distance Obstacle wanted cells)
-found_after distance Obstacle wanted cells best after place cell near within here near_is with found = elim with.one_of [
-  | inl same ↦ rw same found
-  | inr new ↦
-      let is = found_new distance Obstacle wanted cells place cell near new.0 within here near_is new.2 in
-      subst (λ (o : Option Found). IfSome o (IsFound distance Obstacle wanted cells)) (sym new.1) is
+-- where no such mark is near, the least stays
+pub IsLoweredRight-none : (distance : ℕ → ℕ → ℕ) (words : List ℕ) (rect : Rect) (gap before : ℕ)
+    → IsNextNearer distance words rect.x0 (rect.x1 - 1) gap before None → IsLoweredRight distance words rect gap before before
+IsLoweredRight-none distance words rect gap before far = record {
+  within = omega arith;
+  far = λ a from marked. let across : a - (rect.x1 - 1) ≡ column_gap rect a = omega arith in rw across at (far a from marked);
+  reached = λ less. absurd (omega arith);
+}
+
+-- the last mark before the rectangle's first column lowers the least
+pub IsLoweredLeft-some : (distance : ℕ → ℕ → ℕ) → StaysNearer distance → (words : List ℕ) (rect : Rect) (gap before column least : ℕ)
+    → gap ≤ 4095 → IsLastMark distance words rect.x0 rect.x0 gap before column → least ≡ distance (rect.x0 - column) gap → least < 2 ^ 32
+    → IsLoweredLeft distance words rect gap before least
+IsLoweredLeft-some distance stays words rect gap before column least row mark is small =
+    let order = mark.order in
+    let across : column_gap rect column ≡ rect.x0 - column = omega arith in
+    record {
+      within = let less = mark.nearer in omega arith;
+      far = λ a left marked. elim (cases_lt column a) [
+        | inl later ↦ absurd (mark.last a later left marked)
+        | inr earlier ↦
+            let grown = of_grows_with_dx distance stays (rect.x0 - column) (column_gap rect a) gap (omega arith) (omega arith) row in
+            record { not_below = omega arith; is_limit = small }
+      ];
+      reached = λ less. (column, mark.marked, rw across (sym is));
+    }
+
+-- where no such mark is near, the least stays
+pub IsLoweredLeft-none : (distance : ℕ → ℕ → ℕ) (words : List ℕ) (rect : Rect) (gap before : ℕ)
+    → IsLastNearer distance words rect.x0 rect.x0 gap before None → IsLoweredLeft distance words rect gap before before
+IsLoweredLeft-none distance words rect gap before far = record {
+  within = omega arith;
+  far = λ a left marked. let across : rect.x0 - a ≡ column_gap rect a = omega arith in rw across at (far a left marked);
+  reached = λ less. absurd (omega arith);
+}
+
+-- an answer whose number is 1
+answer_of_bit : (answer : Bool) → ◌≡◌ {A = ℕ} (cond answer 1 0) 1 → answer ≡ true
+answer_of_bit true is = refl
+answer_of_bit false is = absurd (omega arith)
+
+-- a mark of a row's words is an obstacle
+pub marked_obstacle : (cells : Cells) (y : ℕ) (words : List ℕ) (a : ℕ) → IsRowOf cells y words → IsMarked words a → IsObstacle cells a y
+marked_obstacle cells y words a row marked = elim (cases_lt a (64 * length words)) [
+  | inl within ↦
+      let many = row.as_many in
+      let bit = row.bits (a / 64) (a % 64) (omega arith) (omega arith) in
+      let place : 64 * (a / 64) + a % 64 ≡ a = omega arith in
+      let answer : ◌≡◌ {A = ℕ} (cond (has cells (64 * (a / 64) + a % 64) y) 1 0) 1 = sym bit ∙ marked in
+      answer_of_bit (has cells a y) (rw place at answer)
+  | inr past ↦ absurd (unmarked_past words a past marked)
 ]
 
--- one place more
-pub IsBest-more : (distance : ℕ → ℕ → ℕ) (Obstacle : ℕ → ℕ → Type 0) (wanted : Wanted) (cells : List Cell) (Before After : ℕ → Type 0) (best after : Option Found) (place : ℕ) (cell : Cell) (near : Option Near)
-    → place < length cells → cell_in cells place ≡ cell → IsNear distance Obstacle cell.x cell.y near → IsWithCell wanted best place cell near after
-    → ((i : ℕ) → i < length cells → After i → Before i ⊎ (i ≡ place))
-    → IsBest distance Obstacle wanted cells Before best → IsBest distance Obstacle wanted cells After after
-IsBest-more distance Obstacle wanted cells Before After best after place cell near within here near_is with back before = record {
-  found = found_after distance Obstacle wanted cells best after place cell near within here near_is with before.found;
-  seen = λ i inside later. elim (back i inside later) [
-    | inl earlier ↦
-        let s = before.seen i inside earlier in
-        record { near = s.near; near_is = s.near_is; behind = kept_behind wanted best after i (cell_in cells i) s.near with.keeps s.behind }
-    | inr same ↦ rw same (record {
-      near = near;
-      near_is = rw here near_is;
-      behind = rw here with.behind;
-    })
-  ];
+-- an obstacle of the row is a mark of its words
+pub obstacle_marked : (cells : Cells) (y : ℕ) (words : List ℕ) (a : ℕ) → IsBitmap cells → IsRowOf cells y words → IsObstacle cells a y → IsMarked words a
+obstacle_marked cells y words a bitmap row obstacle =
+    let inside = has-outside cells bitmap a y obstacle in
+    let column = inside.column in
+    let bit = row.bits (a / 64) (a % 64) (omega arith) (omega arith) in
+    let place : 64 * (a / 64) + a % 64 ≡ a = omega arith in
+    let answer : ◌≡◌ {A = ℕ} (cond (has cells (64 * (a / 64) + a % 64) y) 1 0) 1 = rw (place, obstacle) refl in
+    bit ∙ answer
+
+-- an obstacle lies within the largest map
+pub obstacle_within : (cells : Cells) → IsBitmap cells → (a b : ℕ) → IsObstacle cells a b → (a < cells.width) × (b < cells.height) × (a ≤ 4095) × (b ≤ 4095)
+obstacle_within cells bitmap a b obstacle =
+    let inside = has-outside cells bitmap a b obstacle in
+    let column = inside.column in
+    let row = inside.row in
+    let wide = bitmap.width_is.few in
+    let high = bitmap.height_is.few in
+    (column, row, omega arith, omega arith)
+
+-- words that are zero have no mark
+pub unmarked_row : (words : List ℕ) (a : ℕ) → ((k : ℕ) → k < length words → get_or words k 0 ≡ 0) → IsMarked words a → ⊥
+unmarked_row words a blank marked = elim (cases_lt a (64 * length words)) [
+  | inl within ↦
+      let none : get_or words (a / 64) 0 ≡ 0 = blank (a / 64) (omega arith) in
+      let bit : bit_at 0 (a % 64) ≡ 1 = rw none at marked in
+      let nil = bit_at-zero (a % 64) in
+      absurd (omega arith)
+  | inr past ↦ absurd (unmarked_past words a past marked)
+]
+
+-- a row without a mark lowers nothing
+pub IsLoweredBy-blank : (distance : ℕ → ℕ → ℕ) (cells : Cells) (rect : Rect) (y gap before : ℕ) (words : List ℕ) → IsBitmap cells → IsRowOf cells y words
+    → ((k : ℕ) → k < length words → get_or words k 0 ≡ 0) → IsLoweredBy distance (IsObstacle cells) rect y gap before before
+IsLoweredBy-blank distance cells rect y gap before words bitmap row blank = record {
+  within = omega arith;
+  far = λ a obstacle. absurd (unmarked_row words a blank (obstacle_marked cells y words a bitmap row obstacle));
+  reached = λ less. absurd (omega arith);
 }
 
--- what is seen of a place leaves its nearest obstacle behind
-seen_behind : (distance : ℕ → ℕ → ℕ) (Obstacle : ℕ → ℕ → Type 0) (wanted : Wanted) (cells : List Cell) (best : Option Found) (i : ℕ) (cell : Cell) (other : Near)
-    → i < length cells → IsSeen distance Obstacle wanted cells best i → IsNearestAt distance Obstacle cells i cell other
-    → LeavesBehind wanted best (found_at i (cell_in cells i) other)
-seen_behind distance Obstacle wanted cells best i cell other within seen nearest =
-    let here : get_or cells i cell ≡ cell_in cells i = get_or_default cells i cell origin within in
-    let known : IsNear distance Obstacle (cell_in cells i).x (cell_in cells i).y (Some other) = subst (λ (c : Cell). IsNearest distance Obstacle c.x c.y other) here nearest in
-    let one : seen.near ≡ Some other = IsNear-one distance Obstacle (cell_in cells i).x (cell_in cells i).y seen.near (Some other) seen.near_is known in
-    subst (λ (o : Option Near). IfSome o (λ n. LeavesBehind wanted best (found_at i (cell_in cells i) n))) one seen.behind
-
--- where nothing is left of a cell's nearest obstacle, there is none
-none_near : (distance : ℕ → ℕ → ℕ) (Obstacle : ℕ → ℕ → Type 0) (x y : ℕ) (cell : Cell) (i : ℕ) (near : Option Near)
-    → IsNear distance Obstacle x y near → IfSome near (λ n. LeavesBehind Least None (found_at i cell n)) → (a b : ℕ) → Obstacle a b → ⊥
-none_near distance Obstacle x y cell i None none behind = none
-none_near distance Obstacle x y cell i (Some near) nearest behind = absurd (behind tt)
-
--- once all places have been looked at, the best is the least
-pub IsBest-least : (distance : ℕ → ℕ → ℕ) (Obstacle : ℕ → ℕ → Type 0) (cells : List Cell) (Before : ℕ → Type 0) (best : Option Found)
-    → 0 < length cells → ((i : ℕ) → i < length cells → Before i)
-    → IsBest distance Obstacle Least cells Before best → IsLeastOf distance Obstacle cells (answer_of best)
-IsBest-least distance Obstacle cells Before None some all is =
-    let s = is.seen 0 some (all 0 some) in
-    none_near distance Obstacle (cell_in cells 0).x (cell_in cells 0).y (cell_in cells 0) 0 s.near s.near_is s.behind
-IsBest-least distance Obstacle cells Before (Some found) some all is = record {
-  place = found.place;
-  within = is.found.within;
-  cell_is = is.found.cell_is;
-  near_is = is.found.near_is;
-  least = λ i other within nearest. elim (seen_behind distance Obstacle Least cells (Some found) i found.cell other within (is.seen i within (all i within)) nearest tt) [
-    | inl less ↦ omega arith
-    | inr same ↦ let e = same.0 in omega arith
-  ];
-  first = λ i other earlier nearest.
-      let last = is.found.within in
-      let within : i < length cells = omega arith in
-      elim (seen_behind distance Obstacle Least cells (Some found) i found.cell other within (is.seen i within (all i within)) nearest tt) [
-        | inl less ↦ less
-        | inr same ↦ let later = same.1 in absurd (omega arith)
+-- the marks on both sides are the row's obstacles
+pub IsLoweredBy-both : (distance : ℕ → ℕ → ℕ) (cells : Cells) (rect : Rect) (y gap before right least : ℕ) (words : List ℕ) → IsBitmap cells → IsRowOf cells y words
+    → IsLoweredRight distance words rect gap before right → IsLoweredLeft distance words rect gap right least
+    → IsLoweredBy distance (IsObstacle cells) rect y gap before least
+IsLoweredBy-both distance cells rect y gap before right least words bitmap row on_right on_left =
+    let first = on_right.within in
+    let second = on_left.within in
+    record {
+      within = omega arith;
+      far = λ a obstacle.
+          let marked = obstacle_marked cells y words a bitmap row obstacle in
+          elim (cases_lt a rect.x0) [
+            | inl left ↦ on_left.far a left marked
+            | inr from ↦ IsFar-lower (distance (column_gap rect a) gap) right least second (on_right.far a from marked)
+          ];
+      reached = λ less. elim (cases_lt least right) [
+        | inl lower ↦ let (a, marked, is) = on_left.reached lower in (a, marked_obstacle cells y words a row marked, is)
+        | inr same ↦
+            let (a, marked, is) = on_right.reached (omega arith) in
+            let equal : right ≡ least = omega arith in
+            (a, marked_obstacle cells y words a row marked, is ∙ equal)
       ];
+    }
+
+-- one row more
+pub IsLeastAmong-more : (distance : ℕ → ℕ → ℕ) (Obstacle : ℕ → ℕ → Type 0) (rect : Rect) (IsRow IsNext : ℕ → Type 0) (y gap limit least next : ℕ)
+    → row_gap rect y ≡ gap → ((b : ℕ) → IsNext b → IsRow b ⊎ (b ≡ y)) → IsLoweredBy distance Obstacle rect y gap least next
+    → IsLeastAmong distance Obstacle rect IsRow limit least → IsLeastAmong distance Obstacle rect IsNext limit next
+IsLeastAmong-more distance Obstacle rect IsRow IsNext y gap limit least next gap_is back row before =
+    let lower = row.within in
+    let low = before.within in
+    record {
+      within = omega arith;
+      far = λ a b obstacle is_next. elim (back b is_next) [
+        | inl earlier ↦ IsFar-lower (rect_distance distance rect a b) least next lower (before.far a b obstacle earlier)
+        | inr here ↦
+            let far = row.far a (subst (λ (n : ℕ). Obstacle a n) here obstacle) in
+            let gaps : gap ≡ row_gap rect b = sym (ap (row_gap rect) here ∙ gap_is) in
+            subst (λ (n : ℕ). IsFar (distance (column_gap rect a) n) next) gaps far
+      ];
+      reached = λ less. elim (cases_lt next least) [
+        | inl lowered ↦
+            let (a, obstacle, is) = row.reached lowered in
+            record { a = a; b = y; obstacle = obstacle; distance_is = ap (distance (column_gap rect a)) gap_is ∙ is }
+        | inr same ↦
+            let equal : least ≡ next = omega arith in
+            let reached = before.reached (omega arith) in
+            record { a = reached.a; b = reached.b; obstacle = reached.obstacle; distance_is = reached.distance_is ∙ equal }
+      ];
+    }
+
+-- rows said otherwise
+pub IsLeastAmong-same : (distance : ℕ → ℕ → ℕ) (Obstacle : ℕ → ℕ → Type 0) (rect : Rect) (IsRow IsNext : ℕ → Type 0) (limit least next : ℕ)
+    → next ≡ least → ((a b : ℕ) → Obstacle a b → IsNext b → IsRow b)
+    → IsLeastAmong distance Obstacle rect IsRow limit least → IsLeastAmong distance Obstacle rect IsNext limit next
+IsLeastAmong-same distance Obstacle rect IsRow IsNext limit least next same back before = rw same (record {
+  within = before.within;
+  far = λ a b obstacle is_next. before.far a b obstacle (back a b obstacle is_next);
+  reached = before.reached;
+})
+
+-- rows that are as far away as the least say nothing more
+pub IsLeastAmong-far : (distance : ℕ → ℕ → ℕ) → Grows distance → StaysNearer distance → (cells : Cells) (rect : Rect) (IsRow IsNext : ℕ → Type 0) (gap limit least : ℕ)
+    → IsBitmap cells → least ≤ distance 0 gap → least < 2 ^ 32
+    → ((b : ℕ) → IsNext b → IsRow b ⊎ (gap ≤ row_gap rect b))
+    → IsLeastAmong distance (IsObstacle cells) rect IsRow limit least → IsLeastAmong distance (IsObstacle cells) rect IsNext limit least
+IsLeastAmong-far distance grows stays cells rect IsRow IsNext gap limit least bitmap low small back before = record {
+  within = before.within;
+  far = λ a b obstacle is_next. elim (back b is_next) [
+    | inl earlier ↦ before.far a b obstacle earlier
+    | inr beyond ↦
+        let last = obstacle_within cells bitmap a b obstacle in
+        let column = last.2 in
+        let row = last.3 in
+        let right = rect.has_cells.right in
+        let bottom = rect.has_cells.bottom in
+        let grown = of_grows distance grows stays 0 (column_gap rect a) gap (row_gap rect b) (omega arith) (omega arith) beyond (omega arith) in
+        record { not_below = omega arith; is_limit = small }
+  ];
+  reached = before.reached;
 }
 
--- once all places have been looked at, the best is the first that is nearer than what was asked
-pub IsBest-clear : (distance : ℕ → ℕ → ℕ) (Obstacle : ℕ → ℕ → Type 0) (cells : List Cell) (Before : ℕ → Type 0) (d : ℕ) (best : Option Found)
-    → ((i : ℕ) → i < length cells → Before i)
-    → IsBest distance Obstacle (Below d) cells Before best → IsClearOf distance Obstacle cells d (answer_of best)
-IsBest-clear distance Obstacle cells Before d None all is = λ i other cell within nearest.
-    let behind = seen_behind distance Obstacle (Below d) cells None i cell other within (is.seen i within (all i within)) nearest in
-    elim (cases_lt other.dist d) [ inl less ↦ absurd (behind less) | inr no_less ↦ no_less ]
-IsBest-clear distance Obstacle cells Before d (Some found) all is = record {
-  place = found.place;
-  within = is.found.within;
-  cell_is = is.found.cell_is;
-  near_is = is.found.near_is;
-  below = is.found.admitted;
-  first = λ i other earlier nearest.
-      let last = is.found.within in
-      let within : i < length cells = omega arith in
-      let behind = seen_behind distance Obstacle (Below d) cells (Some found) i found.cell other within (is.seen i within (all i within)) nearest in
-      elim (cases_lt other.dist d) [ inl less ↦ let later = behind less in absurd (omega arith) | inr no_less ↦ no_less ];
+-- once all rows have been looked at, the least is that of the rectangle's cells
+pub IsLeastBelow-all : (distance : ℕ → ℕ → ℕ) → Grows distance → StaysNearer distance → (cells : Cells) (rect : Rect) (IsRow : ℕ → Type 0) (limit least : ℕ)
+    → IsBitmap cells → ((a b : ℕ) → IsObstacle cells a b → IsRow b)
+    → IsLeastAmong distance (IsObstacle cells) rect IsRow limit least → IsLeastBelow distance (IsObstacle cells) rect limit least
+IsLeastBelow-all distance grows stays cells rect IsRow limit least bitmap all is =
+    let columns = rect.has_cells.columns in
+    let rows = rect.has_cells.rows in
+    let right = rect.has_cells.right in
+    let bottom = rect.has_cells.bottom in
+    record {
+      within = is.within;
+      far = λ x y a b cell obstacle.
+          let last = obstacle_within cells bitmap a b obstacle in
+          let column = last.2 in
+          let row = last.3 in
+          let x_low = cell.left in
+          let x_high = cell.right in
+          let y_low = cell.top in
+          let y_high = cell.bottom in
+          let grown = of_grows distance grows stays (column_gap rect a) (abs_diff x a) (row_gap rect b) (abs_diff y b) (omega arith) (omega arith) (omega arith) (omega arith) in
+          IsFar-greater (rect_distance distance rect a b) (distance_between distance x y a b) least grown (is.far a b obstacle (all a b obstacle));
+      reached = λ less.
+          let reached = is.reached less in
+          let x = max rect.x0 (min (rect.x1 - 1) reached.a) in
+          let y = max rect.y0 (min (rect.y1 - 1) reached.b) in
+          let across : abs_diff x reached.a ≡ column_gap rect reached.a = omega arith in
+          let down : abs_diff y reached.b ≡ row_gap rect reached.b = omega arith in
+          record {
+            x = x;
+            y = y;
+            cell = record { left = omega arith; right = omega arith; top = omega arith; bottom = omega arith };
+            a = reached.a;
+            b = reached.b;
+            obstacle = reached.obstacle;
+            distance_is = rw (across, down) reached.distance_is;
+          };
+    }
+
+-- before any row has been looked at the least is the limit
+pub IsLeastAmong-none : (distance : ℕ → ℕ → ℕ) (Obstacle : ℕ → ℕ → Type 0) (rect : Rect) (IsRow : ℕ → Type 0) (limit : ℕ)
+    → ((b : ℕ) → IsRow b → ⊥) → IsLeastAmong distance Obstacle rect IsRow limit limit
+IsLeastAmong-none distance Obstacle rect IsRow limit none = record {
+  within = omega arith;
+  far = λ a b obstacle row. absurd (none b row);
+  reached = λ less. absurd (omega arith);
 }
+
+-- an obstacle's row is one of the largest map's
+pub row_within : (cells : Cells) → IsBitmap cells → (a b : ℕ) → IsObstacle cells a b → b < 4096
+row_within cells bitmap a b obstacle = let last = (obstacle_within cells bitmap a b obstacle).3 in omega arith
+
+-- the two rows so many rows away, above and below, as far as there are such rows
+pub IsLeastWithin-more : (distance : ℕ → ℕ → ℕ) (cells : Cells) (rect : Rect) (gap limit least above below : ℕ) → IsBitmap cells → 0 < gap → rect.y1 ≤ cells.height
+    → (gap ≤ rect.y0 → IsLoweredBy distance (IsObstacle cells) rect (rect.y0 - gap) gap least above) → (rect.y0 < gap → above ≡ least)
+    → (rect.y1 - 1 + gap < cells.height → IsLoweredBy distance (IsObstacle cells) rect (rect.y1 - 1 + gap) gap above below) → (cells.height ≤ rect.y1 - 1 + gap → below ≡ above)
+    → IsLeastWithin distance (IsObstacle cells) rect gap limit least → IsLeastWithin distance (IsObstacle cells) rect (gap + 1) limit below
+IsLeastWithin-more distance cells rect gap limit least above below bitmap some high upper no_upper lower no_lower before =
+    let rows = rect.has_cells.rows in
+    let IsUp : ℕ → Type 0 = λ b. (row_gap rect b < gap) ⊎ (b + gap ≡ rect.y0) in
+    let up : IsLeastAmong distance (IsObstacle cells) rect IsUp limit above = elim (cases_lt rect.y0 gap) [
+      | inl none ↦ IsLeastAmong-same distance (IsObstacle cells) rect (λ b. row_gap rect b < gap) IsUp limit least above (no_upper none)
+          (λ a b obstacle is_up. elim is_up [ inl earlier ↦ earlier | inr here ↦ absurd (omega arith) ]) before
+      | inr there ↦ IsLeastAmong-more distance (IsObstacle cells) rect (λ b. row_gap rect b < gap) IsUp (rect.y0 - gap) gap limit least above (omega arith)
+          (λ b is_up. elim is_up [ inl earlier ↦ inl earlier | inr here ↦ inr (omega arith) ]) (upper there) before
+    ] in
+    elim (cases_lt (rect.y1 - 1 + gap) cells.height) [
+      | inl there ↦ IsLeastAmong-more distance (IsObstacle cells) rect IsUp (λ b. row_gap rect b < gap + 1) (rect.y1 - 1 + gap) gap limit above below (omega arith)
+          (λ b next. elim (cases_lt (row_gap rect b) gap) [
+            | inl earlier ↦ inl (inl earlier)
+            | inr here ↦ elim (cases_lt b rect.y0) [ inl over ↦ inl (inr (omega arith)) | inr under ↦ inr (omega arith) ]
+          ]) (lower there) up
+      | inr none ↦ IsLeastAmong-same distance (IsObstacle cells) rect IsUp (λ b. row_gap rect b < gap + 1) limit above below (no_lower none)
+          (λ a b obstacle next.
+          let last = (obstacle_within cells bitmap a b obstacle).1 in
+          elim (cases_lt (row_gap rect b) gap) [ inl earlier ↦ inl earlier | inr here ↦ inr (omega arith) ]) up
+    ]
+
+-- an obstacle lies less rows away than the bitmap has
+pub row_gap-within : (cells : Cells) (rect : Rect) (gap : ℕ) → IsBitmap cells → rect.y1 ≤ cells.height → cells.height ≤ gap → (a b : ℕ) → IsObstacle cells a b → row_gap rect b < gap
+row_gap-within cells rect gap bitmap high ended a b obstacle =
+    let last = (obstacle_within cells bitmap a b obstacle).1 in
+    let rows = rect.has_cells.rows in
+    omega arith

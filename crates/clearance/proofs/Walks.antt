@@ -7,7 +7,7 @@ use Rattle.std.proofs.lemmas.List.FromFn.{length-map-range_with_len, get_or-map-
 use Rattle.metric.specs.declared.cell.Cell.{Cell}
 use Rattle.clearance.specs.Paths.{towards, cells_up_to, cells_behind, cells_of_path, crooked_point}
 use Rattle.clearance.specs.Segments.{IsStraight, cell_count}
-use Rattle.clearance.specs.Search.{origin, cell_in}
+use Rattle.clearance.specs.Firsts.{origin, cell_in}
 use Rattle.clearance.proofs.Refusals.{AreStraight, AreStraight-from}
 
 -- the cell of a step behind a point, from 0

@@ -1,94 +1,81 @@
--- How far a search over the cells of a list has come, and how it decides between two of them: this project's own rule.
-use Rattle.std.specs.Prelude.{◌≡◌, ℕ, ◌<◌, ◌≤◌, ◌⊎◌, List, length, slice_index_or, Option, Some, None, IfSome}
-use Rattle.metric.specs.declared.cell.Cell.{Cell}
-use Rattle.metric.specs.declared.near.Near.{Near}
-use Rattle.metric.specs.Nearest.{IsNearest, IsNear}
-use Rattle.bits.specs.Cells.{Cells, IsObstacle}
-use Rattle.clearance.specs.declared.found.Wanted.{Wanted}
-use Rattle.clearance.specs.declared.found.Wanted.TheVariants.{Least, Below}
-use Rattle.clearance.specs.declared.found.Found.{Found}
+-- The least distance of a rectangle's cells to the obstacles, and how far the search for it has come: this project's own rule.
+use Rattle.std.specs.Prelude.{◌≡◌, ℕ, ◌+◌, ◌-◌, ◌<◌, ◌≤◌, List}
+use Rattle.metric.specs.declared.rect.Rect.{Rect}
+use Rattle.metric.specs.Distance.{distance_between}
+use Rattle.clearance.specs.Rows.{IsMarked, IsFar}
 
--- a cell with this nearest obstacle is looked for
-abbrev pub IsAdmitted : Wanted → Near → Type 0
-IsAdmitted Least near = Unit {0}
-IsAdmitted (Below dist) near = near.dist < dist
+-- the cell (x, y) lies in the rectangle
+pub record IsInRect (rect : Rect) (x y : ℕ) : Type 0 where
+  pub left : rect.x0 ≤ x
+  pub right : x < rect.x1
+  pub top : rect.y0 ≤ y
+  pub bottom : y < rect.y1
 
--- the one cell is at least as good as the other: the lesser distance, then the earlier place; where a distance is asked for, the earlier place alone
-abbrev pub IsAhead : Wanted → Found → Found → Type 0
-IsAhead Least one other = (one.near.dist < other.near.dist) ⊎ ((one.near.dist ≡ other.near.dist) × (one.place ≤ other.place))
-IsAhead (Below dist) one other = one.place ≤ other.place
+-- a cell that passes a test has an obstacle at distance d
+pub record IsReachedFrom (distance : ℕ → ℕ → ℕ) (Obstacle IsCell : ℕ → ℕ → Type 0) (d : ℕ) : Type 0 where
+  pub x : ℕ
+  pub y : ℕ
+  pub cell : IsCell x y
+  pub a : ℕ
+  pub b : ℕ
+  pub obstacle : Obstacle a b
+  pub distance_is : distance_between distance x y a b ≡ d
 
--- of the best cell so far, if any, and the next one, this is the better
-pub record IsBetter (wanted : Wanted) (best : Option Found) (next better : Found) : Type 0 where
-  pub one_of : (better ≡ next) ⊎ (best ≡ Some better)
-  pub ahead_of_next : IsAhead wanted better next
-  pub ahead_of_best : IfSome best (λ other. IsAhead wanted better other)
+-- no cell that passes a test has an obstacle at a distance below the limit
+abbrev pub AreFar : (ℕ → ℕ → ℕ) → (ℕ → ℕ → Type 0) → (ℕ → ℕ → Type 0) → ℕ → Type 0
+AreFar distance Obstacle IsCell limit = (x y a b : ℕ) → IsCell x y → Obstacle a b → IsFar (distance_between distance x y a b) limit
 
--- what was found, if anything, is at least as good as this cell, or this cell isn't looked for
-abbrev pub LeavesBehind : Wanted → Option Found → Found → Type 0
-LeavesBehind wanted None other = IsAdmitted wanted other.near → ⊥
-LeavesBehind wanted (Some best) other = IsAdmitted wanted other.near → IsAhead wanted best other
+-- the least of the limit and of the distances of the rectangle's cells to the obstacles
+pub record IsLeastBelow (distance : ℕ → ℕ → ℕ) (Obstacle : ℕ → ℕ → Type 0) (rect : Rect) (limit least : ℕ) : Type 0 where
+  pub within : least ≤ limit
+  pub far : AreFar distance Obstacle (IsInRect rect) least
+  pub reached : least < limit → IsReachedFrom distance Obstacle (IsInRect rect) least
 
--- this is the cell at a place, with its nearest obstacle, as one that is looked for
-pub record IsNew (wanted : Wanted) (place : ℕ) (cell : Cell) (near : Option Near) (found : Found) : Type 0 where
-  pub place_is : found.place ≡ place
-  pub cell_is : found.cell ≡ cell
-  pub near_is : near ≡ Some found.near
-  pub admitted : IsAdmitted wanted found.near
+-- how many columns the column a lies outside of the rectangle
+abbrev pub column_gap : Rect → ℕ → ℕ
+column_gap rect a = (rect.x0 - a) + (a - (rect.x1 - 1))
 
--- what is found once the cell at a place has been looked at too
-pub record IsWithCell (wanted : Wanted) (best : Option Found) (place : ℕ) (cell : Cell) (near : Option Near) (after : Option Found) : Type 0 where
-  pub one_of : (after ≡ best) ⊎ ((found : Found) × (after ≡ Some found) × IsNew wanted place cell near found)
-  pub behind : IfSome near (λ n. LeavesBehind wanted after (record { place = place; cell = cell; near = n }))
-  pub keeps : (other : Found) → LeavesBehind wanted best other → LeavesBehind wanted after other
+-- how many rows the row b lies outside of the rectangle
+abbrev pub row_gap : Rect → ℕ → ℕ
+row_gap rect b = (rect.y0 - b) + (b - (rect.y1 - 1))
 
--- a cell of the list that is looked for, with its nearest obstacle
-pub record IsFound (distance : ℕ → ℕ → ℕ) (Obstacle : ℕ → ℕ → Type 0) (wanted : Wanted) (cells : List Cell) (found : Found) : Type 0 where
-  pub within : found.place < length cells
-  pub cell_is : slice_index_or cells found.place found.cell ≡ found.cell
-  pub near_is : IsNearest distance Obstacle found.cell.x found.cell.y found.near
-  pub admitted : IsAdmitted wanted found.near
+-- the distance of the rectangle's nearest cell to the cell (a, b)
+abbrev pub rect_distance : (ℕ → ℕ → ℕ) → Rect → ℕ → ℕ → ℕ
+rect_distance distance rect a b = distance (column_gap rect a) (row_gap rect b)
 
--- the cell (0, 0)
-abbrev pub origin : Cell
-origin = record { x = 0; y = 0 }
+-- an obstacle lies at distance d of the rectangle's nearest cell
+pub record IsReachedBy (distance : ℕ → ℕ → ℕ) (Obstacle : ℕ → ℕ → Type 0) (rect : Rect) (d : ℕ) : Type 0 where
+  pub a : ℕ
+  pub b : ℕ
+  pub obstacle : Obstacle a b
+  pub distance_is : rect_distance distance rect a b ≡ d
 
--- the cell at this place of the list
-abbrev pub cell_in : List Cell → ℕ → Cell
-cell_in cells place = slice_index_or cells place origin
+-- the least of the limit and of the distances to the obstacles in rows that pass a test
+pub record IsLeastAmong (distance : ℕ → ℕ → ℕ) (Obstacle : ℕ → ℕ → Type 0) (rect : Rect) (IsRow : ℕ → Type 0) (limit least : ℕ) : Type 0 where
+  pub within : least ≤ limit
+  pub far : (a b : ℕ) → Obstacle a b → IsRow b → IsFar (rect_distance distance rect a b) least
+  pub reached : least < limit → IsReachedBy distance Obstacle rect least
 
--- what was found, if anything, is at least as good as the cell at this place of the list
-pub record IsSeen (distance : ℕ → ℕ → ℕ) (Obstacle : ℕ → ℕ → Type 0) (wanted : Wanted) (cells : List Cell) (best : Option Found) (place : ℕ) : Type 0 where
-  pub near : Option Near
-  pub near_is : IsNear distance Obstacle (cell_in cells place).x (cell_in cells place).y near
-  pub behind : IfSome near (λ n. LeavesBehind wanted best (record { place = place; cell = cell_in cells place; near = n }))
+-- the least of the limit and of the distances to the obstacles that lie less than so many rows outside of the rectangle
+abbrev pub IsLeastWithin : (ℕ → ℕ → ℕ) → (ℕ → ℕ → Type 0) → Rect → ℕ → ℕ → ℕ → Type 0
+IsLeastWithin distance Obstacle rect gap limit least = IsLeastAmong distance Obstacle rect (λ b. row_gap rect b < gap) limit least
 
--- the best of the list's cells that stand at such places, or none where none of them is looked for
-pub record IsBest (distance : ℕ → ℕ → ℕ) (Obstacle : ℕ → ℕ → Type 0) (wanted : Wanted) (cells : List Cell) (Before : ℕ → Type 0) (best : Option Found) : Type 0 where
-  pub found : IfSome best (IsFound distance Obstacle wanted cells)
-  pub seen : (place : ℕ) → place < length cells → Before place → IsSeen distance Obstacle wanted cells best place
+-- the least so far, lowered by the distances to the obstacles of the row y, so many rows outside of the rectangle
+pub record IsLoweredBy (distance : ℕ → ℕ → ℕ) (Obstacle : ℕ → ℕ → Type 0) (rect : Rect) (y gap before least : ℕ) : Type 0 where
+  pub within : least ≤ before
+  pub far : (a : ℕ) → Obstacle a y → IsFar (distance (column_gap rect a) gap) least
+  pub reached : least < before → (a : ℕ) × Obstacle a y × (distance (column_gap rect a) gap ≡ least)
 
--- the cell at this place of the list lies above the row y
-abbrev pub IsAbove : List Cell → ℕ → ℕ → Type 0
-IsAbove cells y place = (cell_in cells place).y < y
+-- the least so far, lowered by the distances to those marks of a row that pass a test of their columns
+pub record IsLoweredOver (distance : ℕ → ℕ → ℕ) (words : List ℕ) (IsColumn : ℕ → Type 0) (rect : Rect) (gap before least : ℕ) : Type 0 where
+  pub within : least ≤ before
+  pub far : (a : ℕ) → IsColumn a → IsMarked words a → IsFar (distance (column_gap rect a) gap) least
+  pub reached : least < before → (a : ℕ) × IsMarked words a × (distance (column_gap rect a) gap ≡ least)
 
--- the cell at this place of the list lies above the row y, or in it and before another place
-abbrev pub IsBefore : List Cell → ℕ → ℕ → ℕ → Type 0
-IsBefore cells y end place = ((cell_in cells place).y < y) ⊎ (((cell_in cells place).y ≡ y) × (place < end))
+-- the least so far, lowered by the distances to the marks of a row from the rectangle's first column on
+abbrev pub IsLoweredRight : (ℕ → ℕ → ℕ) → List ℕ → Rect → ℕ → ℕ → ℕ → Type 0
+IsLoweredRight distance words rect gap before least = IsLoweredOver distance words (λ a. rect.x0 ≤ a) rect gap before least
 
--- this place comes before another
-abbrev pub IsEarlier : ℕ → ℕ → Type 0
-IsEarlier end place = place < end
-
--- the best of the list's cells above the row y, or none where none of them is looked for
-abbrev pub IsBestAbove : (ℕ → ℕ → ℕ) → Cells → Wanted → List Cell → ℕ → Option Found → Type 0
-IsBestAbove distance bitmap wanted cells y best = IsBest distance (IsObstacle bitmap) wanted cells (IsAbove cells y) best
-
--- the best of so many first cells of the list, or none where none of them is looked for
-abbrev pub IsBestOfFirst : (ℕ → ℕ → ℕ) → Cells → Wanted → List Cell → ℕ → Option Found → Type 0
-IsBestOfFirst distance bitmap wanted cells count best = IsBest distance (IsObstacle bitmap) wanted cells (IsEarlier count) best
-
--- the cell that was found with its nearest obstacle
-abbrev pub answer_of : Option Found → Option (Cell × Near)
-answer_of None = None
-answer_of (Some found) = Some (found.cell, found.near)
+-- the same, by the marks before the rectangle's first column
+abbrev pub IsLoweredLeft : (ℕ → ℕ → ℕ) → List ℕ → Rect → ℕ → ℕ → ℕ → Type 0
+IsLoweredLeft distance words rect gap before least = IsLoweredOver distance words (λ a. a < rect.x0) rect gap before least

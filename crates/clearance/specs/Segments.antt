@@ -1,9 +1,7 @@
--- Segments of a path: the cells behind a point, up to the next: this project's own rule.
+-- Segments of a path, and strips of lines side by side: this project's own rule.
 use Rattle.std.specs.Prelude.{◌≡◌, ℕ, ◌+◌, ◌≤◌, ◌<◌, ◌⊎◌, max}
 use Rattle.std.specs.Int.{abs_diff}
 use Rattle.metric.specs.declared.cell.Cell.{Cell}
-use Rattle.clearance.specs.Paths.{towards}
-use Rattle.clearance.specs.declared.segment.Steps.{Steps}
 
 -- a point lies in the row or in the column of the point before it
 abbrev pub IsStraight : Cell → Cell → Type 0
@@ -13,9 +11,9 @@ IsStraight from to = (to.x ≡ from.x) ⊎ (to.y ≡ from.y)
 abbrev pub cell_count : Cell → Cell → ℕ
 cell_count from to = max 1 (abs_diff from.x to.x + abs_diff from.y to.y)
 
--- of the cells behind a point, up to the next, counted from 0, just those of these steps lie in the row y
-pub record AreStepsInRow (from to : Cell) (y : ℕ) (steps : Steps) : Type 0 where
-  pub order : steps.first ≤ steps.end
-  pub few : steps.end ≤ cell_count from to
-  pub in_row : (k : ℕ) → steps.first ≤ k → k < steps.end → towards from.y to.y (1 + k) ≡ y
-  pub no_other : (k : ℕ) → k < cell_count from to → towards from.y to.y (1 + k) ≡ y → (steps.first ≤ k) × (k < steps.end)
+-- a line of so many cells that begins at one cell, within the largest map, and is moved to another: down or up, or sideways where it's one cell
+pub record IsStrip (from to : Cell) (across : ℕ) : Type 0 where
+  pub sideways : (to.x ≡ from.x → ⊥) → (to.y ≡ from.y) × (across ≡ 1)
+  pub some : 1 ≤ across
+  pub right : max from.x to.x + across ≤ 4096
+  pub bottom : max from.y to.y < 4096

@@ -1,59 +1,80 @@
-//! The best cell of a rectangle, by the answers of one row at a time.
+//! The first cell of a rectangle that has the least distance, found by halves.
 
-ghost use Rattle.std.specs.Prelude.{◌≡◌, ◌+◌, ◌-◌, ◌*◌, ◌<◌, ◌≤◌, IfOk, IfErr};
-ghost use Rattle.metric.specs.declared.refusal.Refusal.TheVariants.{Memory};
-ghost use Rattle.bits.specs.Cells.{IsBitmap};
-ghost use Rattle.clearance.specs.Answers.{cells_of_rect};
-ghost use Rattle.clearance.specs.Search.{IsBestOfFirst};
+ghost use Rattle.std.specs.Prelude.{◌≡◌, ◌<◌, ◌≤◌};
+ghost use Rattle.bits.specs.Cells.{IsInside, IsObstacle};
+ghost use Rattle.clearance.specs.Answers.{IsLeastOf, cells_of_rect};
+ghost use Rattle.clearance.specs.Firsts.{IsCellWithNear, IsFirstColumn, IsFirstOrNone, IsFirstRow, IsRectNear};
 
-use crate::found::{Found, Wanted};
-use crate::row::one_row;
+use crate::nearest::nearest;
+use crate::search::{NO_LIMIT, least_below};
+use crate::strip::Strip;
 use bits::Bitmap;
-use metric::{Cell, Metric, Rect, Refusal};
-use std::alloc::Global;
+use metric::{Cell, Metric, Near, Rect};
 
-/// The best cell of a rectangle that lies in the bitmap. One row's answers are held at a time.
-pub fn best_in<M: Metric>(
-    alloc: Global,
-    bitmap: &Bitmap,
-    rect: Rect,
-) -> Result<Option<Found>, Refusal>
-    requires bitmap { IsBitmap bitmap.now }
+/// The first cell of the least distance in a rectangle of the bitmap, with its nearest obstacle; `None` where the bitmap has no obstacle.
+pub fn least_of_rect<M: Metric>(bitmap: &Bitmap, rect: Rect) -> Option<(Cell, Near)>
     requires columns { rect.x1 ≤ bitmap.now.width }
     requires rows { rect.y1 ≤ bitmap.now.height }
-    ensures best { IfOk result (IsBestOfFirst M.distance bitmap.now Wanted.Least (cells_of_rect rect.x0 rect.y0 rect.x1 rect.y1) ((rect.y1 - rect.y0) * (rect.x1 - rect.x0))) }
-    ensures memory { IfErr result (λ refusal. refusal ≡ Memory) }
+    ensures { IsLeastOf M.distance (IsObstacle bitmap.now) (cells_of_rect rect.x0 rect.y0 rect.x1 rect.y1) result }
 {
-    let mut best = None;
-    'rows: for y in rect.y0..rect.y1 {
-        best = with_row::<M>(alloc, bitmap, rect, y, best)?;
+    let least = least_below::<M>(bitmap, rect, NO_LIMIT);
+    if least >= NO_LIMIT {
+        return None;
     }
-    Ok(best)
+    first_of_rect::<M>(bitmap, rect, least + 1)
 }
 
-/// The best cell of the rectangle's rows above and of one row more.
-fn with_row<M: Metric>(
-    alloc: Global,
-    bitmap: &Bitmap,
-    rect: Rect,
-    y: u16,
-    above: Option<Found>,
-) -> Result<Option<Found>, Refusal>
-    requires bitmap { IsBitmap bitmap.now }
+/// The first cell of the rectangle that has an obstacle at a distance below the limit. There is one.
+fn first_of_rect<M: Metric>(bitmap: &Bitmap, rect: Rect, limit: u64) -> Option<(Cell, Near)>
     requires columns { rect.x1 ≤ bitmap.now.width }
     requires rows { rect.y1 ≤ bitmap.now.height }
-    requires top { rect.y0 ≤ y }
-    requires bottom { y < rect.y1 }
-    requires above { IsBestOfFirst M.distance bitmap.now Wanted.Least (cells_of_rect rect.x0 rect.y0 rect.x1 rect.y1) ((y - rect.y0) * (rect.x1 - rect.x0)) above }
-    ensures best { IfOk result (IsBestOfFirst M.distance bitmap.now Wanted.Least (cells_of_rect rect.x0 rect.y0 rect.x1 rect.y1) ((y + 1 - rect.y0) * (rect.x1 - rect.x0))) }
-    ensures memory { IfErr result (λ refusal. refusal ≡ Memory) }
+    requires some { IsRectNear M.distance (IsObstacle bitmap.now) rect limit }
+    ensures { IsFirstOrNone M.distance (IsObstacle bitmap.now) (cells_of_rect rect.x0 rect.y0 rect.x1 rect.y1) limit result }
 {
-    let nears = one_row::<M>(alloc, bitmap, y)?;
-    let start = u32::from(y - rect.y0) * u32::from(rect.x1 - rect.x0);
-    let mut best = above;
-    'columns: for x in rect.x0..rect.x1 {
-        let place = start + u32::from(x - rect.x0);
-        best = Wanted::Least.with_cell(best, place, Cell { x, y }, nears[usize::from(x)]);
+    let y = first_row::<M>(bitmap, rect, limit);
+    let x = first_column::<M>(bitmap, rect, y, limit);
+    with_nearest::<M>(bitmap, Cell { x, y })
+}
+
+/// The first row of the rectangle in which a cell has an obstacle at a distance below the limit. There is one.
+fn first_row<M: Metric>(bitmap: &Bitmap, rect: Rect, limit: u64) -> u16
+    requires columns { rect.x1 ≤ bitmap.now.width }
+    requires rows { rect.y1 ≤ bitmap.now.height }
+    requires some { IsRectNear M.distance (IsObstacle bitmap.now) rect limit }
+    ensures { IsFirstRow M.distance (IsObstacle bitmap.now) rect limit result }
+{
+    let (x, top, bottom) = (rect.x0, rect.y0, rect.y1 - 1);
+    let rows = Strip {
+        from: Cell { x, y: top },
+        to: Cell { x, y: bottom },
+        across: rect.x1 - x,
+    };
+    top + rows.first_near::<M>(bitmap, 0, bottom - top, limit)
+}
+
+/// The first column of the rectangle in which the cell of the row `y` has an obstacle at a distance below the limit. There is one.
+fn first_column<M: Metric>(bitmap: &Bitmap, rect: Rect, y: u16, limit: u64) -> u16
+    requires columns { rect.x1 ≤ bitmap.now.width }
+    requires rows { rect.y1 ≤ bitmap.now.height }
+    requires some { IsFirstRow M.distance (IsObstacle bitmap.now) rect limit y }
+    ensures { IsFirstColumn M.distance (IsObstacle bitmap.now) rect limit y result }
+{
+    let (left, right) = (rect.x0, rect.x1 - 1);
+    let columns = Strip {
+        from: Cell { x: left, y },
+        to: Cell { x: right, y },
+        across: 1,
+    };
+    left + columns.first_near::<M>(bitmap, 0, right - left, limit)
+}
+
+/// The cell with its nearest obstacle; `None` where the bitmap has no obstacle.
+pub fn with_nearest<M: Metric>(bitmap: &Bitmap, cell: Cell) -> Option<(Cell, Near)>
+    requires { IsInside bitmap.now cell.x cell.y }
+    ensures { IsCellWithNear M.distance (IsObstacle bitmap.now) cell result }
+{
+    match nearest::<M>(bitmap, cell) {
+        Some(near) => Some((cell, near)),
+        None => None,
     }
-    Ok(best)
 }

@@ -1,17 +1,10 @@
 //! Segments of a path: the cells behind a point, up to the next, which lies in its row or column.
 
-ghost use Rattle.std.specs.Prelude.{◌≡◌, ◌+◌};
+ghost use Rattle.std.specs.Prelude.{◌≡◌};
 ghost use Rattle.clearance.specs.Paths.{towards};
-ghost use Rattle.clearance.specs.Segments.{IsStraight, cell_count, AreStepsInRow};
+ghost use Rattle.clearance.specs.Segments.{IsStraight, cell_count};
 
 use metric::Cell;
-
-/// The cells number `first` to `end - 1` of a segment, counted from 0.
-#[derive(Clone, Copy, Debug, PartialEq, Eq)]
-pub struct Steps {
-    pub first: u16,
-    pub end: u16,
-}
 
 /// How many cells lie behind a point, up to the next: a point that is repeated has its cell once more.
 pub fn count_cells(from: Cell, to: Cell) -> u16
@@ -32,25 +25,4 @@ pub fn step_towards(from: u16, to: u16, steps: u16) -> u16
     } else {
         from.saturating_sub(steps).max(to)
     }
-}
-
-/// Which cells behind a point, up to the next, lie in the row `y`.
-pub fn steps_in_row(from: Cell, to: Cell, y: u16) -> Steps
-    requires { IsStraight from to }
-    ensures { AreStepsInRow from to y result }
-{
-    if from.y == to.y && from.y == y {
-        return Steps {
-            first: 0,
-            end: count_cells(from, to),
-        };
-    }
-    if (from.y < y && y <= to.y) || (to.y <= y && y < from.y) {
-        let end = from.y.abs_diff(y);
-        return Steps {
-            first: end - 1,
-            end,
-        };
-    }
-    Steps { first: 0, end: 0 }
 }

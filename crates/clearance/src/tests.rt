@@ -1,4 +1,9 @@
-//! What no clause says: that calls find memory, and worked answers.
+//! What no clause says: that calls answer, and worked answers.
+
+mod compared;
+mod draws;
+mod limits;
+mod slow;
 
 use super::{along, at, clear_of, least_in};
 use bits::Bitmap;
@@ -62,12 +67,17 @@ fn cells(alloc: Global, places: &[Place]) -> Result<Vec<Cell>, AllocError> {
 }
 
 /// A cell with its distance to the obstacle (2, 1).
-fn beside(((x, y), dist): (Place, u32)) -> (Cell, Near) {
-    let near = Near {
-        dist,
-        cell: Cell { x: 2, y: 1 },
+fn beside((place, dist): (Place, u32)) -> (Cell, Near) {
+    beside_at(place, dist, (2, 1))
+}
+
+/// A cell with its distance to an obstacle.
+fn beside_at((x, y): Place, dist: u32, obstacle: Place) -> (Cell, Near) {
+    let cell = Cell {
+        x: obstacle.0,
+        y: obstacle.1,
     };
-    (Cell { x, y }, near)
+    (Cell { x, y }, Near { dist, cell })
 }
 
 #[test]

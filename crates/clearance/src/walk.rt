@@ -1,83 +1,102 @@
-//! The best cell of a path, by the answers of one row at a time.
+//! The first cell of a path that has the least distance, or one that is asked for, piece by piece.
 
-ghost use Rattle.std.specs.Prelude.{◌≡◌, ◌+◌, ◌<◌, ◌↔◌, length, None, IsTrue, IfOk, IfErr};
-ghost use Rattle.std.specs.List.{Any};
-ghost use Rattle.metric.specs.declared.refusal.Refusal.TheVariants.{Memory};
-ghost use Rattle.bits.specs.Cells.{IsBitmap};
-ghost use Rattle.clearance.specs.Paths.{cells_of_path, crooked_point, path_refusal};
-ghost use Rattle.clearance.specs.Search.{IsBestAbove};
+ghost use Rattle.std.specs.Prelude.{◌≡◌, ◌^◌, None};
+ghost use Rattle.bits.specs.Cells.{IsBitmap, IsInside, IsObstacle};
+ghost use Rattle.clearance.specs.Answers.{IsLeastOf};
+ghost use Rattle.clearance.specs.Firsts.{IsFirstOrNone, IsLeastOver, IsListNear};
+ghost use Rattle.clearance.specs.Paths.{cells_of_path, cells_up_to, path_refusal};
+ghost use Rattle.clearance.specs.Segments.{IsStraight};
 
-use crate::found::{Found, Wanted};
-use crate::row::one_row;
-use crate::segment::{count_cells, step_towards, steps_in_row};
+use crate::area::with_nearest;
+use crate::search::{NO_LIMIT, least_below};
+use crate::segment::count_cells;
+use crate::strip::Strip;
 use bits::Bitmap;
-use metric::{Cell, Metric, Refusal};
-use std::alloc::Global;
+use metric::{Cell, Metric, Near};
 
-/// The best cell of a path that isn't refused. Each row that the path touches is computed once, and held alone.
-pub fn best_along<M: Metric>(
-    alloc: Global,
-    bitmap: &Bitmap,
-    points: &[Cell],
-    wanted: Wanted,
-) -> Result<Option<Found>, Refusal>
+/// The first cell of the least distance along a path that isn't refused, with its nearest obstacle; `None` where the bitmap has no obstacle.
+pub fn least_of_path<M: Metric>(bitmap: &Bitmap, points: &[Cell]) -> Option<(Cell, Near)>
     requires { path_refusal bitmap.now points.now ≡ None }
-    ensures best { IfOk result (IsBestAbove M.distance bitmap.now wanted (cells_of_path points.now) bitmap.now.height) }
-    ensures memory { IfErr result (λ refusal. refusal ≡ Memory) }
+    ensures { IsLeastOf M.distance (IsObstacle bitmap.now) (cells_of_path points.now) result }
 {
-    let mut best = None;
-    'rows: for y in 0..bitmap.height() {
-        if touches(points, y) {
-            best = with_row::<M>(alloc, bitmap, points, wanted, y, best)?;
-        }
+    let least = least_along::<M>(bitmap, points);
+    if least >= NO_LIMIT {
+        return None;
     }
-    Ok(best)
+    first_of_path::<M>(bitmap, points, least + 1)
 }
 
-/// Whether a cell of the path lies in the row `y`.
-fn touches(points: &[Cell], y: u16) -> bool
-    requires some { 0 < length points.now }
-    requires straight { crooked_point points.now ≡ None }
-    ensures { IsTrue result ↔ Any (λ cell. cell.y ≡ y) (cells_of_path points.now) }
+/// The least distance along a path; `NO_LIMIT` where the bitmap has no obstacle.
+fn least_along<M: Metric>(bitmap: &Bitmap, points: &[Cell]) -> u64
+    requires { path_refusal bitmap.now points.now ≡ None }
+    ensures { IsLeastOver M.distance (IsObstacle bitmap.now) (cells_of_path points.now) (2 ^ 32) result }
+{
+    let (mut least, mut from) = (NO_LIMIT, points[0]);
+    let inside = bitmap.holds(from);
+    prove!(inside);
+    'pieces: for to in points {
+        least = least_of_piece::<M>(bitmap, from, *to, least);
+        from = *to;
+    }
+    least
+}
+
+/// The first cell along a path that has an obstacle at a distance below the limit, with its nearest obstacle; `None` where no cell has.
+pub fn first_of_path<M: Metric>(
+    bitmap: &Bitmap,
+    points: &[Cell],
+    limit: u64,
+) -> Option<(Cell, Near)>
+    requires { path_refusal bitmap.now points.now ≡ None }
+    ensures { IsFirstOrNone M.distance (IsObstacle bitmap.now) (cells_of_path points.now) limit result }
 {
     let mut from = points[0];
-    'segments: for to in points {
-        let steps = steps_in_row(from, *to, y);
-        if steps.first < steps.end {
-            return true;
+    let inside = bitmap.holds(from);
+    prove!(inside);
+    'pieces: for to in points {
+        if least_of_piece::<M>(bitmap, from, *to, limit) < limit {
+            return first_of_piece::<M>(bitmap, from, *to, limit);
         }
         from = *to;
     }
-    false
+    None
 }
 
-/// The best cell of the rows above and of one row more.
-fn with_row<M: Metric>(
-    alloc: Global,
-    bitmap: &Bitmap,
-    points: &[Cell],
-    wanted: Wanted,
-    y: u16,
-    above: Option<Found>,
-) -> Result<Option<Found>, Refusal>
-    requires path { path_refusal bitmap.now points.now ≡ None }
-    requires row { y < bitmap.now.height }
+/// The least of the limit and of the distances of the cells behind a point, up to the next.
+fn least_of_piece<M: Metric>(bitmap: &Bitmap, from: Cell, to: Cell, limit: u64) -> u64
+    requires straight { IsStraight from to }
+    requires from { IsInside bitmap.now from.x from.y }
+    requires to { IsInside bitmap.now to.x to.y }
     requires bitmap { IsBitmap bitmap.now }
-    requires above { IsBestAbove M.distance bitmap.now wanted (cells_of_path points.now) y above }
-    ensures best { IfOk result (IsBestAbove M.distance bitmap.now wanted (cells_of_path points.now) (y + 1)) }
-    ensures memory { IfErr result (λ refusal. refusal ≡ Memory) }
+    ensures { IsLeastOver M.distance (IsObstacle bitmap.now) (cells_up_to from to) limit result }
 {
-    let nears = one_row::<M>(alloc, bitmap, y)?;
-    let (mut best, mut from, mut place) = (above, points[0], 0u32);
-    'segments: for to in points {
-        let steps = steps_in_row(from, *to, y);
-        'steps: for step in steps.first..steps.end {
-            let x = step_towards(from.x, to.x, step + 1);
-            let near = nears[usize::from(x)];
-            best = wanted.with_cell(best, place + u32::from(step), Cell { x, y }, near);
-        }
-        place += u32::from(count_cells(from, *to));
-        from = *to;
-    }
-    Ok(best)
+    let cells = Strip {
+        from,
+        to,
+        across: 1,
+    };
+    least_below::<M>(bitmap, cells.rect(1, count_cells(from, to)), limit)
+}
+
+/// The first of the cells behind a point, up to the next, that has an obstacle at a distance below the limit, with its nearest obstacle. There is one.
+fn first_of_piece<M: Metric>(
+    bitmap: &Bitmap,
+    from: Cell,
+    to: Cell,
+    limit: u64,
+) -> Option<(Cell, Near)>
+    requires straight { IsStraight from to }
+    requires from { IsInside bitmap.now from.x from.y }
+    requires to { IsInside bitmap.now to.x to.y }
+    requires bitmap { IsBitmap bitmap.now }
+    requires some { IsListNear M.distance (IsObstacle bitmap.now) (cells_up_to from to) limit }
+    ensures { IsFirstOrNone M.distance (IsObstacle bitmap.now) (cells_up_to from to) limit result }
+{
+    let cells = Strip {
+        from,
+        to,
+        across: 1,
+    };
+    let step = cells.first_near::<M>(bitmap, 1, count_cells(from, to), limit);
+    with_nearest::<M>(bitmap, cells.cell(step))
 }

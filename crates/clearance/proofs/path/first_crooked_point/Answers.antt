@@ -1,7 +1,7 @@
 -- A point in the row or column of the one before is passed; a crooked one is the first.
 use Rattle.std.proofs.Common.{inl, inr, ◌∙◌, sym, ◌≡◌, ◌+◌, ◌-◌, arith}
 use Rattle.clearance.proofs.Refusals.{crooked_point-start, first_crooked-straight, first_crooked-crooked, first_crooked-all}
-use Rattle.clearance.specs.Search.{origin}
+use Rattle.clearance.specs.Firsts.{origin}
 use Rattle.std.proofs.Common.{get_or}
 use Rattle.clearance.proofs.path.first_crooked_point.Goals as goal
 

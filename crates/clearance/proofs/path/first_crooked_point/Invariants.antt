@@ -1,7 +1,7 @@
 -- From the point before the next one on, the path has its first crooked point.
 use Rattle.std.proofs.Common.{◌≡◌, ◌-◌, get_or, drop}
 use Rattle.clearance.specs.Paths.{crooked_point, first_crooked}
-use Rattle.clearance.specs.Search.{origin}
+use Rattle.clearance.specs.Firsts.{origin}
 use Rattle.clearance.proofs.path.first_crooked_point.Given as goal
 
 abbrev pub invariant-points : goal.invariant-points

@@ -1,0 +1,68 @@
+-- Single bits of a word: its lowest and its highest, and what a mask leaves.
+use Rattle.std.proofs.Common.{◌≡◌, ℕ, suc, ◌-◌, ◌*◌, ◌/◌, ◌^◌, ◌<◌, ◌≤◌, refl, ◌∙◌, arith}
+use Rattle.std.specs.Int.{bit_at}
+use Rattle.std.specs.Int.Count.{count_leading_zeros}
+use lib.Bits.{bit_and}
+use Rattle.std.specs.Int.RustNames.{bit_or}
+use Rattle.std.proofs.Math.Nat.{div-lt_iff_lt-mul, le-div_iff_mul-le}
+use Rattle.std.proofs.lemmas.Nat.{leading_top}
+use Rattle.std.proofs.lemmas.Nat.Bits.{bit_at_and, bit_at_above, bit_at-lt, bit_at_or, bit_at-zero, same_from_bits, bit_at_ones, bit_at_ones_above, bit_at_mask_inside, bit_at_mask_below}
+
+-- a number from 2 ^ j to below twice that has the bit j
+top_bit : (n j : ℕ) → 2 ^ j ≤ n → n < 2 ^ suc j → bit_at n j ≡ 1
+top_bit n j low high =
+    let some : 0 < 2 ^ j = omega (arith, low, high) in
+    let twice : 2 ^ suc j ≡ 2 * 2 ^ j = omega arith in
+    let one : 1 ≤ n / 2 ^ j = (le-div_iff_mul-le some).1 (omega arith) in
+    let below : n / 2 ^ j < 2 = (div-lt_iff_lt-mul some).1 (omega arith) in
+    let is : n / 2 ^ j ≡ 1 = omega arith in
+    rw is refl
+
+-- the bit that `leading_zeros` leaves on top is the highest
+pub bit_at-leading_zeros : (n : ℕ) → 0 < n → n < 2 ^ 64
+    → (count_leading_zeros 64 n < 64) × (bit_at n (63 - count_leading_zeros 64 n) ≡ 1) × ((i : ℕ) → 63 - count_leading_zeros 64 n < i → bit_at n i ≡ 0)
+bit_at-leading_zeros n some fits =
+    let (j, sum, low, high) = leading_top 64 n some fits in
+    let place : 63 - count_leading_zeros 64 n ≡ j = omega arith in
+    (omega arith, rw place (top_bit n j low high), λ i above. bit_at_above n (suc j) i high (omega arith))
+
+-- the bits from a place on are kept by a mask of ones from there on
+pub bit_at-and_from : (n k i : ℕ) → k ≤ i → i < 64 → bit_at (bit_and n (2 ^ 64 - 2 ^ k)) i ≡ bit_at n i
+bit_at-and_from n k i from within =
+    let inside = bit_at_mask_inside k 64 i from within in
+    let small = bit_at-lt n i in
+    bit_at_and n (2 ^ 64 - 2 ^ k) i ∙ rw inside (omega arith)
+
+-- the bits below are not
+pub bit_at-and_from_below : (n k i : ℕ) → i < k → bit_at (bit_and n (2 ^ 64 - 2 ^ k)) i ≡ 0
+bit_at-and_from_below n k i below =
+    let outside = bit_at_mask_below k 64 i below in
+    bit_at_and n (2 ^ 64 - 2 ^ k) i ∙ rw outside (omega arith)
+
+-- the bits below a place are kept by a mask of ones below it
+pub bit_at-and_below : (n k i : ℕ) → i < k → bit_at (bit_and n (2 ^ k - 1)) i ≡ bit_at n i
+bit_at-and_below n k i below =
+    let inside = bit_at_ones k i below in
+    let small = bit_at-lt n i in
+    bit_at_and n (2 ^ k - 1) i ∙ rw inside (omega arith)
+
+-- the bits from there on are not
+pub bit_at-and_below_above : (n k i : ℕ) → k ≤ i → bit_at (bit_and n (2 ^ k - 1)) i ≡ 0
+bit_at-and_below_above n k i above =
+    let outside = bit_at_ones_above k i above in
+    bit_at_and n (2 ^ k - 1) i ∙ rw outside (omega arith)
+
+-- a bit that the one number has, the joined number has
+pub joined_more : (new word i : ℕ) → bit_at word i ≤ bit_at (bit_or new word) i
+joined_more new word i = rw (bit_at_or new word i) (omega arith)
+
+-- and a bit that was joined before
+pub joined_before : (new word bit i : ℕ) → bit ≤ bit_at new i → bit ≤ bit_at (bit_or new word) i
+joined_before new word bit i before = rw (bit_at_or new word i) (omega arith)
+
+-- where nothing was joined, each number was 0
+pub joined_none : (word new : ℕ) → new ≡ 0 → ((i : ℕ) → bit_at word i ≤ bit_at new i) → word ≡ 0
+joined_none word new none less = same_from_bits word 0 (λ i.
+    let zero = bit_at-zero i in
+    let less_here : bit_at word i ≤ bit_at 0 i = rw (← none) (less i) in
+    rw zero (omega (arith, less_here, zero)))

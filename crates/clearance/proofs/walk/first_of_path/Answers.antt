@@ -1,0 +1,53 @@
+-- Piece by piece; the first that is near has the first cell.
+use Rattle.std.proofs.Common.{◌+◌, get_or, arith}
+use Rattle.bits.specs.Cells.{IsObstacle}
+use Rattle.clearance.specs.Firsts.{origin}
+use Rattle.clearance.specs.Paths.{cells_up_to}
+use Rattle.clearance.specs.Segments.{cell_count}
+use Rattle.clearance.proofs.PieceFirsts.{AreFarBefore-more, AreFarBefore-piece, IsListNear-piece, IsFirstOrNone-path}
+use Rattle.clearance.proofs.Refusals.{IsPath-from}
+use Rattle.clearance.proofs.Walks.{IsWalkedTo-none, IsWalkedTo-more, IsWalkedTo-straight, IsWalkedTo-all}
+use Rattle.clearance.proofs.walk.first_of_path.Goals as goal
+
+pub pieces-init : goal.pieces-init
+pieces-init g c =
+    let path = IsPath-from c.args.bitmap.now c.args.points.now c.requires in
+    record {
+      inside = path.inside 0 path.some;
+      walked = (0, IsWalkedTo-none c.args.points.now path.some path.straight, λ i a b before obstacle. absurd (omega arith));
+    }
+
+pub least_of_piece-requires-clause-straight : goal.least_of_piece-requires-clause-straight
+least_of_piece-requires-clause-straight g c =
+    let (place, walked, far) = c.pieces.invariant.walked in
+    IsWalkedTo-straight c.args.points.now place c.pieces.to-index c.pieces.from walked c.pieces-test.true
+
+pub returns-then-least_of_piece-limit : goal.returns-then-least_of_piece-limit
+returns-then-least_of_piece-limit g c =
+    let (place, walked, far) = c.pieces.invariant.walked in
+    let to = get_or c.args.points.now c.pieces.to-index origin in
+    IsFirstOrNone-path g.M.Metric.distance (IsObstacle c.args.bitmap.now) c.args.points.now place c.pieces.to-index c.args.limit c.pieces.from c.first_of_piece.result walked c.pieces-test.true far
+    (IsListNear-piece g.M.Metric.distance (IsObstacle c.args.bitmap.now) (cells_up_to c.pieces.from to) c.args.limit c.least_of_piece.result c.least_of_piece.ensures c.if-least_of_piece-limit.true)
+    c.first_of_piece.ensures
+
+pub pieces-preserved : goal.pieces-preserved
+pieces-preserved g c =
+    let (place, walked, far) = c.pieces.invariant.walked in
+    let path = IsPath-from c.args.bitmap.now c.args.points.now c.requires in
+    let to = get_or c.args.points.now c.pieces.to-index origin in
+    record {
+      inside = path.inside c.pieces.to-index c.pieces-test.true;
+      walked = (
+        place + cell_count c.pieces.from to,
+        IsWalkedTo-more c.args.points.now place c.pieces.to-index c.pieces.from walked c.pieces-test.true,
+        AreFarBefore-more g.M.Metric.distance (IsObstacle c.args.bitmap.now) c.args.points.now place c.pieces.to-index c.args.limit c.pieces.from walked c.pieces-test.true
+            (AreFarBefore-piece g.M.Metric.distance (IsObstacle c.args.bitmap.now) (cells_up_to c.pieces.from to) c.args.limit c.least_of_piece.result c.least_of_piece.ensures c.if-least_of_piece-limit.false)
+            far,
+      );
+    }
+
+pub returns : goal.returns
+returns g c =
+    let (place, walked, far) = c.pieces.invariant.walked in
+    let all = IsWalkedTo-all c.args.points.now place c.pieces.to-index c.pieces.from walked c.pieces-test.false in
+    λ i a b within obstacle. far i a b (omega arith) obstacle

@@ -1,0 +1,43 @@
+-- The nearest of the obstacles that have been looked at, row by row outwards: this project's own rule.
+use Rattle.std.specs.Prelude.{◌≡◌, ℕ, ◌+◌, ◌^◌, ◌<◌, ◌≤◌, ◌⊎◌, Option, Some, None}
+use Rattle.std.specs.Int.{abs_diff}
+use Rattle.metric.specs.declared.near.Near.{Near}
+use Rattle.metric.specs.Nearest.{IsNear}
+
+-- the nearest of the obstacles that have been looked at
+abbrev pub IsNearAmong : (ℕ → ℕ → ℕ) → (ℕ → ℕ → Type 0) → (ℕ → ℕ → Type 0) → ℕ → ℕ → Option Near → Type 0
+IsNearAmong distance Obstacle IsSeen x y best = IsNear distance (λ a b. Obstacle a b × IsSeen a b) x y best
+
+-- a limit above the distance of the best so far; above each distance where there is none
+abbrev pub limit_of : Option Near → ℕ
+limit_of None = 2 ^ 32
+limit_of (Some near) = near.dist + 1
+
+-- seen from the row y, the row b lies less than so many rows away
+abbrev pub IsWithin : ℕ → ℕ → ℕ → ℕ → Type 0
+IsWithin y gap a b = abs_diff y b < gap
+
+-- seen from the row y, the row b lies less than so many rows away, or just as many above
+abbrev pub IsWithinOrAbove : ℕ → ℕ → ℕ → ℕ → Type 0
+IsWithinOrAbove y gap a b = (abs_diff y b < gap) ⊎ (b + gap ≡ y)
+
+-- seen from the row y, the row b is looked at before another: it's fewer rows away, or as many and above
+abbrev pub IsRowBefore : ℕ → ℕ → ℕ → Type 0
+IsRowBefore y row b = (abs_diff y b < abs_diff y row) ⊎ ((abs_diff y b ≡ abs_diff y row) × (b < row))
+
+-- the same of the rows up to that one, with it
+abbrev pub IsRowUpTo : ℕ → ℕ → ℕ → ℕ → Type 0
+IsRowUpTo y row a b = IsRowBefore y row b ⊎ (b ≡ row)
+
+-- the rows before one, and its columns that pass a test
+abbrev pub IsSeenInRow : ℕ → ℕ → (ℕ → Type 0) → ℕ → ℕ → Type 0
+IsSeenInRow y row IsColumn a b = IsRowBefore y row b ⊎ ((b ≡ row) × IsColumn a)
+
+-- an obstacle is ahead of another one that isn't in a row before its own: it's nearer, or as near and in a column that isn't to the right
+abbrev pub IsAhead : Near → Near → Type 0
+IsAhead one other = (one.dist < other.dist) ⊎ ((one.dist ≡ other.dist) × (one.cell.x ≤ other.cell.x))
+
+-- of the best so far, if any, and an obstacle, this is the better
+abbrev pub IsBetter : Option Near → Near → Near → Type 0
+IsBetter None next better = better ≡ next
+IsBetter (Some best) next better = ((better ≡ best) × IsAhead best next) ⊎ ((better ≡ next) × (IsAhead best next → ⊥))

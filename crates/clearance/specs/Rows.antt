@@ -1,0 +1,41 @@
+-- Which obstacles of a row are found in its words: this project's own rule.
+use Rattle.std.specs.Prelude.{◌≡◌, ℕ, ◌-◌, ◌/◌, ◌%◌, ◌^◌, ◌<◌, ◌≤◌, List, slice_index, Option, Some, None}
+use Rattle.std.specs.Int.{bit_at}
+
+-- the words have a 1 for the column x
+abbrev pub IsMarked : List ℕ → ℕ → Type 0
+IsMarked words x = bit_at (slice_index words (x / 64)) (x % 64) ≡ 1
+
+-- the distance isn't below the limit, which is one that a distance may reach
+pub record IsFar (dist limit : ℕ) : Type 0 where
+  pub not_below : limit ≤ dist
+  pub is_limit : limit < 2 ^ 32
+
+-- a column, where its distance is below the limit; else none
+abbrev pub IsWhereNearer : ℕ → ℕ → ℕ → Option ℕ → Type 0
+IsWhereNearer dist limit column None = IsFar dist limit
+IsWhereNearer dist limit column (Some found) = (found ≡ column) × (dist < limit)
+
+-- the first mark from a column on, with a distance below the limit
+pub record IsFirstMark (distance : ℕ → ℕ → ℕ) (words : List ℕ) (start edge gap limit column : ℕ) : Type 0 where
+  pub order : start ≤ column
+  pub marked : IsMarked words column
+  pub first : (x : ℕ) → start ≤ x → x < column → IsMarked words x → ⊥
+  pub nearer : distance (column - edge) gap < limit
+
+-- the first mark from a column on, where its distance is below the limit; else no mark from there on has such a distance
+abbrev pub IsNextNearer : (ℕ → ℕ → ℕ) → List ℕ → ℕ → ℕ → ℕ → ℕ → Option ℕ → Type 0
+IsNextNearer distance words start edge gap limit None = (x : ℕ) → start ≤ x → IsMarked words x → IsFar (distance (x - edge) gap) limit
+IsNextNearer distance words start edge gap limit (Some column) = IsFirstMark distance words start edge gap limit column
+
+-- the last mark before a column, with a distance below the limit
+pub record IsLastMark (distance : ℕ → ℕ → ℕ) (words : List ℕ) (end edge gap limit column : ℕ) : Type 0 where
+  pub order : column < end
+  pub marked : IsMarked words column
+  pub last : (x : ℕ) → column < x → x < end → IsMarked words x → ⊥
+  pub nearer : distance (edge - column) gap < limit
+
+-- the last mark before a column, where its distance is below the limit; else no mark before it has such a distance
+abbrev pub IsLastNearer : (ℕ → ℕ → ℕ) → List ℕ → ℕ → ℕ → ℕ → ℕ → Option ℕ → Type 0
+IsLastNearer distance words end edge gap limit None = (x : ℕ) → x < end → IsMarked words x → IsFar (distance (edge - x) gap) limit
+IsLastNearer distance words end edge gap limit (Some column) = IsLastMark distance words end edge gap limit column

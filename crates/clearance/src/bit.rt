@@ -1,0 +1,42 @@
+//! The lowest and the highest bit of a word.
+
+ghost use Rattle.std.specs.Prelude.{◌≡◌, ℕ, ◌<◌, ◌≤◌};
+ghost use Rattle.std.specs.Int.{bit_at};
+
+/// The place of the lowest bit that is 1.
+pub fn lowest_bit(word: u64) -> u16
+    requires { 0 < word }
+    ensures within { result < 64 }
+    ensures here { bit_at word result ≡ 1 }
+    ensures none_below { (i : ℕ) → i < result → bit_at word i ≡ 0 }
+{
+    word.trailing_zeros() as u16
+}
+
+/// The place of the highest bit that is 1.
+pub fn highest_bit(word: u64) -> u16
+    requires { 0 < word }
+    ensures within { result < 64 }
+    ensures here { bit_at word result ≡ 1 }
+    ensures none_above { (i : ℕ) → result < i → bit_at word i ≡ 0 }
+{
+    63 - word.leading_zeros() as u16
+}
+
+/// The word with its bits below a place made 0.
+pub fn bits_from(word: u64, place: u16) -> u64
+    requires { place < 64 }
+    ensures kept { (i : ℕ) → place ≤ i → i < 64 → bit_at result i ≡ bit_at word i }
+    ensures cleared { (i : ℕ) → i < place → bit_at result i ≡ 0 }
+{
+    word & (u64::MAX << place)
+}
+
+/// The word with its bits from a place on made 0.
+pub fn bits_below(word: u64, place: u16) -> u64
+    requires { place < 64 }
+    ensures kept { (i : ℕ) → i < place → bit_at result i ≡ bit_at word i }
+    ensures cleared { (i : ℕ) → place ≤ i → bit_at result i ≡ 0 }
+{
+    word & ((1 << place) - 1)
+}
