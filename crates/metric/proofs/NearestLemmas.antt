@@ -5,12 +5,28 @@ use Rattle.metric.specs.declared.near.Near.{Near}
 use Rattle.metric.specs.Distance.{IsLeastDistance}
 use Rattle.metric.specs.Nearest.{Key, key_of, IsAtMost, IsNear}
 
+-- what comes first before a number that comes first before another does so before that
+first_transitive : {R S T : Type 0} (a b c : ℕ) → (R → S → T) → ((a < b) ⊎ ((a ≡ b) × R)) → ((b < c) ⊎ ((b ≡ c) × S)) → (a < c) ⊎ ((a ≡ c) × T)
+first_transitive a b c rest (inl low) (inl high) = inl (omega arith)
+first_transitive a b c rest (inl low) (inr high) = let same = high.0 in inl (omega arith)
+first_transitive a b c rest (inr low) (inl high) = let same = low.0 in inl (omega arith)
+first_transitive a b c rest (inr low) (inr high) = inr (low.0 ∙ high.0, rest low.1 high.1)
+
 -- two numbers of which each comes first before the other are equal, and the rest decides nothing
 first_both : {R S : Type 0} (a b : ℕ) → ((a < b) ⊎ ((a ≡ b) × R)) → ((b < a) ⊎ ((b ≡ a) × S)) → (a ≡ b) × R × S
 first_both a b (inl less) (inl more) = absurd (omega arith)
 first_both a b (inl less) (inr back) = let same = back.0 in absurd (omega arith)
 first_both a b (inr there) (inl more) = let same = there.0 in absurd (omega arith)
 first_both a b (inr there) (inr back) = (there.0, there.1, back.1)
+
+-- a key that is at most another is at most what that is at most
+pub IsAtMost-transitive : (p q r : Key) → IsAtMost p q → IsAtMost q r → IsAtMost p r
+IsAtMost-transitive p q r low high = record {
+  order = first_transitive p.distance q.distance r.distance
+      (first_transitive p.column q.column r.column
+      (first_transitive p.row_difference q.row_difference r.row_difference (λ a b. omega arith)))
+      low.order high.order;
+}
 
 -- two keys of which each is at most the other are those of one cell, at one distance
 pub record AreSame (p q : Key) : Type 0 where
