@@ -21,7 +21,7 @@ use Rattle.proto.specs.Said as saids
 use Rattle.proto.specs.Replies.{reply_line}
 use Rattle.proto.specs.Callers.{CallerValue, IsRefusedAs}
 use Rattle.proto.specs.Exchanges.{Exchange, IsExchange, IsLine, IsLineAnswer, IsQueryAnswer, asks, counts, with_pin}
-use Rattle.proto.specs.Served.{AreExchanges, HasAnswered, HasCounted, HasMoved, HasSaid, IsCut, IsCutShort, IsHeard, IsLineStop, IsQuit, IsSaid, IsServed, IsShort, IsTail, IsTooLong, IsTooMuch, IsWritten, bytes_of, text_of}
+use Rattle.proto.specs.Served.{AreExchanges, HasAnswered, HasCounted, HasMoved, HasSaid, IsCut, IsCutShort, IsHeard, IsLineStop, IsQuit, IsSaid, IsServed, IsShort, IsFarewell, IsTail, IsTooLong, IsTooMuch, IsUnsaid, IsWritten, bytes_of, text_of}
 use Rattle.proto.specs.Wire.{Wire, CanGoOn, HasNotWritten, HasRead, HasWritten}
 use Rattle.proto.proofs.Wires.{Takes-append, read_on}
 
@@ -35,24 +35,37 @@ joined : (f : Exchange → List ℕ) (xs ys : List Exchange) (rest whole more : 
 joined f xs ys rest whole more e d =
     rw (e, d, append-nil (flat_map f xs), flat_map-append f xs ys) (sym (append_assoc (flat_map f xs) (flat_map f ys) rest))
 
--- a text behind one that was written
-written_behind : (end : Option End) (before between after : Option (List ℕ)) (a b : List ℕ) → Appends before a between → IsWritten end between b after → IsWritten end before (a ++ b) after
-written_behind (Some ends.WriteFailed) before between after a b one two = subst (λ t. AppendsFront before (a ++ t) after) (append-nil b) (AppendsFront-more before between after a b [] one two)
-written_behind None before between after a b one two = Appends-more before between after a b one two
-written_behind (Some ends.Quit) before between after a b one two = Appends-more before between after a b one two
-written_behind (Some ends.EndOfInput) before between after a b one two = Appends-more before between after a b one two
-written_behind (Some ends.LineTooLong) before between after a b one two = Appends-more before between after a b one two
-written_behind (Some ends.TooMuchData) before between after a b one two = Appends-more before between after a b one two
-written_behind (Some ends.ReadFailed) before between after a b one two = Appends-more before between after a b one two
-written_behind (Some ends.Memory) before between after a b one two = Appends-more before between after a b one two
+-- what is said behind what was said before
+written_behind : (end : Option End) (before between after : Option (List ℕ)) (a b unsaid : List ℕ) → Appends before a between → IsWritten end between b unsaid after → IsWritten end before (a ++ b) unsaid after
+written_behind (Some ends.WriteFailed) before between after a b unsaid one (middle, two, front) = (middle, Appends-more before between middle a b one two, front)
+written_behind None before between after a b unsaid one two = Appends-more before between after a b one two
+written_behind (Some ends.Quit) before between after a b unsaid one two = Appends-more before between after a b one two
+written_behind (Some ends.EndOfInput) before between after a b unsaid one two = Appends-more before between after a b one two
+written_behind (Some ends.LineTooLong) before between after a b unsaid one two = Appends-more before between after a b one two
+written_behind (Some ends.TooMuchData) before between after a b unsaid one two = Appends-more before between after a b one two
+written_behind (Some ends.ReadFailed) before between after a b unsaid one two = Appends-more before between after a b one two
+written_behind (Some ends.Memory) before between after a b unsaid one two = Appends-more before between after a b one two
+
+-- the text whose write failed, with more exchanges before it
+unsaid_behind : (end : Option End) (xs ys : List Exchange) (tail last unsaid : List ℕ) → IsUnsaid end ys tail last unsaid → IsUnsaid end (xs ++ ys) tail last unsaid
+unsaid_behind (Some ends.WriteFailed) xs ys tail last unsaid (inl (before, x, all, none, is)) =
+    inl (xs ++ before, x, ap (λ zs. xs ++ zs) all ∙ sym (append_assoc xs before (x ∷ [])), none, is)
+unsaid_behind (Some ends.WriteFailed) xs ys tail last unsaid (inr farewell) = inr farewell
+unsaid_behind None xs ys tail last unsaid none = none
+unsaid_behind (Some ends.Quit) xs ys tail last unsaid none = none
+unsaid_behind (Some ends.EndOfInput) xs ys tail last unsaid none = none
+unsaid_behind (Some ends.LineTooLong) xs ys tail last unsaid none = none
+unsaid_behind (Some ends.TooMuchData) xs ys tail last unsaid none = none
+unsaid_behind (Some ends.ReadFailed) xs ys tail last unsaid none = none
+unsaid_behind (Some ends.Memory) xs ys tail last unsaid none = none
 
 -- what was read and written, and more behind it
-moved_on : (end : Option End) (old between new : Wire) (b1 t1 b2 t2 : List ℕ) → HasMoved None old b1 t1 between → HasMoved end between b2 t2 new → HasMoved end old (b1 ++ b2) (t1 ++ t2) new
-moved_on end old between new b1 t1 b2 t2 first next =
+moved_on : (end : Option End) (old between new : Wire) (b1 t1 u1 b2 t2 u2 : List ℕ) → HasMoved None old b1 t1 u1 between → HasMoved end between b2 t2 u2 new → HasMoved end old (b1 ++ b2) (t1 ++ t2) u2 new
+moved_on end old between new b1 t1 u1 b2 t2 u2 first next =
     record {
       taken = Takes-append old.rest between.rest new.rest b1 b2 first.taken next.taken;
       reached = next.reached;
-      written = written_behind end old.held between.held new.held t1 t2 first.written next.written;
+      written = written_behind end old.held between.held new.held t1 t2 u2 first.written next.written;
       reads = (let e = first.reads in let f = next.reads in omega arith);
       writes = (let e = first.writes in let f = next.writes in omega arith);
     }
@@ -63,10 +76,12 @@ serves_on store end w1 w2 w3 a b c first next =
     let s = first.served in
     let r = next.served in
     let none = s.ends in
+    let whole : first.said ≡ flat_map text_of s.exchanges ++ s.last = sym (append-nil first.said) ∙ (ap (λ u. first.said ++ u) (sym s.unsaid_is) ∙ s.texts_are) in
     let at : AreExchanges store s.exchanges a b = subst (λ v. AreExchanges store s.exchanges a v) (sym s.left) s.run in
     record {
       bytes = first.bytes ++ next.bytes;
-      text = first.text ++ next.text;
+      said = first.said ++ next.said;
+      unsaid = next.unsaid;
       served = record {
         exchanges = s.exchanges ++ r.exchanges;
         tail = r.tail;
@@ -76,9 +91,10 @@ serves_on store end w1 w2 w3 a b c first next =
         left = r.left;
         ends = r.ends;
         bytes_are = joined bytes_of s.exchanges r.exchanges r.tail first.bytes next.bytes (s.bytes_are ∙ ap (λ t. flat_map bytes_of s.exchanges ++ t) none.0) r.bytes_are;
-        out_is = joined text_of s.exchanges r.exchanges r.last first.text next.text (s.out_is ∙ ap (λ t. flat_map text_of s.exchanges ++ t) none.1) r.out_is;
+        texts_are = append_assoc first.said next.said next.unsaid ∙ joined text_of s.exchanges r.exchanges r.last first.said (next.said ++ next.unsaid) (whole ∙ ap (λ t. flat_map text_of s.exchanges ++ t) none.1) r.texts_are;
+        unsaid_is = unsaid_behind end s.exchanges r.exchanges r.tail r.last next.unsaid r.unsaid_is;
       };
-      moved = moved_on end w1 w2 w3 first.bytes first.text next.bytes next.text first.moved next.moved;
+      moved = moved_on end w1 w2 w3 first.bytes first.said first.unsaid next.bytes next.said next.unsaid first.moved next.moved;
     }
 
 -- at first nothing is served
@@ -86,23 +102,42 @@ pub serves_nothing : (store : StoreId) (w : Wire) (a : CallerValue) → IsServed
 serves_nothing store w a =
     record {
       bytes = [];
-      text = [];
-      served = record { exchanges = []; tail = []; last = []; behind = a; run = refl; left = refl; ends = (refl, refl); bytes_are = refl; out_is = refl };
+      said = [];
+      unsaid = [];
+      served = record { exchanges = []; tail = []; last = []; behind = a; run = refl; left = refl; ends = (refl, refl); bytes_are = refl; texts_are = refl; unsaid_is = refl };
       moved = record { taken = Takes-nothing w.rest; reached = tt; written = Appends-nothing w.held; reads = omega arith; writes = omega arith };
     }
 
--- a stream that ends behind these bytes, with a last text
-ended : (store : StoreId) (end : End) (w1 w2 : Wire) (tail last : List ℕ) (a b : CallerValue) → b.seat ≡ a.seat → IsTail (Some end) tail last → HasMoved (Some end) w1 tail last w2 → IsServed store (Some end) w1 a w2 b
-ended store end w1 w2 tail last a b same is moved =
+-- a stream that ends behind these bytes, with a last text, which was said or not
+ended : (store : StoreId) (end : End) (w1 w2 : Wire) (tail last said unsaid : List ℕ) (a b : CallerValue) → b.seat ≡ a.seat → IsTail (Some end) tail last → said ++ unsaid ≡ last → IsUnsaid (Some end) [] tail last unsaid
+    → HasMoved (Some end) w1 tail said unsaid w2 → IsServed store (Some end) w1 a w2 b
+ended store end w1 w2 tail last said unsaid a b same is whole how moved =
     record {
       bytes = tail;
-      text = last;
-      served = record { exchanges = []; tail = tail; last = last; behind = a; run = refl; left = same; ends = is; bytes_are = refl; out_is = refl };
+      said = said;
+      unsaid = unsaid;
+      served = record { exchanges = []; tail = tail; last = last; behind = a; run = refl; left = same; ends = is; bytes_are = refl; texts_are = whole; unsaid_is = how };
       moved = moved;
     }
 
+-- what was read before a text whose write failed
+unsaid_moved : (w1 w2 w3 : Wire) (bytes text : List ℕ) → HasRead 0 w1 bytes w2 → HasNotWritten w2 text w3 → HasMoved (Some ends.WriteFailed) w1 bytes [] text w3
+unsaid_moved w1 w2 w3 bytes text read written =
+    record {
+      taken = subst (λ r. Takes w1.rest bytes r) (sym written.rest) read.taken;
+      reached = tt;
+      written = (w1.held, Appends-nothing w1.held, subst (λ h. AppendsFront h text w3.held) read.held written.front);
+      reads = written.reads ∙ read.reads;
+      writes = (let e = written.writes in let f = read.writes in omega arith);
+    }
+
+-- a stream that ends behind these bytes with a last text, whose write failed
+unsaid_end : (store : StoreId) (w1 w2 w3 : Wire) (tail last : List ℕ) (a b : CallerValue) → b.seat ≡ a.seat → IsFarewell tail last → HasRead 0 w1 tail w2 → HasNotWritten w2 last w3 → IsServed store (Some ends.WriteFailed) w1 a w3 b
+unsaid_end store w1 w2 w3 tail last a b same farewell read written =
+    ended store ends.WriteFailed w1 w3 tail last [] last a b same (inr farewell) refl (inr (farewell, refl)) (unsaid_moved w1 w2 w3 tail last read written)
+
 -- nothing is written where the input is cut off
-cut_moved : (end : End) (w1 w2 : Wire) (bytes : List ℕ) → IsCut end w1 bytes w2 → HasMoved (Some end) w1 bytes [] w2
+cut_moved : (end : End) (w1 w2 : Wire) (bytes : List ℕ) → IsCut end w1 bytes w2 → HasMoved (Some end) w1 bytes [] [] w2
 cut_moved ends.EndOfInput w1 w2 bytes (read, out) =
     record { taken = read.taken; reached = out; written = subst (λ h. Appends w1.held [] h) (sym read.held) (Appends-nothing w1.held); reads = read.reads; writes = (let e = read.writes in omega arith) }
 cut_moved ends.ReadFailed w1 w2 bytes read =
@@ -123,6 +158,16 @@ cut_tail ends.TooMuchData w1 w2 read bytes cut part = absurd cut
 cut_tail ends.WriteFailed w1 w2 read bytes cut part = absurd cut
 cut_tail ends.Memory w1 w2 read bytes cut part = absurd cut
 
+-- nothing is left unsaid where the input is cut off
+cut_unsaid : (end : End) (w1 w2 : Wire) (read bytes : List ℕ) → IsCut end w1 read w2 → IsUnsaid (Some end) [] bytes [] []
+cut_unsaid ends.EndOfInput w1 w2 read bytes cut = refl
+cut_unsaid ends.ReadFailed w1 w2 read bytes cut = refl
+cut_unsaid ends.Quit w1 w2 read bytes cut = absurd cut
+cut_unsaid ends.LineTooLong w1 w2 read bytes cut = absurd cut
+cut_unsaid ends.TooMuchData w1 w2 read bytes cut = absurd cut
+cut_unsaid ends.WriteFailed w1 w2 read bytes cut = absurd cut
+cut_unsaid ends.Memory w1 w2 read bytes cut = absurd cut
+
 -- the input is cut off behind more bytes
 cut_on : (end : End) (w1 w2 w3 : Wire) (a b : List ℕ) → HasRead 0 w1 a w2 → IsCut end w2 b w3 → IsCut end w1 (a ++ b) w3
 cut_on ends.EndOfInput w1 w2 w3 a b first (read, out) = (read_on 0 w1 w2 w3 a b first read, out)
@@ -135,7 +180,7 @@ cut_on ends.Memory w1 w2 w3 a b first cut = absurd cut
 
 -- a line that is cut off ends the stream
 line_cut : (store : StoreId) (end : End) (w1 w2 : Wire) (bytes : List ℕ) (a : CallerValue) → IsLine bytes × IsCut end w1 bytes w2 → IsServed store (Some end) w1 a w2 a
-line_cut store end w1 w2 bytes a (line, cut) = ended store end w1 w2 bytes [] a a refl (cut_tail end w1 w2 bytes bytes cut (inl line)) (cut_moved end w1 w2 bytes cut)
+line_cut store end w1 w2 bytes a (line, cut) = ended store end w1 w2 bytes [] [] [] a a refl (cut_tail end w1 w2 bytes bytes cut (inl line)) refl (cut_unsaid end w1 w2 bytes bytes cut) (cut_moved end w1 w2 bytes cut)
 
 -- a line that wasn't read to its LF, and isn't too long, ends the stream
 pub line_stopped : (store : StoreId) (end : End) (w1 w2 : Wire) (bytes : List ℕ) (a : CallerValue) → end ≢ ends.LineTooLong → IsLineStop end w1 bytes w2 → IsServed store (Some end) w1 a w2 a
@@ -152,43 +197,32 @@ said_moved : (w1 w2 w3 : Wire) (bytes text : List ℕ) → HasRead 0 w1 bytes w2
 said_moved w1 w2 w3 bytes text read written =
     (subst (λ r. Takes w1.rest bytes r) (sym written.rest) read.taken, subst (λ h. Appends h text w3.held) read.held written.appended, written.reads ∙ read.reads, (let e = written.writes in let f = read.writes in omega arith))
 
--- what was read before a text, a beginning of which was written before the write failed
-pub unsaid_moved : (w1 w2 w3 : Wire) (bytes text : List ℕ) → HasRead 0 w1 bytes w2 → HasNotWritten w2 text w3 → HasMoved (Some ends.WriteFailed) w1 bytes text w3
-unsaid_moved w1 w2 w3 bytes text read written =
-    record {
-      taken = subst (λ r. Takes w1.rest bytes r) (sym written.rest) read.taken;
-      reached = tt;
-      written = subst (λ h. AppendsFront h text w3.held) read.held written.front;
-      reads = written.reads ∙ read.reads;
-      writes = (let e = written.writes in let f = read.writes in omega arith);
-    }
-
 -- a line that is too long ends the stream with its refusal
 pub too_long : (store : StoreId) (end : End) (w1 w2 w3 : Wire) (bytes : List ℕ) (a : CallerValue) → IsTooLong bytes → HasRead 0 w1 bytes w2
     → HasSaid ends.LineTooLong end w2 (reply_line (answers.Refused refusals.LineTooLong)) w3 → IsServed store (Some end) w1 a w3 a
 too_long store end w1 w2 w3 bytes a long read (inl (e, written)) =
     let m = said_moved w1 w2 w3 bytes _ read written in
-    rw (e) (ended store ends.LineTooLong w1 w3 bytes _ a a refl (long, refl) record { taken = m.0; reached = tt; written = m.1; reads = m.2; writes = m.3 })
+    rw (e) (ended store ends.LineTooLong w1 w3 bytes _ _ [] a a refl (long, refl) (append-nil _) refl record { taken = m.0; reached = tt; written = m.1; reads = m.2; writes = m.3 })
 too_long store end w1 w2 w3 bytes a long read (inr (e, written)) =
-    rw (e) (ended store ends.WriteFailed w1 w3 bytes _ a a refl (inr (inr (inl (long, refl)))) (unsaid_moved w1 w2 w3 bytes _ read written))
+    rw (e) (unsaid_end store w1 w2 w3 bytes _ a a refl (inr (inl (long, refl))) read written)
 
 -- a line that counts too many bytes ends the stream with its refusal
 pub too_much : (store : StoreId) (end : End) (w1 w2 w3 : Wire) (bytes : List ℕ) (a : CallerValue) → IsTooMuch bytes → HasRead 0 w1 bytes w2
     → HasSaid ends.TooMuchData end w2 (reply_line (answers.Refused refusals.TooMuchData)) w3 → IsServed store (Some end) w1 a w3 a
 too_much store end w1 w2 w3 bytes a much read (inl (e, written)) =
     let m = said_moved w1 w2 w3 bytes _ read written in
-    rw (e) (ended store ends.TooMuchData w1 w3 bytes _ a a refl (much, refl) record { taken = m.0; reached = tt; written = m.1; reads = m.2; writes = m.3 })
+    rw (e) (ended store ends.TooMuchData w1 w3 bytes _ _ [] a a refl (much, refl) (append-nil _) refl record { taken = m.0; reached = tt; written = m.1; reads = m.2; writes = m.3 })
 too_much store end w1 w2 w3 bytes a much read (inr (e, written)) =
-    rw (e) (ended store ends.WriteFailed w1 w3 bytes _ a a refl (inr (inr (inr (much, refl)))) (unsaid_moved w1 w2 w3 bytes _ read written))
+    rw (e) (unsaid_end store w1 w2 w3 bytes _ a a refl (inr (inr (much, refl))) read written)
 
 -- QUIT ends the stream with its reply, where the pin was left before
 pub quits : (store : StoreId) (end : End) (w1 w2 w3 : Wire) (bytes : List ℕ) (a b : CallerValue) → b.seat ≡ a.seat → IsQuit bytes → HasRead 0 w1 bytes w2
     → HasSaid ends.Quit end w2 (reply_line answers.Bye) w3 → IsServed store (Some end) w1 a w3 b
 quits store end w1 w2 w3 bytes a b same quit read (inl (e, written)) =
     let m = said_moved w1 w2 w3 bytes _ read written in
-    rw (e) (ended store ends.Quit w1 w3 bytes _ a b same (quit, refl) record { taken = m.0; reached = tt; written = m.1; reads = m.2; writes = m.3 })
+    rw (e) (ended store ends.Quit w1 w3 bytes _ _ [] a b same (quit, refl) (append-nil _) refl record { taken = m.0; reached = tt; written = m.1; reads = m.2; writes = m.3 })
 quits store end w1 w2 w3 bytes a b same quit read (inr (e, written)) =
-    rw (e) (ended store ends.WriteFailed w1 w3 bytes _ a b same (inr (inl (quit, refl))) (unsaid_moved w1 w2 w3 bytes _ read written))
+    rw (e) (unsaid_end store w1 w2 w3 bytes _ a b same (inl (quit, refl)) read written)
 
 -- the bytes that a line counts are cut off, which ends the stream
 pub counted_cut : (store : StoreId) (end : End) (w1 w2 w3 : Wire) (line : List ℕ) (a : CallerValue) → IsLine line → HasRead 0 w1 (line ++ 10 ∷ []) w2
@@ -197,9 +231,9 @@ counted_cut store end w1 w2 w3 line a is read short =
     let whole = line ++ (10 ∷ short.bytes) in
     let e : (line ++ 10 ∷ []) ++ short.bytes ≡ whole = append_assoc line (10 ∷ []) short.bytes in
     let cut : IsCut end w1 whole w3 = subst (λ t. IsCut end w1 t w3) e (cut_on end w1 w2 w3 (line ++ 10 ∷ []) short.bytes read short.cut) in
-    ended store end w1 w3 whole [] a a refl
+    ended store end w1 w3 whole [] [] [] a a refl
     (cut_tail end w1 w3 whole whole cut (inr record { line = line; line_is = is; counted = short.bytes; few = short.few; bytes_are = refl }))
-    (cut_moved end w1 w3 whole cut)
+    refl (cut_unsaid end w1 w3 whole whole cut) (cut_moved end w1 w3 whole cut)
 
 -- what was heard counts as many bytes as the line
 pub heard_counts : (said heard : Result Said Refusal) → IsHeard said heard → counts heard ≡ counts said
@@ -248,15 +282,17 @@ exchanged_by store None w1 w2 w3 x a b is read written =
     let m = said_moved w1 w2 w3 (bytes_of x) (text_of x) read written in
     record {
       bytes = bytes_of x;
-      text = text_of x;
-      served = record { exchanges = x ∷ []; tail = []; last = []; behind = b; run = (b, is, refl); left = refl; ends = (refl, refl); bytes_are = one (bytes_of x); out_is = one (text_of x) };
+      said = text_of x;
+      unsaid = [];
+      served = record { exchanges = x ∷ []; tail = []; last = []; behind = b; run = (b, is, refl); left = refl; ends = (refl, refl); bytes_are = one (bytes_of x); texts_are = sym (append-nil (text_of x ++ [])); unsaid_is = refl };
       moved = record { taken = m.0; reached = tt; written = m.1; reads = m.2; writes = m.3 };
     }
 exchanged_by store (Some ends.WriteFailed) w1 w2 w3 x a b is read written =
     record {
       bytes = bytes_of x;
-      text = text_of x;
-      served = record { exchanges = x ∷ []; tail = []; last = []; behind = b; run = (b, is, refl); left = refl; ends = inl (refl, refl); bytes_are = one (bytes_of x); out_is = one (text_of x) };
+      said = [];
+      unsaid = text_of x;
+      served = record { exchanges = x ∷ []; tail = []; last = []; behind = b; run = (b, is, refl); left = refl; ends = inl (refl, refl); bytes_are = one (bytes_of x); texts_are = one (text_of x); unsaid_is = inl ([], x, refl, refl, refl) };
       moved = unsaid_moved w1 w2 w3 (bytes_of x) (text_of x) read written;
     }
 exchanged_by store (Some ends.Quit) w1 w2 w3 x a b is read written = absurd written
@@ -297,8 +333,9 @@ serves_left store end w1 w2 a b c same served =
     let s = served.served in
     record {
       bytes = served.bytes;
-      text = served.text;
-      served = record { exchanges = s.exchanges; tail = s.tail; last = s.last; behind = s.behind; run = s.run; left = same ∙ s.left; ends = s.ends; bytes_are = s.bytes_are; out_is = s.out_is };
+      said = served.said;
+      unsaid = served.unsaid;
+      served = record { exchanges = s.exchanges; tail = s.tail; last = s.last; behind = s.behind; run = s.run; left = same ∙ s.left; ends = s.ends; bytes_are = s.bytes_are; texts_are = s.texts_are; unsaid_is = s.unsaid_is };
       moved = served.moved;
     }
 

@@ -83,8 +83,14 @@ abbrev pub IsLeft : Option End → CallerValue → CallerValue → Type 0
 IsLeft None last new = new ≡ last
 IsLeft (Some end) last new = new.seat ≡ last.seat
 
--- a stream that has ended so, or goes on: what was read is whole exchanges and a tail, and what is written is their texts and a last text
-pub record Served (store : StoreId) (end : Option End) (bytes : List ℕ) (old new : CallerValue) (out : List ℕ) : Type 0 where
+-- the text whose write failed: that of the last exchange, or a last text behind it; none was, at another end
+abbrev pub IsUnsaid : Option End → List Exchange → List ℕ → List ℕ → List ℕ → Type 0
+IsUnsaid (Some ends.WriteFailed) exchanges tail last unsaid =
+    ((before : List Exchange) × (x : Exchange) × (exchanges ≡ before ++ x ∷ []) × (last ≡ []) × (unsaid ≡ text_of x)) ⊎ (IsFarewell tail last × (unsaid ≡ last))
+IsUnsaid end exchanges tail last unsaid = unsaid ≡ []
+
+-- a stream that has ended so, or goes on: what was read is whole exchanges and a tail, and what is written is their texts and a last text, up to the one whose write failed
+pub record Served (store : StoreId) (end : Option End) (bytes : List ℕ) (old new : CallerValue) (said unsaid : List ℕ) : Type 0 where
   pub exchanges : List Exchange
   pub tail : List ℕ
   pub last : List ℕ
@@ -93,17 +99,18 @@ pub record Served (store : StoreId) (end : Option End) (bytes : List ℕ) (old n
   pub left : IsLeft end behind new
   pub ends : IsTail end tail last
   pub bytes_are : bytes ≡ flat_map bytes_of exchanges ++ tail
-  pub out_is : out ≡ flat_map text_of exchanges ++ last
+  pub texts_are : said ++ unsaid ≡ flat_map text_of exchanges ++ last
+  pub unsaid_is : IsUnsaid end exchanges tail last unsaid
 
 -- at the end of the input nothing is left to read
 abbrev pub IsReached : Option End → Option (List ℕ) → Type 0
 IsReached (Some ends.EndOfInput) rest = IsReadOut rest
 IsReached end rest = Unit {0}
 
--- the text stands behind what was written before; after a failed write a beginning of it
-abbrev pub IsWritten : Option End → Option (List ℕ) → List ℕ → Option (List ℕ) → Type 0
-IsWritten (Some ends.WriteFailed) before text after = AppendsFront before text after
-IsWritten end before text after = Appends before text after
+-- what was said stands behind what was written before, and, after a failed write, a beginning of the text whose write it was
+abbrev pub IsWritten : Option End → Option (List ℕ) → List ℕ → List ℕ → Option (List ℕ) → Type 0
+IsWritten (Some ends.WriteFailed) before said unsaid after = (between : Option (List ℕ)) × Appends before said between × AppendsFront between unsaid after
+IsWritten end before said unsaid after = Appends before said after
 
 -- how many reads fail before such an end
 abbrev pub read_faults : Option End → ℕ
@@ -115,11 +122,11 @@ abbrev pub write_faults : Option End → ℕ
 write_faults (Some ends.WriteFailed) = 1
 write_faults end = 0
 
--- these bytes were read and this text was written, up to such an end
-pub record HasMoved (end : Option End) (old : Wire) (bytes text : List ℕ) (new : Wire) : Type 0 where
+-- these bytes were read and this was said, up to such an end
+pub record HasMoved (end : Option End) (old : Wire) (bytes said unsaid : List ℕ) (new : Wire) : Type 0 where
   pub taken : Takes old.rest bytes new.rest
   pub reached : IsReached end new.rest
-  pub written : IsWritten end old.held text new.held
+  pub written : IsWritten end old.held said unsaid new.held
   pub reads : new.failed_reads ≡ old.failed_reads + read_faults end
   pub writes : new.failed_writes ≡ old.failed_writes + write_faults end
 
@@ -174,9 +181,10 @@ pub record HasAnswered {A : Type 0} (store : StoreId) (heard : Result Said Refus
   pub body_is : body ≡ body_of store old answer
   pub said : IsSaid end wire (reply_line answer ++ body) wire_after
 
--- a caller was served over a wire up to such an end: there are bytes that were read and a text that was written, and they are served so
+-- a caller was served over a wire up to such an end: there are bytes that were read and texts that were said, and one that wasn't after a failed write, and they are served so
 pub record IsServed (store : StoreId) (end : Option End) (wire : Wire) (old : CallerValue) (wire_after : Wire) (new : CallerValue) : Type 0 where
   pub bytes : List ℕ
-  pub text : List ℕ
-  pub served : Served store end bytes old new text
-  pub moved : HasMoved end wire bytes text wire_after
+  pub said : List ℕ
+  pub unsaid : List ℕ
+  pub served : Served store end bytes old new said unsaid
+  pub moved : HasMoved end wire bytes said unsaid wire_after
