@@ -1,5 +1,6 @@
 //! The worked rows through the engine, streams that fail, and the command line.
 
+mod limits;
 mod runs;
 
 use crate::arguments::{DistOptions, Fault, Options};

@@ -1,5 +1,6 @@
 //! What no clause says: that memory is found, and worked runs of events with answers from outside.
 
+mod limits;
 mod script;
 
 use crate::command::{Command, Reply};
