@@ -4,6 +4,7 @@ pub mod Lines
 pub mod Refusing
 pub mod Tables
 pub mod Telling
+pub mod Gathering
 pub mod Hearing
 pub mod Keeping
 pub mod LineSplitting

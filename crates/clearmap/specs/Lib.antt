@@ -1,5 +1,7 @@
+pub mod Asking
 pub mod CommandLine
 pub mod Dist
+pub mod Passing
 pub mod Query
 pub mod Refusals
 pub mod Replied

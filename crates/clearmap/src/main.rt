@@ -2,13 +2,16 @@
 #![tactic(auto)]
 
 mod arguments;
+mod ask;
 mod dist;
+mod gather;
 mod input;
 mod line;
 mod output;
 mod query;
 mod reply;
 mod run;
+mod socket;
 mod steps;
 mod table;
 #[cfg(test)]
