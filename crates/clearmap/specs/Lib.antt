@@ -4,6 +4,7 @@ pub mod Dist
 pub mod Passing
 pub mod Query
 pub mod Refusals
+pub mod ServeLine
 pub mod Replied
 pub mod Table
 pub mod Tabled

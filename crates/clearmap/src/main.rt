@@ -11,6 +11,7 @@ mod output;
 mod query;
 mod reply;
 mod run;
+mod serve_words;
 mod socket;
 mod steps;
 mod table;

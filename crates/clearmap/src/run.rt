@@ -53,6 +53,7 @@ fn run_engine<R: Input + Print + AllocGlobal>(rt: &R, options: &Options<'_>) -> 
     match options {
         Options::Dist(options) => dist_run(alloc, options, &mut reader, &mut writer),
         Options::Steps => steps_run(alloc, &mut reader, &mut writer),
+        Options::Serve(_) | Options::Ask(_) => REFUSED,
     }
 }
 
@@ -71,9 +72,10 @@ fn report<R: Print + Eprint>(rt: &R, fault: &Fault) -> u8 {
             Ok(()) if error.use_stderr() => MISTAKEN,
             Ok(()) => DONE,
         },
-        Fault::UnknownMetric | Fault::NoCommand | Fault::Unreadable(_) => {
-            let _ = eprintln!(rt; "clearmap: {fault}");
-            MISTAKEN
-        }
+        Fault::UnknownMetric | Fault::BadNumber { .. } | Fault::NoCommand | Fault::Unreadable(_) =>
+            {
+                let _ = eprintln!(rt; "clearmap: {fault}");
+                MISTAKEN
+            }
     }
 }
