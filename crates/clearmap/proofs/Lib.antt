@@ -9,4 +9,5 @@ pub mod Hearing
 pub mod Keeping
 pub mod LineSplitting
 pub mod OpeningLemmas
+pub mod ServingLemmas
 pub mod StepAnswering

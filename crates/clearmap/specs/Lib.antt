@@ -5,6 +5,7 @@ pub mod Passing
 pub mod Query
 pub mod Refusals
 pub mod ServeLine
+pub mod Serving
 pub mod Replied
 pub mod Table
 pub mod Tabled

@@ -1,8 +1,9 @@
 -- Bytes that are read from one stream and written to another: this project's own rule.
-use Rattle.std.specs.Prelude.{◌≡◌, ℕ, ◌⊎◌, List, [], ◌∷◌, ◌++◌, Option, codes}
+use Rattle.std.specs.Prelude.{◌≡◌, ℕ, ◌⊎◌, List, [], ◌∷◌, ◌++◌, Option}
 use Rattle.metric.specs.Refusal.{refusal_text}
 use Rattle.metric.specs.Stream.{Takes, Appends, AppendsFront}
 use Rattle.metric.specs.declared.refusal.Refusal.TheVariants as refusals
+use Rattle.clearmap.specs.Refusals.{net_text}
 
 -- what was read stands in a buffer, behind what it held
 pub record Gathers (unread : Option (List ℕ)) (before after : List ℕ) (left : Option (List ℕ)) : Type 0 where
@@ -24,7 +25,7 @@ pub record PassesFront (unread left held_before held_after : Option (List ℕ)) 
 
 -- the line that tells why a run of `ask` ended early: that of the network, that of want of memory, or none where a standard stream failed
 abbrev pub IsEndLine : List ℕ → Type 0
-IsEndLine line = (line ≡ []) ⊎ ((line ≡ codes "FAULT net" ++ 10 ∷ []) ⊎ (line ≡ refusal_text refusals.Memory ++ 10 ∷ []))
+IsEndLine line = (line ≡ []) ⊎ ((line ≡ net_text) ⊎ (line ≡ refusal_text refusals.Memory ++ 10 ∷ []))
 
 -- the line that tells why a run ended was written, or a beginning of it
 pub record WritesEnd (held_before held_after : Option (List ℕ)) : Type 0 where

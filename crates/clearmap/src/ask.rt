@@ -8,7 +8,7 @@ ghost use Rattle.clearmap.specs.declared.ask.Stop.TheVariants.{Standard};
 mod exchange;
 mod request;
 
-use crate::output::{write_refusal, write_text};
+use crate::output::{write_net_fault, write_refusal, write_text};
 use crate::{DONE, REFUSED};
 use exchange::exchange;
 use metric::{Refusal, Sink, Source, Stream, WriteFault};
@@ -75,7 +75,7 @@ fn write_end<W: Sink>(writer: &mut W, stop: Stop) -> Result<u8, WriteFault>
 {
     match stop {
         Stop::Standard => Ok(REFUSED),
-        Stop::Net => write_text(writer, b"FAULT net\n", REFUSED),
+        Stop::Net => write_net_fault(writer),
         Stop::Memory => write_refusal(writer, Refusal::Memory),
     }
 }

@@ -2,18 +2,33 @@
 
 use crate::arguments::{Fault, Options};
 use crate::dist::dist_run;
+use crate::net::{ask, serve};
 use crate::steps::steps_run;
 use crate::words::options;
 use crate::{DONE, REFUSED};
 use metric::{ReaderSource, Refusal, WriterSink};
+use std::net::{Net, TcpListener, TcpStream};
 use std::rt::Env;
+use std::sync::Wait;
+use std::thread::Threads;
 use std::{env, io};
 
 /// The status of a command line that was refused.
 const MISTAKEN: u8 = 2;
 
 /// Runs what the process's words name, and answers its exit status.
-pub fn run<R: Env + Input + Print + Eprint + AllocGlobal>(rt: &R) -> u8 {
+pub fn run<R>(rt: &R) -> u8
+where
+    R: Env
+        + Input
+        + Print
+        + Eprint
+        + AllocGlobal
+        + Net<Listener = TcpListener, Stream = TcpStream>
+        + Wait
+        + Threads
+        + Sync,
+{
     match words_of(rt) {
         Ok(words) => run_words(rt, words.as_slice()),
         Err(fault) => report(rt, &fault),
@@ -26,7 +41,17 @@ fn words_of<R: Env + AllocGlobal>(rt: &R) -> Result<Vec<String>, Fault> {
 }
 
 /// Runs what these words name.
-fn run_words<R: Input + Print + Eprint + AllocGlobal>(rt: &R, words: &[String]) -> u8 {
+fn run_words<R>(rt: &R, words: &[String]) -> u8
+where
+    R: Input
+        + Print
+        + Eprint
+        + AllocGlobal
+        + Net<Listener = TcpListener, Stream = TcpStream>
+        + Wait
+        + Threads
+        + Sync,
+{
     let alloc = rt.alloc();
     let Ok(texts) = words
         .iter()
@@ -42,7 +67,16 @@ fn run_words<R: Input + Print + Eprint + AllocGlobal>(rt: &R, words: &[String]) 
 }
 
 /// Runs an engine on the standard streams.
-fn run_engine<R: Input + Print + AllocGlobal>(rt: &R, options: &Options<'_>) -> u8 {
+fn run_engine<R>(rt: &R, options: &Options<'_>) -> u8
+where
+    R: Input
+        + Print
+        + AllocGlobal
+        + Net<Listener = TcpListener, Stream = TcpStream>
+        + Wait
+        + Threads
+        + Sync,
+{
     let alloc = rt.alloc();
     let Ok(mut reader) = ReaderSource::new(alloc, rt.reader()) else {
         return refuse(rt);
@@ -53,7 +87,8 @@ fn run_engine<R: Input + Print + AllocGlobal>(rt: &R, options: &Options<'_>) -> 
     match options {
         Options::Dist(options) => dist_run(alloc, options, &mut reader, &mut writer),
         Options::Steps => steps_run(alloc, &mut reader, &mut writer),
-        Options::Serve(_) | Options::Ask(_) => REFUSED,
+        Options::Serve(options) => serve(rt, alloc, options, &mut reader, &mut writer),
+        Options::Ask(options) => ask(rt, alloc, options, &mut reader, &mut writer),
     }
 }
 
