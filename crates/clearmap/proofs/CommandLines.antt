@@ -1,7 +1,8 @@
 -- What the words `dist` and `steps` alone say.
-use Rattle.std.proofs.Common.{◌≡◌, ℕ, List, [], ◌∷◌, Option, Some, None, Bool, refl, ap, ap₂, sym, ◌∙◌, true, false, codes}
-use Rattle.std.specs.Prelude.{option_map, option_and_then}
+use Rattle.std.proofs.Common.{◌≡◌, ℕ, List, [], ◌∷◌, Option, Some, None, Bool, refl, ap, ap₂, sym, subst, inl, inr, ◌∙◌, true, false, codes}
+use Rattle.std.specs.Prelude.{option_map, option_and_then, is_some, IsSome}
 use Rattle.std.specs.Borrow.{Bor}
+use Rattle.std.proofs.lemmas.Bool.{false≢true}
 use Rattle.clap.specs.Words.{HasMatchesOf, Row, Text, first_of, one_of, is_simple, takes, subcommand_of, subcommand_rows_of}
 use Rattle.clap.specs.Matches.{subcommand_name_of}
 use Rattle.clap.specs.declared.parser.matches.ArgMatches.{ArgMatches}
@@ -10,7 +11,7 @@ use Rattle.metric.specs.Kind.{metric_named}
 use Rattle.metric.specs.declared.kind.MetricKind.{MetricKind}
 use Rattle.metric.specs.declared.kind.MetricKind.TheVariants.{Euclid2}
 use Rattle.clearmap.specs.declared.arguments.DistOptions.{DistOptions}
-use Rattle.clearmap.specs.CommandLine.{AreDistOptions, default_options, program_app}
+use Rattle.clearmap.specs.CommandLine.{AreDistOptions, AreTaken, default_options, program_app}
 use Rattle.clearance.proofs.Refusals.{map_none}
 
 -- what the words say of the subcommand and its flags
@@ -76,6 +77,16 @@ named_steps name texts matches words found =
     let met : subcommand_rows_of matches ≡ subcommand_of program_app (name ∷ codes "steps" ∷ []) = (found program_is_simple).1 ∙ ap (subcommand_of program_app) words in
     first_of_pair _ _ _ ∙ (ap (option_map (λ (p : Text × List Row). p.0)) met ∙ name_of_steps name)
 
+-- a parse whose words name a subcommand has met it
+pub named_so : (name : Text) (rows : List Row) (texts : List (List ℕ)) (matches : ArgMatches) → HasMatchesOf program_app texts matches → subcommand_of program_app texts ≡ Some (name, rows) → subcommand_name_of matches ≡ Some name
+named_so name rows texts matches found named = first_of_pair _ _ _ ∙ ap (option_map (λ (p : Text × List Row). p.0)) ((found program_is_simple).1 ∙ named)
+
+-- and its flags are those that the words give
+rows_so : (name : Text) (given rows : List Row) (texts : List (List ℕ)) (matches : ArgMatches) → HasMatchesOf program_app texts matches → subcommand_of program_app texts ≡ Some (name, given)
+    → option_map (λ (p : Text × List Row). p.1) (subcommand_rows_of matches) ≡ Some rows → given ≡ rows
+rows_so name given rows texts matches found named these =
+    let same : Some given ≡ Some rows = sym (ap (option_map (λ (p : Text × List Row). p.1)) ((found program_is_simple).1 ∙ named)) ∙ these in cc
+
 -- no subcommand has both names
 pub one_name : (name : Option Text) → name ≡ Some (codes "dist") → name ≡ Some (codes "steps") → ⊥
 one_name name dist steps = let same : Some (codes "dist") ≡ Some (codes "steps") = sym dist ∙ steps in cc
@@ -104,3 +115,17 @@ default_options-read rows options are metric nearest query =
 pub euclid2_is_named : (rows : List Row) → first_of (codes "metric") rows ≡ Some (codes "euclid2") → option_and_then metric_named (first_of (codes "metric") rows) ≡ None → ⊥
 euclid2_is_named rows metric unknown =
     let named : Some Euclid2 ≡ None = ap (option_and_then metric_named) (sym metric) ∙ unknown in cc
+
+-- where the words are to be taken the metric is known
+pub metric_is_known : (rows : List Row) (texts : List (List ℕ)) (matches : ArgMatches) → AreTaken texts → HasMatchesOf program_app texts matches → subcommand_name_of matches ≡ Some (codes "dist")
+    → option_map (λ (p : Text × List Row). p.1) (subcommand_rows_of matches) ≡ Some rows → option_and_then metric_named (first_of (codes "metric") rows) ≡ None → ⊥
+metric_is_known rows texts matches (takes, inl dist) found met these unknown =
+    let same = rows_so (codes "dist") dist.rows rows texts matches found dist.named these in
+    let known = subst (λ (r : List Row). IsSome (option_and_then metric_named (first_of (codes "metric") r))) same dist.metric in
+    false≢true (sym (ap is_some unknown) ∙ known)
+metric_is_known rows texts matches (takes, inr steps) found met these unknown = one_name _ met (named_so (codes "steps") steps.rows texts matches found steps.named)
+
+-- where the words are to be taken a subcommand is named
+pub command_is_named : (texts : List (List ℕ)) (matches : ArgMatches) → AreTaken texts → HasMatchesOf program_app texts matches → (subcommand_name_of matches ≡ Some (codes "dist") → ⊥) → (subcommand_name_of matches ≡ Some (codes "steps") → ⊥) → ⊥
+command_is_named texts matches (takes, inl dist) found no_dist no_steps = no_dist (named_so (codes "dist") dist.rows texts matches found dist.named)
+command_is_named texts matches (takes, inr steps) found no_dist no_steps = no_steps (named_so (codes "steps") steps.rows texts matches found steps.named)

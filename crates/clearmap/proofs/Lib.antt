@@ -1,7 +1,7 @@
 pub mod Answering
 pub mod CommandLines
 pub mod Lines
-pub mod Refusing
+pub mod RefusalLines
 pub mod Tables
 pub mod Telling
 pub mod Gathering

@@ -1,5 +1,5 @@
 -- Why nothing is served.
-use Rattle.std.proofs.Common.{◌≡◌, ℕ, List, [], ◌∷◌, ◌++◌, Option, Some, None, Result, Ok, Err, OnOk, OnErr, IfOk, inl, inr, refl, ap, ◌∙◌}
+use Rattle.std.proofs.Common.{◌≡◌, ℕ, List, [], ◌∷◌, ◌++◌, Option, Some, None, Result, Ok, Err, OnOk, OnErr, IfOk, inl, inr, refl, sym, ap, ◌∙◌}
 use Rattle.std.specs.Prelude.{IfSome, MatchOption}
 use Rattle.std.specs.Result.{result_unwrap_or}
 use Rattle.metric.specs.Refusal.{refusal_text}
@@ -16,14 +16,19 @@ use Rattle.clearmap.proofs.Gathering.{written_either}
 abbrev pub setting_line : Field → List ℕ
 setting_line field = refusal_text (BadSetting field) ++ 10 ∷ []
 
+-- the refusal that comes with what is handed back
+abbrev refusal_back : {A B : Type 0} → Refusal → Result A (B × Refusal) → Refusal
+refusal_back other (Ok value) = other
+refusal_back other (Err back) = back.1
+
 -- the refusal of a setting is written
-pub told_setting : {B : Type 0} (found : Option Field) (map : B) (other : Type 0) (result : Result B (B × Refusal)) (back : B) (refusal : Refusal) (before after : Option (List ℕ)) (written : Result ℕ WriteFault)
+pub told_setting : {A B : Type 0} (found : Option Field) (map : B) (other : Type 0) (result : Result A (B × Refusal)) (back : B) (refusal : Refusal) (before after : Option (List ℕ)) (written : Result ℕ WriteFault)
     → MatchOption found other (λ field. result ≡ Err (map, BadSetting field)) → result ≡ Err (back, refusal) → IfOk written (λ status. status ≡ 1)
     → OnOk written (Appends before (refusal_text refusal ++ 10 ∷ []) after) → OnErr written (AppendsFront before (refusal_text refusal ++ 10 ∷ []) after)
     → IfSome found (λ field. WritesOnly (setting_line field) before after × IfOk written (λ status. status ≡ 1))
 told_setting None map other result back refusal before after written limits is one whole front = tt
 told_setting (Some field) map other result back refusal before after written limits is one whole front =
-    let same : refusal ≡ BadSetting field = cc in
+    let same : refusal ≡ BadSetting field = ap (refusal_back refusal) (sym is ∙ limits) in
     (record { text = refusal_text refusal ++ 10 ∷ []; text_is = inl (ap (λ r. refusal_text r ++ 10 ∷ []) same); written = written_either before after (refusal_text refusal ++ 10 ∷ []) written whole front }, one)
 
 -- a status of 1 stays one where a write failed

@@ -1,5 +1,5 @@
 -- An answer of steps that is one refusal, written whole or in part.
-use Rattle.std.proofs.Common.{◌≡◌, ◌≢◌, ℕ, List, [], ◌∷◌, ◌++◌, Option, Result, Ok, Err, IfOk, OnOk, OnErr, inl, inr, refl, ap, ◌∙◌, arith}
+use Rattle.std.proofs.Common.{◌≡◌, ◌≢◌, ℕ, List, [], ◌∷◌, ◌++◌, Option, Result, Ok, Err, IfOk, OnOk, OnErr, IsOk, inl, inr, refl, ap, ◌∙◌, arith}
 use Rattle.std.specs.Result.{result_unwrap_or}
 use Rattle.metric.specs.declared.refusal.Refusal.{Refusal}
 use Rattle.metric.specs.declared.refusal.Refusal.TheVariants as refusals
@@ -13,15 +13,15 @@ use Rattle.clearmap.specs.Steps.{Answers, BeginsToAnswer, IsBegun}
 use Rattle.clearmap.specs.TextLines.{lines_of}
 use Rattle.clearmap.proofs.Answering.{told, AreAll-told}
 
--- a beginning of the line of want of memory begins an answer to any bytes
-memory_begun : (bytes : List ℕ) (before after : Option (List ℕ)) → AppendsFront before (refusal_text refusals.Memory ++ 10 ∷ []) after → IsBegun bytes before after
-memory_begun bytes before after front = record {
+-- a beginning of the line of want of memory begins an answer to bytes whose first line opens a world
+memory_begun : (bytes : List ℕ) (before after : Option (List ℕ)) → IsOk (opened_by (lines_of bytes)) → AppendsFront before (refusal_text refusals.Memory ++ 10 ∷ []) after → IsBegun bytes before after
+memory_begun bytes before after opens front = record {
   heard = [];
   unheard = later_lines (lines_of bytes);
   text = refusal_text refusals.Memory ++ 10 ∷ [];
   status = 1;
   lines_are = refl;
-  answer = inr (record { text_is = refl; status_is = refl });
+  answer = inr (opens, record { text_is = refl; status_is = refl });
   written = front;
 }
 
@@ -39,11 +39,11 @@ refusal_begun bytes refusal before after refused front = record {
 
 -- so does that of why no world was opened
 pub stop_begun : (bytes first : List ℕ) (later : List (List ℕ)) (stop : NotOpened) (before after : Option (List ℕ)) → lines_of bytes ≡ first ∷ later
-    → (stop ≢ stops.Memory → judged (opening_told first) ≡ Err (refusal_of stop)) → AppendsFront before (refusal_text (refusal_of stop) ++ 10 ∷ []) after → IsBegun bytes before after
-stop_begun bytes first later stops.Memory before after lines refused front = memory_begun bytes before after front
-stop_begun bytes first later stops.BadArguments before after lines refused front =
+    → (stop ≢ stops.Memory → judged (opening_told first) ≡ Err (refusal_of stop)) → (stop ≡ stops.Memory → IsOk (judged (opening_told first))) → AppendsFront before (refusal_text (refusal_of stop) ++ 10 ∷ []) after → IsBegun bytes before after
+stop_begun bytes first later stops.Memory before after lines refused opens front = memory_begun bytes before after (rw lines (opens refl)) front
+stop_begun bytes first later stops.BadArguments before after lines refused opens front =
     refusal_begun bytes refusals.BadArguments before after (ap opened_by lines ∙ refused (λ same. cc)) front
-stop_begun bytes first later (stops.BadSetting field) before after lines refused front =
+stop_begun bytes first later (stops.BadSetting field) before after lines refused opens front =
     refusal_begun bytes (refusals.BadSetting field) before after (ap opened_by lines ∙ refused (λ same. cc)) front
 
 -- the line of want of memory, written whole, is an answer to all bytes of any reader
@@ -52,7 +52,7 @@ pub memory_answered : (unread before after : Option (List ℕ)) (written : Resul
 memory_answered unread before after (Ok status) old new one whole counts same = record {
   bytes = told unread;
   all = AreAll-told unread;
-  whole = record { text = refusal_text refusals.Memory ++ 10 ∷ []; answer = inr (record { text_is = refl; status_is = one }); written = whole };
+  whole = inr (whole, one);
 }
 memory_answered unread before after (Err fault) old new one whole counts same = absurd (omega (arith, counts))
 
@@ -61,4 +61,4 @@ pub memory_told_in_part : (unread before after : Option (List ℕ)) (written : R
     → Counts old written new → new ≢ old → BeginsToAnswer unread before after × (result_unwrap_or written 1 ≡ 1)
 memory_told_in_part unread before after (Ok status) old new front counts other = absurd (other counts)
 memory_told_in_part unread before after (Err fault) old new front counts other =
-    (record { bytes = told unread; all = AreAll-told unread; begun = memory_begun (told unread) before after front }, refl)
+    (record { bytes = told unread; all = AreAll-told unread; begun = inr front }, refl)

@@ -1,7 +1,7 @@
 -- The command line: this project's own rule, in the words of `clap`.
-use Rattle.std.specs.Prelude.{◌≡◌, ℕ, List, [], ◌∷◌, Some, None, codes, map, option_map, option_and_then, true, false}
+use Rattle.std.specs.Prelude.{◌≡◌, ℕ, List, [], ◌∷◌, Some, None, IsSome, ◌⊎◌, codes, map, option_map, option_and_then, true, false}
 use Rattle.std.specs.Borrow.{Bor}
-use Rattle.clap.specs.Words.{App, Row, Rule, first_of, kind_of, new_app, new_rule, one_of, subcommand_of, with_rule, with_subcommand}
+use Rattle.clap.specs.Words.{App, Row, Rule, first_of, kind_of, takes, new_app, new_rule, one_of, subcommand_of, with_rule, with_subcommand}
 use Rattle.clap.specs.Simple.{on_top}
 use Rattle.clap.specs.declared.builder.ArgAction.TheVariants.{SetTrue}
 use Rattle.clap.specs.declared.error.Error.{Error}
@@ -61,6 +61,21 @@ AreOptions words (Dist options) = (rows : List Row) × (subcommand_of program_ap
 AreOptions words Steps = (rows : List Row) × (subcommand_of program_app words ≡ Some (codes "steps", rows))
 AreOptions words (Serve options) = (rows : List Row) × (subcommand_of program_app words ≡ Some (codes "serve", rows)) × AreServeOptions rows options
 AreOptions words (Ask options) = (rows : List Row) × (subcommand_of program_app words ≡ Some (codes "ask", rows)) × AreAskOptions rows options
+
+-- the words name `dist`, and a metric that there is
+pub record NameDist (words : List (List ℕ)) : Type 0 where
+  pub rows : List Row
+  pub named : subcommand_of program_app words ≡ Some (codes "dist", rows)
+  pub metric : IsSome (option_and_then metric_named (first_of (codes "metric") rows))
+
+-- the words name `steps`
+pub record NameSteps (words : List (List ℕ)) : Type 0 where
+  pub rows : List Row
+  pub named : subcommand_of program_app words ≡ Some (codes "steps", rows)
+
+-- words that the program is to take: of the form of its commands and flags, as `clap` takes them
+abbrev pub AreTaken : List (List ℕ) → Type 0
+AreTaken words = (takes program_app words ≡ true) × (NameDist words ⊎ NameSteps words)
 
 -- what is made of an error of `clap`: want of memory is told apart
 abbrev pub IsFaultOf : Error → Fault → Type 0

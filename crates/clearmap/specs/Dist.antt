@@ -1,5 +1,5 @@
 -- What `dist` answers to an image: this project's own rule.
-use Rattle.std.specs.Prelude.{◌≡◌, ◌≢◌, ℕ, List, [], ◌∷◌, ◌++◌, ◌⊎◌, Option, Err, MatchOption}
+use Rattle.std.specs.Prelude.{◌≡◌, ◌≢◌, ℕ, List, [], ◌∷◌, ◌++◌, ◌⊎◌, Option, Err, IsOk, MatchOption}
 use Rattle.metric.specs.declared.fault.PbmFault.{PbmFault}
 use Rattle.metric.specs.declared.fault.PbmFault.TheVariants as faults
 use Rattle.metric.specs.Kind.{distance_of}
@@ -7,7 +7,7 @@ use Rattle.metric.specs.declared.near.Near.{Near}
 use Rattle.metric.specs.Refusal.{image_text}
 use Rattle.metric.specs.Stream.{AreAll, Appends, AppendsFront}
 use Rattle.bits.specs.Cells.{Cells}
-use Rattle.pbm.specs.Faults.{image}
+use Rattle.pbm.specs.Faults.{header, image}
 use Rattle.pbm.specs.Image.{Reads}
 use Rattle.field.specs.Rows.{AreNears}
 use Rattle.proto.specs.Replies.{reply_line}
@@ -45,16 +45,25 @@ pub record IsRefused (bytes : List ℕ) (fault : PbmFault) : Type 0 where
   pub first : image bytes ≡ Err fault
   pub none : (n : ℕ) (cells : Cells) → Reads bytes n cells → ⊥
 
--- the text is the line of a fault that the bytes have, or of want of memory, which they needn't have
+-- the text is the line of a fault that the bytes have, or of want of memory, which is met behind a good header alone
 pub record IsFault (bytes text : List ℕ) (status : ℕ) : Type 0 where
   pub fault : PbmFault
   pub true_of : fault ≢ faults.Memory → IsRefused bytes fault
+  pub memory : fault ≡ faults.Memory → IsOk (header bytes)
   pub text_is : text ≡ image_text fault ++ 10 ∷ []
   pub status_is : status ≡ 1
 
 -- an answer to these bytes under these options, with its status
+abbrev pub IsImageAnswer : DistOptions → List ℕ → List ℕ → ℕ → Type 0
+IsImageAnswer options bytes text status = IsAsked options bytes text status ⊎ IsFault bytes text status
+
+-- the line of want of memory, with its status
+abbrev pub IsMemoryLine : List ℕ → ℕ → Type 0
+IsMemoryLine text status = (text ≡ image_text faults.Memory ++ 10 ∷ []) × (status ≡ 1)
+
+-- an answer to these bytes under these options; or want of memory for reading them
 abbrev pub IsDistAnswer : DistOptions → List ℕ → List ℕ → ℕ → Type 0
-IsDistAnswer options bytes text status = IsAsked options bytes text status ⊎ IsFault bytes text status
+IsDistAnswer options bytes text status = IsImageAnswer options bytes text status ⊎ IsMemoryLine text status
 
 -- an answer to all bytes that the reader had was written whole
 pub record Answers (options : DistOptions) (unread held_before held_after : Option (List ℕ)) (status : ℕ) : Type 0 where

@@ -7,6 +7,7 @@ pub mod Refusals
 pub mod ServeLine
 pub mod Serving
 pub mod Replied
+pub mod Runs
 pub mod Table
 pub mod Tabled
 pub mod Opening

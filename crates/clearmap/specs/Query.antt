@@ -4,7 +4,7 @@ use Rattle.metric.specs.Kind.{distance_of}
 use Rattle.metric.specs.declared.refusal.Refusal.{Refusal}
 use Rattle.metric.specs.declared.refusal.Refusal.TheVariants.{Memory, UnknownCommand}
 use Rattle.bits.specs.Cells.{Cells}
-use Rattle.proto.specs.Asked.{Asked}
+use Rattle.proto.specs.Asked.{Asked, HasPoints}
 use Rattle.proto.specs.Queries.{IsAnswerBy, metric_asked}
 use Rattle.proto.specs.Said.{Said, asked, said, verb_in}
 use Rattle.proto.specs.declared.answer.Answer.{Answer}
@@ -22,9 +22,9 @@ query_said other line = Err UnknownCommand
 abbrev pub asked_in : List ℕ → Result Asked Refusal
 asked_in line = query_said (verb_in line) (said line)
 
--- an answer to a line that asks this, or is refused: by its own metric; or want of memory, for its points
+-- an answer to a line that asks this, or is refused: by its own metric; or want of memory, for its points where it has some
 abbrev pub IsReplyTo : Cells → Result Asked Refusal → Answer → Type 0
-IsReplyTo cells (Ok query) answer = IsAnswerBy (distance_of (metric_asked query)) cells query answer ⊎ (answer ≡ Refused Memory)
+IsReplyTo cells (Ok query) answer = IsAnswerBy (distance_of (metric_asked query)) cells query answer ⊎ (HasPoints query × (answer ≡ Refused Memory))
 IsReplyTo cells (Err refusal) answer = answer ≡ Refused refusal
 
 -- the status of an answer: a refusal has 1

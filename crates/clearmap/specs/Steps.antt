@@ -1,5 +1,5 @@
 -- What steps answers to a text: this project's own rule. The first line opens a world; each line behind it is done in that world, and gets one answer line.
-use Rattle.std.specs.Prelude.{◌≡◌, ◌≤◌, ℕ, ◌⊎◌, List, [], ◌∷◌, ◌++◌, replicate, codes, Option, Result, Ok, Err, IsErr}
+use Rattle.std.specs.Prelude.{◌≡◌, ◌≤◌, ℕ, ◌⊎◌, List, [], ◌∷◌, ◌++◌, replicate, codes, Option, Result, Ok, Err, IsErr, IsOk}
 use Rattle.std.specs.Fmt.{decimal}
 use Rattle.std.specs.List.{flat_map}
 use Rattle.metric.specs.Refusal.{refusal_text}
@@ -96,9 +96,9 @@ abbrev pub IsAnswerOf : Result Opening Refusal → List (List ℕ) → List ℕ 
 IsAnswerOf (Ok opening) lines text status = AreSteps opening lines text status
 IsAnswerOf (Err refusal) lines text status = IsOneRefusal refusal text status
 
--- an answer to a text, of which these lines behind the first are heard; or want of memory for reading the text or for opening the world
+-- an answer to a text, of which these lines behind the first are heard; or want of memory for opening a world that its first line tells
 abbrev pub IsStepsAnswer : List ℕ → List (List ℕ) → List ℕ → ℕ → Type 0
-IsStepsAnswer bytes heard text status = IsAnswerOf (opened_by (lines_of bytes)) heard text status ⊎ IsOneRefusal refusals.Memory text status
+IsStepsAnswer bytes heard text status = IsAnswerOf (opened_by (lines_of bytes)) heard text status ⊎ (IsOk (opened_by (lines_of bytes)) × IsOneRefusal refusals.Memory text status)
 
 -- an answer to these bytes was written whole
 pub record IsWritten (bytes : List ℕ) (held_before held_after : Option (List ℕ)) (status : ℕ) : Type 0 where
@@ -116,14 +116,18 @@ pub record IsBegun (bytes : List ℕ) (held_before held_after : Option (List ℕ
   pub answer : IsStepsAnswer bytes heard text status
   pub written : AppendsFront held_before text held_after
 
--- an answer to all bytes that the reader had was written whole
+-- the line of want of memory
+abbrev pub memory_line : List ℕ
+memory_line = refusal_text refusals.Memory ++ 10 ∷ []
+
+-- an answer to all bytes that the reader had was written whole, or that there is no memory for reading them
 pub record Answers (unread held_before held_after : Option (List ℕ)) (status : ℕ) : Type 0 where
   pub bytes : List ℕ
   pub all : AreAll unread bytes
-  pub whole : IsWritten bytes held_before held_after status
+  pub whole : IsWritten bytes held_before held_after status ⊎ (Appends held_before memory_line held_after × (status ≡ 1))
 
--- a beginning of an answer to all bytes that the reader had was written
+-- a beginning of an answer to all bytes that the reader had was written, or of the line of want of memory for reading them
 pub record BeginsToAnswer (unread held_before held_after : Option (List ℕ)) : Type 0 where
   pub bytes : List ℕ
   pub all : AreAll unread bytes
-  pub begun : IsBegun bytes held_before held_after
+  pub begun : IsBegun bytes held_before held_after ⊎ AppendsFront held_before memory_line held_after

@@ -3,7 +3,7 @@
 ghost use Rattle.std.specs.Prelude.{◌≡◌, ◌≢◌, ℕ, ◌+◌, ◌≤◌, ◌∷◌, ◌++◌, [], List, IfOk, OnOk, OnErr};
 ghost use Rattle.metric.specs.Refusal.{image_text};
 ghost use Rattle.metric.specs.Stream.{Appends, AppendsFront, Counts, CanFail};
-ghost use Rattle.clearmap.specs.Dist.{Answers, BeginsToAnswer, IsDistAnswer};
+ghost use Rattle.clearmap.specs.Dist.{Answers, BeginsToAnswer, IsImageAnswer};
 ghost use Rattle.clearmap.specs.Table.{table_text};
 
 use crate::arguments::DistOptions;
@@ -55,8 +55,8 @@ fn write_answer<W: Sink>(
     writer: &mut W,
 ) -> Result<u8, WriteFault>
     requires { CanFail (W.failed_writes writer.old) }
-    ensures whole { IfOk result (λ status. (text : List ℕ) × IsDistAnswer options.now bytes.now text status × Appends (W.held writer.old) text (W.held writer.new)) }
-    ensures front { OnErr result ((text : List ℕ) × (status : ℕ) × IsDistAnswer options.now bytes.now text status × AppendsFront (W.held writer.old) text (W.held writer.new)) }
+    ensures whole { IfOk result (λ status. (text : List ℕ) × IsImageAnswer options.now bytes.now text status × Appends (W.held writer.old) text (W.held writer.new)) }
+    ensures front { OnErr result ((text : List ℕ) × (status : ℕ) × IsImageAnswer options.now bytes.now text status × AppendsFront (W.held writer.old) text (W.held writer.new)) }
     ensures counts { Counts (W.failed_writes writer.old) result (W.failed_writes writer.new) }
 {
     match options.query {

@@ -4,12 +4,15 @@
 mod arguments;
 mod ask;
 mod dist;
+mod engine;
+mod errors;
 mod gather;
 mod input;
 mod line;
 mod net;
 mod output;
 mod query;
+mod refusing;
 mod reply;
 mod run;
 mod serve;
@@ -28,6 +31,9 @@ const DONE: u8 = 0;
 
 /// The status of a run that was refused, or whose reader or writer failed.
 const REFUSED: u8 = 1;
+
+/// The status of a command line that was refused.
+const MISTAKEN: u8 = 2;
 
 fn main(rt: HostRuntime) -> ExitCode {
     ExitCode::from(run::run(&rt))

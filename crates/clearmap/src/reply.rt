@@ -1,6 +1,7 @@
 //! The reply to one query line on an image, and all that is needed to write it.
 
-ghost use Rattle.std.specs.Prelude.{◌≡◌, ◌≢◌, IfOk, IfErr};
+ghost use Rattle.std.specs.Prelude.{◌≡◌, ◌≢◌, Err, IfOk, IfErr, IsOk};
+ghost use Rattle.pbm.specs.Faults.{header};
 ghost use Rattle.clearmap.specs.Dist.{IsRefused};
 
 use crate::query::{answer_line, status};
@@ -22,6 +23,7 @@ impl Reply {
     pub fn of(alloc: Global, bytes: &[u8], line: &[u8]) -> Result<Self, PbmFault>
         ensures reply { IfOk result (IsReplyOf line.now bytes.now) }
         ensures fault { IfErr result (λ fault. fault ≢ PbmFault.Memory → IsRefused bytes.now fault) }
+        ensures memory { result ≡ Err PbmFault.Memory → IsOk (header bytes.now) }
     {
         let (bitmap, _) = pbm::read_image(alloc, bytes)?;
         let answer = answer_line(alloc, &bitmap, line);

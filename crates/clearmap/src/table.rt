@@ -1,8 +1,9 @@
 //! The nearest obstacles of one image's cells, and all that is needed to write them.
 
-ghost use Rattle.std.specs.Prelude.{◌≡◌, ◌≢◌, ℕ, ◌+◌, ◌*◌, ◌≤◌, List, IfOk, IfErr, vec_len, vec_capacity};
+ghost use Rattle.std.specs.Prelude.{◌≡◌, ◌≢◌, ℕ, ◌+◌, ◌*◌, ◌≤◌, List, Err, IfOk, IfErr, IsOk, vec_len, vec_capacity};
 ghost use Rattle.metric.specs.Kind.{distance_of};
 ghost use Rattle.field.specs.Rows.{AreNears};
+ghost use Rattle.pbm.specs.Faults.{header};
 ghost use Rattle.clearmap.specs.Dist.{IsRefused};
 
 use crate::line::ENTRY_ROOM;
@@ -28,6 +29,7 @@ impl Table {
     pub fn of(alloc: Global, bytes: &[u8], metric: MetricKind) -> Result<Self, PbmFault>
         ensures table { IfOk result (IsTableOf metric bytes.now) }
         ensures fault { IfErr result (λ fault. fault ≢ PbmFault.Memory → IsRefused bytes.now fault) }
+        ensures memory { result ≡ Err PbmFault.Memory → IsOk (header bytes.now) }
     {
         let (bitmap, _) = pbm::read_image(alloc, bytes)?;
         let (width, height) = (bitmap.width(), bitmap.height());

@@ -1,5 +1,8 @@
 //! The worked rows through the engine, streams that fail, and the command line.
 
+mod asking;
+mod runs;
+
 use crate::arguments::{DistOptions, Fault, Options};
 use crate::dist::dist_run;
 use crate::words::options;
@@ -172,6 +175,8 @@ fn the_line_is_taken(rt: HostRuntime) -> Result<(), Fail> {
     };
     let said = options(rt.alloc(), &words)?;
     assert_eq!(rt; said, Options::Dist(wanted));
+    let steps = options(rt.alloc(), &["clearmap", "steps"])?;
+    assert_eq!(rt; steps, Options::Steps);
     Ok(())
 }
 

@@ -7,7 +7,7 @@ ghost use Rattle.clap.specs.declared.error.kind.ErrorKind.TheVariants.{OutOfMemo
 ghost use Rattle.metric.specs.Kind.{metric_named};
 ghost use Rattle.clearmap.specs.declared.arguments.Fault.TheVariants.{Memory};
 ghost use Rattle.clearmap.specs.declared.arguments.Options.TheVariants.{Dist, Steps};
-ghost use Rattle.clearmap.specs.CommandLine.{AreDistOptions, AreOptions, default_options, dist_app, metric_rule, nearest_rule, program_app, query_rule, steps_app, texts_of};
+ghost use Rattle.clearmap.specs.CommandLine.{AreDistOptions, AreOptions, AreTaken, default_options, dist_app, metric_rule, nearest_rule, program_app, query_rule, steps_app, texts_of};
 
 use crate::arguments::{DistOptions, Fault, Options};
 use crate::serve_words::{ask_command, serve_command, serve_or_ask};
@@ -20,6 +20,7 @@ use std::alloc::Global;
 /// `--help` and `--version` come as a fault whose text goes to standard output, with status 0.
 pub fn options<'a>(alloc: Global, words: &'a [&'a str]) -> Result<Options<'a>, Fault>
     ensures options { IfOk result (AreOptions (texts_of words.entry.now)) }
+    ensures refused { AreTaken (texts_of words.entry.now) → IfErr result (λ fault. fault ≡ Memory) }
     ensures taken { (name : List ℕ) → texts_of words.entry.now ≡ name ∷ codes "dist" ∷ []
         → MatchResult result (λ options. options ≡ Dist default_options) (λ fault. fault ≡ Memory) }
     ensures steps_taken { (name : List ℕ) → texts_of words.entry.now ≡ name ∷ codes "steps" ∷ []

@@ -18,6 +18,8 @@ mod query;
 mod reply;
 mod serve;
 #[cfg(test)]
+mod serve_tests;
+#[cfg(test)]
 mod tests;
 mod text;
 mod verb;

@@ -1,6 +1,6 @@
 //! The first line of steps, and the world that it opens.
 
-ghost use Rattle.std.specs.Prelude.{◌≡◌, ◌≢◌, Ok, Err, true, false, option_and_then, IfOk, IfErr, IfSome, IsSome, MatchOption};
+ghost use Rattle.std.specs.Prelude.{◌≡◌, ◌≢◌, ◌∷◌, ◌++◌, [], Ok, Err, true, false, option_and_then, IfOk, IfErr, IfSome, IsOk, MatchOption};
 ghost use Rattle.bits.specs.Cells.{IsSide};
 ghost use Rattle.map_core.specs.Runs.{IsOpened};
 ghost use Rattle.map_core.specs.Words.{tiles};
@@ -107,22 +107,26 @@ impl Opening {
 }
 
 impl Opened {
-    /// The world that a first line opens. Memory can be wanting for a line that tells a map alone.
+    /// The world that a first line opens. Memory can be wanting for a map and a setting alone that are good.
     pub fn of(alloc: Global, line: &[u8]) -> Result<Self, NotOpened>
         ensures opened { IfOk result (λ opened. (opening : Opening) × (judged (opening_told line.now) ≡ Ok opening) × IsOpened (base_of opening) opened.world × (opened.tiles ≡ tiles (base_of opening))) }
         ensures refusal { IfErr result (λ stop. stop ≢ NotOpened.Memory → judged (opening_told line.now) ≡ Err (refusal_of stop)) }
-        ensures memory { result ≡ Err NotOpened.Memory → IsSome (opening_told line.now) }
+        ensures memory { result ≡ Err NotOpened.Memory → IsOk (judged (opening_told line.now)) }
     {
         let Some(opening) = Opening::parse(line) else {
             return Err(NotOpened::BadArguments);
         };
+        if let Err(Refusal::BadSetting(field)) = opening
+            .setting
+            .fits_size(opening.width, opening.height)
+        {
+            return Err(NotOpened::BadSetting(field));
+        }
         let Ok(map) = Bitmap::blank(alloc, opening.width, opening.height) else {
             return Err(NotOpened::Memory);
         };
-        let world = match World::open(alloc, opening.setting, &map) {
-            Ok(world) => world,
-            Err(Refusal::BadSetting(field)) => return Err(NotOpened::BadSetting(field)),
-            Err(_) => return Err(NotOpened::Memory),
+        let Ok(world) = World::open(alloc, opening.setting, &map) else {
+            return Err(NotOpened::Memory);
         };
         let Ok(text) = Text::new(alloc) else {
             return Err(NotOpened::Memory);

@@ -1,8 +1,4 @@
-use Rattle.std.proofs.Common.{◌∷◌, ◌++◌, [], refl}
-use Rattle.std.proofs.lemmas.Result.{on_err_weaker}
-use Rattle.metric.specs.declared.fault.PbmFault.TheVariants as faults
-use Rattle.metric.specs.Refusal.{image_text}
-use Rattle.clearmap.proofs.Answering.{told, AreAll-told, answered, begun, answer_of_memory, memory_whole}
+use Rattle.clearmap.proofs.Answering.{answered, begun, memory_whole, memory_in_part}
 use Rattle.clearmap.proofs.dist.dist_run.Goals as goal
 
 pub returns-in-Err-Memory-clause-answers : goal.returns-in-Err-Memory-clause-answers
@@ -10,18 +6,14 @@ returns-in-Err-Memory-clause-answers g c = λ reads same.
     let unread = g.R.Source.rest c.args.reader.now in
     let before = g.W.Sink.held c.args.writer.now in
     let after = g.W.Sink.held c.write_fault.new.writer in
-    rw c.unwrap_or-in-Err-Memory.ensures (answered c.args.options.now unread before after (told unread) c.write_fault.result _ _ (AreAll-told unread)
-    (memory_whole c.args.options.now (told unread) before after c.write_fault.result c.write_fault.ensures.status c.write_fault.ensures.whole)
-    c.write_fault.ensures.counts same)
+    rw c.unwrap_or-in-Err-Memory.ensures (memory_whole c.args.options.now unread before after c.write_fault.result _ _ c.write_fault.ensures.status c.write_fault.ensures.whole c.write_fault.ensures.counts same)
 
 pub returns-in-Err-Memory-clause-failed_write : goal.returns-in-Err-Memory-clause-failed_write
 returns-in-Err-Memory-clause-failed_write g c = λ other.
     let unread = g.R.Source.rest c.args.reader.now in
     let before = g.W.Sink.held c.args.writer.now in
     let after = g.W.Sink.held c.write_fault.new.writer in
-    rw c.unwrap_or-in-Err-Memory.ensures (begun c.args.options.now unread before after (told unread) c.write_fault.result _ _ (AreAll-told unread)
-    (on_err_weaker c.write_fault.result (λ front. (image_text faults.Memory ++ 10 ∷ [], 1, answer_of_memory c.args.options.now (told unread) 1 refl, front)) c.write_fault.ensures.front)
-    c.write_fault.ensures.counts other)
+    rw c.unwrap_or-in-Err-Memory.ensures (memory_in_part c.args.options.now unread before after c.write_fault.result _ _ c.write_fault.ensures.front c.write_fault.ensures.counts other)
 
 pub returns-in-Ok-clause-answers : goal.returns-in-Ok-clause-answers
 returns-in-Ok-clause-answers g c = λ reads same.

@@ -1,4 +1,4 @@
-use Rattle.std.proofs.Common.{◌∷◌, ◌++◌, [], refl}
+use Rattle.std.proofs.Common.{◌∷◌, ◌++◌, [], refl, ap, Err}
 use Rattle.std.proofs.lemmas.Result.{on_err_weaker}
 use Rattle.metric.specs.Refusal.{image_text}
 use Rattle.clearmap.specs.Table.{table_text}
@@ -15,7 +15,7 @@ returns-in-Ok-clause-front g c =
 pub returns-in-Err-clause-front : goal.returns-in-Err-clause-front
 returns-in-Err-clause-front g c =
     on_err_weaker c.write_fault.result
-    (λ front. (image_text c.in-Err.fault ++ 10 ∷ [], 1, answer_of_fault c.args.options.now c.args.bytes.now c.in-Err.fault 1 c.in-Err.ensures.fault refl, front))
+    (λ front. (image_text c.in-Err.fault ++ 10 ∷ [], 1, answer_of_fault c.args.options.now c.args.bytes.now c.in-Err.fault 1 c.in-Err.ensures.fault (λ e. c.in-Err.ensures.memory (ap Err e)) refl, front))
     c.write_fault.ensures.front
 
 pub returns-in-Ok-of-clause-front : goal.returns-in-Ok-of-clause-front
@@ -28,5 +28,5 @@ returns-in-Ok-of-clause-front g c =
 pub returns-in-Err-of-clause-front : goal.returns-in-Err-of-clause-front
 returns-in-Err-of-clause-front g c =
     on_err_weaker c.write_fault-in-Err-of.result
-    (λ front. (image_text c.in-Err-of.fault ++ 10 ∷ [], 1, answer_of_fault c.args.options.now c.args.bytes.now c.in-Err-of.fault 1 c.in-Err-of.ensures.fault refl, front))
+    (λ front. (image_text c.in-Err-of.fault ++ 10 ∷ [], 1, answer_of_fault c.args.options.now c.args.bytes.now c.in-Err-of.fault 1 c.in-Err-of.ensures.fault (λ e. c.in-Err-of.ensures.memory (ap Err e)) refl, front))
     c.write_fault-in-Err-of.ensures.front

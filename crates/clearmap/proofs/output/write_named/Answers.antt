@@ -1,5 +1,5 @@
 use Rattle.std.proofs.lemmas.Result.{err_from_is_err_and, on_err_weaker}
-use Rattle.clearmap.proofs.Refusing.{front_first, front_second}
+use Rattle.clearmap.proofs.RefusalLines.{front_first, front_second}
 use Rattle.clearmap.proofs.output.write_named.Goals as goal
 
 pub returns-in_err-write_pair-clause-front : goal.returns-in_err-write_pair-clause-front

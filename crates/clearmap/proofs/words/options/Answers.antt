@@ -4,7 +4,7 @@ use Rattle.std.proofs.lemmas.Result.{err_from_is_err_and}
 use Rattle.clap.specs.Words.{takes, found_of, rows_of}
 use Rattle.clearmap.specs.CommandLine.{program_app}
 use Rattle.clearmap.specs.declared.arguments.Options.TheVariants.{Dist}
-use Rattle.clearmap.proofs.CommandLines.{takes_dist, takes_steps, named_dist, named_steps, one_name, dist_defaults, default_options-read, euclid2_is_named}
+use Rattle.clearmap.proofs.CommandLines.{takes_dist, takes_steps, named_dist, named_steps, one_name, dist_defaults, default_options-read, euclid2_is_named, metric_is_known, command_is_named}
 use Rattle.clearmap.proofs.words.options.Goals as goal
 
 pub returns-in_err-matches-clause-taken : goal.returns-in_err-matches-clause-taken
@@ -46,3 +46,18 @@ returns-clause-taken c = λ name words. absurd (false≢true (c.in_default.ensur
 pub returns-clause-steps_taken : goal.returns-clause-steps_taken
 returns-clause-steps_taken c = λ name words.
     absurd (false≢true (c.if-is_some.ensures ∙ c.subcommand_matches-2.ensures.found.1 (named_steps name _ c.in_ok-matches.matches words c.in_ok-matches.ensures.found)))
+
+pub returns-in_err-matches-clause-refused : goal.returns-in_err-matches-clause-refused
+returns-in_err-matches-clause-refused c = λ taken.
+    let p = err_from_is_err_and c.from_residual.result c.from_residual.ensures.1 in
+    rw (p.1) (p.2 (c.in_err-matches.ensures.passes taken.0))
+
+pub returns-in_err-dist_options-clause-refused : goal.returns-in_err-dist_options-clause-refused
+returns-in_err-dist_options-clause-refused c = λ taken.
+    absurd (metric_is_known _ _ c.in_ok-matches.matches taken c.in_ok-matches.ensures.found (c.in-Some.ensures.found.0 refl) c.in-Some.ensures.rows c.in_err-dist_options.ensures.unknown)
+
+pub returns-clause-refused : goal.returns-clause-refused
+returns-clause-refused c = λ taken.
+    absurd (command_is_named _ c.in_ok-matches.matches taken c.in_ok-matches.ensures.found
+    (λ dist. false≢true (c.in_default.ensures.found.1 dist))
+    (λ steps. false≢true (c.if-is_some.ensures ∙ c.subcommand_matches-2.ensures.found.1 steps)))

@@ -1,4 +1,4 @@
-use Rattle.std.proofs.Common.{ap}
+use Rattle.std.proofs.Common.{ap, Err}
 use Rattle.std.proofs.lemmas.Result.{on_err_weaker}
 use Rattle.clearmap.specs.Opening.{opened_by}
 use Rattle.clearmap.proofs.StepAnswering.{refusal_begun, stop_begun}
@@ -10,7 +10,7 @@ returns-in_default-clause-front g c = on_err_weaker c.write_stop.result (λ fron
 
 pub returns-in-Err-clause-front : goal.returns-in-Err-clause-front
 returns-in-Err-clause-front g c =
-    on_err_weaker c.write_stop-in-Err.result (λ front. stop_begun c.args.bytes.now _ _ c.in-Err.stop _ _ c.in-Some.ensures.lines c.in-Err.ensures.refusal front) c.write_stop-in-Err.ensures.front
+    on_err_weaker c.write_stop-in-Err.result (λ front. stop_begun c.args.bytes.now _ _ c.in-Err.stop _ _ c.in-Some.ensures.lines c.in-Err.ensures.refusal (λ e. c.in-Err.ensures.memory (ap Err e)) front) c.write_stop-in-Err.ensures.front
 
 pub returns-in-Ok-clause-front : goal.returns-in-Ok-clause-front
 returns-in-Ok-clause-front g c =

@@ -1,0 +1,189 @@
+//! Whole runs by their words: which stream a text goes to, its status, and streams that fail.
+
+use crate::engine::run_words;
+use metric::{MemorySink, MemorySource, Sink, Source};
+use std::process::Abort;
+
+/// The text of help.
+const HELP: &str =
+    "Exact distances to the nearest obstacle of an occupancy grid\n\nUsage: clearmap <COMMAND>\n\nCommands:\n  dist   Print each cell's distance to the nearest obstacle of the image on standard input\n  steps  Do the events on standard input in a map with numbered versions, one word at a time\n  help   Print this message or the help of the given subcommand(s)\n\nOptions:\n  -h, --help     Print help\n  -V, --version  Print version\n\nExamples:\n  clearmap dist < map.pbm\n  clearmap dist --metric city --nearest < map.pbm\n  clearmap steps < events.txt\n";
+
+/// The text of help for `dist`.
+const DIST_HELP: &str =
+    "Print each cell's distance to the nearest obstacle of the image on standard input\n\nUsage: clearmap dist [OPTIONS]\n\nOptions:\n      --metric <METRIC>  The distance, in cells: euclid2 (straight, squared), city or chess [default: euclid2]\n      --nearest          Print each entry as distance/x/y, with its nearest obstacle\n      --query <LINE>     Print only the answer to LINE, as 'AT city 3 4'; there are AT, RECT, PATH and CLEAROF\n  -h, --help             Print help\n\nExamples:\n  clearmap dist --metric chess < map.pbm\n  clearmap dist --query 'AT euclid2 3 4' < map.pbm\n";
+
+/// What words that are no run write to the standard output, to the standard error, and their status.
+const TOLD: [(&[&str], &str, &str, u8); 12] = [
+    (&["clearmap", "--help"], HELP, "", 0),
+    (&["clearmap", "help"], HELP, "", 0),
+    (&["clearmap", "dist", "--help"], DIST_HELP, "", 0),
+    (&["clearmap", "--version"], "clearmap 0.1.0\n", "", 0),
+    (&["clearmap", "-V"], "clearmap 0.1.0\n", "", 0),
+    (
+        &["clearmap"],
+        "",
+        "error: 'clearmap' requires a subcommand but one was not provided\n  [subcommands: dist, steps, help]\n\nUsage: clearmap <COMMAND>\n\nFor more information, try '--help'.\n",
+        2,
+    ),
+    (
+        &["clearmap", "dits"],
+        "",
+        "error: unrecognized subcommand 'dits'\n\n  tip: a similar subcommand exists: 'dist'\n\nUsage: clearmap <COMMAND>\n\nFor more information, try '--help'.\n",
+        2,
+    ),
+    (
+        &["clearmap", "dist", "map.pbm"],
+        "",
+        "error: unexpected argument 'map.pbm' found\n\nUsage: clearmap dist [OPTIONS]\n\nFor more information, try '--help'.\n",
+        2,
+    ),
+    (
+        &["clearmap", "dist", "--fast"],
+        "",
+        "error: unexpected argument '--fast' found\n\nUsage: clearmap dist [OPTIONS]\n\nFor more information, try '--help'.\n",
+        2,
+    ),
+    (
+        &["clearmap", "dist", "--metric", "taxi"],
+        "",
+        "clearmap: --metric is one of euclid2, city and chess\n",
+        2,
+    ),
+    (
+        &["clearmap", "dist", "--metric"],
+        "",
+        "error: a value is required for '--metric <METRIC>' but none was supplied\n\nFor more information, try '--help'.\n",
+        2,
+    ),
+    (
+        &["clearmap", "steps", "now"],
+        "",
+        "error: unexpected argument 'now' found\n\nUsage: clearmap steps\n\nFor more information, try '--help'.\n",
+        2,
+    ),
+];
+
+#[test]
+fn refused_words_are_told(rt: HostRuntime) {
+    for (words, text, mistake, status) in TOLD {
+        let mut reader = MemorySource::new(b"P1\n1 1\n0");
+        let mut writer = MemorySink::new(rt.alloc());
+        let mut errors = MemorySink::new(rt.alloc());
+        let got = run_words(rt.alloc(), words, &mut reader, &mut writer, &mut errors);
+        assert_eq!(rt; got, status, "at {words:?}");
+        assert_eq!(rt; writer.bytes(), text.as_bytes(), "at {words:?}");
+        assert_eq!(rt; errors.bytes(), mistake.as_bytes(), "at {words:?}");
+        assert_eq!(rt; reader.left().len(), 8, "nothing is read at {words:?}");
+    }
+}
+
+/// The worked map of three columns and two rows.
+const ROOM: &str = "P1\n3 2\n100\n000\n";
+
+/// Words that are done, their input, their output and their status.
+const DONE: [(&[&str], &str, &str, u8); 7] = [
+    (&["clearmap", "dist"], ROOM, "0 1 4\n1 2 5\n", 0),
+    (
+        &["clearmap", "dist", "--query=AT city 2 1", "--metric=chess"],
+        ROOM,
+        "OK 3 0 0\n",
+        0,
+    ),
+    (
+        &["clearmap", "dist", "--query", "AT city 3 0"],
+        ROOM,
+        "ERR 1 OutOfRange\n",
+        1,
+    ),
+    (
+        &["clearmap", "dist"],
+        "P1\n1 1\n11",
+        "ERR 15 BadImage JunkNotSpaced\n",
+        1,
+    ),
+    (
+        &["clearmap", "steps"],
+        "OPEN 64 64 3 2 1 10\nL 0\n",
+        "OPENED 1\nNOW 0 0\n",
+        0,
+    ),
+    (&["clearmap", "steps"], "L 0\n", "ERR 12 BadArguments\n", 1),
+    (
+        &["clearmap", "steps"],
+        "OPEN 128 1 1 2 1 10\n",
+        "ERR 16 BadSetting Blocks\n",
+        1,
+    ),
+];
+
+#[test]
+fn words_are_done(rt: HostRuntime) {
+    for (words, input, text, status) in DONE {
+        let mut reader = MemorySource::new(input.as_bytes());
+        let mut writer = MemorySink::new(rt.alloc());
+        let mut errors = MemorySink::new(rt.alloc());
+        let got = run_words(rt.alloc(), words, &mut reader, &mut writer, &mut errors);
+        assert_eq!(rt; got, status, "at {words:?}");
+        assert_eq!(rt; writer.bytes(), text.as_bytes(), "at {words:?}");
+        assert!(rt; errors.bytes().is_empty(), "at {words:?}");
+    }
+}
+
+/// Runs words whose text is one call of a stream and a flush, with that stream failing at each of the two.
+fn fails_at_each<R: Abort + AllocGlobal>(
+    rt: &R,
+    words: &[&str],
+    input: &str,
+    text: &[u8],
+    to_errors: bool,
+) {
+    let half = &text[..text.len() / 2];
+    for (call, want) in (1u64..).zip([half, text]) {
+        let mut reader = MemorySource::new(input.as_bytes());
+        let mut failing = MemorySink::new(rt.alloc()).failing_at(call);
+        let mut other = MemorySink::new(rt.alloc());
+        let status = if to_errors {
+            run_words(rt.alloc(), words, &mut reader, &mut other, &mut failing)
+        } else {
+            run_words(rt.alloc(), words, &mut reader, &mut failing, &mut other)
+        };
+        assert_eq!(rt; status, 1, "at call {call} of {words:?}");
+        assert_eq!(rt; failing.bytes(), want, "at call {call} of {words:?}");
+        assert_eq!(rt; failing.failed_writes(), 1, "at call {call} of {words:?}");
+        assert!(rt; other.bytes().is_empty(), "at call {call} of {words:?}");
+    }
+}
+
+#[test]
+fn a_text_is_written_and_flushed(rt: HostRuntime) {
+    // A table and the answers of a world are several writes; the others are one line.
+    for (words, input, text, _) in &DONE[1..4] {
+        fails_at_each(&rt, words, input, text.as_bytes(), false);
+    }
+    for (words, input, text, _) in &DONE[5..] {
+        fails_at_each(&rt, words, input, text.as_bytes(), false);
+    }
+    for (words, text, mistake, status) in TOLD {
+        if status == 2 {
+            fails_at_each(&rt, words, ROOM, mistake.as_bytes(), true);
+        } else {
+            fails_at_each(&rt, words, ROOM, text.as_bytes(), false);
+        }
+    }
+}
+
+#[test]
+fn a_failed_read_writes_nothing(rt: HostRuntime) {
+    for words in [["clearmap", "dist"], ["clearmap", "steps"]] {
+        let mut reader = MemorySource::new(ROOM.as_bytes()).failing_at(4);
+        let mut writer = MemorySink::new(rt.alloc());
+        let mut errors = MemorySink::new(rt.alloc());
+        let status = run_words(rt.alloc(), &words, &mut reader, &mut writer, &mut errors);
+        assert_eq!(rt; status, 1, "at {words:?}");
+        assert_eq!(rt; reader.failed_reads(), 1, "at {words:?}");
+        assert!(rt;
+            writer.bytes().is_empty() && errors.bytes().is_empty(),
+            "at {words:?}"
+        );
+    }
+}
