@@ -5,12 +5,24 @@ use metric::{MemorySink, MemorySource, MemoryStream, Sink, Source};
 
 /// What comes in, what the server says, what is sent and printed, and the status.
 const RUNS: [(&[u8], &[u8], &[u8], &[u8], u8); 16] = [
-    (b"PIN\nQUIT\n", b"OK 0\nBYE\n", b"PIN\nQUIT\n", b"OK 0\nBYE\n", 0),
+    (
+        b"PIN\nQUIT\n",
+        b"OK 0\nBYE\n",
+        b"PIN\nQUIT\n",
+        b"OK 0\nBYE\n",
+        0,
+    ),
     (b"", b"", b"", b"", 0),
     (b"PIN", b"OK 0\n", b"", b"", 0),
     (b"PIN\nUNP", b"OK 0\nOK 0\n", b"PIN\n", b"OK 0\n", 0),
     (b"QUIT\nPIN\n", b"BYE\nOK 0\n", b"QUIT\n", b"BYE\n", 0),
-    (b"PIN\r\nQUIT\r\n", b"OK 0\nBYE\n", b"PIN\r\nQUIT\r\n", b"OK 0\nBYE\n", 0),
+    (
+        b"PIN\r\nQUIT\r\n",
+        b"OK 0\nBYE\n",
+        b"PIN\r\nQUIT\r\n",
+        b"OK 0\nBYE\n",
+        0,
+    ),
     (
         b"STAMP 2 1 11\nP1\n2 2\n1001PIN\n",
         b"OK 1 2\nOK 0\n",
@@ -40,10 +52,34 @@ const RUNS: [(&[u8], &[u8], &[u8], &[u8], u8); 16] = [
         b"OK 15\nP1\n3 2\n100\n000\nBYE\n",
         0,
     ),
-    (b"DUMP\nQUIT\n", b"ERR 6 NotPinned\nBYE\n", b"DUMP\nQUIT\n", b"ERR 6 NotPinned\nBYE\n", 0),
-    (b"DUMP\nQUIT\n", b"OK 15\nP1\n3 2\n10", b"DUMP\n", b"FAULT net\n", 1),
-    (b"PIN\nQUIT\n", b"OK 0\nBY", b"PIN\nQUIT\n", b"OK 0\nFAULT net\n", 1),
-    (b"PIN\nQUIT\n", b"OK 0\n", b"PIN\nQUIT\n", b"OK 0\nFAULT net\n", 1),
+    (
+        b"DUMP\nQUIT\n",
+        b"ERR 6 NotPinned\nBYE\n",
+        b"DUMP\nQUIT\n",
+        b"ERR 6 NotPinned\nBYE\n",
+        0,
+    ),
+    (
+        b"DUMP\nQUIT\n",
+        b"OK 15\nP1\n3 2\n10",
+        b"DUMP\n",
+        b"FAULT net\n",
+        1,
+    ),
+    (
+        b"PIN\nQUIT\n",
+        b"OK 0\nBY",
+        b"PIN\nQUIT\n",
+        b"OK 0\nFAULT net\n",
+        1,
+    ),
+    (
+        b"PIN\nQUIT\n",
+        b"OK 0\n",
+        b"PIN\nQUIT\n",
+        b"OK 0\nFAULT net\n",
+        1,
+    ),
     (b"PIN\n", b"", b"PIN\n", b"FAULT net\n", 1),
 ];
 
