@@ -4,8 +4,10 @@ pub mod Lines
 pub mod RefusalLines
 pub mod Tables
 pub mod Telling
+pub mod Gathering
 pub mod Hearing
 pub mod Keeping
 pub mod LineSplitting
 pub mod OpeningLemmas
+pub mod ServingLemmas
 pub mod StepAnswering

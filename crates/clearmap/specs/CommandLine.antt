@@ -10,9 +10,10 @@ use Rattle.metric.specs.Kind.{metric_named}
 use Rattle.metric.specs.declared.kind.MetricKind.TheVariants.{Euclid2}
 use Rattle.clearmap.specs.declared.arguments.DistOptions.{DistOptions}
 use Rattle.clearmap.specs.declared.arguments.Options.{Options}
-use Rattle.clearmap.specs.declared.arguments.Options.TheVariants.{Dist, Steps}
+use Rattle.clearmap.specs.declared.arguments.Options.TheVariants.{Ask, Dist, Serve, Steps}
 use Rattle.clearmap.specs.declared.arguments.Fault.{Fault}
 use Rattle.clearmap.specs.declared.arguments.Fault.TheVariants.{Memory}
+use Rattle.clearmap.specs.ServeLine.{AreAskOptions, AreServeOptions, ask_app, serve_app}
 
 -- the words as texts
 abbrev pub texts_of : List (Bor (List ℕ)) → List (List ℕ)
@@ -40,7 +41,8 @@ steps_app = new_app (codes "steps")
 
 -- the program: it has a version, and wants a subcommand
 abbrev pub program_app : App
-program_app = with_subcommand (with_subcommand (on_top (λ s. record s { has_version = true; subcommand_required = true }) (new_app (codes "clearmap"))) dist_app.top) steps_app.top
+program_app =
+    with_subcommand (with_subcommand (with_subcommand (with_subcommand (on_top (λ s. record s { has_version = true; subcommand_required = true }) (new_app (codes "clearmap"))) dist_app.top) steps_app.top) serve_app.top) ask_app.top
 
 -- the flags of `dist` as the words give them, each with its default where it isn't given
 pub record AreDistOptions (rows : List Row) (options : DistOptions) : Type 0 where
@@ -57,6 +59,8 @@ default_options = record { metric = Euclid2; nearest = false; query = None }
 abbrev pub AreOptions : List (List ℕ) → Options → Type 0
 AreOptions words (Dist options) = (rows : List Row) × (subcommand_of program_app words ≡ Some (codes "dist", rows)) × AreDistOptions rows options
 AreOptions words Steps = (rows : List Row) × (subcommand_of program_app words ≡ Some (codes "steps", rows))
+AreOptions words (Serve options) = (rows : List Row) × (subcommand_of program_app words ≡ Some (codes "serve", rows)) × AreServeOptions rows options
+AreOptions words (Ask options) = (rows : List Row) × (subcommand_of program_app words ≡ Some (codes "ask", rows)) × AreAskOptions rows options
 
 -- the words name `dist`, and a metric that there is
 pub record NameDist (words : List (List ℕ)) : Type 0 where

@@ -1,7 +1,11 @@
+pub mod Asking
 pub mod CommandLine
 pub mod Dist
+pub mod Passing
 pub mod Query
 pub mod Refusals
+pub mod ServeLine
+pub mod Serving
 pub mod Replied
 pub mod Runs
 pub mod Table

@@ -1,5 +1,5 @@
--- Refusals whose lines have no number: this project's own rule.
-use Rattle.std.specs.Prelude.{ℕ, List, [], ◌∷◌, Option, Some, None}
+-- Refusals whose lines have no number, and the network's fault: this project's own rule.
+use Rattle.std.specs.Prelude.{ℕ, List, [], ◌∷◌, ◌++◌, codes, Option, Some, None}
 use Rattle.std.specs.Borrow.{Bor}
 use Rattle.metric.specs.declared.refusal.Refusal.{Refusal}
 use Rattle.metric.specs.declared.refusal.Refusal.TheVariants as refusals
@@ -14,3 +14,7 @@ HasWordsAlone other = Unit {0}
 abbrev pub name_text : Option (Bor (List ℕ)) → List ℕ
 name_text None = []
 name_text (Some name) = 32 ∷ name.now
+
+-- the line of the network's fault
+abbrev pub net_text : List ℕ
+net_text = codes "FAULT net" ++ 10 ∷ []

@@ -13,15 +13,17 @@ use Rattle.clearmap.specs.CommandLine.{AreOptions, AreTaken}
 use Rattle.clearmap.specs.Dist.{Answers as AnswersDist, BeginsToAnswer as BeginsDist}
 use Rattle.clearmap.specs.Steps.{Answers as AnswersSteps, BeginsToAnswer as BeginsSteps}
 
--- an answer of the engine that the options name was written whole
+-- an answer of the engine that the options name was written whole; nothing is done here for one that needs the network
 abbrev pub AnswersAs : Options → Option (List ℕ) → Option (List ℕ) → Option (List ℕ) → ℕ → Type 0
 AnswersAs (Dist options) unread before after status = AnswersDist options unread before after status
 AnswersAs Steps unread before after status = AnswersSteps unread before after status
+AnswersAs other unread before after status = (after ≡ before) × (status ≡ 1)
 
 -- a beginning of an answer of the engine that the options name was written
 abbrev pub BeginsAs : Options → Option (List ℕ) → Option (List ℕ) → Option (List ℕ) → Type 0
 BeginsAs (Dist options) unread before after = BeginsDist options unread before after
 BeginsAs Steps unread before after = BeginsSteps unread before after
+BeginsAs other unread before after = ⊥
 
 -- the status of words that are refused: 0 where they ask for help or the version, 1 for want of memory, and otherwise 2
 abbrev pub IsStatusOf : Fault → ℕ → Type 0

@@ -14,6 +14,10 @@ pub enum Options<'a> {
     Dist(DistOptions<'a>),
     /// Do the events of a text.
     Steps,
+    /// Serve a map to connections.
+    Serve(ServeOptions),
+    /// Send lines to a server.
+    Ask(AskOptions),
 }
 
 /// How `dist` is to answer.
@@ -27,6 +31,30 @@ pub struct DistOptions<'a> {
     pub query: Option<&'a str>,
 }
 
+/// How `serve` is to run.
+#[derive(Clone, Copy, Debug, PartialEq, Eq)]
+pub struct ServeOptions {
+    /// How many connections are served before the run ends, 1 to 1,000,000.
+    pub connections: u32,
+    /// The port to listen on; at 0 the system picks one.
+    pub port: u16,
+    /// How many blocks the store has.
+    pub blocks: u32,
+    /// How many versions it keeps at most.
+    pub versions: u32,
+    /// How many entries its log has at most.
+    pub log: u32,
+    /// How many connections are served at once, 1 to 16.
+    pub workers: u32,
+}
+
+/// How `ask` is to run.
+#[derive(Clone, Copy, Debug, PartialEq, Eq)]
+pub struct AskOptions {
+    /// The port of the server, from 1.
+    pub port: u16,
+}
+
 /// Why the words aren't a command to run.
 #[derive(Debug, Drop, Error)]
 pub enum Fault {
@@ -36,6 +64,13 @@ pub enum Fault {
     /// `--metric` names no metric.
     #[error("--metric is one of euclid2, city and chess")]
     UnknownMetric,
+    /// The value of a flag isn't a number in its range.
+    #[error("--{name} is a number from {least} to {most}")]
+    BadNumber {
+        name: &'static str,
+        least: u32,
+        most: u32,
+    },
     /// No command was named.
     #[error("no command was named")]
     NoCommand,

@@ -5,6 +5,7 @@ ghost use Rattle.metric.specs.Stream.{CanFail};
 ghost use Rattle.clearmap.specs.CommandLine.{texts_of};
 ghost use Rattle.clearmap.specs.Runs.{AnswersAs, BeginsAs, IsRunOf};
 
+use crate::REFUSED;
 use crate::arguments::Options;
 use crate::dist::dist_run;
 use crate::refusing::tell;
@@ -15,7 +16,7 @@ use std::alloc::Global;
 
 /// Runs what the words name, of which the first is the program's name. Answers the status.
 ///
-/// Words that are refused are told on `errors`, with status 2. Help and the version go to the writer, with status 0, and so does want of memory, with status 1. Where a call of a stream fails, none is called again, and the status is 1.
+/// `serve` and `ask` need the network, and are left to the caller: nothing is written then, and the status is 1. Words that are refused are told on `errors`, with status 2. Help and the version go to the writer, with status 0, and so does want of memory, with status 1. Where a call of a stream fails, none is called again, and the status is 1.
 pub fn run_words<R: Source, W: Sink, E: Sink>(
     alloc: Global,
     words: &[&str],
@@ -62,5 +63,6 @@ fn run_engine<R: Source, W: Sink>(
     match options {
         Options::Dist(options) => dist_run(alloc, options, reader, writer),
         Options::Steps => steps_run(alloc, reader, writer),
+        Options::Serve(_) | Options::Ask(_) => REFUSED,
     }
 }

@@ -2,16 +2,22 @@
 #![tactic(auto)]
 
 mod arguments;
+mod ask;
 mod dist;
 mod engine;
 mod errors;
+mod gather;
 mod input;
 mod line;
+mod net;
 mod output;
 mod query;
 mod refusing;
 mod reply;
 mod run;
+mod serve;
+mod serve_words;
+mod socket;
 mod steps;
 mod table;
 #[cfg(test)]

@@ -3,7 +3,7 @@
 ghost use Rattle.std.specs.Prelude.{◌≡◌, ◌+◌, ◌*◌, ◌≤◌, ◌∷◌, ◌++◌, [], length, vec_capacity, IfOk, OnOk, OnErr};
 ghost use Rattle.metric.specs.Stream.{Appends, AppendsFront, Counts, CanFail};
 ghost use Rattle.metric.specs.Refusal.{refusal_text, refusal_title};
-ghost use Rattle.clearmap.specs.Refusals.{HasWordsAlone, name_text};
+ghost use Rattle.clearmap.specs.Refusals.{HasWordsAlone, name_text, net_text};
 ghost use Rattle.clearmap.specs.Table.{table_text};
 
 use crate::REFUSED;
@@ -59,6 +59,17 @@ pub fn write_refusal<W: Sink>(writer: &mut W, refusal: Refusal) -> Result<u8, Wr
     write_words(writer, refusal.title().as_bytes(), name_behind(refusal))?;
     writer.flush()?;
     Ok(REFUSED)
+}
+
+/// Writes the line of the network's fault, and answers the status of a refused run.
+pub fn write_net_fault<W: Sink>(writer: &mut W) -> Result<u8, WriteFault>
+    requires { CanFail (W.failed_writes writer.old) }
+    ensures status { IfOk result (λ status. status ≡ 1) }
+    ensures whole { OnOk result (Appends (W.held writer.old) net_text (W.held writer.new)) }
+    ensures front { OnErr result (AppendsFront (W.held writer.old) net_text (W.held writer.new)) }
+    ensures counts { Counts (W.failed_writes writer.old) result (W.failed_writes writer.new) }
+{
+    write_text(writer, b"FAULT net\n", REFUSED)
 }
 
 /// The name behind the title of a refusal that has no number, where there is one.

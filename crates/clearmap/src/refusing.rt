@@ -7,9 +7,9 @@ ghost use Rattle.metric.specs.declared.refusal.Refusal.{Refusal};
 ghost use Rattle.clearmap.specs.Runs.{IsStatusOf, IsTold};
 
 use crate::arguments::Fault;
-use crate::output::write_text;
+use crate::output::{write_refusal, write_text};
 use crate::{DONE, MISTAKEN, REFUSED};
-use metric::Sink;
+use metric::{Refusal, Sink};
 use std::alloc::{AllocError, Global};
 
 /// The status of a run whose words are refused.
@@ -19,7 +19,8 @@ fn status_of(fault: &Fault) -> u8
     match fault {
         Fault::Memory => REFUSED,
         Fault::Words(error) => { if error.use_stderr() { MISTAKEN } else { DONE } }
-        Fault::UnknownMetric | Fault::NoCommand | Fault::Unreadable(_) => MISTAKEN,
+        Fault::UnknownMetric | Fault::BadNumber { .. } | Fault::NoCommand | Fault::Unreadable(_) =>
+            MISTAKEN,
     }
 }
 
@@ -46,7 +47,7 @@ fn tell_memory<W: Sink>(writer: &mut W) -> u8
     ensures written { W.failed_writes writer.new ≡ W.failed_writes writer.old → Appends (W.held writer.old) (refusal_text Refusal.Memory ++ 10 ∷ []) (W.held writer.new) }
     ensures status { result ≡ 1 }
 {
-    write_or_fail(writer, b"ERR 5 Memory\n", REFUSED)
+    write_refusal(writer, Refusal::Memory).unwrap_or(REFUSED)
 }
 
 /// Tells why words are refused, on `errors`, or what they asked to be told, on the writer. Answers the status.

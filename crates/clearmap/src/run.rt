@@ -3,16 +3,32 @@
 ghost use Rattle.std.specs.Prelude.{◌≡◌};
 
 use crate::REFUSED;
-use crate::arguments::Fault;
+use crate::arguments::{Fault, Options};
 use crate::engine::run_words;
 use crate::errors::ErrorSink;
+use crate::net::{ask, serve};
 use crate::refusing::tell;
+use crate::words::options;
 use metric::{ReaderSource, Refusal, WriterSink};
+use std::net::{Net, TcpListener, TcpStream};
 use std::rt::Env;
+use std::sync::Wait;
+use std::thread::Threads;
 use std::{env, io};
 
 /// Runs what the process's words name, on the standard streams. Answers the exit status.
-pub fn run<R: Env + Input + Print + Eprint + AllocGlobal>(rt: &R) -> u8 {
+pub fn run<R>(rt: &R) -> u8
+where
+    R: Env
+        + Input
+        + Print
+        + Eprint
+        + AllocGlobal
+        + Net<Listener = TcpListener, Stream = TcpStream>
+        + Wait
+        + Threads
+        + Sync,
+{
     match words_of(rt) {
         Ok(words) => run_texts(rt, words.as_slice()),
         Err(fault) => tell_fault(rt, &fault),
@@ -25,7 +41,17 @@ fn words_of<R: Env + AllocGlobal>(rt: &R) -> Result<Vec<String>, Fault> {
 }
 
 /// Runs what these words name.
-fn run_texts<R: Input + Print + Eprint + AllocGlobal>(rt: &R, words: &[String]) -> u8 {
+fn run_texts<R>(rt: &R, words: &[String]) -> u8
+where
+    R: Input
+        + Print
+        + Eprint
+        + AllocGlobal
+        + Net<Listener = TcpListener, Stream = TcpStream>
+        + Wait
+        + Threads
+        + Sync,
+{
     let alloc = rt.alloc();
     let texts = words
         .iter()
@@ -38,14 +64,17 @@ fn run_texts<R: Input + Print + Eprint + AllocGlobal>(rt: &R, words: &[String]) 
     ) else {
         return refuse(rt);
     };
-    let mut errors = ErrorSink::new(rt);
-    run_words(
-        alloc,
-        texts.as_slice(),
-        &mut reader,
-        &mut writer,
-        &mut errors,
-    )
+    match options(alloc, texts.as_slice()) {
+        Ok(Options::Serve(options)) => serve(rt, alloc, &options, &mut reader, &mut writer),
+        Ok(Options::Ask(options)) => ask(rt, alloc, &options, &mut reader, &mut writer),
+        _ => run_words(
+            alloc,
+            texts.as_slice(),
+            &mut reader,
+            &mut writer,
+            &mut ErrorSink::new(rt),
+        ),
+    }
 }
 
 /// Tells why the process's words can't be had.

@@ -10,7 +10,7 @@ mod opening;
 mod run;
 #[cfg(test)]
 mod tests;
-mod text;
+pub mod text;
 
 use crate::REFUSED;
 use crate::input::{InputStop, read_to_end};

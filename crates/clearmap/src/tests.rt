@@ -1,9 +1,11 @@
 //! The worked rows through the engine, streams that fail, and the command line.
 
+mod asking;
 mod limits;
 mod runs;
+mod serving;
 
-use crate::arguments::{DistOptions, Fault, Options};
+use crate::arguments::{AskOptions, DistOptions, Fault, Options, ServeOptions};
 use crate::dist::dist_run;
 use crate::words::options;
 use metric::{MemorySink, MemorySource, MetricKind, Sink, Source};
@@ -235,6 +237,49 @@ const WORDS: [(&[&str], MetricKind, bool); 5] = [
         true,
     ),
 ];
+
+/// What `serve` does where only the connections are given.
+const SERVED: ServeOptions = ServeOptions {
+    connections: 1000000,
+    port: 0,
+    blocks: 16384,
+    versions: 8,
+    log: 100000,
+    workers: 4,
+};
+
+#[test]
+fn words_of_the_network_are_read(rt: HostRuntime) -> Result<(), Fail> {
+    let bare = ["clearmap", "serve", "--connections", "1000000"];
+    assert_eq!(rt; options(rt.alloc(), &bare)?, Options::Serve(SERVED));
+    let full = [
+        "clearmap",
+        "serve",
+        "--port=65535",
+        "--connections=1",
+        "--blocks=0",
+        "--versions=4294967295",
+        "--log",
+        "7",
+        "--workers",
+        "16",
+    ];
+    let want = ServeOptions {
+        connections: 1,
+        port: 65535,
+        blocks: 0,
+        versions: 4294967295,
+        log: 7,
+        workers: 16,
+    };
+    assert_eq!(rt; options(rt.alloc(), &full)?, Options::Serve(want));
+    let ask = ["clearmap", "ask", "--port", "7400"];
+    assert_eq!(rt;
+        options(rt.alloc(), &ask)?,
+        Options::Ask(AskOptions { port: 7400 })
+    );
+    Ok(())
+}
 
 #[test]
 fn words_are_read(rt: HostRuntime) -> Result<(), Fail> {

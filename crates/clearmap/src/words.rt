@@ -10,6 +10,7 @@ ghost use Rattle.clearmap.specs.declared.arguments.Options.TheVariants.{Dist, St
 ghost use Rattle.clearmap.specs.CommandLine.{AreDistOptions, AreOptions, AreTaken, default_options, dist_app, metric_rule, nearest_rule, program_app, query_rule, steps_app, texts_of};
 
 use crate::arguments::{DistOptions, Fault, Options};
+use crate::serve_words::{ask_command, serve_command, serve_or_ask};
 use clap::{Arg, ArgAction, ArgMatches, Command, Error};
 use metric::MetricKind;
 use std::alloc::Global;
@@ -32,7 +33,7 @@ pub fn options<'a>(alloc: Global, words: &'a [&'a str]) -> Result<Options<'a>, F
     if matches.subcommand_matches("steps").is_some() {
         return Ok(Options::Steps);
     }
-    Err(Fault::NoCommand)
+    serve_or_ask(&matches)
 }
 
 /// The flags of `dist`.
@@ -78,11 +79,13 @@ fn program<'a>(alloc: Global) -> Result<Command<'a>, Error>
             .version("0.1.0")
             .about("Exact distances to the nearest obstacle of an occupancy grid")
             .after_help(
-                "Examples:\n  clearmap dist < map.pbm\n  clearmap dist --metric city --nearest < map.pbm\n  clearmap steps < events.txt",
+                "Answers and refusals go to standard output. The exit status is 0 where all was done, 1 where the\ninput or the network was refused or a standard stream failed, and 2 where the command line was.\n\nExamples:\n  clearmap dist < map.pbm\n  clearmap serve --connections 2 < map.pbm",
             )
             .subcommand_required(true)
             .subcommand(dist_command(alloc)?)?
-            .subcommand(steps_command(alloc))?,
+            .subcommand(steps_command(alloc))?
+            .subcommand(serve_command(alloc)?)?
+            .subcommand(ask_command(alloc)?)?,
     )
 }
 

@@ -30,6 +30,7 @@ pub use answer::Answer;
 pub use answering::answer_query;
 pub use laws::{line_of_words, words_of_line};
 pub use line::{Line, parse_line};
+pub use number::read_number;
 pub use numbers::{next_number, number_pair, number_triple, only_number};
 pub use query::Query;
 pub use reply::{put_answer, reply_text};

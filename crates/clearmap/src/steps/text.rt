@@ -23,7 +23,7 @@ fn first_end(text: &[u8]) -> Option<usize>
 }
 
 /// A line without the CR at its end, if it has one.
-fn without_cr(line: &[u8]) -> &[u8]
+pub fn without_cr(line: &[u8]) -> &[u8]
     ensures { result.now ≡ strip_carriage_return line.now }
 {
     if !line.is_empty() && line[line.len() - 1] == b'\r' {

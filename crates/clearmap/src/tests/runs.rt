@@ -6,14 +6,44 @@ use std::process::Abort;
 
 /// The text of help.
 const HELP: &str =
-    "Exact distances to the nearest obstacle of an occupancy grid\n\nUsage: clearmap <COMMAND>\n\nCommands:\n  dist   Print each cell's distance to the nearest obstacle of the image on standard input\n  steps  Do the events on standard input in a map with numbered versions, one word at a time\n  help   Print this message or the help of the given subcommand(s)\n\nOptions:\n  -h, --help     Print help\n  -V, --version  Print version\n\nExamples:\n  clearmap dist < map.pbm\n  clearmap dist --metric city --nearest < map.pbm\n  clearmap steps < events.txt\n";
+    "Exact distances to the nearest obstacle of an occupancy grid\n\nUsage: clearmap <COMMAND>\n\nCommands:\n  dist   Print each cell's distance to the nearest obstacle of the image on standard input\n  steps  Do the events on standard input in a map with numbered versions, one word at a time\n  serve  Serve the map on standard input to connections on 127.0.0.1, line by line\n  ask    Send the lines on standard input to a server, and print each reply\n  help   Print this message or the help of the given subcommand(s)\n\nOptions:\n  -h, --help     Print help\n  -V, --version  Print version\n\nAnswers and refusals go to standard output. The exit status is 0 where all was done, 1 where the\ninput or the network was refused or a standard stream failed, and 2 where the command line was.\n\nExamples:\n  clearmap dist < map.pbm\n  clearmap serve --connections 2 < map.pbm\n";
 
 /// The text of help for `dist`.
 const DIST_HELP: &str =
     "Print each cell's distance to the nearest obstacle of the image on standard input\n\nUsage: clearmap dist [OPTIONS]\n\nOptions:\n      --metric <METRIC>  The distance, in cells: euclid2 (straight, squared), city or chess [default: euclid2]\n      --nearest          Print each entry as distance/x/y, with its nearest obstacle\n      --query <LINE>     Print only the answer to LINE, as 'AT city 3 4'; there are AT, RECT, PATH and CLEAROF\n  -h, --help             Print help\n\nExamples:\n  clearmap dist --metric chess < map.pbm\n  clearmap dist --query 'AT euclid2 3 4' < map.pbm\n";
 
 /// What words that are no run write to the standard output, to the standard error, and their status.
-const TOLD: [(&[&str], &str, &str, u8); 12] = [
+const TOLD: [(&[&str], &str, &str, u8); 17] = [
+    (
+        &["clearmap", "serve"],
+        "",
+        "error: the following required arguments were not provided:\n  --connections <NUMBER>\n\nUsage: clearmap serve --connections <NUMBER>\n\nFor more information, try '--help'.\n",
+        2,
+    ),
+    (
+        &["clearmap", "serve", "--connections", "1000001"],
+        "",
+        "clearmap: --connections is a number from 1 to 1000000\n",
+        2,
+    ),
+    (
+        &["clearmap", "serve", "--connections", "1", "--workers=0"],
+        "",
+        "clearmap: --workers is a number from 1 to 16\n",
+        2,
+    ),
+    (
+        &["clearmap", "serve", "--connections", "1", "--port", "65536"],
+        "",
+        "clearmap: --port is a number from 0 to 65535\n",
+        2,
+    ),
+    (
+        &["clearmap", "ask", "--port", "0"],
+        "",
+        "clearmap: --port is a number from 1 to 65535\n",
+        2,
+    ),
     (&["clearmap", "--help"], HELP, "", 0),
     (&["clearmap", "help"], HELP, "", 0),
     (&["clearmap", "dist", "--help"], DIST_HELP, "", 0),
@@ -22,7 +52,7 @@ const TOLD: [(&[&str], &str, &str, u8); 12] = [
     (
         &["clearmap"],
         "",
-        "error: 'clearmap' requires a subcommand but one was not provided\n  [subcommands: dist, steps, help]\n\nUsage: clearmap <COMMAND>\n\nFor more information, try '--help'.\n",
+        "error: 'clearmap' requires a subcommand but one was not provided\n  [subcommands: dist, steps, serve, ask, help]\n\nUsage: clearmap <COMMAND>\n\nFor more information, try '--help'.\n",
         2,
     ),
     (
@@ -154,14 +184,32 @@ fn fails_at_each<R: Abort + AllocGlobal>(
     }
 }
 
+/// Runs words whose text is the line of a refusal, which is a few calls of the writer, with each of the first two failing.
+fn begins_at_each<R: Abort + AllocGlobal>(rt: &R, run: &(&[&str], &str, &str, u8)) {
+    let (words, input, text, _) = *run;
+    for call in 1..3u64 {
+        let mut reader = MemorySource::new(input.as_bytes());
+        let mut failing = MemorySink::new(rt.alloc()).failing_at(call);
+        let mut errors = MemorySink::new(rt.alloc());
+        let status = run_words(rt.alloc(), words, &mut reader, &mut failing, &mut errors);
+        assert_eq!(rt; status, 1, "at call {call} of {words:?}");
+        assert!(rt;
+            text.as_bytes().starts_with(failing.bytes()),
+            "at call {call} of {words:?}"
+        );
+        assert_eq!(rt; failing.failed_writes(), 1, "at call {call} of {words:?}");
+    }
+}
+
 #[test]
 fn a_text_is_written_and_flushed(rt: HostRuntime) {
-    // A table and the answers of a world are several writes; the others are one line.
-    for (words, input, text, _) in &DONE[1..4] {
+    // A table and the answers of a world are several writes, and so is the line of a refusal; the others are one.
+    for (words, input, text, _) in &DONE[1..3] {
         fails_at_each(&rt, words, input, text.as_bytes(), false);
     }
-    for (words, input, text, _) in &DONE[5..] {
-        fails_at_each(&rt, words, input, text.as_bytes(), false);
+    begins_at_each(&rt, &DONE[3]);
+    for run in &DONE[5..] {
+        begins_at_each(&rt, run);
     }
     for (words, text, mistake, status) in TOLD {
         if status == 2 {
