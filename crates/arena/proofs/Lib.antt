@@ -1,0 +1,6 @@
+pub mod Chains
+mod Lent
+mod Parts
+mod Sends
+mod Values
+mod Walks

@@ -1,0 +1,31 @@
+-- Where an arena's blocks lie, and which of them are in it.
+use Rattle.std.specs.Prelude.{◌≡◌, ℕ, ◌+◌, ◌*◌, ◌<◌, ◌≤◌, List}
+use denote.RawPtr.{Ptr, block_ptr}
+
+-- the region of an arena: its memory object, where it begins, and how many blocks it has
+pub record Home : Type 0 where
+  pub block : ℕ
+  pub start : ℕ
+  pub count : ℕ
+
+-- a block of a region: lent out, room that holds nothing yet, or in with these words
+pub data Content : Type 0 where
+  out : Content
+  bare : Content
+  held : List ℕ → Content
+
+abbrev pub IsHeld : Content → Type 0
+IsHeld out = ⊥
+IsHeld bare = Unit {0}
+IsHeld (held ws) = Unit {0}
+
+-- where block k begins
+abbrev pub place : Home → ℕ → ℕ
+place h k = k * 512 + h.start
+
+abbrev pub IsHome : Home → Type 0
+IsHome h = h.count ≤ 16384
+
+-- p is the address of block k
+abbrev pub IsBlock : Home → Ptr → ℕ → Type 0
+IsBlock h p k = (p ≡ block_ptr h.block (place h k)) × (k < h.count)

@@ -1,0 +1,13 @@
+use Rattle.std.specs.Prelude.{ℕ, List}
+use Rattle.std.specs.Borrow.{Lends, MutBor, Fml}
+use Rattle.arena.specs.Ownership.{block_row}
+use Rattle.arena.specs.declared.region.Tile.{Tile}
+use Rattle.arena.specs.contracts.region.Tile.{the_row}
+
+-- t with the words ws
+abbrev pub with_words : Tile → List ℕ → Tile
+with_words t ws = record t { words = ws }
+
+-- once the borrow r ends, the tile behind t has the last words behind r
+abbrev pub LendsWords : MutBor Tile → MutBor (List ℕ) → Fml
+LendsWords t r = Lends the_row block_row t r (with_words t.now)

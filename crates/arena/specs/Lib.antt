@@ -1,0 +1,4 @@
+pub mod Blocks
+pub mod Ownership
+pub mod Lending
+pub mod Chain

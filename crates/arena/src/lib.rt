@@ -1,0 +1,10 @@
+//! An arena of equal blocks in raw memory, whose free list lies in the free blocks.
+#![tactic(auto)]
+
+mod arena;
+mod region;
+#[cfg(test)]
+mod tests;
+
+pub use arena::Arena;
+pub use region::Tile;
