@@ -3,7 +3,7 @@ use Rattle.std.proofs.Common.{◌≡◌, ◌≢◌, ℕ, ◌+◌, ◌^◌, ◌<�
 use Rattle.std.proofs.lemmas.Bool.Decides.{nat_tests}
 use mathlib.Core.Bool.{beq}
 use Rattle.std.proofs.lemmas.Nat.{mul-le}
-use Rattle.bits.specs.Cells.{Cells, has, cells_where, with_cell, with_rect, is_within, IsBitmap}
+use Rattle.bits.specs.Cells.{Cells, has, cells_where, with_cell, is_within, IsBitmap}
 use Rattle.bits.specs.Changes.{changes}
 use Rattle.bits.proofs.CellsLemmas.{has-cells_where, cells_where-same, cells_where-has, with_cell-same, IsBitmap-cells_where}
 use Rattle.bits.proofs.ChangesLemmas.{changes-self, changes-le, changes-with_cell_more}

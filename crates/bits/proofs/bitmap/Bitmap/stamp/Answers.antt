@@ -1,6 +1,6 @@
 -- Each step of the stamping, by the lemma of that step.
 use Rattle.std.proofs.Common.{◌∙◌, sym, arith}
-use Rattle.bits.proofs.FillLemmas.{filling_none, filling_kept, filling_set_read, filling_row, filling_all, filling_bitmap, filling_fits, other_value, same_value}
+use Rattle.bits.proofs.FillLemmas.{filling_none, filling_kept, filling_set_read, filling_bitmap, filling_fits, other_value, same_value}
 use Rattle.bits.proofs.bitmap.Bitmap.stamp.Goals as goal
 use Rattle.bits.proofs.bitmap.Bitmap.stamp.Goals.{then-get-black, else-get-black}
 
