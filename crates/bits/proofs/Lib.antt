@@ -3,3 +3,4 @@ pub mod ChangesLemmas
 pub mod FillLemmas
 pub mod StoredLemmas
 pub mod TileLemmas
+pub mod WriteLemmas

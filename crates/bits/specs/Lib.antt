@@ -3,3 +3,4 @@ pub mod Changes
 pub mod Stored
 pub mod Tiles
 pub mod Words
+pub mod Writes

@@ -3,9 +3,10 @@
 ghost use Rattle.std.specs.Prelude.{◌≡◌, ℕ, ◌+◌, ◌*◌, ◌/◌, ◌%◌, ◌<◌, ◌≤◌, ◌↔◌, IsTrue, IfOk, IfErr, false};
 ghost use Rattle.bits.specs.Cells.{has, cells_where, with_cell, IsSide, IsBitmap, IsInside};
 ghost use Rattle.bits.specs.Words.{words_across, IsRowOf};
+ghost use Rattle.bits.specs.Writes.{with_word};
 ghost use Rattle.metric.specs.declared.refusal.Refusal.TheVariants.{Memory};
 
-use crate::word::{WORD_BITS, has_bit, with_bit};
+use crate::word::{WORD_BITS, has_bit, low_bits, with_bit};
 use metric::{Cell, Rect, Refusal};
 use std::alloc::Global;
 use std::marker::Model;
@@ -118,6 +119,17 @@ impl Bitmap {
     {
         let (index, place) = self.place_of(cell);
         self.words[index] = with_bit(self.words[index], place, black);
+    }
+
+    /// Writes the cells of row `y` that word `index` of it holds: bit i is the cell of column 64 `index` + i. Bits past the edge are left out.
+    pub fn set_word(&mut self, y: u16, index: u16, word: u64)
+        requires row { y < self.old.height }
+        requires index { index < words_across self.old.width }
+        ensures written { self.new ≡ with_word self.old y index word }
+        ensures bitmap { IsBitmap self.new }
+    {
+        let place = usize::from(y) * self.words_across() + usize::from(index);
+        self.words[place] = low_bits(word, self.width - 64 * index);
     }
 
     /// The words of row `y`, as many as it needs. Bits past the edge are 0.

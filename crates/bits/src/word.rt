@@ -1,6 +1,6 @@
 //! Single bits of a word.
 
-ghost use Rattle.std.specs.Prelude.{◌≡◌, ◌≢◌, ℕ, ◌<◌, Bool, IsTrue, ◌↔◌, cond};
+ghost use Rattle.std.specs.Prelude.{◌≡◌, ◌≢◌, ℕ, ◌<◌, ◌≤◌, Bool, IsTrue, ◌↔◌, cond};
 ghost use Rattle.std.specs.Int.{bit_at};
 
 /// How many cells a word holds.
@@ -24,5 +24,17 @@ pub fn with_bit(word: u64, place: u32, bit: bool) -> u64
         word | (1 << place)
     } else {
         word & !(1 << place)
+    }
+}
+
+/// The word with its bits from the place `count` on made 0.
+pub fn low_bits(word: u64, count: u16) -> u64
+    ensures kept { (i : ℕ) → i < count → i < 64 → bit_at result i ≡ bit_at word i }
+    ensures cleared { (i : ℕ) → count ≤ i → i < 64 → bit_at result i ≡ 0 }
+{
+    if count < 64 {
+        word & ((1 << count) - 1)
+    } else {
+        word
     }
 }

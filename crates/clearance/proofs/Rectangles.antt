@@ -49,12 +49,3 @@ get_or-cells_of_rect x0 y0 x1 y1 i j row column =
 -- a place of a rectangle's row comes before its last
 pub place_within : (rows width i j : ℕ) → i < rows → j < width → i * width + j < rows * width
 place_within rows width i j row column = let whole : width * (i + 1) ≤ width * rows = mul-le-mul_left width (omega arith) in omega (arith, whole)
-
--- a rectangle has a cell
-pub some_cells : (x0 y0 x1 y1 : ℕ) → x0 < x1 → y0 < y1 → 0 < length (cells_of_rect x0 y0 x1 y1)
-some_cells x0 y0 x1 y1 columns rows =
-    let size = length-cells_of_rect x0 y0 x1 y1 in
-    let width : 1 ≤ x1 - x0 = omega arith in
-    let height : 1 ≤ y1 - y0 = omega arith in
-    let product : 1 * 1 ≤ (y1 - y0) * (x1 - x0) = mul-le-mul height width in
-    omega arith

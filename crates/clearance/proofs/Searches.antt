@@ -41,15 +41,6 @@ IsLoweredRight-some distance stays words rect gap before column least few row ma
       reached = λ less. (column, mark.marked, rw across (sym is));
     }
 
--- where no such mark is near, the least stays
-pub IsLoweredRight-none : (distance : ℕ → ℕ → ℕ) (words : List ℕ) (rect : Rect) (gap before : ℕ)
-    → IsNextNearer distance words rect.x0 (rect.x1 - 1) gap before None → IsLoweredRight distance words rect gap before before
-IsLoweredRight-none distance words rect gap before far = record {
-  within = omega arith;
-  far = λ a from marked. let across : a - (rect.x1 - 1) ≡ column_gap rect a = omega arith in rw across at (far a from marked);
-  reached = λ less. absurd (omega arith);
-}
-
 -- the last mark before the rectangle's first column lowers the least
 pub IsLoweredLeft-some : (distance : ℕ → ℕ → ℕ) → StaysNearer distance → (words : List ℕ) (rect : Rect) (gap before column least : ℕ)
     → gap ≤ 4095 → IsLastMark distance words rect.x0 rect.x0 gap before column → least ≡ distance (rect.x0 - column) gap → least < 2 ^ 32
@@ -67,15 +58,6 @@ IsLoweredLeft-some distance stays words rect gap before column least row mark is
       ];
       reached = λ less. (column, mark.marked, rw across (sym is));
     }
-
--- where no such mark is near, the least stays
-pub IsLoweredLeft-none : (distance : ℕ → ℕ → ℕ) (words : List ℕ) (rect : Rect) (gap before : ℕ)
-    → IsLastNearer distance words rect.x0 rect.x0 gap before None → IsLoweredLeft distance words rect gap before before
-IsLoweredLeft-none distance words rect gap before far = record {
-  within = omega arith;
-  far = λ a left marked. let across : rect.x0 - a ≡ column_gap rect a = omega arith in rw across at (far a left marked);
-  reached = λ less. absurd (omega arith);
-}
 
 -- an answer whose number is 1
 answer_of_bit : (answer : Bool) → ◌≡◌ {A = ℕ} (cond answer 1 0) 1 → answer ≡ true

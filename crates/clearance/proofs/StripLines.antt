@@ -19,10 +19,6 @@ pub towards-reaches : (from to low high n : ℕ) → low ≤ high → min (towar
     → (low + abs_diff (towards from to low) n ≤ high) × (towards from to (low + abs_diff (towards from to low) n) ≡ n)
 towards-reaches from to low high n order first last = (grind (arith, nat_tests), grind (arith, nat_tests))
 
--- no step passes either end
-pub towards-most : (from to k : ℕ) → towards from to k ≤ max from to
-towards-most from to k = grind (arith, nat_tests)
-
 -- a coordinate that stays
 pub towards-stays : (from to k : ℕ) → to ≡ from → towards from to k ≡ from
 towards-stays from to k same = grind (arith, nat_tests)

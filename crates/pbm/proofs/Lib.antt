@@ -1,7 +1,9 @@
 pub mod Steps
+pub mod Words
 pub mod Numbers
 pub mod Gaps
 pub mod Rasters
+pub mod PartReads
 pub mod Pixels
 pub mod RawRasters
 pub mod Headers
@@ -11,3 +13,4 @@ pub mod Decimals
 pub mod Ranges
 pub mod RawTexts
 pub mod PlainTexts
+pub mod PlainWords

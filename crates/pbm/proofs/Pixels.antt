@@ -1,11 +1,9 @@
 -- A bitmap and its pixels, row by row.
-use Rattle.std.proofs.Common.{◌≡◌, ℕ, ◌+◌, ◌*◌, ◌/◌, ◌%◌, ◌<◌, ◌≤◌, Bool, true, false, cond, eqb, ◌&&◌, List, [], ◌∷◌, ◌++◌, length, get_or, sym, ap, ◌∙◌, inl, inr, arith}
+use Rattle.std.proofs.Common.{◌≡◌, ℕ, ◌+◌, ◌*◌, ◌/◌, ◌%◌, ◌<◌, ◌≤◌, Bool, false, List, length, get_or, sym, ap, ◌∙◌, arith}
 use Rattle.std.proofs.Math.Nat.{mul-le-mul_left, div-lt_iff_lt-mul}
-use Rattle.std.proofs.lemmas.Bool.{cases_order, and_parts, eq-eqb, eqb-true, false_from_ne_true}
 use Rattle.std.proofs.lemmas.Nat.{div-mul-add, mod-mul-add, div-add-mod'}
-use Rattle.std.proofs.lemmas.List.{get_or_push, get_or_append_left, get_or_past, length_push}
 use Rattle.std.proofs.lemmas.List.FromFn.{get_or-map-range_with_len, length-map-range_with_len, fill_by_all}
-use Rattle.bits.specs.Cells.{Cells, has, with_cell, IsSide, IsBitmap}
+use Rattle.bits.specs.Cells.{Cells, has, IsSide, IsBitmap}
 use Rattle.bits.proofs.CellsLemmas.{has-cells_where, cells_where-same, cells_where-has}
 use Rattle.pbm.specs.Faults.{cells_of}
 use Rattle.pbm.specs.Image.{pixels_of}
@@ -42,29 +40,3 @@ pixels_of-cells_of width height all side count =
     let row : k / width < height = (div-lt_iff_lt-mul some).1 (omega arith) in
     sym (has-cells_where width height (λ x y. get_or all (y * width + x) false) (k % width) (k / width) column row
     ∙ ap (λ (i : ℕ). get_or all i false) (div-add-mod' k width))))
-
--- one more pixel is one more cell
-pub cells_of-push : (width height x y : ℕ) (front : List Bool) (value : Bool) → length front ≡ y * width + x → x < width → y < height
-    → with_cell (cells_of width height front) x y value ≡ cells_of width height (front ++ value ∷ [])
-cells_of-push width height x y front value count hx hy =
-    cells_where-same width height (λ a b. cond (eqb a x && eqb b y) value (has (cells_of width height front) a b)) (λ a b. get_or (front ++ value ∷ []) (b * width + a) false) (λ a b ha hb.
-    let before : has (cells_of width height front) a b ≡ get_or front (b * width + a) false = has-cells_where width height (λ x y. get_or front (y * width + x) false) a b ha hb in
-    elim (cases_order (b * width + a) (y * width + x)) [
-      | inl here ↦
-          let column : a ≡ x = sym (mod-mul-add b width a ha) ∙ ap (λ (k : ℕ). k % width) here ∙ mod-mul-add y width x hx in
-          let row : b ≡ y = sym (div-mul-add b width a ha) ∙ ap (λ (k : ℕ). k / width) here ∙ div-mul-add y width x hx in
-          let yes_column : eqb a x ≡ true = eq-eqb a x column in
-          let yes_row : eqb b y ≡ true = eq-eqb b y row in
-          rw (yes_column, yes_row) (sym (get_or_push front value false (b * width + a) (count ∙ sym here)))
-      | inr there ↦
-          let no : (eqb a x && eqb b y) ≡ false = false_from_ne_true (eqb a x && eqb b y) (λ both.
-          let parts = and_parts (eqb a x) (eqb b y) both in
-          let column : a ≡ x = eqb-true a x parts.0 in
-          let row : b ≡ y = eqb-true b y parts.1 in
-          let same : b * width + a ≡ y * width + x = ap (λ (k : ℕ). k * width + a) row ∙ ap (λ (k : ℕ). y * width + k) column in
-          elim there [ inl less ↦ omega (arith, less, same) | inr more ↦ omega (arith, more, same) ]) in
-          rw no (before ∙ elim there [
-            | inl less ↦ sym (get_or_append_left front (value ∷ []) false (b * width + a) (omega (arith, less, count)))
-            | inr more ↦ get_or_past front (b * width + a) false (omega (arith, more, count)) ∙ sym (get_or_past (front ++ value ∷ []) (b * width + a) false (omega (arith, more, count, length_push front value)))
-          ])
-    ])

@@ -9,6 +9,7 @@ mod header;
 mod image;
 mod laws;
 mod number;
+mod plain_word;
 mod plain_writer;
 mod raster;
 mod raw_raster;

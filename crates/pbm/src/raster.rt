@@ -2,37 +2,15 @@
 
 ghost use Rattle.std.specs.Prelude.{◌≡◌, ◌*◌, List, Bool, false, Ok, Err, IfOk, IfErr, MatchResult};
 ghost use Rattle.bits.specs.Cells.{cells_where};
-ghost use Rattle.pbm.specs.Faults.{cells_of, ended, next_pixel, pixel_at, pixels, plain_raster};
+ghost use Rattle.pbm.specs.Faults.{cells_of, ended, pixels, plain_raster};
 
-use crate::gap::{after_filling, is_whitespace};
+use crate::gap::is_whitespace;
+use crate::plain_word::read_word;
+use crate::raw_raster::WORD_PIXELS;
 use bits::Bitmap;
-use metric::{Cell, PbmFault};
+use metric::PbmFault;
 
-/// Whether the pixel at the front is black, and what stands behind it.
-fn read_pixel(bytes: &[u8]) -> Result<(bool, &[u8]), PbmFault>
-    ensures { MatchResult result (λ found. pixel_at bytes.now ≡ Ok (found.0, found.1.now)) (λ fault. pixel_at bytes.now ≡ Err fault) }
-{
-    match bytes {
-        [] => Err(PbmFault::Truncated),
-        [b'0', rest @ ..] => Ok((false, rest)),
-        [b'1', rest @ ..] => Ok((true, rest)),
-        _ => Err(PbmFault::BadPixel),
-    }
-}
-
-/// The same of the next pixel, behind nothing or a gap.
-#[tactic(auto, unfolding(crate::specs::Faults::next_pixel))]
-fn read_next(bytes: &[u8]) -> Result<(bool, &[u8]), PbmFault>
-    ensures { MatchResult result (λ found. next_pixel bytes.now ≡ Ok (found.0, found.1.now)) (λ fault. next_pixel bytes.now ≡ Err fault) }
-{
-    match bytes.split_first() {
-        Some((byte, rest)) if is_whitespace(*byte) => read_pixel(after_filling(rest)?),
-        Some((b'#', _)) => Err(PbmFault::BadComment),
-        _ => read_pixel(bytes),
-    }
-}
-
-/// Reads the pixels of a blank bitmap into it, and gives what stands behind the last of them. On a fault those before it were read.
+/// Reads the pixels of a blank bitmap into it, a word at a time, and gives what stands behind the last of them. On a fault those of the words before it were read.
 fn read_pixels<'a>(bitmap: &mut Bitmap, bytes: &'a [u8]) -> Result<&'a [u8], PbmFault>
     requires { bitmap.old ≡ cells_where bitmap.old.width bitmap.old.height (λ x y. false) }
     ensures raster { IfOk result (λ rest. (all : List Bool) × (pixels (bitmap.old.width * bitmap.old.height) bytes.now ≡ Ok (all, rest.now)) × (bitmap.new ≡ cells_of bitmap.old.width bitmap.old.height all)) }
@@ -42,9 +20,10 @@ fn read_pixels<'a>(bitmap: &mut Bitmap, bytes: &'a [u8]) -> Result<&'a [u8], Pbm
     let height = bitmap.height();
     let mut rest = bytes;
     'rows: for y in 0..height {
-        'columns: for x in 0..width {
-            let (black, others) = read_next(rest)?;
-            bitmap.set(Cell { x, y }, black);
+        'words: for index in 0..width.div_ceil(WORD_PIXELS) {
+            let count = (width - WORD_PIXELS * index).min(WORD_PIXELS);
+            let (word, others) = read_word(rest, count)?;
+            bitmap.set_word(y, index, word);
             rest = others;
         }
     }

@@ -1,16 +1,19 @@
 //! The raster of a raw image: a bit a pixel, the rows from the top, each in whole bytes.
 
-ghost use Rattle.std.specs.Prelude.{◌≡◌, ◌*◌, ◌-◌, ◌%◌, ◌<◌, ◌==◌, false, length, Ok, Err, IfOk, IfErr};
+ghost use Rattle.std.specs.Prelude.{◌≡◌, ℕ, ◌+◌, ◌*◌, ◌-◌, ◌/◌, ◌%◌, ◌<◌, ◌≤◌, false, length, slice_index, Ok, Err, IfOk, IfErr};
 ghost use Rattle.std.specs.Int.{bit_at};
 ghost use Rattle.bits.specs.Cells.{cells_where};
 ghost use Rattle.pbm.specs.Faults.{raw_cells, raw_raster};
 ghost use Rattle.pbm.specs.Image.{bytes_across};
 
 use bits::Bitmap;
-use metric::{Cell, PbmFault};
+use metric::PbmFault;
 
 /// How many pixels a byte holds.
 pub const BYTE_PIXELS: u16 = 8;
+
+/// How many pixels a word holds.
+pub const WORD_PIXELS: u16 = 64;
 
 /// How many bytes a row of this many pixels takes.
 pub fn bytes_across(width: u16) -> u16
@@ -20,15 +23,71 @@ pub fn bytes_across(width: u16) -> u16
     width.div_ceil(BYTE_PIXELS)
 }
 
-/// Whether the pixel of column x is black, by the byte that holds it.
-fn is_black(byte: u8, x: u16) -> bool
-    ensures { result ≡ (bit_at byte (7 - x % 8) == 1) }
+/// The eight bytes as a word: the leftmost pixel of the first byte is the lowest bit.
+#[inline(always)]
+fn word_of(bytes: [u8; 8]) -> u64
+    ensures { (i : ℕ) → i < 64 → bit_at result i ≡ bit_at (slice_index bytes (i / 8)) (7 - i % 8) }
 {
-    (byte >> (7 - x % BYTE_PIXELS)) & 1 == 1
+    u64::from_le_bytes([
+        bytes[0].reverse_bits(),
+        bytes[1].reverse_bits(),
+        bytes[2].reverse_bits(),
+        bytes[3].reverse_bits(),
+        bytes[4].reverse_bits(),
+        bytes[5].reverse_bits(),
+        bytes[6].reverse_bits(),
+        bytes[7].reverse_bits(),
+    ])
 }
 
-/// Reads the bytes of a raster into a blank bitmap.
-fn read_bits(bitmap: &mut Bitmap, raster: &[u8])
+/// The word of eight bytes from `start` on.
+#[inline(always)]
+fn whole_word(raster: &[u8], start: usize) -> u64
+    requires { start + 8 ≤ length raster.now }
+    ensures { (i : ℕ) → i < 64 → bit_at result i ≡ bit_at (slice_index raster.now (start + i / 8)) (7 - i % 8) }
+{
+    word_of([
+        raster[start],
+        raster[start + 1],
+        raster[start + 2],
+        raster[start + 3],
+        raster[start + 4],
+        raster[start + 5],
+        raster[start + 6],
+        raster[start + 7],
+    ])
+}
+
+/// The word of the bytes from `start` to before `end`, fewer than eight.
+fn last_word(raster: &[u8], start: usize, end: usize) -> u64
+    requires order { start ≤ end }
+    requires few { end < start + 8 }
+    requires within { end ≤ length raster.now }
+    ensures { (i : ℕ) → i < 64 → start + i / 8 < end → bit_at result i ≡ bit_at (slice_index raster.now (start + i / 8)) (7 - i % 8) }
+{
+    let mut bytes = [0u8; 8];
+    'bytes: for place in 0..end - start {
+        bytes[place] = raster[start + place];
+    }
+    word_of(bytes)
+}
+
+/// The word of the bytes from `start` on, up to eight, of a row that ends before `end`.
+#[inline(always)]
+fn word_at(raster: &[u8], start: usize, end: usize) -> u64
+    requires order { start ≤ end }
+    requires within { end ≤ length raster.now }
+    ensures { (i : ℕ) → i < 64 → start + i / 8 < end → bit_at result i ≡ bit_at (slice_index raster.now (start + i / 8)) (7 - i % 8) }
+{
+    if end - start >= 8 {
+        whole_word(raster, start)
+    } else {
+        last_word(raster, start, end)
+    }
+}
+
+/// Reads the bytes of a raster into a blank bitmap, a word at a time.
+fn read_words(bitmap: &mut Bitmap, raster: &[u8])
     requires blank { bitmap.old ≡ cells_where bitmap.old.width bitmap.old.height (λ x y. false) }
     requires all { length raster.now ≡ bitmap.old.height * bytes_across bitmap.old.width }
     ensures { bitmap.new ≡ raw_cells bitmap.old.width bitmap.old.height raster.now }
@@ -37,9 +96,10 @@ fn read_bits(bitmap: &mut Bitmap, raster: &[u8])
     let height = bitmap.height();
     let across = usize::from(bytes_across(width));
     'rows: for y in 0..height {
-        'columns: for x in 0..width {
-            let byte = raster[usize::from(y) * across + usize::from(x / BYTE_PIXELS)];
-            bitmap.set(Cell { x, y }, is_black(byte, x));
+        let start = usize::from(y) * across;
+        'words: for index in 0..width.div_ceil(WORD_PIXELS) {
+            let word = word_at(raster, start + 8 * usize::from(index), start + across);
+            bitmap.set_word(y, index, word);
         }
     }
 }
@@ -57,6 +117,6 @@ pub fn read_raw<'a>(bitmap: &mut Bitmap, bytes: &'a [u8]) -> Result<&'a [u8], Pb
         return Err(PbmFault::Truncated);
     }
     let (raster, rest) = bytes.split_at(needed);
-    read_bits(bitmap, raster);
+    read_words(bitmap, raster);
     Ok(rest)
 }

@@ -1,5 +1,7 @@
 //! What no clause says: that images from outside are read, and that the clauses name the fault that is meant.
 
+mod limits;
+
 use super::*;
 use bits::Bitmap;
 use metric::Cell;

@@ -1,10 +1,10 @@
--- The pixels before the next one are in the bitmap.
-use Rattle.std.proofs.Common.{◌+◌, ◌*◌}
+-- The pixels before the next word are in the bitmap.
+use Rattle.pbm.proofs.PlainWords.{pixels_before}
 use Rattle.pbm.proofs.Progress.{IsReadTo}
 use Rattle.pbm.proofs.raster.read_pixels.Given as goal
 
-abbrev pub invariant-columns : goal.invariant-columns
-invariant-columns l = IsReadTo l.fn.bytes l.fn.bitmap.width l.fn.bitmap.height (l.y * l.fn.bitmap.width + l.x) l.bitmap l.rest
+abbrev pub invariant-words : goal.invariant-words
+invariant-words l = IsReadTo l.fn.bytes l.fn.bitmap.width l.fn.bitmap.height (pixels_before l.fn.bitmap.width l.y l.index) l.bitmap l.rest
 
 abbrev pub invariant-rows : goal.invariant-rows
-invariant-rows l = IsReadTo l.fn.bytes l.fn.bitmap.width l.fn.bitmap.height (l.y * l.fn.bitmap.width) l.bitmap l.rest
+invariant-rows l = IsReadTo l.fn.bytes l.fn.bitmap.width l.fn.bitmap.height (pixels_before l.fn.bitmap.width l.y 0) l.bitmap l.rest
