@@ -6,7 +6,7 @@ use Rattle.std.proofs.Math.ListN.{get_or-eq_default}
 use Rattle.std.proofs.lemmas.Bool.{cases_lt}
 use Rattle.std.proofs.lemmas.Bool.Decides.{nat_tests}
 use mathlib.Core.Logic.{inl, inr}
-use Rattle.bits.specs.Cells.{Cells, has, rows_where, cells_where, with_cell, IsSide, IsBitmap, IsInside}
+use Rattle.bits.specs.Cells.{Cells, has, rows_where, cells_where, with_cell, with_rect, is_within, IsSide, IsBitmap, IsInside}
 
 -- a cell inside is an obstacle exactly if it passes the test
 pub has-cells_where : (width height : ℕ) (test : ℕ → ℕ → Bool) (x y : ℕ) → x < width → y < height
@@ -120,6 +120,12 @@ has-with_cell_same cells x y value hx hy = has-with_cell cells x y value x y hx 
 pub has-with_cell_other : (cells : Cells) (x y : ℕ) (value : Bool) (a b : ℕ) → a < cells.width → b < cells.height
     → (a ≡ x → b ≢ y) → has (with_cell cells x y value) a b ≡ has cells a b
 has-with_cell_other cells x y value a b ha hb apart = has-with_cell cells x y value a b ha hb ∙ if_apart x y a b value (has cells a b) apart
+
+-- each cell of a bitmap with a rectangle written
+pub has-with_rect : (cells : Cells) (x0 y0 x1 y1 : ℕ) (value : Bool) (a b : ℕ) → a < cells.width → b < cells.height
+    → has (with_rect cells x0 y0 x1 y1 value) a b ≡ (if is_within x0 y0 x1 y1 a b then value else has cells a b)
+has-with_rect cells x0 y0 x1 y1 value a b ha hb =
+    has-cells_where cells.width cells.height (λ c d. if is_within x0 y0 x1 y1 c d then value else has cells c d) a b ha hb
 
 -- to write the value that a cell has changes nothing
 pub with_cell-same : (cells : Cells) → IsBitmap cells → (x y : ℕ) (value : Bool) → has cells x y ≡ value

@@ -4,3 +4,6 @@ pub mod FillLemmas
 pub mod StoredLemmas
 pub mod TileLemmas
 pub mod WriteLemmas
+pub mod RegroupLemmas
+pub mod TileBitsLemmas
+pub mod TileDrawLemmas

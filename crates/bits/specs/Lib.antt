@@ -2,5 +2,6 @@ pub mod Cells
 pub mod Changes
 pub mod Stored
 pub mod Tiles
+pub mod TileWords
 pub mod Words
 pub mod Writes

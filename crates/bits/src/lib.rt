@@ -3,10 +3,14 @@
 
 mod bitmap;
 mod fill;
+mod laws;
 mod stamp;
 #[cfg(test)]
 mod tests;
 mod tile;
+mod tile_bits;
 mod word;
 
 pub use bitmap::Bitmap;
+pub use laws::{tiles_count_all_changes, tiles_fill_their_part, words_count_changes};
+pub use tile_bits::TileBits;

@@ -1,6 +1,7 @@
 //! What no clause says: that calls find memory, and how cells lie in words at the words' edges.
 
 mod limits;
+mod tile_parts;
 
 use super::Bitmap;
 use metric::{Cell, Rect};
