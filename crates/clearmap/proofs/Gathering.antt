@@ -2,10 +2,10 @@
 use Rattle.std.proofs.Common.{◌≡◌, ℕ, List, [], ◌∷◌, ◌++◌, Option, Some, None, Result, Ok, Err, OnOk, OnErr, refl, sym, ap, subst, ◌∙◌, append_assoc}
 use Rattle.std.proofs.lemmas.List.{append-nil}
 use Rattle.metric.specs.Stream.{Takes, TakesByte, Appends, AppendsFront}
-use Rattle.metric.proofs.Appending.{Appends-nothing, Appends-more, AppendsFront-more, AppendsFront-whole}
+use Rattle.metric.proofs.Appending.{Appends-nothing, Appends-more, AppendsFront-whole}
 use Rattle.metric.proofs.Taking.{Takes-nothing, Takes-more}
 use Rattle.clearmap.specs.Passing.{Gathers, PassesOn, PassesFront, EndsEarly, WritesEnd}
-use Rattle.clearmap.proofs.RefusalLines.{front_first, front_second}
+use Rattle.clearmap.proofs.RefusalLines.{front_second}
 
 -- bytes taken behind others, where the stream tells them
 takes_behind : (told left first second : List ℕ) (new : Option (List ℕ)) → told ≡ first ++ left → Takes (Some left) second new → Takes (Some told) (first ++ second) new

@@ -1,5 +1,5 @@
 -- The bytes that a line of `ask` counts, and those that a reply does: this project's own rule.
-use Rattle.std.specs.Prelude.{ℕ, nat_le, List, [], ◌∷◌, Option, Some, None, Result, Ok, Err, if◌then◌else◌}
+use Rattle.std.specs.Prelude.{ℕ, nat_le, Option, Some, Result, Ok, if◌then◌else◌}
 use Rattle.metric.specs.declared.refusal.Refusal.{Refusal}
 use Rattle.proto.specs.Said.{Said, stamp}
 use Rattle.proto.specs.declared.verb.Verb.{Verb}

@@ -1,6 +1,6 @@
 use Rattle.std.proofs.Common.{rules}
 use Rattle.std.proofs.lemmas.Result.{err_from_is_err_and}
-use Rattle.clearmap.proofs.Gathering.{PassesFront-read, PassesOn-nothing, PassesFront-whole}
+use Rattle.clearmap.proofs.Gathering.{PassesOn-nothing, PassesFront-whole}
 use Rattle.clearmap.proofs.ask.ask_line.Goals as goal
 
 pub returns-in_err-read_request-clause-cut : goal.returns-in_err-read_request-clause-cut

@@ -1,4 +1,3 @@
-use Rattle.std.specs.Prelude.{IfErr}
 use Rattle.clearmap.proofs.ServingLemmas.{told_setting}
 use Rattle.clearmap.proofs.serve.serve_at.Goals as goal
 

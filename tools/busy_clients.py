@@ -1,0 +1,150 @@
+#!/usr/bin/env python3
+"""Keeps 16 clients of `clearmap serve` busy with every kind of line, kills some in the middle of lines and stamps, and then counts.
+
+Each accepted command has a place in the log. In the end one more connection asks what was left: the places from 1 to the last
+are each answered once, or belong to a client that was killed before its reply; the next command has the place behind the last;
+and a collect raises the floor to the newest version, so that no pin of a killed client is left.
+
+    tools/busy_clients.py [SECONDS]
+"""
+import pathlib
+import random
+import socket
+import subprocess
+import sys
+import threading
+import time
+
+PROGRAM = pathlib.Path(__file__).resolve().parent.parent / "crates" / "clearmap" / "out" / "clearmap"
+CLIENTS = 16
+SIDE = 256
+COMMANDS = ("PAINT", "CLEAR", "STAMP", "PUBLISH", "REVERT", "COLLECT")
+QUERIES = ("AT", "RECT", "PATH", "CLEAROF")
+METRICS = ("euclid2", "city", "chess")
+
+
+def rect(rng):
+    x, y = rng.randrange(SIDE - 32), rng.randrange(SIDE - 32)
+    return f"{x} {y} {x + rng.randrange(1, 33)} {y + rng.randrange(1, 33)}"
+
+
+def point(rng):
+    return f"{rng.randrange(SIDE)} {rng.randrange(SIDE)}"
+
+
+def request(rng):
+    """A line with the bytes that it counts, and its command."""
+    name = rng.choice(COMMANDS + 4 * QUERIES + ("PIN", "UNPIN", "DUMP", "NOPE"))
+    metric = rng.choice(METRICS)
+    if name in ("PAINT", "CLEAR"):
+        return f"{name} {rect(rng)}\n".encode(), name
+    if name == "STAMP":
+        image = b"P4\n64 64\n" + rng.randbytes(512)
+        x, y = rng.randrange(SIDE - 64), rng.randrange(SIDE - 64)
+        return f"STAMP {x} {y} {len(image)}\n".encode() + image, name
+    if name == "AT":
+        return f"AT {metric} {point(rng)}\n".encode(), name
+    if name == "RECT":
+        return f"RECT {metric} {rect(rng)}\n".encode(), name
+    if name in ("PATH", "CLEAROF"):
+        x, y = rng.randrange(SIDE), rng.randrange(SIDE)
+        least = " 3" if name == "CLEAROF" else ""
+        return f"{name} {metric}{least} {x} {y} {rng.randrange(SIDE)} {y}\n".encode(), name
+    return f"{name}\n".encode(), name
+
+
+class Client:
+    """One connection after another; the places that were answered, and how many commands were sent whose reply never came."""
+
+    def __init__(self, port, seed, until):
+        self.port, self.rng, self.until = port, random.Random(seed), until
+        self.places, self.unanswered, self.lines, self.opened, self.killed, self.wrong = [], 0, 0, 0, 0, []
+        self.thread = threading.Thread(target=self.run)
+        self.thread.start()
+
+    def run(self):
+        while time.time() < self.until:
+            self.opened += 1
+            with socket.create_connection(("127.0.0.1", self.port)) as stream:
+                self.talk(stream)
+
+    def talk(self, stream):
+        replies = stream.makefile("rb")
+        for _ in range(self.rng.randrange(1, 400)):
+            if time.time() > self.until:
+                break
+            bytes_, name = request(self.rng)
+            self.lines += 1
+            if self.rng.random() < 0.002:
+                stream.sendall(bytes_[: self.rng.randrange(len(bytes_))])
+                self.killed += 1
+                return
+            stream.sendall(bytes_)
+            if self.rng.random() < 0.002:
+                self.killed += 1
+                self.unanswered += name in COMMANDS
+                stream.setsockopt(socket.SOL_SOCKET, socket.SO_LINGER, b"\1\0\0\0\0\0\0\0")
+                return
+            self.take(name, replies)
+        stream.sendall(b"QUIT\n")
+        if replies.readline() != b"BYE\n":
+            self.wrong.append("QUIT")
+
+    def take(self, name, replies):
+        words = replies.readline().split()
+        if not words or words[0] not in (b"OK", b"NONE", b"ERR"):
+            self.wrong.append(f"{name}: {words}")
+        elif words[0] == b"OK" and name in COMMANDS:
+            self.places.append(int(words[1]))
+        elif words[0] == b"OK" and name == "DUMP" and len(replies.read(int(words[1]))) != int(words[1]):
+            self.wrong.append("DUMP")
+        elif name == "NOPE" and words[:2] != [b"ERR", b"11"]:
+            self.wrong.append(f"NOPE: {words}")
+
+
+def ask(stream, replies, line):
+    stream.sendall(line + b"\n")
+    return replies.readline().split()
+
+
+def main():
+    seconds = float(sys.argv[1]) if len(sys.argv) > 1 else 60
+    image = b"P4\n%d %d\n" % (SIDE, SIDE) + bytes(SIDE * SIDE // 8)
+    server = subprocess.Popen(
+        [str(PROGRAM), "serve", "--connections", "1000000", "--workers", "16", "--log", "1048576", "--versions", "64"],
+        stdin=subprocess.PIPE, stdout=subprocess.PIPE,
+    )
+    server.stdin.write(image)
+    server.stdin.close()
+    port = int(server.stdout.readline().split()[1])
+    try:
+        until = time.time() + seconds
+        clients = [Client(port, seed, until) for seed in range(CLIENTS)]
+        for client in clients:
+            client.thread.join()
+        time.sleep(0.5)  # the last killed clients are noticed
+        with socket.create_connection(("127.0.0.1", port)) as stream:
+            replies = stream.makefile("rb")
+            published = ask(stream, replies, b"COLLECT") and ask(stream, replies, b"PUBLISH")
+            collected = ask(stream, replies, b"COLLECT")
+        assert published[0] == b"OK", f"the log is full: {published}"
+        places = [place for client in clients for place in client.places]
+        last = int(published[1]) - 2
+        unanswered = sum(client.unanswered for client in clients)
+        missing = last - len(places)
+        wrong = [text for client in clients for text in client.wrong]
+        print(f"{sum(c.lines for c in clients)} lines over {sum(c.opened for c in clients)} connections, {sum(c.killed for c in clients)} of them killed")
+        print(f"{last} accepted commands, {len(places)} answered, {missing} of killed clients (at most {unanswered})")
+        assert not wrong, wrong[:5]
+        assert len(set(places)) == len(places) and all(1 <= place <= last for place in places), "a place was answered twice"
+        assert 0 <= missing <= unanswered, "an accepted command has no reply"
+        assert collected[0] == b"OK" and collected[2] == published[2], f"a pin was left: {collected} {published}"
+        assert server.poll() is None, "the server ended"
+        print("each place was answered once or to a killed client, and no pin was left")
+    finally:
+        server.kill()
+        server.wait()
+
+
+if __name__ == "__main__":
+    main()
