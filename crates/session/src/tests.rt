@@ -2,6 +2,7 @@
 
 ghost use Rattle.std.specs.Prelude.{◌≡◌};
 
+mod closing;
 mod limits;
 mod pins;
 mod threads;
