@@ -6,7 +6,7 @@ use lib.Bits.{bit_and}
 use Rattle.std.specs.Int.RustNames.{bit_or}
 use Rattle.std.proofs.Math.Nat.{div-lt_iff_lt-mul, le-div_iff_mul-le}
 use Rattle.std.proofs.lemmas.Nat.{leading_top}
-use Rattle.std.proofs.lemmas.Nat.Bits.{bit_at_and, bit_at_above, bit_at-lt, bit_at_or, bit_at-zero, same_from_bits, bit_at_ones, bit_at_ones_above, bit_at_mask_inside, bit_at_mask_below}
+use Rattle.std.proofs.lemmas.Nat.Bits.{bit_at_and, bit_at_above, bit_at-lt, bit_at_or, bit_at-zero, same_from_bits, bit_at_mask_inside, bit_at_mask_below}
 
 -- a number from 2 ^ j to below twice that has the bit j
 top_bit : (n j : ℕ) → 2 ^ j ≤ n → n < 2 ^ suc j → bit_at n j ≡ 1
@@ -38,19 +38,6 @@ pub bit_at-and_from_below : (n k i : ℕ) → i < k → bit_at (bit_and n (2 ^ 6
 bit_at-and_from_below n k i below =
     let outside = bit_at_mask_below k 64 i below in
     bit_at_and n (2 ^ 64 - 2 ^ k) i ∙ rw outside (omega arith)
-
--- the bits below a place are kept by a mask of ones below it
-pub bit_at-and_below : (n k i : ℕ) → i < k → bit_at (bit_and n (2 ^ k - 1)) i ≡ bit_at n i
-bit_at-and_below n k i below =
-    let inside = bit_at_ones k i below in
-    let small = bit_at-lt n i in
-    bit_at_and n (2 ^ k - 1) i ∙ rw inside (omega arith)
-
--- the bits from there on are not
-pub bit_at-and_below_above : (n k i : ℕ) → k ≤ i → bit_at (bit_and n (2 ^ k - 1)) i ≡ 0
-bit_at-and_below_above n k i above =
-    let outside = bit_at_ones_above k i above in
-    bit_at_and n (2 ^ k - 1) i ∙ rw outside (omega arith)
 
 -- a bit that the one number has, the joined number has
 pub joined_more : (new word i : ℕ) → bit_at word i ≤ bit_at (bit_or new word) i

@@ -1,5 +1,5 @@
 -- The least distance of a rectangle's cells, as more rows are looked at.
-use Rattle.std.proofs.Common.{◌≡◌, ℕ, ◌+◌, ◌-◌, ◌*◌, ◌/◌, ◌%◌, ◌^◌, ◌<◌, ◌≤◌, ◌⊎◌, min, max, inl, inr, Bool, true, false, cond, List, length, get_or, None, refl, sym, ap, subst, ◌∙◌, arith}
+use Rattle.std.proofs.Common.{◌≡◌, ℕ, ◌+◌, ◌-◌, ◌*◌, ◌/◌, ◌%◌, ◌^◌, ◌<◌, ◌≤◌, ◌⊎◌, min, max, inl, inr, Bool, true, false, cond, List, length, get_or, refl, sym, ap, subst, ◌∙◌, arith}
 use Rattle.std.specs.Int.{abs_diff, bit_at}
 use Rattle.std.proofs.lemmas.Bool.{cases_lt}
 use Rattle.std.proofs.lemmas.Nat.Bits.{bit_at-zero}
@@ -10,7 +10,7 @@ use Rattle.metric.proofs.Growing.{of_grows, of_grows_with_dx}
 use Rattle.bits.specs.Cells.{Cells, has, IsBitmap, IsObstacle}
 use Rattle.bits.specs.Words.{IsRowOf}
 use Rattle.bits.proofs.CellsLemmas.{has-outside}
-use Rattle.clearance.specs.Rows.{IsMarked, IsFar, IsNextNearer, IsLastNearer, IsFirstMark, IsLastMark}
+use Rattle.clearance.specs.Rows.{IsMarked, IsFar, IsFirstMark, IsLastMark}
 use Rattle.clearance.specs.Search.{IsLeastBelow, column_gap, row_gap, rect_distance, IsLeastAmong, IsLeastWithin, IsLoweredBy, IsLoweredRight, IsLoweredLeft}
 use Rattle.clearance.proofs.RowSearches.{mark_within, unmarked_past}
 

@@ -1,0 +1,35 @@
+// The types that the loops stand on, in Rust: what `queries.py` puts in front of the loops of `clearance` and `pbm`.
+#![allow(dead_code, unused_mut, unused_variables)]
+use std::time::Instant;
+
+#[derive(Clone, Copy, Debug, PartialEq, Eq)]
+pub struct Cell { pub x: u16, pub y: u16 }
+#[derive(Clone, Copy, Debug, PartialEq, Eq)]
+pub struct Near { pub dist: u32, pub cell: Cell }
+#[derive(Clone, Copy, Debug, PartialEq, Eq)]
+pub struct Rect { pub x0: u16, pub y0: u16, pub x1: u16, pub y1: u16 }
+pub trait Metric { fn of(dx: u16, g: u16) -> u32; }
+pub struct Euclid2;
+impl Metric for Euclid2 {
+    #[inline(always)]
+    fn of(dx: u16, g: u16) -> u32 { let (c, r) = (u32::from(dx), u32::from(g)); c * c + r * r }
+}
+pub struct Bitmap { width: u16, height: u16, words: Vec<u64> }
+impl Bitmap {
+    pub fn width(&self) -> u16 { self.width }
+    pub fn height(&self) -> u16 { self.height }
+    fn across(&self) -> usize { usize::from(self.width).div_ceil(64) }
+    pub fn holds(&self, cell: Cell) -> bool { cell.x < self.width && cell.y < self.height }
+    pub fn holds_rect(&self, rect: Rect) -> bool { rect.x1 <= self.width && rect.y1 <= self.height }
+    pub fn row_words(&self, y: u16) -> &[u64] {
+        let across = self.across();
+        let start = usize::from(y) * across;
+        &self.words[start..start + across]
+    }
+    pub fn set_word(&mut self, y: u16, index: u16, word: u64) {
+        let place = usize::from(y) * self.across() + usize::from(index);
+        let count = self.width - 64 * index;
+        self.words[place] = if count < 64 { word & ((1 << count) - 1) } else { word };
+    }
+}
+macro_rules! prove { ($e:expr) => {}; }
