@@ -1,13 +1,15 @@
 //! A server and its clients over loopback, in one process.
 
-use crate::arguments::ServeOptions;
+use crate::arguments::{AskOptions, ServeOptions};
 use crate::ask::ask_run;
+use crate::net::ask;
 use crate::serve::serve_run;
 use crate::socket::Socket;
 use bits::Bitmap;
 use crossbeam_channel::{Receiver, Sender, bounded};
 use metric::{MemorySink, MemorySource};
 use std::alloc::Global;
+use std::io::Write;
 use std::net::{Ipv4Addr, Net, SocketAddr, SocketAddrV4, TcpListener, TcpStream};
 use std::process::Abort;
 use std::sync::Wait;
@@ -103,5 +105,105 @@ fn two_clients_are_served(rt: HostRuntime) -> Result<(), Fail> {
         told(alloc, port, "SERVED 2 2\n")?.as_bytes()
     );
     assert!(rt; first.1 == 0 && second.1 == 0 && served.1 == 0);
+    Ok(())
+}
+
+/// Sends bytes and lets the connection go.
+fn break_off<R: Net<Listener = TcpListener, Stream = TcpStream>>(rt: &R, port: u16, bytes: &[u8]) {
+    if let Ok(mut stream) = TcpStream::connect(rt, local(port)) {
+        let _ = stream.write_all(bytes);
+    }
+}
+
+#[test]
+fn a_broken_connection_counts(rt: HostRuntime) -> Result<(), Fail> {
+    let alloc = rt.alloc();
+    let map = room(alloc)?;
+    let listener = TcpListener::bind(&rt, local(0))?;
+    let port = listener.local_addr()?.port();
+    let (served, asked) = thread::join(
+        &rt,
+        || {
+            let mut writer = MemorySink::new(alloc);
+            let status = serve_run(&rt, alloc, listener, map, &two_workers(5), &mut writer);
+            (writer, status)
+        },
+        || {
+            break_off(&rt, port, b"");
+            break_off(&rt, port, b"PIN\nUNP");
+            break_off(&rt, port, b"STAMP 0 0 11\nP1\n2 2\n100");
+            break_off(&rt, port, b"PAINT 0 0 3 2\n");
+            ask_at(&rt, alloc, port, b"PIN\nDUMP\nCOLLECT\nNO\nQUIT\n")
+        },
+    );
+    assert!(rt;
+        asked
+            .0
+            .bytes()
+            .starts_with(b"OK 0\nOK 15\nP1\n3 2\n100\n000\nOK ")
+    );
+    assert!(rt;
+        asked
+            .0
+            .bytes()
+            .ends_with(b" 0 0\nERR 11 UnknownCommand\nBYE\n")
+    );
+    assert_eq!(rt;
+        served.0.bytes(),
+        told(alloc, port, "SERVED 5 2\n")?.as_bytes()
+    );
+    assert!(rt; asked.1 == 0 && served.1 == 0);
+    Ok(())
+}
+
+#[test]
+fn a_bad_setting_is_told(rt: HostRuntime) -> Result<(), Fail> {
+    let alloc = rt.alloc();
+    let rows = [
+        (
+            ServeOptions {
+                blocks: 0,
+                versions: 1,
+                ..two_workers(1)
+            },
+            "ERR 16 BadSetting Blocks\n",
+        ),
+        (
+            ServeOptions {
+                versions: 65,
+                log: 0,
+                ..two_workers(1)
+            },
+            "ERR 16 BadSetting Versions\n",
+        ),
+        (
+            ServeOptions {
+                log: 0,
+                ..two_workers(1)
+            },
+            "ERR 16 BadSetting Log\n",
+        ),
+    ];
+    for (options, want) in rows {
+        let listener = TcpListener::bind(&rt, local(0))?;
+        let mut writer = MemorySink::new(alloc);
+        let status = serve_run(&rt, alloc, listener, room(alloc)?, &options, &mut writer);
+        assert_eq!(rt; status, 1);
+        assert_eq!(rt; writer.bytes(), want.as_bytes());
+    }
+    Ok(())
+}
+
+#[test]
+fn no_server_is_told(rt: HostRuntime) -> Result<(), Fail> {
+    let alloc = rt.alloc();
+    let listener = TcpListener::bind(&rt, local(0))?;
+    let port = listener.local_addr()?.port();
+    drop(listener);
+    let mut reader = MemorySource::new(b"PIN\n");
+    let mut writer = MemorySink::new(alloc);
+    let status = ask(&rt, alloc, &AskOptions { port }, &mut reader, &mut writer);
+    assert_eq!(rt; status, 1);
+    assert_eq!(rt; writer.bytes(), b"FAULT net\n".as_slice());
     Ok(())
 }
