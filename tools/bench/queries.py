@@ -1,7 +1,7 @@
 #!/usr/bin/env python3
 """Measures queries and the reading of images at 4096 by 4096, on the six maps of `bench.py`.
 
-In a copy of the crates that are wanted, a program (`queries/main.rt`) is proved and built that times each kind of query inside one
+In a copy of the crates that are wanted, a program (`queries/main.rt.in`) is proved and built that times each kind of query inside one
 process. Beside it stands a twin in Rust of the very same loops: the sources of `clearance` and the raw raster of `pbm` without
 their clauses, between `queries/twin_head.rs` and `queries/twin_tail.rs`, compiled by `rustc -O`. Both draw the same queries, and the sums of their
 answers are compared. Each map is timed in several runs, in turn; the least of each figure is printed as a Markdown table.
@@ -73,7 +73,7 @@ def build_program(folder):
     for name in ("proofs", "specs", "src"):
         shutil.rmtree(measure / name, ignore_errors=True)
     (measure / "src").mkdir()
-    shutil.copy(HERE / "queries" / "main.rt", measure / "src" / "main.rt")
+    shutil.copy(HERE / "queries" / "main.rt.in", measure / "src" / "main.rt")
     (folder / "crates.txt").write_text("\n".join(lines + ["measure: clearance pbm bits metric"]) + "\n")
     subprocess.run(["rt", "run"], cwd=measure, check=True, stdout=subprocess.DEVNULL)
     return measure / "out" / "measure"
