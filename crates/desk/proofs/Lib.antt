@@ -14,3 +14,4 @@ pub mod WholeLemmas
 pub mod DeskLemmas
 pub mod PinLemmas
 pub mod OpenedLemmas
+pub mod NamingLemmas

@@ -6,6 +6,8 @@ mod fresh;
 mod pins;
 
 use crate::sheets::Sheets;
+#[cfg(test)]
+use bits::Bitmap;
 pub use fresh::FreshDesk;
 use shelf::{KeeperSeat, Signed, StoreName};
 use std::marker::Model;
@@ -29,4 +31,12 @@ impl<Id: StoreName> Model for Desk<Id> {
     ghost view = { λ d. record { log = d.log.items; pins = d.pins.items } };
 
     ghost invariant = { λ d. IsDesk Id.store record { log = d.log.items; pins = d.pins.items } d.keeper d.sheets.contents };
+}
+
+#[cfg(test)]
+impl<Id: StoreName> Desk<Id> {
+    /// The draft's bitmap.
+    pub fn draft(&self) -> &Bitmap {
+        self.sheets.draft()
+    }
 }

@@ -41,3 +41,11 @@ impl Model for Sheets {
 
     ghost invariant = { AreWhole };
 }
+
+#[cfg(test)]
+impl Sheets {
+    /// The draft's bitmap.
+    pub fn draft(&self) -> &Bitmap {
+        self.draft.bitmap()
+    }
+}

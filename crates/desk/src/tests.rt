@@ -3,6 +3,8 @@
 ghost use Rattle.bits.specs.Cells.{IsSide};
 
 mod answers;
+mod opened;
+mod worked;
 
 use crate::sheets::Sheets;
 use crate::tests::answers::{answer, collected, full, painted, published, reverted};
