@@ -20,7 +20,7 @@ use Rattle.proto.specs.Said.{Said, HasPoints}
 use Rattle.proto.specs.Said as saids
 use Rattle.proto.specs.Replies.{reply_line}
 use Rattle.proto.specs.Callers.{CallerValue, IsRefusedAs}
-use Rattle.proto.specs.Exchanges.{Exchange, IsExchange, IsLine, IsLineAnswer, IsQueryAnswer, asks, counts, with_pin}
+use Rattle.proto.specs.Exchanges.{Exchange, IsExchange, IsLine, IsLineAnswer, IsQueryAnswer, line_said, counts, with_pin}
 use Rattle.proto.specs.Served.{AreExchanges, HasAnswered, HasCounted, HasMoved, HasSaid, IsCut, IsCutShort, IsHeard, IsLineStop, IsQuit, IsSaid, IsServed, IsShort, IsFarewell, IsTail, IsTooLong, IsTooMuch, IsUnsaid, IsWritten, bytes_of, text_of}
 use Rattle.proto.specs.Wire.{Wire, CanGoOn, HasNotWritten, HasRead, HasWritten}
 use Rattle.proto.proofs.Wires.{Takes-append, read_on}
@@ -226,13 +226,13 @@ quits store end w1 w2 w3 bytes a b same quit read (inr (e, written)) =
 
 -- the bytes that a line counts are cut off, which ends the stream
 pub counted_cut : (store : StoreId) (end : End) (w1 w2 w3 : Wire) (line : List ℕ) (a : CallerValue) → IsLine line → HasRead 0 w1 (line ++ 10 ∷ []) w2
-    → IsCutShort (counts (asks line)) end w2 w3 → IsServed store (Some end) w1 a w3 a
-counted_cut store end w1 w2 w3 line a is read short =
+    → counts (line_said line) ≤ 17100000 → IsCutShort (counts (line_said line)) end w2 w3 → IsServed store (Some end) w1 a w3 a
+counted_cut store end w1 w2 w3 line a is read most short =
     let whole = line ++ (10 ∷ short.bytes) in
     let e : (line ++ 10 ∷ []) ++ short.bytes ≡ whole = append_assoc line (10 ∷ []) short.bytes in
     let cut : IsCut end w1 whole w3 = subst (λ t. IsCut end w1 t w3) e (cut_on end w1 w2 w3 (line ++ 10 ∷ []) short.bytes read short.cut) in
     ended store end w1 w3 whole [] [] [] a a refl
-    (cut_tail end w1 w3 whole whole cut (inr record { line = line; line_is = is; counted = short.bytes; few = short.few; bytes_are = refl }))
+    (cut_tail end w1 w3 whole whole cut (inr record { line = line; line_is = is; most = most; counted = short.bytes; few = short.few; bytes_are = refl }))
     refl (cut_unsaid end w1 w3 whole whole cut) (cut_moved end w1 w3 whole cut)
 
 -- what was heard counts as many bytes as the line
@@ -304,18 +304,18 @@ exchanged_by store (Some ends.Memory) w1 w2 w3 x a b is read written = absurd wr
 
 -- a line whose counted bytes were read, which was answered, and its answer said
 pub exchanged : {A : Type 0} (store : StoreId) (end : Option End) (w1 w2 w3 w4 : Wire) (line : List ℕ) (heard : Result Said Refusal) (count : ℕ) (kept : Option (Vec ℕ A)) (a b : CallerValue)
-    → IsLine line → HasRead 0 w1 (line ++ 10 ∷ []) w2 → IsHeard (asks line) heard → count ≡ counts heard → count ≤ 17100000 → HasCounted count kept w2 w3
+    → IsLine line → HasRead 0 w1 (line ++ 10 ∷ []) w2 → IsHeard (line_said line) heard → count ≡ counts heard → count ≤ 17100000 → HasCounted count kept w2 w3
     → HasAnswered store heard kept end w3 a w4 b → IsServed store end w1 a w4 b
 exchanged store end w1 w2 w3 w4 line heard count kept a b is read hears count_is few counted done =
     let x : Exchange = record { line = line; counted = counted.bytes; answer = done.answer; body = done.body } in
-    let all : count ≡ counts (asks line) = count_is ∙ heard_counts (asks line) heard hears in
+    let all : count ≡ counts (line_said line) = count_is ∙ heard_counts (line_said line) heard hears in
     let e : (line ++ 10 ∷ []) ++ counted.bytes ≡ line ++ (10 ∷ counted.bytes) = append_assoc line (10 ∷ []) counted.bytes in
     exchanged_by store end w1 w3 w4 x a b
     record {
       line = is;
       counted = counted.as_many ∙ all;
       few = subst (λ n. n ≤ 17100000) all few;
-      answer = heard_answer store (asks line) heard counted.bytes a done.answer b hears (done.answered counted.bytes counted.kept_are);
+      answer = heard_answer store (line_said line) heard counted.bytes a done.answer b hears (done.answered counted.bytes counted.kept_are);
       body = done.body_is;
     }
     (subst (λ t. HasRead 0 w1 t w3) e (read_on 0 w1 w2 w3 (line ++ 10 ∷ []) counted.bytes read counted.read))

@@ -23,8 +23,8 @@ use Rattle.proto.specs.Said as saids
 use Rattle.proto.specs.Callers.{CallerValue, bitmap_held, IsCommanded, IsPinAnswer, IsRefusedAs, IsUnpinAnswer}
 
 -- what a line of a stream says: without the CR at its end, if it has one
-abbrev pub asks : List ℕ → Result Said Refusal
-asks line = said (strip_carriage_return line)
+abbrev pub line_said : List ℕ → Result Said Refusal
+line_said line = said (strip_carriage_return line)
 
 -- how many bytes behind its LF a line counts: those of a stamp's image
 abbrev pub counts : Result Said Refusal → ℕ
@@ -42,9 +42,9 @@ abbrev pub seen_in : Result Line Refusal → Result Said Refusal
 seen_in (Ok line) = Ok (said_by line)
 seen_in (Err refusal) = Err refusal
 
--- what a caller asks that is answered with a pin alone
-abbrev pub Pinned : (ℕ → Type 0) → CallerValue → Answer → CallerValue → Type 0
-Pinned answered old answer new = elim old.pin as (λ _. Type 0) [ None ↦ IsRefusedAs NotPinned old answer new | Some version ↦ answered version ]
+-- what a caller line_said that is answered with a pin alone
+abbrev pub WithPin : (ℕ → Type 0) → CallerValue → Answer → CallerValue → Type 0
+WithPin answered old answer new = elim old.pin as (λ _. Type 0) [ None ↦ IsRefusedAs NotPinned old answer new | Some version ↦ answered version ]
 
 -- what a stamp of these bytes is answered: that of the command where an image stands at their front; its first fault where none does; or want of memory
 abbrev pub IsStampAnswer : StoreId → ℕ → ℕ → List ℕ → CallerValue → Answer → CallerValue → Type 0
@@ -80,8 +80,8 @@ IsLineAnswer store (Ok (saids.told t)) bytes old answer new = (c : Command) × (
 IsLineAnswer store (Ok (saids.stamp x y n)) bytes old answer new = IsStampAnswer store x y bytes old answer new
 IsLineAnswer store (Ok saids.pin) bytes old answer new = IsPinAnswer store old answer new
 IsLineAnswer store (Ok saids.unpin) bytes old answer new = IsUnpinAnswer old answer new
-IsLineAnswer store (Ok (saids.asked query)) bytes old answer new = Pinned (λ _. IsQueryAnswer store query old answer new) old answer new
-IsLineAnswer store (Ok saids.dump) bytes old answer new = Pinned (λ _. IsDumpAnswer store old answer new) old answer new
+IsLineAnswer store (Ok (saids.asked query)) bytes old answer new = WithPin (λ _. IsQueryAnswer store query old answer new) old answer new
+IsLineAnswer store (Ok saids.dump) bytes old answer new = WithPin (λ _. IsDumpAnswer store old answer new) old answer new
 IsLineAnswer store (Ok saids.quit) bytes old answer new = ⊥
 
 -- a line of a stream: at most 16,384 bytes before its LF
@@ -99,7 +99,7 @@ pub record Exchange : Type 0 where
 -- a line, its counted bytes and its answer are an exchange of this caller
 pub record IsExchange (store : StoreId) (x : Exchange) (old new : CallerValue) : Type 0 where
   pub line : IsLine x.line
-  pub counted : length x.counted ≡ counts (asks x.line)
-  pub few : counts (asks x.line) ≤ 17100000
-  pub answer : IsLineAnswer store (asks x.line) x.counted old x.answer new
+  pub counted : length x.counted ≡ counts (line_said x.line)
+  pub few : counts (line_said x.line) ≤ 17100000
+  pub answer : IsLineAnswer store (line_said x.line) x.counted old x.answer new
   pub body : x.body ≡ body_of store old x.answer

@@ -1,5 +1,5 @@
 -- What a stream is answered from its first byte to its end: this project's own rule.
-use Rattle.std.specs.Prelude.{◌≡◌, ◌≢◌, ℕ, ◌+◌, ◌<◌, ◌⊎◌, List, [], ◌∷◌, ◌++◌, length, All, Option, Some, None, Result, Ok, Err, IsOkAnd, Vec}
+use Rattle.std.specs.Prelude.{◌≡◌, ◌≢◌, ℕ, ◌+◌, ◌<◌, ◌≤◌, ◌⊎◌, List, [], ◌∷◌, ◌++◌, length, All, Option, Some, None, Result, Ok, Err, IsOkAnd, Vec}
 use Rattle.std.specs.List.{flat_map}
 use Rattle.metric.specs.Stream.{Appends, AppendsFront, Takes}
 use Rattle.metric.specs.declared.refusal.Refusal.{Refusal}
@@ -13,7 +13,7 @@ use Rattle.proto.specs.Replies.{reply_line}
 use Rattle.proto.specs.Said.{Said, HasPoints}
 use Rattle.proto.specs.Said as saids
 use Rattle.proto.specs.Callers.{CallerValue}
-use Rattle.proto.specs.Exchanges.{Exchange, IsExchange, IsLine, IsLineAnswer, asks, body_of, counts}
+use Rattle.proto.specs.Exchanges.{Exchange, IsExchange, IsLine, IsLineAnswer, line_said, body_of, counts}
 use Rattle.proto.specs.Wire.{Wire, HasNotWritten, HasRead, HasWritten, IsReadOut}
 
 -- the bytes of an exchange: its line, LF, and the bytes that it counts
@@ -29,12 +29,13 @@ abbrev pub AreExchanges : StoreId → List Exchange → CallerValue → CallerVa
 AreExchanges store [] old new = new ≡ old
 AreExchanges store (x ∷ xs) old new = (between : CallerValue) × IsExchange store x old between × AreExchanges store xs between new
 
--- a line with its LF, and fewer bytes than it counts
+-- a line with its LF, and fewer bytes than it counts, which aren't more than a stamp may have
 pub record IsShort (bytes : List ℕ) : Type 0 where
   pub line : List ℕ
   pub line_is : IsLine line
+  pub most : counts (line_said line) ≤ 17100000
   pub counted : List ℕ
-  pub few : length counted < counts (asks line)
+  pub few : length counted < counts (line_said line)
   pub bytes_are : bytes ≡ line ++ (10 ∷ counted)
 
 -- a part of an exchange: a beginning of a line, or a line with fewer bytes than it counts
@@ -46,7 +47,7 @@ pub record IsQuit (bytes : List ℕ) : Type 0 where
   pub line : List ℕ
   pub line_is : IsLine line
   pub bytes_are : bytes ≡ line ++ (10 ∷ [])
-  pub quits : asks line ≡ Ok saids.quit
+  pub quits : line_said line ≡ Ok saids.quit
 
 -- more bytes than a line may have, and no LF among them
 pub record IsTooLong (bytes : List ℕ) : Type 0 where
@@ -58,7 +59,7 @@ pub record IsTooMuch (bytes : List ℕ) : Type 0 where
   pub line : List ℕ
   pub line_is : IsLine line
   pub bytes_are : bytes ≡ line ++ (10 ∷ [])
-  pub many : 17100000 < counts (asks line)
+  pub many : 17100000 < counts (line_said line)
 
 -- a last text behind the exchanges, which the bytes behind them are answered: that of QUIT, of a line too long, of too many bytes
 abbrev pub IsFarewell : List ℕ → List ℕ → Type 0

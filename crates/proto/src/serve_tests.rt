@@ -1,16 +1,18 @@
 //! What no clause of a served stream says: that memory is found, and worked streams with answers from outside.
 
 ghost use Rattle.std.specs.Prelude.{◌≡◌};
+ghost use Rattle.proto.specs.Wire.{CanGoOn, wire_of};
 
 mod failing;
 mod hostile;
 mod meeting;
+mod pooled;
 mod worked;
 
 use crate::{End, serve_stream};
 use bits::Bitmap;
 use map_core::{Reply, Setting};
-use metric::{MemorySink, MemorySource, MemoryStream};
+use metric::{MemorySink, MemorySource, MemoryStream, Stream};
 use pbm::read_image;
 use session::{Blank, Session, Store};
 use shelf::StoreName;
@@ -20,7 +22,7 @@ use std::process::Abort;
 use std::sync::Wait;
 use std::test::Fail;
 
-/// A store of one session with so many blocks and room for everything else.
+/// The setting of a store with so many blocks and sessions, and room for everything else.
 const fn setting(blocks: u32, sessions: u32) -> Setting {
     Setting {
         blocks,
@@ -138,19 +140,19 @@ fn hand_back<Id: StoreName>(
     }
 }
 
-/// Serves a stream with the session of a store that is opened for it, and looks that the pin was left.
-fn serve_in<Id: StoreName, R: Wait + Abort>(
+/// Serves a stream with the session of a store that is opened for it, and looks that the pin was left. Answers the end, and how many commands were accepted.
+fn serve_in<Id: StoreName, R: Wait + Abort, S: Stream>(
     rt: &R,
     alloc: Global,
     blank: Blank,
-    input: Input<'_>,
-) -> Result<Run, Fail>
-    requires { blank ≡ Id.store }
+    stream: &mut S,
+) -> Result<(End, u32), Fail>
+    requires blank { blank ≡ Id.store }
+    requires stream { CanGoOn (wire_of S.rest S.held S.failed_reads S.failed_writes stream.old) }
 {
     let (store, mut sessions) = open::<Id>(alloc, blank)?;
     let session = sessions.pop().expect(rt, "a session");
-    let mut stream = stream_of(alloc, input);
-    let (mut session, end) = serve_stream(rt, alloc, &store, session, &mut stream);
+    let (mut session, end) = serve_stream(rt, alloc, &store, session, stream);
     let entries = session.made();
     let place = publish_and_collect(rt, &store, &mut session);
     assert_eq!(rt;
@@ -160,22 +162,36 @@ fn serve_in<Id: StoreName, R: Wait + Abort>(
     );
     hand_back(rt, &mut sessions, session);
     let _ = store.close(sessions);
-    Ok(Run {
-        end,
-        written: Vec::from_slice(alloc, stream.bytes())?,
-        left: stream.left().len(),
-        entries,
-    })
+    Ok((end, entries))
 }
 
 /// Serves a stream with the session of a new store.
+fn serve_over<R: Wait + Abort, S: Stream>(
+    rt: &R,
+    alloc: Global,
+    blank: Blank,
+    stream: &mut S,
+) -> Result<(End, u32), Fail>
+    requires { CanGoOn (wire_of S.rest S.held S.failed_reads S.failed_writes stream.old) }
+{
+    serve_in::<Brand, _, _>(rt, alloc, blank, stream)
+}
+
+/// Serves a stream in memory with the session of a new store.
 fn serve<R: Wait + Abort>(
     rt: &R,
     alloc: Global,
     blank: Blank,
     input: Input<'_>,
 ) -> Result<Run, Fail> {
-    serve_in::<Brand, _>(rt, alloc, blank, input)
+    let mut stream = stream_of(alloc, input);
+    let (end, entries) = serve_over(rt, alloc, blank, &mut stream)?;
+    Ok(Run {
+        end,
+        written: Vec::from_slice(alloc, stream.bytes())?,
+        left: stream.left().len(),
+        entries,
+    })
 }
 
 /// Looks at what was written, how the stream ended, and how many bytes were left to read.

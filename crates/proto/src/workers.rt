@@ -129,7 +129,7 @@ fn seat_all<Id: StoreName>(
     (sessions, seats)
 }
 
-/// Takes the sessions out of their seats, in the order in which they were before.
+/// Takes the sessions out of their seats.
 fn unseat_all<Id: StoreName>(
     seats: Vec<Option<Session<Id>>>,
     empty: Vec<Session<Id>>,

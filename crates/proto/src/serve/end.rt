@@ -15,6 +15,6 @@ pub enum End {
     ReadFailed,
     /// A write failed.
     WriteFailed,
-    /// There was no memory for the buffer of a line. Nothing was read then, or written.
+    /// There was no memory for the buffers of a line and of a reply line. Nothing was read then, or written.
     Memory,
 }

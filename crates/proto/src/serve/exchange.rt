@@ -2,7 +2,7 @@
 
 ghost use Rattle.std.specs.Prelude.{◌≡◌, ◌≢◌, ℕ, List, Ok, true, false};
 ghost use Rattle.proto.specs.Asked.{asked_by};
-ghost use Rattle.proto.specs.Exchanges.{IsDump, IsDumpAnswer, IsLineAnswer, IsQueryAnswer, IsStampAnswer, Pinned, body_of, seen_in, with_pin};
+ghost use Rattle.proto.specs.Exchanges.{IsDump, IsDumpAnswer, IsLineAnswer, IsQueryAnswer, IsStampAnswer, WithPin, body_of, seen_in, with_pin};
 ghost use Rattle.proto.specs.Said as saids;
 ghost use Rattle.proto.specs.Served.{AreKept};
 
@@ -117,7 +117,7 @@ fn refused_first(pinned: bool, refusal: Refusal) -> Refusal
 
 /// What a query is answered.
 fn query_pinned<Id: StoreName>(alloc: Global, caller: &Caller<Id>, query: &Query) -> Answer
-    ensures { Pinned (λ _. IsQueryAnswer Id.store (asked_by query.now) caller.now result caller.now) caller.now result caller.now }
+    ensures { WithPin (λ _. IsQueryAnswer Id.store (asked_by query.now) caller.now result caller.now) caller.now result caller.now }
 {
     match caller.bitmap() {
         Some(bitmap) => answer_query(alloc, bitmap, query),
@@ -153,7 +153,7 @@ fn stamp<Id: StoreName, R: Wait>(
 
 /// What DUMP is answered: the plain image of the pinned bitmap follows the number of its bytes.
 fn dump<Id: StoreName>(alloc: Global, caller: &Caller<Id>) -> Spoken
-    ensures answer { Pinned (λ _. IsDumpAnswer Id.store caller.now result.answer caller.now) caller.now result.answer caller.now }
+    ensures answer { WithPin (λ _. IsDumpAnswer Id.store caller.now result.answer caller.now) caller.now result.answer caller.now }
     ensures body { result.body.items ≡ body_of Id.store caller.now result.answer }
 {
     match caller.bitmap() {

@@ -1,8 +1,7 @@
 //! A command at the desk, by a session or by the pin that it holds.
 
-ghost use Rattle.proto.specs.Callers.{IsCommandAnswer};
 ghost use Rattle.std.specs.Prelude.{◌≡◌};
-ghost use Rattle.proto.specs.Callers.{told_as};
+ghost use Rattle.proto.specs.Callers.{IsCommandAnswer, told_as};
 
 use crate::answer::Answer;
 use desk::Desk;

@@ -2,7 +2,7 @@
 
 ghost use Rattle.std.specs.Prelude.{◌≡◌, ◌≢◌, ◌∷◌, ◌++◌, [], Ok};
 ghost use Rattle.std.specs.Str.Lines.{strip_carriage_return};
-ghost use Rattle.proto.specs.Exchanges.{IsLine, asks, counts, seen_in};
+ghost use Rattle.proto.specs.Exchanges.{IsLine, line_said, counts, seen_in};
 ghost use Rattle.proto.specs.Said as saids;
 ghost use Rattle.proto.specs.Served.{HasAnswered, HasCounted, IsHeard, IsServed};
 ghost use Rattle.proto.specs.Wire.{CanGoOn, HasRead, Wire, wire_of};
@@ -106,7 +106,7 @@ fn serve_whole<Id: StoreName, R: Wait, S: Stream>(
 
 /// What a line of a stream says, without the CR at its end.
 fn hear(alloc: Global, line: &[u8]) -> Result<Line, Refusal>
-    ensures { IsHeard (asks line.now) (seen_in result) }
+    ensures { IsHeard (line_said line.now) (seen_in result) }
 {
     parse_line(alloc, without_cr(line))
 }

@@ -16,12 +16,13 @@ type Worked = (
     usize,
 );
 
-/// A map of 3 by 2 with an obstacle in its first cell, and one of 6 by 4 with one in the middle.
+/// A map of 3 by 2 with an obstacle in its first cell.
 const CORNER: &[u8] = b"P1\n3 2\n100\n000\n";
 
+/// A map of 6 by 4 with an obstacle in the middle.
 const MIDDLE: &[u8] = b"P1\n6 4\n000000\n001000\n000000\n000000\n";
 
-fn worked() -> [Worked; 12] {
+fn worked() -> [Worked; 13] {
     [
         (
             "a pin and its end",
@@ -112,7 +113,15 @@ fn worked() -> [Worked; 12] {
             0,
         ),
         (
-            "a pin that others' versions don't move",
+            "too many bytes, and nothing behind them",
+            None,
+            b"STAMP 0 0 17100001\n",
+            b"ERR 14 TooMuchData\n",
+            End::TooMuchData,
+            0,
+        ),
+        (
+            "a pin that later versions don't move",
             None,
             b"PIN\nPAINT 0 0 1 1\nPUBLISH\nAT city 0 0\nUNPIN\nPIN\nAT city 3 4\n",
             b"OK 0\nOK 1 1\nOK 2 1\nNONE\nOK 0\nOK 1\nOK 7 0 0\n",
@@ -140,11 +149,30 @@ fn worked_streams(rt: HostRuntime) -> Result<(), Fail> {
 #[test]
 fn two_blocks_are_enough(rt: HostRuntime) -> Result<(), Fail> {
     let alloc = rt.alloc();
-    let (name, _, read, written, end, left) = worked()[3];
-    let blank = blank(setting(2, 1), square(alloc)?, alloc)?;
-    let run = serve(&rt, alloc, blank, Input::whole(read))?;
-    look(&rt, name, &run, written, end, left);
-    assert_eq!(rt; run.entries, 5);
+    for (number, entries) in [(1, 2), (3, 5)] {
+        let (name, _, read, written, end, left) = worked()[number];
+        let blank = blank(setting(2, 1), square(alloc)?, alloc)?;
+        let run = serve(&rt, alloc, blank, Input::whole(read))?;
+        look(&rt, name, &run, written, end, left);
+        assert_eq!(rt; run.entries, entries, "{name}");
+    }
+    Ok(())
+}
+
+#[test]
+fn a_stamp_that_is_cut_off_is_no_command(rt: HostRuntime) -> Result<(), Fail> {
+    let alloc = rt.alloc();
+    let cut: [&[u8]; 3] = [
+        b"STAMP 2 1 11\n",
+        b"STAMP 2 1 11\nP",
+        b"STAMP 2 1 11\nP1\n2 2\n100",
+    ];
+    for read in cut {
+        let blank = blank(setting(2, 1), square(alloc)?, alloc)?;
+        let run = serve(&rt, alloc, blank, Input::whole(read))?;
+        look(&rt, "a stamp cut off", &run, b"", End::EndOfInput, 0);
+        assert_eq!(rt; run.entries, 0);
+    }
     Ok(())
 }
 

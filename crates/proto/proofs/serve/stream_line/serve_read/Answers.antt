@@ -1,17 +1,17 @@
-use Rattle.std.proofs.Common.{rules, ◌∙◌, ◌<◌, refl, subst}
-use Rattle.proto.specs.Exchanges.{asks, seen_in}
+use Rattle.std.proofs.Common.{◌≤◌, rules, ◌∙◌, ◌<◌, refl, subst}
+use Rattle.proto.specs.Exchanges.{line_said, seen_in}
 use Rattle.proto.proofs.Serving.{counted_cut, exchanged, heard_counts, heard_quit, quits, too_much}
 use Rattle.proto.proofs.serve.stream_line.serve_read.Goals as goal
 
 pub returns-then-says_quit : goal.returns-then-says_quit
 returns-then-says_quit g c before read =
-    let quit = heard_quit (asks c.args.line.now) (seen_in c.hear-asked.result) c.hear-asked.ensures (c.says_quit.ensures.yes (search rules)) in
+    let quit = heard_quit (line_said c.args.line.now) (seen_in c.hear-asked.result) c.hear-asked.ensures (c.says_quit.ensures.yes (search rules)) in
     quits g.Id.StoreName.store _ before _ _ _ c.args.caller c.new-caller.result (search rules)
     record { line = c.args.line.now; line_is = c.requires.line; bytes_are = refl; quits = quit } read c.say_last-end.ensures
 
 pub returns-then-count-gt-MOST_COUNTED : goal.returns-then-count-gt-MOST_COUNTED
 returns-then-count-gt-MOST_COUNTED g c before read =
-    let all = c.count_of-count.ensures ∙ heard_counts (asks c.args.line.now) (seen_in c.hear-asked.result) c.hear-asked.ensures in
+    let all = c.count_of-count.ensures ∙ heard_counts (line_said c.args.line.now) (seen_in c.hear-asked.result) c.hear-asked.ensures in
     too_much g.Id.StoreName.store _ before _ _ _ c.args.caller
     record { line = c.args.line.now; line_is = c.requires.line; bytes_are = refl; many = subst (λ n. 17100000 < n) all (search rules) } read c.say_last-end-then-count-gt-MOST_COUNTED.ensures
 
@@ -22,5 +22,5 @@ returns-in-Ok g c before read =
 
 pub returns-in-Err : goal.returns-in-Err
 returns-in-Err g c before read =
-    let all = c.count_of-count.ensures ∙ heard_counts (asks c.args.line.now) (seen_in c.hear-asked.result) c.hear-asked.ensures in
-    counted_cut g.Id.StoreName.store c.in-Err.end before _ _ c.args.line.now c.args.caller c.requires.line read (rw (← all) c.in-Err.ensures.cut)
+    let all = c.count_of-count.ensures ∙ heard_counts (line_said c.args.line.now) (seen_in c.hear-asked.result) c.hear-asked.ensures in
+    counted_cut g.Id.StoreName.store c.in-Err.end before _ _ c.args.line.now c.args.caller c.requires.line read (subst (λ n. n ≤ 17100000) all (search rules)) (rw (← all) c.in-Err.ensures.cut)
