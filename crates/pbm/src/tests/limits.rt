@@ -103,3 +103,17 @@ fn gaps_stand_behind_each_pixel(rt: HostRuntime) -> Result<(), Fail> {
     }
     Ok(())
 }
+
+/// A raw image of 10 by 1, and a plain one with a comment, each to its last byte.
+const WHOLE: [&[u8]; 2] = [b"P4\n10 1\n\x80\x7f", b"P1\n# made by hand\n3 1\n101"];
+
+#[test]
+fn each_front_is_truncated(rt: HostRuntime) {
+    for image in WHOLE {
+        assert!(rt; read_image(rt.alloc(), image).is_ok());
+        for length in 0..image.len() {
+            let front = read_image(rt.alloc(), &image[..length]);
+            assert_eq!(rt; front.err(), Some(PbmFault::Truncated), "{length} bytes");
+        }
+    }
+}
