@@ -1,8 +1,7 @@
 -- Which paths aren't refused.
-use Rattle.std.proofs.Common.{◌≡◌, ℕ, zero, suc, ◌+◌, ◌<◌, ◌≤◌, ◌⊎◌, inl, inr, Bool, true, false, ◌||◌, List, [], ◌∷◌, length, get_or, drop, Option, Some, None, refl, ap, ◌∙◌, arith, eqb, leb, ltb, cond}
+use Rattle.std.proofs.Common.{◌≡◌, ℕ, zero, suc, ◌+◌, ◌<◌, ◌≤◌, ◌⊎◌, Bool, true, false, ◌||◌, List, [], ◌∷◌, length, get_or, drop, Option, Some, None, refl, ap, ◌∙◌, arith, eqb, leb, ltb, cond}
 use Rattle.std.specs.Option.{option_map}
 use Rattle.std.specs.List.{list_any}
-use Rattle.std.proofs.lemmas.Bool.{cases_lt}
 use Rattle.std.proofs.lemmas.Bool.Decides.{nat_tests}
 use Rattle.std.proofs.lemmas.List.{drop_more, drop_all}
 use Rattle.metric.specs.declared.cell.Cell.{Cell}
@@ -105,35 +104,3 @@ AreStraight-from index before [] none = tt
 AreStraight-from index before (point ∷ points) none =
     let p = choice_taken (eqb point.x before.x || eqb point.y before.y) (first_crooked (index + 1) point points) index none in
     (straight_from point.x before.x point.y before.y p.0, AreStraight-from (index + 1) point points p.1)
-
--- a cell that is inside isn't outside
-not_outside : (cells : Cells) (cell : Cell) → IsInside cells cell.x cell.y → is_outside cells cell ≡ false
-not_outside cells cell inside = let column = inside.column in let row = inside.row in grind (arith, nat_tests)
-
--- past a point inside, a point outside is looked for among the others
-pub outside-past : (cells : Cells) (points : List Cell) (i : ℕ) → i < length points → IsInside cells (get_or points i origin).x (get_or points i origin).y
-    → list_any (is_outside cells) (drop i points) ≡ list_any (is_outside cells) (drop (i + 1) points)
-outside-past cells points i within inside =
-    let test = not_outside cells (get_or points i origin) inside in
-    ap (λ (l : List Cell). list_any (is_outside cells) l) (drop_more points i origin within) ∙ rw test refl
-
--- a cell that isn't inside is outside
-outside_from : (cells : Cells) (cell : Cell) → (IsInside cells cell.x cell.y → ⊥) → is_outside cells cell ≡ true
-outside_from cells cell outside = elim (cases_lt cell.x cells.width) [
-  | inl column ↦ elim (cases_lt cell.y cells.height) [
-    | inl row ↦ absurd (outside (record { column = column; row = row }))
-    | inr row ↦ grind (arith, nat_tests)
-  ]
-  | inr column ↦ grind (arith, nat_tests)
-]
-
--- at a point that isn't inside, a point outside is found
-pub outside-here : (cells : Cells) (points : List Cell) (i : ℕ) → i < length points → (IsInside cells (get_or points i origin).x (get_or points i origin).y → ⊥)
-    → list_any (is_outside cells) (drop i points) ≡ true
-outside-here cells points i within outside =
-    let test = outside_from cells (get_or points i origin) outside in
-    ap (λ (l : List Cell). list_any (is_outside cells) l) (drop_more points i origin within) ∙ rw test refl
-
--- past the last point there is none outside
-pub outside-all : (cells : Cells) (points : List Cell) (i : ℕ) → length points ≤ i → list_any (is_outside cells) (drop i points) ≡ false
-outside-all cells points i ended = ap (λ (l : List Cell). list_any (is_outside cells) l) (drop_all i points ended)
