@@ -7,6 +7,9 @@ ghost use Rattle.clearmap.specs.declared.input.InputStop.TheVariants.{Failed, Me
 use metric::Source;
 use std::alloc::Global;
 
+/// How many bytes are read at a time, at most.
+const BLOCK: usize = 65536;
+
 /// Why the input wasn't read to its end.
 #[derive(Clone, Copy, Debug, PartialEq, Eq)]
 pub enum InputStop {
@@ -24,14 +27,15 @@ pub fn read_to_end<R: Source>(alloc: Global, reader: &mut R) -> Result<Vec<u8>, 
     ensures failed { result ≡ Err Failed → R.failed_reads reader.new ≡ R.failed_reads reader.old + 1 }
 {
     let mut bytes = Vec::new(alloc);
-    'bytes: for _ in 0..u64::MAX {
-        match reader.next_byte() {
-            Ok(Some(byte)) => {
-                if bytes.push(byte).is_err() {
+    let mut block = [0; BLOCK];
+    'turns: for _ in 0..u64::MAX {
+        match reader.next_block(block.as_mut_slice()) {
+            Ok(0) => return Ok(bytes),
+            Ok(count) => {
+                if bytes.extend_from_slice(&block[..count]).is_err() {
                     return Err(InputStop::Memory);
                 }
             }
-            Ok(None) => return Ok(bytes),
             Err(_) => return Err(InputStop::Failed),
         }
     }

@@ -1,7 +1,6 @@
 -- Bytes taken one after another.
 use Rattle.std.proofs.Common.{◌≡◌, ℕ, List, [], ◌∷◌, ◌++◌, Option, Some, None, refl, sym, subst, ◌∙◌, append_assoc}
-use Rattle.std.proofs.lemmas.List.{append-nil}
-use Rattle.metric.specs.Stream.{Takes, TakesByte, AreAll}
+use Rattle.metric.specs.Stream.{Takes, TakesByte}
 
 -- nothing is taken at first
 pub Takes-nothing : (rest : Option (List ℕ)) → Takes rest [] rest
@@ -21,13 +20,13 @@ Takes-more None between new bytes byte taken next = let told : TakesByte None (S
 Takes-more (Some told) between new bytes byte (left, rest, split) next =
     taken_more told left bytes byte new split (subst (λ r. TakesByte r (Some byte) new) rest next)
 
--- where the end is met, all that was told has been taken
-taken_all : (told left bytes : List ℕ) (new : Option (List ℕ)) → told ≡ bytes ++ left → TakesByte (Some left) None new → bytes ≡ told
-taken_all told [] bytes new split next = sym (split ∙ append-nil bytes)
-taken_all told (b ∷ left) bytes new split next = let none : None ≡ Some b = next.0 in absurd (cc)
+-- some bytes more, where it is told which bytes are left
+taken_behind : (told left bytes more : List ℕ) (new : Option (List ℕ)) → told ≡ bytes ++ left → Takes (Some left) more new → Takes (Some told) (bytes ++ more) new
+taken_behind told left bytes more new split (rest, is_rest, taken) =
+    (rest, is_rest, split ∙ rw (taken) (sym (append_assoc bytes more rest)))
 
--- at the end all have been taken
-pub AreAll-ended : (old between new : Option (List ℕ)) (bytes : List ℕ) → Takes old bytes between → TakesByte between None new → AreAll old bytes
-AreAll-ended None between new bytes taken next = tt
-AreAll-ended (Some told) between new bytes (left, rest, split) next =
-    taken_all told left bytes new split (subst (λ r. TakesByte r None new) rest next)
+-- some bytes more
+pub Takes-behind : (old between new : Option (List ℕ)) (bytes more : List ℕ) → Takes old bytes between → Takes between more new → Takes old (bytes ++ more) new
+Takes-behind None between new bytes more taken next = let told : Takes None more new = subst (λ r. Takes r more new) taken next in told
+Takes-behind (Some told) between new bytes more (left, rest, split) next =
+    taken_behind told left bytes more new split (subst (λ r. Takes r more new) rest next)

@@ -1,6 +1,6 @@
 -- What a contract sees of a stream of bytes: this project's own rule.
 -- A stream may tell its bytes, as `Some` of the bytes that are left to read or that were written, or tell nothing, as `None`. One that doesn't tell stays so.
-use Rattle.std.specs.Prelude.{◌≡◌, ℕ, ◌+◌, ◌<◌, ◌^◌, List, [], ◌∷◌, ◌++◌, Option, Some, None, Result, Ok, Err}
+use Rattle.std.specs.Prelude.{◌≡◌, ◌≢◌, ℕ, ◌+◌, ◌<◌, ◌≤◌, ◌^◌, List, [], ◌∷◌, ◌++◌, length, take, Option, Some, None, Result, Ok, Err}
 
 -- what is left after one byte is taken from the front, or after the end is met
 abbrev pub TakesByte : Option (List ℕ) → Option ℕ → Option (List ℕ) → Type 0
@@ -38,3 +38,9 @@ Takes (Some told) bytes rest = (left : List ℕ) × (rest ≡ Some left) × (tol
 abbrev pub AreAll : Option (List ℕ) → List ℕ → Type 0
 AreAll None bytes = Unit {0}
 AreAll (Some told) bytes = bytes ≡ told
+
+-- the first bytes of the block are taken from the front of those that were left, and none only at the end or where the block has no place
+pub record TakesBlock (rest : Option (List ℕ)) (count : ℕ) (block : List ℕ) (left : Option (List ℕ)) : Type 0 where
+  pub fits : count ≤ length block
+  pub taken : Takes rest (take count block) left
+  pub ended : count ≡ 0 → block ≢ [] → AreAll rest []

@@ -7,7 +7,7 @@ ghost use Rattle.metric.specs.Stream.{CanFail};
 use crate::refusal::Refusal;
 use crate::stream::{ReadFault, Sink, Source, WriteFault};
 use std::alloc::Global;
-use std::io::{BufRead, BufReader, BufWriter, Read, Write};
+use std::io::{BufReader, BufWriter, ErrorKind, Read, Write};
 use std::marker::Model;
 
 /// A reader of std, read ahead by blocks. Contracts see how many reads have failed.
@@ -44,17 +44,22 @@ impl<R: Read + Drop> Source for ReaderSource<R> {
     ghost written = { λ _. (None, 0) };
 
     fn next_byte(&mut self) -> Result<Option<u8>, ReadFault> {
-        match self.reader.fill_buf() {
-            Ok(bytes) => {
-                let byte = bytes.first().copied();
-                self.reader.consume(1);
-                Ok(byte)
-            }
-            Err(_) => {
-                self.failed += 1;
-                Err(ReadFault)
+        let mut byte = [0];
+        let count = self.next_block(byte.as_mut_slice())?;
+        Ok(if count == 0 { None } else { Some(byte[0]) })
+    }
+
+    /// A read that a signal interrupts is made again.
+    fn next_block(&mut self, block: &mut [u8]) -> Result<usize, ReadFault> {
+        'reads: for _ in 0..u64::MAX {
+            match self.reader.read(block) {
+                Ok(count) => return Ok(count),
+                Err(fault) if fault.kind() == ErrorKind::Interrupted => {}
+                Err(_) => break,
             }
         }
+        self.failed += 1;
+        Err(ReadFault)
     }
 
     fn failed_reads(&self) -> u64 {

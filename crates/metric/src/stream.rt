@@ -1,9 +1,9 @@
 //! Streams of bytes: what a reader and a writer are to the engines.
 //!
-//! An engine reads byte by byte and writes whole texts. A stream may tell its bytes to contracts, as one in memory does, or tell nothing.
+//! An engine reads byte by byte or by blocks, and writes whole texts. A stream may tell its bytes to contracts, as one in memory does, or tell nothing.
 
 ghost use Rattle.std.specs.Prelude.{◌≡◌, ℕ, List, Option, IfOk, OnOk, OnErr};
-ghost use Rattle.metric.specs.Stream.{TakesByte, Appends, AppendsFront, Counts, CanFail};
+ghost use Rattle.metric.specs.Stream.{TakesByte, TakesBlock, Appends, AppendsFront, Counts, CanFail};
 
 /// A read failed.
 #[derive(Clone, Copy, Debug, PartialEq, Eq)]
@@ -31,6 +31,28 @@ pub trait Source {
         ensures kept { OnErr result (rest self.new ≡ rest self.old) }
         ensures counts { Counts (failed_reads self.old) result (failed_reads self.new) }
         ensures written { written self.new ≡ written self.old };
+
+    /// Takes the next bytes into the block's front, at most as many as it has places, and answers how many.
+    /// None are taken only at the end, or where the block has no place. A failed read takes nothing.
+    fn next_block(&mut self, block: &mut [u8]) -> Result<usize, ReadFault>
+        requires { CanFail (failed_reads self.old) }
+        ensures taken { IfOk result (λ count. TakesBlock (rest self.old) count block.new (rest self.new)) }
+        ensures kept { OnErr result (rest self.new ≡ rest self.old) }
+        ensures counts { Counts (failed_reads self.old) result (failed_reads self.new) }
+        ensures written { written self.new ≡ written self.old }
+    {
+        let Some(place) = block.first_mut() else {
+            return Ok(0);
+        };
+        match self.next_byte() {
+            Ok(Some(byte)) => {
+                *place = byte;
+                Ok(1)
+            }
+            Ok(None) => Ok(0),
+            Err(fault) => Err(fault),
+        }
+    }
 
     /// How many reads have failed so far.
     fn failed_reads(&self) -> u64

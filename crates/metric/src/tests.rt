@@ -202,6 +202,18 @@ fn a_source_fails_at_one_read(rt: HostRuntime) {
     }
 }
 
+#[test]
+fn a_source_is_read_by_blocks(rt: HostRuntime) {
+    let mut source = MemorySource::new(b"ab").failing_at(2);
+    let mut block = [b'-'; 2];
+    for want in [Ok(1), Err(ReadFault), Ok(1), Ok(0)] {
+        assert!(rt; source.failed_reads() <= 1);
+        assert_eq!(rt; source.next_block(&mut []), Ok(0));
+        assert_eq!(rt; source.next_block(block.as_mut_slice()), want);
+    }
+    assert_eq!(rt; &block, b"b-");
+}
+
 /// Of a write of `abcd`, a flush and a write of `efg` the call that fails, and what the sink then holds.
 const WRITES: [(u64, &[u8]); 4] = [
     (1, b"abefg"),
@@ -295,6 +307,48 @@ impl io::Write for Halting<'_> {
 fn a_reader_is_read_to_its_end(rt: HostRuntime) -> Result<(), Fail> {
     let mut source = ReaderSource::new(rt.alloc(), b"abc".as_slice())?;
     for want in [Some(b'a'), Some(b'b'), Some(b'c'), None, None] {
+        assert_eq!(rt; source.failed_reads(), 0);
+        assert_eq!(rt; source.next_byte(), Ok(want));
+    }
+    Ok(())
+}
+
+#[test]
+fn a_reader_is_read_by_blocks(rt: HostRuntime) -> Result<(), Fail> {
+    let mut source = ReaderSource::new(rt.alloc(), b"abcde".as_slice())?;
+    let mut block = [b'-'; 3];
+    for (count, held) in [(3, b"abc"), (2, b"dec"), (0, b"dec")] {
+        assert_eq!(rt; source.failed_reads(), 0);
+        assert_eq!(rt; source.next_block(block.as_mut_slice()), Ok(count));
+        assert_eq!(rt; &block, held);
+    }
+    Ok(())
+}
+
+/// A reader of one byte whose first read is interrupted.
+#[derive(Drop)]
+struct Interrupted {
+    reads: u8,
+}
+
+impl io::Read for Interrupted {
+    fn read(&mut self, buffer: &mut [u8]) -> io::Result<usize> {
+        self.reads = self.reads.saturating_add(1);
+        match (self.reads, buffer.first_mut()) {
+            (1, _) => Err(io::Error::from(io::ErrorKind::Interrupted)),
+            (2, Some(byte)) => {
+                *byte = b'a';
+                Ok(1)
+            }
+            _ => Ok(0),
+        }
+    }
+}
+
+#[test]
+fn an_interrupted_read_is_made_again(rt: HostRuntime) -> Result<(), Fail> {
+    let mut source = ReaderSource::new(rt.alloc(), Interrupted { reads: 0 })?;
+    for want in [Some(b'a'), None] {
         assert_eq!(rt; source.failed_reads(), 0);
         assert_eq!(rt; source.next_byte(), Ok(want));
     }

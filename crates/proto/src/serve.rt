@@ -24,6 +24,7 @@ use session::{Session, Store};
 use shelf::StoreName;
 use std::alloc::Global;
 use std::sync::Wait;
+pub use stream_line::MOST_COUNTED;
 use stream_line::serve_line;
 
 /// Serves a stream of protocol lines with a session: each line is read to its LF, with the bytes that it counts, and answered before the next one is read.

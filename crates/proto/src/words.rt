@@ -1,6 +1,7 @@
 //! The words of a line, which stand between single blanks.
 
 ghost use Rattle.std.specs.Prelude.{◌≡◌, ◌==◌, [], ◌∷◌, ◌<◌, ◌≤◌, ◌^◌, length, position, MatchOption, IfSome};
+ghost use Rattle.std.specs.Str.Lines.{strip_carriage_return};
 ghost use Rattle.proto.specs.Words.{words, words_left, bytes_left};
 
 /// The place of the first blank.
@@ -30,5 +31,16 @@ pub fn next_word(rest: Option<&[u8]>) -> Option<(&[u8], Option<&[u8]>)>
     match rest {
         Some(bytes) => Some(split_word(bytes)),
         None => None,
+    }
+}
+
+/// A line without the CR at its end, if it has one.
+pub fn without_cr(line: &[u8]) -> &[u8]
+    ensures { result.now ≡ strip_carriage_return line.now }
+{
+    if !line.is_empty() && line[line.len() - 1] == b'\r' {
+        &line[..line.len() - 1]
+    } else {
+        line
     }
 }

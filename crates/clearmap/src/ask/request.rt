@@ -9,13 +9,9 @@ ghost use Rattle.clearmap.specs.declared.gather.Cut.TheVariants.{Failed};
 
 use crate::ask::Stop;
 use crate::gather::{Cut, read_count, read_line};
-use crate::steps::text::without_cr;
 use metric::Source;
-use proto::{Line, Verb, parse_line, verb_of};
+use proto::{Line, MOST_COUNTED, Verb, parse_line, verb_of, without_cr};
 use std::alloc::Global;
-
-/// The most bytes of a stamp that a server reads.
-const MOST_DATA: u32 = 17_100_000;
 
 /// Reads a line and the bytes that it counts over what the buffer held. `false` where the reader ends before all of them.
 pub fn read_request<R: Source>(
@@ -65,7 +61,7 @@ fn counted(alloc: Global, line: &[u8]) -> u32
         return 0;
     };
     match parse_line(alloc, line) {
-        Ok(Line::Stamp { length, .. }) if length <= MOST_DATA => length,
+        Ok(Line::Stamp { length, .. }) if length <= MOST_COUNTED => length,
         _ => 0,
     }
 }

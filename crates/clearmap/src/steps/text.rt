@@ -1,8 +1,9 @@
 //! The lines of a text.
 
 ghost use Rattle.std.specs.Prelude.{◌≡◌, ◌==◌, ◌∷◌, ◌<◌, [], length, position, IfSome, MatchOption};
-ghost use Rattle.std.specs.Str.Lines.{strip_carriage_return};
 ghost use Rattle.clearmap.specs.TextLines.{lines_of};
+
+use proto::without_cr;
 
 /// The first line of a text, and what follows its LF; none where no LF is left.
 pub fn split_line(text: &[u8]) -> Option<(&[u8], &[u8])>
@@ -20,15 +21,4 @@ fn first_end(text: &[u8]) -> Option<usize>
     ensures { result ≡ position (λ byte. byte == 10) text.now }
 {
     text.iter().position(|byte| *byte == b'\n')
-}
-
-/// A line without the CR at its end, if it has one.
-pub fn without_cr(line: &[u8]) -> &[u8]
-    ensures { result.now ≡ strip_carriage_return line.now }
-{
-    if !line.is_empty() && line[line.len() - 1] == b'\r' {
-        &line[..line.len() - 1]
-    } else {
-        line
-    }
 }

@@ -1,7 +1,6 @@
 //! One line of a stream: read, answered, and its answer said.
 
 ghost use Rattle.std.specs.Prelude.{◌≡◌, ◌≢◌, ◌∷◌, ◌++◌, [], Ok};
-ghost use Rattle.std.specs.Str.Lines.{strip_carriage_return};
 ghost use Rattle.proto.specs.Exchanges.{IsLine, line_said, counts, seen_in};
 ghost use Rattle.proto.specs.Said as saids;
 ghost use Rattle.proto.specs.Served.{HasAnswered, HasCounted, IsHeard, IsServed};
@@ -16,6 +15,7 @@ use crate::serve::exchange::{answer_line, says_quit};
 use crate::serve::line_buffer::LineBuffer;
 use crate::serve::say::{say, say_last};
 use crate::text::Text;
+use crate::words::without_cr;
 use metric::{Refusal, Stream};
 use session::Store;
 use shelf::StoreName;
@@ -23,7 +23,7 @@ use std::alloc::Global;
 use std::sync::Wait;
 
 /// The most bytes of a stamp's image: the plain image of the largest map fits.
-const MOST_COUNTED: u32 = 17_100_000;
+pub const MOST_COUNTED: u32 = 17_100_000;
 
 /// Serves one line of a stream. Answers how the stream ends there, if it does.
 pub fn serve_line<Id: StoreName, R: Wait, S: Stream>(
@@ -109,17 +109,6 @@ fn hear(alloc: Global, line: &[u8]) -> Result<Line, Refusal>
     ensures { IsHeard (line_said line.now) (seen_in result) }
 {
     parse_line(alloc, without_cr(line))
-}
-
-/// A line without the CR at its end, if it has one.
-fn without_cr(line: &[u8]) -> &[u8]
-    ensures { result.now ≡ strip_carriage_return line.now }
-{
-    if !line.is_empty() && line[line.len() - 1] == b'\r' {
-        &line[..line.len() - 1]
-    } else {
-        line
-    }
 }
 
 /// How many bytes behind its LF a line counts: those of a stamp's image.

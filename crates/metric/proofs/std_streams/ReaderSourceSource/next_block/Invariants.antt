@@ -1,0 +1,6 @@
+use Rattle.std.proofs.Common.{◌≡◌}
+use Rattle.metric.proofs.std_streams.ReaderSourceSource.next_block.Given as goal
+
+-- no read has failed
+abbrev pub invariant-reads : goal.invariant-reads
+invariant-reads g l = l.self-inside.failed ≡ l.initial.self-inside.failed
