@@ -1,6 +1,7 @@
 pub mod Steps
 pub mod Words
 pub mod Numbers
+pub mod Digits
 pub mod Gaps
 pub mod Rasters
 pub mod PartReads

@@ -1,17 +1,14 @@
 -- How far some pixels were read as the bits of a number.
-use Rattle.std.proofs.Common.{◌≡◌, ℕ, zero, suc, ◌+◌, ◌-◌, ◌*◌, ◌/◌, ◌%◌, ◌<◌, ◌≤◌, ◌==◌, ◌⊎◌, Bool, false, List, [], ◌∷◌, ◌++◌, length, get_or, set, drop, Result, Ok, Err, refl, sym, ap, ◌∙◌, append_assoc, inl, inr, arith, length-append}
+use Rattle.std.proofs.Common.{◌≡◌, ℕ, zero, suc, ◌+◌, ◌-◌, ◌^◌, ◌<◌, ◌≤◌, ◌==◌, ◌⊎◌, cond, Bool, true, false, List, [], ◌∷◌, ◌++◌, length, get_or, drop, Result, Ok, Err, refl, sym, ap, ◌∙◌, append_assoc, inl, inr, arith, length-append}
 use Rattle.std.specs.Int.{bit_at}
-use Rattle.std.specs.Int.RustNames.{bit_or}
-use Rattle.std.proofs.lemmas.Bool.{cases_lt, cases_eq}
-use Rattle.std.proofs.lemmas.Nat.{le_or_l, le_or_r}
+use Rattle.std.proofs.lemmas.Bool.{cases_lt}
 use Rattle.std.proofs.lemmas.Nat.Bits.{bit_at-lt}
-use Rattle.std.proofs.lemmas.List.{get_or_push, get_or_append_left, get_or-append_right, get_or_past, length_push, get_or-set_other, get_or-set_same}
+use Rattle.std.proofs.lemmas.List.{get_or_push, get_or_append_left, get_or-append_right, length_push}
 use Rattle.metric.specs.declared.fault.PbmFault.{PbmFault}
 use Rattle.pbm.specs.Faults.{◌>>=◌, next_pixel, pixels}
-use Rattle.pbm.specs.Plain.{AreBitsRead, AreEightDigits}
+use Rattle.pbm.specs.Plain.{AreBitsRead, AreDigits, AreSomeRead}
 use Rattle.pbm.proofs.Rasters.{with_front, with_front-nil, pixels-more, pixels-fault, pixels-done}
 use Rattle.pbm.proofs.Steps.{ok_is, bind_ok}
-use Rattle.pbm.proofs.Words.{horner, bit_at-horner, each_of_eight, small_of_eight}
 
 -- a step that fails, or a step behind one that doesn't
 bind_err : {A B : Type 0} (r : Result A PbmFault) (f : A → Result B PbmFault) (fault : PbmFault) → (r >>= f) ≡ Err fault → (r ≡ Err fault) ⊎ ((x : A) × (r ≡ Ok x) × (f x ≡ Err fault))
@@ -113,13 +110,6 @@ IsPartRead-add count bytes k n bit next rest number after few read kept here so_
       ];
     }
 
--- a fault among several pixels more is that of all
-pub IsPartRead-fault : (count : ℕ) (bytes : List ℕ) (k n : ℕ) (bit : ℕ → ℕ) (rest : List ℕ) (fault : PbmFault) → k + n ≤ count → pixels n rest ≡ Err fault → IsPartRead count bytes k bit rest → pixels count bytes ≡ Err fault
-IsPartRead-fault count bytes k n bit rest fault few read so_far =
-    let split : n + (count - (k + n)) ≡ count - k = omega arith in
-    let behind : pixels (count - k) rest ≡ Err fault = ap (λ (m : ℕ). pixels m rest) (sym split) ∙ pixels-add_fault n (count - (k + n)) rest fault read in
-    so_far.others ∙ ap (λ (r : Result (List Bool × List ℕ) PbmFault). with_front so_far.front r) behind
-
 -- a fault at the next pixel is that of all
 pub IsPartRead-fault_one : (count : ℕ) (bytes : List ℕ) (k : ℕ) (bit : ℕ → ℕ) (rest : List ℕ) (fault : PbmFault) → k < count → next_pixel rest ≡ Err fault → IsPartRead count bytes k bit rest → pixels count bytes ≡ Err fault
 IsPartRead-fault_one count bytes k bit rest fault few read so_far = pixels-fault so_far.front count k rest fault (pixels count bytes) few read so_far.others
@@ -162,77 +152,27 @@ digits-read (suc n) (byte ∷ bytes) bit enough small digits =
       first_and_others n bit all bits,
     )
 
--- eight digits are eight pixels
-pub AreBitsRead-eight : (bytes : List ℕ) (byte : ℕ) → AreEightDigits bytes byte → AreBitsRead 8 bytes byte (drop 8 bytes)
-AreBitsRead-eight bytes byte is =
-    let (all, size, read, bits) = digits-read 8 bytes (bit_at byte) is.enough (λ k before. bit_at-lt byte k) is.digits in
+-- digits at the front are pixels
+pub AreBitsRead-digits : (count : ℕ) (bytes : List ℕ) (number : ℕ) → AreDigits count bytes number → AreBitsRead count bytes number (drop count bytes)
+AreBitsRead-digits count bytes number are =
+    let (all, size, read, bits) = digits-read count bytes (bit_at number) are.enough (λ k before. bit_at-lt number k) are.digits in
     record { all = all; size = size; read = read; bits = bits }
 
--- of eight numbers whose bits together make at most 1, each is at most 1
-pub eight_small : (a b c d e f g h : ℕ) → bit_or (bit_or (bit_or (bit_or (bit_or (bit_or (bit_or a b) c) d) e) f) g) h ≤ 1 → (k : ℕ) → get_or (a ∷ b ∷ c ∷ d ∷ e ∷ f ∷ g ∷ h ∷ []) k 0 ≤ 1
-eight_small a b c d e f g h all k =
-    let ab = bit_or a b in
-    let abc = bit_or ab c in
-    let abcd = bit_or abc d in
-    let most_e = bit_or abcd e in
-    let most_f = bit_or most_e f in
-    let most_g = bit_or most_f g in
-    let h_in = le_or_r most_g h in
-    let g_up = le_or_l most_g h in
-    let g_in = le_or_r most_f g in
-    let f_up = le_or_l most_f g in
-    let f_in = le_or_r most_e f in
-    let e_up = le_or_l most_e f in
-    let e_in = le_or_r abcd e in
-    let d_up = le_or_l abcd e in
-    let d_in = le_or_r abc d in
-    let c_up = le_or_l abc d in
-    let c_in = le_or_r ab c in
-    let b_up = le_or_l ab c in
-    let b_in = le_or_r a b in
-    let a_in = le_or_l a b in
-    elim (cases_lt k 8) [
-      | inl within ↦ each_of_eight (λ n. get_or (a ∷ b ∷ c ∷ d ∷ e ∷ f ∷ g ∷ h ∷ []) n 0 ≤ 1) (omega arith) (omega arith) (omega arith) (omega arith) (omega arith) (omega arith) (omega arith) (omega arith) k within
-      | inr past ↦ rw (get_or_past (a ∷ b ∷ c ∷ d ∷ e ∷ f ∷ g ∷ h ∷ []) k 0 past) (omega arith)
-    ]
+-- the lowest bit of 1 and of 0
+lowest_is : (number : ℕ) (value : Bool) → number ≡ cond value 1 0 → (bit_at number 0 == 1) ≡ value
+lowest_is number true is = rw is refl
+lowest_is number false is = rw is refl
 
--- a byte whose distance behind 48 is at most 1
-pub digit_from : (byte digit bit : ℕ) → byte < 256 → digit ≡ (byte + 208) % 256 → digit ≤ 1 → bit ≡ digit → byte ≡ 48 + bit
-digit_from byte digit bit fits is small same = omega arith
+-- 1 and 0 are below 2
+bit_below : (number : ℕ) (value : Bool) → number ≡ cond value 1 0 → number < 2 ^ 1
+bit_below number true is = omega arith
+bit_below number false is = omega arith
 
--- a place of a list with one element written anew, by its bits
-pub part-kept : (parts : List ℕ) (part byte i : ℕ) → i < 8 * part → bit_at (get_or (set parts part byte) (i / 8) 0) (i % 8) ≡ bit_at (get_or parts (i / 8) 0) (i % 8)
-part-kept parts part byte i before =
-    let apart : i / 8 ≡ part → ⊥ = λ same. omega arith in
-    ap (λ (n : ℕ). bit_at n (i % 8)) (get_or-set_other parts part (i / 8) byte 0 apart)
-
--- the bits of the element that is written
-pub part-here : (parts : List ℕ) (part byte i : ℕ) → part < length parts → i < 8 → bit_at (get_or (set parts part byte) ((8 * part + i) / 8) 0) ((8 * part + i) % 8) ≡ bit_at byte i
-part-here parts part byte i within small =
-    let at : (8 * part + i) / 8 ≡ part = omega arith in
-    let place : (8 * part + i) % 8 ≡ i = omega arith in
-    ap (λ (n : ℕ). bit_at (get_or (set parts part byte) n 0) ((8 * part + i) % 8)) at
-    ∙ (ap (bit_at (get_or (set parts part byte) part 0)) place ∙ ap (λ (n : ℕ). bit_at n i) (get_or-set_same parts part byte 0 within))
-
--- eight elements as one number
-pub bit_at-parts : (parts : List ℕ) (word : ℕ)
-    → word ≡ horner (get_or parts 0 0 ∷ get_or parts 1 0 ∷ get_or parts 2 0 ∷ get_or parts 3 0 ∷ get_or parts 4 0 ∷ get_or parts 5 0 ∷ get_or parts 6 0 ∷ get_or parts 7 0 ∷ [])
-    → ((k : ℕ) → get_or parts k 0 < 256) → (i : ℕ) → i < 64 → bit_at word i ≡ bit_at (get_or parts (i / 8) 0) (i % 8)
-bit_at-parts parts word is small i within =
-    let byte : i / 8 < 8 = omega arith in
-    ap (λ (w : ℕ). bit_at w i) is
-    ∙ (bit_at-horner (get_or parts 0 0 ∷ get_or parts 1 0 ∷ get_or parts 2 0 ∷ get_or parts 3 0 ∷ get_or parts 4 0 ∷ get_or parts 5 0 ∷ get_or parts 6 0 ∷ get_or parts 7 0 ∷ [])
-    (small_of_eight (get_or parts 0 0) (get_or parts 1 0) (get_or parts 2 0) (get_or parts 3 0) (get_or parts 4 0) (get_or parts 5 0) (get_or parts 6 0) (get_or parts 7 0) (small 0) (small 1) (small 2) (small 3) (small 4) (small 5) (small 6) (small 7)) i
-    ∙ ap (λ (n : ℕ). bit_at n (i % 8))
-    (each_of_eight (λ k. get_or (get_or parts 0 0 ∷ get_or parts 1 0 ∷ get_or parts 2 0 ∷ get_or parts 3 0 ∷ get_or parts 4 0 ∷ get_or parts 5 0 ∷ get_or parts 6 0 ∷ get_or parts 7 0 ∷ []) k 0 ≡ get_or parts k 0) refl refl refl refl refl refl refl refl (i / 8) byte))
-
--- a byte written into a list of bytes
-pub set-small : (parts : List ℕ) (part byte : ℕ) → part < length parts → byte < 256 → ((k : ℕ) → get_or parts k 0 < 256) → (k : ℕ) → get_or (set parts part byte) k 0 < 256
-set-small parts part byte within fits small k = elim (cases_eq k part) [
-  | inl same ↦ rw same (rw (get_or-set_same parts part byte 0 within) fits)
-  | inr apart ↦ rw (get_or-set_other parts part k byte 0 apart) (small k)
-]
-
--- nothing but zeros is small
-pub zeros-small : (k : ℕ) → get_or (0 ∷ 0 ∷ 0 ∷ 0 ∷ 0 ∷ 0 ∷ 0 ∷ 0 ∷ []) k 0 < 256
-zeros-small = small_of_eight 0 0 0 0 0 0 0 0 (omega arith) (omega arith) (omega arith) (omega arith) (omega arith) (omega arith) (omega arith) (omega arith)
+-- one pixel as the lowest bit of a number
+pub AreSomeRead-one : (bytes : List ℕ) (value : Bool) (number : ℕ) (rest : List ℕ) → next_pixel bytes ≡ Ok (value, rest) → number ≡ cond value 1 0 → AreSomeRead 1 bytes 1 number rest
+AreSomeRead-one bytes value number rest read is = record {
+  some = omega arith;
+  few = omega arith;
+  read = IsPartRead-all 1 bytes 1 (bit_at number) number rest refl (λ i within. refl) (IsPartRead-more 1 bytes 0 (bit_at number) (bit_at number) bytes value rest (omega arith) read (λ i before. absurd (omega arith)) (lowest_is number value is) (IsPartRead-none 1 bytes (bit_at number)));
+  below = bit_below number value is;
+}

@@ -96,12 +96,6 @@ small_of_eight a b c d e f g h sa sb sc sd se sf sg sh k = elim (cases_lt k 8) [
 abbrev pub drawn_words : ℕ → ℕ → (ℕ → ℕ → Bool) → ℕ → Cells
 drawn_words width height test n = cells_where width height (λ a b. ltb (b * words_across width + a / 64) n && test a b)
 
--- nothing is drawn yet
-pub drawn_words-none : (width height : ℕ) (test : ℕ → ℕ → Bool) (n : ℕ) → n ≡ 0 → cells_where width height (λ x y. false) ≡ drawn_words width height test n
-drawn_words-none width height test n none =
-    cells_where-same width height (λ x y. false) (λ a b. ltb (b * words_across width + a / 64) n && test a b) (λ a b column row.
-    rw (le-ltb (b * words_across width + a / 64) n (omega arith)) refl)
-
 -- what isn't before a place, nor at it, is not before the next
 beyond : (m k n : ℕ) → k ≤ m → (m ≡ k → ⊥) → n ≡ k + 1 → n ≤ m
 beyond m k n from apart next = elim (cases_lt k m) [ inl more ↦ omega arith | inr same ↦ absurd (apart (omega arith)) ]

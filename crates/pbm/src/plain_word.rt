@@ -1,12 +1,16 @@
 //! The pixels of a plain raster, up to 64 as a word.
 
-ghost use Rattle.std.specs.Prelude.{◌≡◌, ◌≢◌, ℕ, ◌<◌, ◌≤◌, cond, slice_index, Ok, Err, IfOk, MatchResult};
+ghost use Rattle.std.specs.Prelude.{◌≡◌, ℕ, ◌+◌, ◌*◌, ◌^◌, ◌<◌, ◌≤◌, ◌==◌, cond, slice_index_or, Ok, Err, MatchResult};
 ghost use Rattle.std.specs.Int.{bit_at};
 ghost use Rattle.pbm.specs.Faults.{next_pixel, pixel_at, pixels};
-ghost use Rattle.pbm.specs.Plain.{AreBitsRead, AreDigitsIfSome};
+ghost use Rattle.pbm.specs.Plain.{AreBitsRead, AreDigits, AreSomeRead};
 
 use crate::gap::{after_filling, is_whitespace};
 use metric::PbmFault;
+use std::simd::prelude::*;
+
+/// How many bytes are looked at side by side.
+const LANES: usize = 64;
 
 /// Whether the pixel at the front is black, and what stands behind it.
 fn read_pixel(bytes: &[u8]) -> Result<(bool, &[u8]), PbmFault>
@@ -32,79 +36,69 @@ fn read_next(bytes: &[u8]) -> Result<(bool, &[u8]), PbmFault>
     }
 }
 
-/// The byte with one bit written anew.
-fn with_pixel(byte: u8, place: u16, black: bool) -> u8
-    requires { place < 8 }
-    ensures here { bit_at result place ≡ cond black 1 0 }
-    ensures others { (other : ℕ) → other < 8 → other ≢ place → bit_at result other ≡ bit_at byte other }
-{
-    if black {
-        byte | (1 << place)
-    } else {
-        byte & !(1 << place)
-    }
-}
-
-/// The next pixels, up to eight, one by one, as the bits of a byte.
-fn read_each(bytes: &[u8], count: u16) -> Result<(u8, &[u8]), PbmFault>
-    requires { count ≤ 8 }
-    ensures { MatchResult result (λ found. AreBitsRead count bytes.now found.0 found.1.now) (λ fault. pixels count bytes.now ≡ Err fault) }
-{
-    let (mut byte, mut rest) = (0u8, bytes);
-    'pixels: for place in 0..count {
-        let (black, others) = read_next(rest)?;
-        byte = with_pixel(byte, place, black);
-        rest = others;
-    }
-    Ok((byte, rest))
-}
-
-/// Eight values of one bit as a byte, the first the lowest.
+/// A bit for each byte of a block: whether it is this one.
 #[inline(always)]
-fn digits_byte(digits: [u8; 8]) -> u8
-    requires { (k : ℕ) → slice_index digits k ≤ 1 }
-    ensures { (k : ℕ) → k < 8 → bit_at result k ≡ slice_index digits k }
+fn equal_to(block: u8x64, byte: u8) -> u64
+    ensures { (k : ℕ) → k < 64 → bit_at result k ≡ cond (slice_index_or block k 0 == byte) 1 0 }
 {
-    let low = digits[0] + 2 * digits[1] + 4 * digits[2] + 8 * digits[3];
-    let high = digits[4] + 2 * digits[5] + 4 * digits[6] + 8 * digits[7];
-    low + 16 * high
+    block.simd_eq(u8x64::splat(byte)).to_bitmask()
 }
 
-/// The eight digits at the front, where eight stand there, as the bits of a byte.
+/// How many digits of pixels stand at the front, up to 64, and their bits. None is looked for where fewer than 64 bytes are left.
 #[inline(always)]
-fn eight_digits(bytes: &[u8]) -> Option<u8>
-    ensures { AreDigitsIfSome bytes.now result }
+fn front_digits(bytes: &[u8]) -> (u16, u64)
+    ensures few { result.0 ≤ 64 }
+    ensures digits { AreDigits result.0 bytes.now result.1 }
 {
-    if bytes.len() < 8 {
-        return None;
+    if bytes.len() < LANES {
+        return (0, 0);
     }
-    let a = bytes[0].wrapping_sub(b'0');
-    let b = bytes[1].wrapping_sub(b'0');
-    let c = bytes[2].wrapping_sub(b'0');
-    let d = bytes[3].wrapping_sub(b'0');
-    let e = bytes[4].wrapping_sub(b'0');
-    let f = bytes[5].wrapping_sub(b'0');
-    let g = bytes[6].wrapping_sub(b'0');
-    let h = bytes[7].wrapping_sub(b'0');
-    if a | b | c | d | e | f | g | h > 1 {
-        return None;
-    }
-    Some(digits_byte([a, b, c, d, e, f, g, h]))
+    let block = u8x64::from_slice(&bytes[..LANES]);
+    let ones = equal_to(block, b'1');
+    let digits = ones | equal_to(block, b'0');
+    (digits.trailing_ones() as u16, ones)
 }
 
-/// The next pixels, up to eight, as the bits of a byte.
-fn read_byte(bytes: &[u8], count: u16) -> Result<(u8, &[u8]), PbmFault>
-    requires { count ≤ 8 }
-    ensures read { MatchResult result (λ found. AreBitsRead count bytes.now found.0 found.1.now) (λ fault. pixels count bytes.now ≡ Err fault) }
-    ensures byte { IfOk result (λ found. found.0 < 256) }
+/// 1 for a black pixel, and 0 for a white one.
+fn bit_of(black: bool) -> u64
+    ensures { result ≡ cond black 1 0 }
 {
-    if count < 8 {
-        return read_each(bytes, count);
+    if black { 1 } else { 0 }
+}
+
+/// The next pixel as the lowest bit of a word.
+fn read_one(bytes: &[u8]) -> Result<(u16, u64, &[u8]), PbmFault>
+    ensures { MatchResult result (λ found. AreSomeRead 1 bytes.now found.0 found.1 found.2.now) (λ fault. next_pixel bytes.now ≡ Err fault) }
+{
+    let (black, rest) = read_next(bytes)?;
+    Ok((1, bit_of(black), rest))
+}
+
+/// How many of the next pixels were read, one at least and so many at most, and their bits: the first is the lowest.
+fn read_some(bytes: &[u8], most: u16) -> Result<(u16, u64, &[u8]), PbmFault>
+    requires some { 0 < most }
+    requires few { most ≤ 64 }
+    ensures { MatchResult result (λ found. AreSomeRead most bytes.now found.0 found.1 found.2.now) (λ fault. next_pixel bytes.now ≡ Err fault) }
+{
+    let (run, digits) = front_digits(bytes);
+    let count = run.min(most);
+    if count == 0 {
+        return read_one(bytes);
     }
-    match eight_digits(bytes) {
-        Some(byte) => Ok((byte, &bytes[8..])),
-        None => read_each(bytes, count),
-    }
+    let digits = digits & (u64::MAX >> (64 - count));
+    Ok((count, digits, &bytes[usize::from(count)..]))
+}
+
+/// So many bits more behind the first ones of a word.
+fn with_bits(word: u64, place: u16, bits: u64, count: u16) -> u64
+    requires room { place + count ≤ 64 }
+    requires some { 0 < count }
+    requires word { word < 2 ^ place }
+    requires bits { bits < 2 ^ count }
+    ensures joined { result ≡ bits * 2 ^ place + word }
+    ensures below { result < 2 ^ (place + count) }
+{
+    word + (bits << place)
 }
 
 /// The next pixels, up to 64, as the bits of a word: the first is the lowest, and those past the last are 0.
@@ -112,11 +106,12 @@ pub fn read_word(bytes: &[u8], count: u16) -> Result<(u64, &[u8]), PbmFault>
     requires { count ≤ 64 }
     ensures { MatchResult result (λ found. AreBitsRead count bytes.now found.0 found.1.now) (λ fault. pixels count bytes.now ≡ Err fault) }
 {
-    let (mut parts, mut rest) = ([0u8; 8], bytes);
-    'parts: for part in 0..count.div_ceil(8) {
-        let (byte, others) = read_byte(rest, (count - 8 * part).min(8))?;
-        parts[usize::from(part)] = byte;
+    let (mut word, mut place, mut rest) = (0u64, 0u16, bytes);
+    'turns: while place < count {
+        let (more, digits, others) = read_some(rest, count - place)?;
+        word = with_bits(word, place, digits, more);
+        place += more;
         rest = others;
     }
-    Ok((u64::from_le_bytes(parts), rest))
+    Ok((word, rest))
 }

@@ -1,12 +1,15 @@
--- The parts before this one were read.
-use Rattle.std.proofs.Common.{◌≡◌, ℕ, ◌<◌, ◌*◌, ◌/◌, ◌%◌, min, get_or, length}
+-- The pixels before this place were read, and no others.
+use Rattle.std.proofs.Common.{◌-◌, ◌^◌, ◌<◌, ◌≤◌}
 use Rattle.std.specs.Int.{bit_at}
 use Rattle.pbm.proofs.PartReads.{IsPartRead}
 use Rattle.pbm.proofs.plain_word.read_word.Given as goal
 
-abbrev pub invariant-parts : goal.invariant-parts
-invariant-parts l = record {
-  room : length l.parts ≡ 8;
-  small : (k : ℕ) → get_or l.parts k 0 < 256;
-  read : IsPartRead l.fn.count l.fn.bytes (min l.fn.count (8 * l.part)) (λ i. bit_at (get_or l.parts (i / 8) 0) (i % 8)) l.rest;
+abbrev pub invariant-turns : goal.invariant-turns
+invariant-turns l = record {
+  within : l.place ≤ l.fn.count;
+  below : l.word < 2 ^ l.place;
+  read : IsPartRead l.fn.count l.fn.bytes l.place (bit_at l.word) l.rest;
 }
+
+abbrev pub decreases-turns : goal.decreases-turns
+decreases-turns l = l.count - l.place
