@@ -5,8 +5,6 @@ mod bitmap;
 mod fill;
 mod laws;
 mod stamp;
-#[cfg(test)]
-mod tests;
 mod tile;
 mod tile_bits;
 mod word;

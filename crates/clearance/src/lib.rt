@@ -12,8 +12,6 @@ mod row;
 mod search;
 mod segment;
 mod strip;
-#[cfg(test)]
-mod tests;
 mod walk;
 
 pub use queries::{along, at, clear_of, least_in};

@@ -5,8 +5,6 @@ mod row;
 mod seek;
 mod sweep;
 mod table;
-#[cfg(test)]
-mod tests;
 
 pub use seek::nearest_rows;
 pub use table::{ColumnTable, NONE};

@@ -5,8 +5,6 @@ mod columns;
 mod cover;
 mod fill;
 mod stack;
-#[cfg(test)]
-mod tests;
 
 pub use metric::Near;
 pub use stack::{Stack, row, row_alone};

@@ -10,8 +10,6 @@ mod laws;
 mod now;
 mod reader;
 mod setting;
-#[cfg(test)]
-mod tests;
 mod tiles;
 mod world;
 

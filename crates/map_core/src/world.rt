@@ -5,8 +5,6 @@ ghost use Rattle.map_core.specs.Runs.{SafeStep};
 mod commit;
 mod keep;
 mod open;
-#[cfg(test)]
-mod open_tests;
 mod order;
 mod reads;
 mod words;

@@ -16,8 +16,6 @@ mod rect;
 mod refusal;
 mod std_streams;
 mod stream;
-#[cfg(test)]
-mod tests;
 
 pub use cell::Cell;
 pub use decimal::push_decimal;

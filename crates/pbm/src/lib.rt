@@ -20,6 +20,3 @@ pub use laws::{one_image, plain_text_is_an_image, raw_text_is_an_image, reads_wh
 pub use metric::PbmFault;
 pub use plain_writer::write_plain;
 pub use raw_writer::write_raw;
-
-#[cfg(test)]
-mod tests;

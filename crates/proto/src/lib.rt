@@ -7,8 +7,6 @@ mod answer;
 mod answering;
 mod arguments;
 mod command;
-#[cfg(test)]
-mod command_tests;
 mod laws;
 mod line;
 mod number;
@@ -17,10 +15,6 @@ mod points;
 mod query;
 mod reply;
 mod serve;
-#[cfg(test)]
-mod serve_tests;
-#[cfg(test)]
-mod tests;
 mod text;
 mod verb;
 mod words;

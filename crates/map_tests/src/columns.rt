@@ -1,0 +1,92 @@
+//! Columns: that the table finds memory, and worked columns, with and without a table.
+
+use crate::compare::{holds, same};
+use bits::Bitmap;
+use column::{ColumnTable, NONE, nearest_rows};
+use metric::{Cell, Refusal};
+use std::alloc::Global;
+use std::process::Abort;
+use std::test::Fail;
+
+/// A height, the rows of a column's obstacles, and for each row the nearest of them.
+const COLUMNS: [(u16, &[u16], &[u16]); 8] = [
+    (1, &[], &[NONE]),
+    (1, &[0], &[0]),
+    (3, &[], &[NONE, NONE, NONE]),
+    (3, &[0, 2], &[0, 0, 2]),
+    (4, &[0, 3], &[0, 0, 3, 3]),
+    (5, &[0, 4], &[0, 0, 0, 4, 4]),
+    (5, &[2], &[2, 2, 2, 2, 2]),
+    (6, &[1, 2, 5], &[1, 1, 2, 2, 5, 5]),
+];
+
+/// The bitmap of this size that has these obstacles in one column.
+fn with_column(
+    rt: &impl Abort,
+    alloc: Global,
+    width: u16,
+    height: u16,
+    x: u16,
+    obstacles: &[u16],
+) -> Result<Bitmap, Refusal> {
+    assert!(rt; 1 <= width && width <= 4096);
+    assert!(rt; 1 <= height && height <= 4096);
+    let mut bitmap = Bitmap::blank(alloc, width, height)?;
+    for y in obstacles {
+        let cell = Cell { x, y: *y };
+        holds(rt, bitmap.holds(cell), ("lies outside", x, y));
+        bitmap.set(cell, true);
+    }
+    Ok(bitmap)
+}
+
+#[test]
+fn worked_columns(rt: HostRuntime) -> Result<(), Fail> {
+    for width in [1, 63, 64, 65, 130] {
+        for (height, obstacles, want) in COLUMNS {
+            let x = width - 1;
+            let bitmap = with_column(&rt, rt.alloc(), width, height, x, obstacles)?;
+            let table = ColumnTable::of(rt.alloc(), &bitmap)?;
+            assert!(rt; table.width() == width && table.height() == height);
+            let mut entries = vec![in rt.alloc(); 0; usize::from(width)]?;
+            for (y, want) in (0..height).zip(want) {
+                assert!(rt; y < bitmap.height());
+                nearest_rows(&bitmap, y, &mut entries);
+                assert!(rt; x < table.width() && y < table.height());
+                let row = table.row(y);
+                same(
+                    &rt,
+                    row,
+                    entries.as_slice(),
+                    ("row, height, width", y, height, width),
+                );
+                same(
+                    &rt,
+                    row.last(),
+                    Some(want),
+                    ("row, height, width", y, height, width),
+                );
+                let nearest = if *want == NONE { None } else { Some(*want) };
+                same(&rt, table.nearest_row(x, y), nearest, "nearest row");
+                assert!(rt; row.iter().take(usize::from(x)).all(|entry| *entry == NONE));
+            }
+        }
+    }
+    Ok(())
+}
+
+#[test]
+fn the_largest_table(rt: HostRuntime) -> Result<(), Fail> {
+    let bitmap = with_column(&rt, rt.alloc(), 4096, 4096, 4095, &[0, 4095])?;
+    let table = ColumnTable::of(rt.alloc(), &bitmap)?;
+    assert!(rt; table.width() == 4096 && table.height() == 4096);
+    same(&rt, table.nearest_row(4095, 2047), Some(0), "nearest row");
+    same(
+        &rt,
+        table.nearest_row(4095, 2048),
+        Some(4095),
+        "nearest row",
+    );
+    same(&rt, table.nearest_row(0, 2048), None, "nearest row");
+    Ok(())
+}

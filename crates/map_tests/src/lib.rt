@@ -1,0 +1,31 @@
+//! Tests of the crates that work on maps: what no clause says of streams, bitmaps, images, rows and queries.
+#![tactic(auto)]
+
+#[cfg(test)]
+mod bitmap_limits;
+#[cfg(test)]
+mod bitmaps;
+#[cfg(test)]
+mod columns;
+#[cfg(test)]
+mod compare;
+#[cfg(test)]
+mod draws;
+#[cfg(test)]
+mod image_limits;
+#[cfg(test)]
+mod images;
+#[cfg(test)]
+mod nearest;
+#[cfg(test)]
+mod queries;
+#[cfg(test)]
+mod row_answers;
+#[cfg(test)]
+mod row_phase;
+#[cfg(test)]
+mod streams;
+#[cfg(test)]
+mod tile_parts;
+#[cfg(test)]
+mod values;

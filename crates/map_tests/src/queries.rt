@@ -1,0 +1,188 @@
+//! Queries: that calls answer, and worked answers.
+
+mod compared;
+mod limits;
+mod slow;
+
+use crate::compare::{holds, same};
+use bits::Bitmap;
+use clearance::{along, at, clear_of, least_in};
+use metric::{Cell, Chess, City, Euclid2, Near, Rect, Refusal};
+use std::alloc::{AllocError, Global};
+use std::process::Abort;
+use std::test::Fail;
+
+/// A column and a row.
+type Place = (u16, u16);
+
+/// The path round the obstacle (2, 1) of a bitmap of 6 columns and 4 rows.
+const ROUND: [Place; 3] = [(0, 0), (5, 0), (5, 3)];
+
+/// Paths on that bitmap, and the cell of the least distance by steps to the four cells beside with that distance, or the refusal.
+const PATHS: [(&[Place], Result<(Place, u32), Refusal>); 10] = [
+    (&ROUND, Ok(((2, 0), 1))),
+    (&[(0, 0), (0, 0)], Ok(((0, 0), 3))),
+    (&[(4, 3)], Ok(((4, 3), 4))),
+    (&[(1, 1), (1, 0), (3, 0), (3, 1)], Ok(((1, 1), 1))),
+    (&[(3, 1), (3, 0), (1, 0), (1, 1)], Ok(((3, 1), 1))),
+    (&[(0, 0), (1, 1)], Err(Refusal::Crooked { index: 1 })),
+    (
+        &[(0, 0), (0, 0), (5, 0), (4, 1), (3, 2)],
+        Err(Refusal::Crooked { index: 3 }),
+    ),
+    (&[], Err(Refusal::BadPath)),
+    (&[(0, 0), (0, 4)], Err(Refusal::OutOfRange)),
+    (&[(0, 0), (1, 1), (6, 1)], Err(Refusal::OutOfRange)),
+];
+
+/// Distances, and the first cell of the path round the obstacle that is nearer, with its distance.
+const CLEARANCES: [(u32, Option<(Place, u32)>); 3] = [
+    (1, None),
+    (2, Some(((2, 0), 1))),
+    (3, Some(((1, 0), 2))),
+];
+
+/// The bitmap of this size with these obstacles.
+fn drawn(
+    rt: &impl Abort,
+    alloc: Global,
+    width: u16,
+    height: u16,
+    obstacles: &[Place],
+) -> Result<Bitmap, Refusal> {
+    assert!(rt; 1 <= width && width <= 4096);
+    assert!(rt; 1 <= height && height <= 4096);
+    let mut bitmap = Bitmap::blank(alloc, width, height)?;
+    for (x, y) in obstacles {
+        let cell = Cell { x: *x, y: *y };
+        holds(rt, bitmap.holds(cell), ("lies outside", x, y));
+        bitmap.set(cell, true);
+    }
+    Ok(bitmap)
+}
+
+/// The cells of these places.
+fn cells(alloc: Global, places: &[Place]) -> Result<Vec<Cell>, AllocError> {
+    places.iter().map(|&(x, y)| Cell { x, y }).collect(alloc)
+}
+
+/// A cell with its distance to the obstacle (2, 1).
+fn beside((place, dist): (Place, u32)) -> (Cell, Near) {
+    beside_at(place, dist, (2, 1))
+}
+
+/// A cell with its distance to an obstacle.
+fn beside_at((x, y): Place, dist: u32, obstacle: Place) -> (Cell, Near) {
+    let cell = Cell {
+        x: obstacle.0,
+        y: obstacle.1,
+    };
+    (Cell { x, y }, Near { dist, cell })
+}
+
+#[test]
+fn paths_are_answered(rt: HostRuntime) -> Result<(), Fail> {
+    let bitmap = drawn(&rt, rt.alloc(), 6, 4, &[(2, 1)])?;
+    for (number, (places, want)) in PATHS.iter().enumerate() {
+        let points = cells(rt.alloc(), places)?;
+        let answer = along::<City>(rt.alloc(), &bitmap, &points);
+        match want {
+            Ok(found) => same(&rt, answer, Ok(Some(beside(*found))), ("path", number)),
+            Err(refusal) => same(&rt, answer, Err(*refusal), ("path", number)),
+        }
+        let clear = clear_of::<City>(rt.alloc(), &bitmap, &points, 0);
+        match want {
+            Ok(_) => same(&rt, clear, Ok(None), ("path", number)),
+            Err(refusal) => same(&rt, clear, Err(*refusal), ("path", number)),
+        }
+    }
+    Ok(())
+}
+
+#[test]
+fn long_paths_are_refused(rt: HostRuntime) -> Result<(), Fail> {
+    let bitmap = drawn(&rt, rt.alloc(), 6, 4, &[(2, 1)])?;
+    let points = [Cell { x: 2, y: 3 }; 1001];
+    let answer = along::<City>(rt.alloc(), &bitmap, &points);
+    same(&rt, answer, Err(Refusal::BadPath), "answer");
+    let answer = along::<City>(rt.alloc(), &bitmap, &points[..1000]);
+    same(&rt, answer, Ok(Some(beside(((2, 3), 2)))), "answer");
+    Ok(())
+}
+
+#[test]
+fn clear_paths_are_told(rt: HostRuntime) -> Result<(), Fail> {
+    let bitmap = drawn(&rt, rt.alloc(), 6, 4, &[(2, 1)])?;
+    let points = cells(rt.alloc(), &ROUND)?;
+    for (d, want) in CLEARANCES {
+        let answer = clear_of::<City>(rt.alloc(), &bitmap, &points, d);
+        same(&rt, answer, Ok(want.map(beside)), ("clear of", d));
+    }
+    Ok(())
+}
+
+#[test]
+fn rectangles_are_answered(rt: HostRuntime) -> Result<(), Fail> {
+    let bitmap = drawn(&rt, rt.alloc(), 6, 4, &[(2, 1)])?;
+    let below = Rect::new(0, 2, 6, 4).expect(&rt, "it has a cell");
+    let answer = least_in::<Euclid2>(rt.alloc(), &bitmap, below);
+    same(&rt, answer, Ok(Some(beside(((2, 2), 1)))), "answer");
+    let wide = Rect::new(0, 0, 7, 4).expect(&rt, "it has a cell");
+    let answer = least_in::<Euclid2>(rt.alloc(), &bitmap, wide);
+    same(&rt, answer, Err(Refusal::OutOfRange), "answer");
+    Ok(())
+}
+
+#[test]
+fn cells_are_answered(rt: HostRuntime) -> Result<(), Fail> {
+    let row = drawn(&rt, rt.alloc(), 3, 1, &[(0, 0), (2, 0)])?;
+    let left = Near {
+        dist: 1,
+        cell: Cell { x: 0, y: 0 },
+    };
+    let answer = at::<Euclid2>(rt.alloc(), &row, Cell { x: 1, y: 0 });
+    same(&rt, answer, Ok(Some(left)), "answer");
+    let answer = at::<Euclid2>(rt.alloc(), &row, Cell { x: 3, y: 0 });
+    same(&rt, answer, Err(Refusal::OutOfRange), "answer");
+
+    let column = drawn(&rt, rt.alloc(), 3, 2, &[(0, 0), (0, 1)])?;
+    let lower = Near {
+        dist: 2,
+        cell: Cell { x: 0, y: 1 },
+    };
+    let answer = at::<Chess>(rt.alloc(), &column, Cell { x: 2, y: 1 });
+    same(&rt, answer, Ok(Some(lower)), "answer");
+    Ok(())
+}
+
+#[test]
+fn no_obstacle_is_found(rt: HostRuntime) -> Result<(), Fail> {
+    let blank = drawn(&rt, rt.alloc(), 6, 4, &[])?;
+    let points = cells(rt.alloc(), &ROUND)?;
+    let whole = Rect::new(0, 0, 6, 4).expect(&rt, "it has a cell");
+    same(
+        &rt,
+        at::<City>(rt.alloc(), &blank, Cell { x: 5, y: 3 }),
+        Ok(None),
+        "at",
+    );
+    same(
+        &rt,
+        least_in::<City>(rt.alloc(), &blank, whole),
+        Ok(None),
+        "least in",
+    );
+    same(
+        &rt,
+        along::<City>(rt.alloc(), &blank, &points),
+        Ok(None),
+        "along",
+    );
+    same(
+        &rt,
+        clear_of::<City>(rt.alloc(), &blank, &points, u32::MAX),
+        Ok(None),
+        "clear of",
+    );
+    Ok(())
+}

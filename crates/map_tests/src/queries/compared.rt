@@ -1,0 +1,148 @@
+//! The search beside the plain program, on maps drawn at random.
+
+use super::slow::{Answers, cells_of_path, cells_of_rect};
+use crate::compare::same;
+use crate::draws::Draws;
+use bits::Bitmap;
+use clearance::{along, at, clear_of, least_in};
+use metric::{Chess, City, Euclid2, Metric, Rect};
+use std::alloc::Global;
+use std::process::Abort;
+use std::test::Fail;
+
+/// Sides of maps: small ones, and those round the ends of one and of two words.
+const SIDES: [u16; 12] = [1, 2, 3, 7, 20, 62, 63, 64, 65, 66, 127, 129];
+
+/// Widths and heights at both ends of the range, and higher than the rows are looked at one by one.
+const LONG: [(u16, u16); 7] = [
+    (1, 1),
+    (4096, 1),
+    (1, 4096),
+    (4096, 3),
+    (3, 4096),
+    (65, 700),
+    (700, 300),
+];
+
+/// One cell in so many is an obstacle.
+const RARE: [u16; 8] = [1, 2, 4, 15, 60, 300, 2000, 20000];
+
+/// A bitmap with the answers of all its cells.
+#[derive(Drop)]
+struct Case<'a> {
+    bitmap: &'a Bitmap,
+    answers: &'a Answers,
+}
+
+/// Cells, one by one.
+fn compare_cells<M: Metric>(
+    rt: &impl Abort,
+    alloc: Global,
+    case: &Case<'_>,
+    draws: &mut Draws,
+) -> Result<(), Fail> {
+    for _ in 0..12 {
+        let cell = draws.cell(case.bitmap);
+        let answer = at::<M>(alloc, case.bitmap, cell)?;
+        same(rt, answer, case.answers.at(cell), cell);
+    }
+    Ok(())
+}
+
+/// A rectangle.
+fn compare_rect<M: Metric>(
+    rt: &impl Abort,
+    alloc: Global,
+    case: &Case<'_>,
+    rect: Rect,
+) -> Result<(), Fail> {
+    let cells = cells_of_rect(alloc, rect)?;
+    let answer = least_in::<M>(alloc, case.bitmap, rect)?;
+    same(rt, answer, case.answers.least(&cells), rect);
+    Ok(())
+}
+
+/// A path, by its least distance, and by distances below, at and above that of one of its cells.
+fn compare_path<M: Metric>(
+    rt: &impl Abort,
+    alloc: Global,
+    case: &Case<'_>,
+    draws: &mut Draws,
+) -> Result<(), Fail> {
+    let count = draws.below(7) + 1;
+    let points = draws.path(alloc, case.bitmap, count)?;
+    let cells = cells_of_path(alloc, &points)?;
+    let answer = along::<M>(alloc, case.bitmap, &points)?;
+    same(rt, answer, case.answers.least(&cells), &points);
+    let some = draws.cell(case.bitmap);
+    let dist = case.answers.at(some).map_or(3, |near| near.dist);
+    for d in [0, dist, dist.saturating_add(1), u32::MAX] {
+        let answer = clear_of::<M>(alloc, case.bitmap, &points, d)?;
+        let want = case.answers.first_below(&cells, d);
+        same(rt, answer, want, ("clear of", &points, d));
+    }
+    Ok(())
+}
+
+/// All queries on one map by one metric.
+fn compare<M: Metric>(
+    rt: &impl Abort,
+    alloc: Global,
+    bitmap: &Bitmap,
+    draws: &mut Draws,
+) -> Result<(), Fail> {
+    let answers = Answers::of::<M>(alloc, bitmap)?;
+    let case = Case {
+        bitmap,
+        answers: &answers,
+    };
+    compare_cells::<M>(rt, alloc, &case, draws)?;
+    if let Some(whole) = Rect::new(0, 0, bitmap.width(), bitmap.height()) {
+        compare_rect::<M>(rt, alloc, &case, whole)?;
+    }
+    for _ in 0..2 {
+        if let Some(rect) = draws.rect(bitmap) {
+            compare_rect::<M>(rt, alloc, &case, rect)?;
+        }
+        compare_path::<M>(rt, alloc, &case, draws)?;
+    }
+    Ok(())
+}
+
+/// All queries on a map of this size, by each metric.
+fn compare_map(
+    rt: &impl Abort,
+    alloc: Global,
+    (width, height): (u16, u16),
+    draws: &mut Draws,
+) -> Result<(), Fail> {
+    let rare = u64::from(draws.one_of(&RARE));
+    assert!(rt; 0 < rare);
+    assert!(rt; 1 <= width && width <= 4096);
+    assert!(rt; 1 <= height && height <= 4096);
+    let bitmap = draws.map(alloc, width, height, rare)?;
+    compare::<Euclid2>(rt, alloc, &bitmap, draws)?;
+    compare::<City>(rt, alloc, &bitmap, draws)?;
+    compare::<Chess>(rt, alloc, &bitmap, draws)
+}
+
+#[test]
+fn maps_are_answered_as_by_all_cells(rt: HostRuntime) -> Result<(), Fail> {
+    let mut draws = Draws::new(20261123);
+    for _ in 0..1200 {
+        let size = (draws.one_of(&SIDES), draws.one_of(&SIDES));
+        compare_map(&rt, rt.alloc(), size, &mut draws)?;
+    }
+    Ok(())
+}
+
+#[test]
+fn long_maps_are_answered_as_by_all_cells(rt: HostRuntime) -> Result<(), Fail> {
+    let mut draws = Draws::new(4096);
+    for _ in 0..4 {
+        for size in LONG {
+            compare_map(&rt, rt.alloc(), size, &mut draws)?;
+        }
+    }
+    Ok(())
+}

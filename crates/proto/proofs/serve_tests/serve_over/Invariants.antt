@@ -1,5 +1,0 @@
-use Rattle.proto.proofs.serve_tests.serve_over.Given as goal
-
--- the store's name is that of what it is opened from
-abbrev pub ghosts-serve_in : goal.ghosts-serve_in
-ghosts-serve_in g a = record { store = a.blank }

@@ -1,0 +1,5 @@
+use Rattle.store_tests.proofs.served.serve_over.Given as goal
+
+-- the store's name is that of what it is opened from
+abbrev pub ghosts-serve_in : goal.ghosts-serve_in
+ghosts-serve_in g a = record { store = a.blank }
