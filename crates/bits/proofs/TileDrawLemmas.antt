@@ -56,7 +56,8 @@ in_part a b x0 y0 x1 y1 i j value old hi hj = grind (arith, nat_tests)
 not_in : (w h x0 y0 x1 y1 x y : ℕ) (value : Bool) → x1 ≤ w → y1 ≤ h → (x < w → h ≤ y) → (if is_within x0 y0 x1 y1 x y then value else false) ≡ false
 not_in w h x0 y0 x1 y1 x y value hx hy out = grind (arith, nat_tests)
 
-out_of : (cells : Cells) → IsBitmap cells → (x y : ℕ) → (x < cells.width → cells.height ≤ y) → has cells x y ≡ false
+-- outside of a bitmap no cell is an obstacle
+pub out_of : (cells : Cells) → IsBitmap cells → (x y : ℕ) → (x < cells.width → cells.height ≤ y) → has cells x y ≡ false
 out_of cells is x y outside =
     elim (has cells x y) as (λ test. has cells x y ≡ test → test ≡ false) [
       | true ↦ λ e. let inside = has-outside cells is x y e in absurd (let up = outside inside.column in let down = inside.row in omega arith)

@@ -1,0 +1,10 @@
+pub mod BlocksLemmas
+pub mod DrawLemmas
+pub mod FillTiles
+pub mod GridPaint
+pub mod GridRevert
+pub mod GridSeal
+pub mod GridSweep
+pub mod PaintLemmas
+pub mod SealLemmas
+pub mod SweepLemmas

@@ -1,0 +1,3 @@
+pub mod Pieces
+pub mod Grids
+pub mod Fields

@@ -1,0 +1,11 @@
+//! The draft and the versions of a map as tiles: a tile that no command has changed since a publish is shared.
+#![tactic(auto)]
+
+mod blocks;
+mod collect;
+mod draw;
+mod grid;
+mod retired;
+mod spend;
+
+pub use grid::Grid;
