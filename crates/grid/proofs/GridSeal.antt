@@ -194,10 +194,11 @@ sealed g = record g {
 }
 
 module _ (g : Tiled) (is : IsTiled g) where
-  many_own : length g.own ≡ length g.pieces
+  -- as many own tiles as newest's, and as the map has positions
+  pub many_own : length g.own ≡ length g.pieces
   many_own = is.drawn_is.own_long ∙ sym is.drawn_is.newest_long
 
-  tiles_are : tile_count (draft g) ≡ words_across g.width * tiles_down g.height
+  pub tiles_are : tile_count (draft g) ≡ words_across g.width * tiles_down g.height
   tiles_are = (λ i. words_across (draft_width g.width g.height g.own g.pieces i) * tiles_down (draft_height g.width g.height g.own g.pieces i))
 
   came_read : (p : ℕ) → p < length g.pieces → get_or (came_after g.newest (own_blocks g) g.came) p 0 ≡ came_with g.newest (block_if (get_or g.own p None)) (get_or g.came p 0)

@@ -1,4 +1,5 @@
 pub mod BlocksLemmas
+pub mod CopyLemmas
 pub mod DrawLemmas
 pub mod FillTiles
 pub mod GridPaint

@@ -1,3 +1,4 @@
 pub mod Pieces
 pub mod Grids
 pub mod Fields
+pub mod Copies

@@ -8,6 +8,7 @@ ghost use Rattle.map_core.specs.declared.command.Command.TheVariants.{Paint, Sta
 ghost use Rattle.map_core.specs.Blocks.{own_list};
 ghost use Rattle.grid.specs.Grids.{Tiled, Draws, Seals, Reverts, Sweeps, refused_by, draft, bitmap_at, own_blocks, newest_blocks, retired_blocks};
 
+use crate::copy::{put_newest_tiles, put_old_tiles};
 use crate::blocks::{give_own, give_retired, seal_tiles};
 use crate::draw::{blocks_needed, fill_tiles};
 use crate::retired::Retired;
@@ -142,7 +143,10 @@ impl Grid {
         requires width { bitmap.old.width ≡ self.now.width }
         requires height { bitmap.old.height ≡ self.now.height }
         ensures { bitmap.new ≡ bitmap_at self.now version }
-    {}
+    {
+        put_newest_tiles(self.tiles.as_slice(), self.came.as_slice(), version, bitmap);
+        put_old_tiles(self.retired.as_slice(), version, bitmap);
+    }
 
     /// The grid of a map that is opened on this bitmap, all of whose tiles come from the arena. Refused for want of memory alone, and then the arena has all its blocks.
     pub fn open(alloc: Global, map: &Bitmap, arena: &mut Arena) -> Result<Grid, Refusal>

@@ -2,7 +2,7 @@
 #![tactic(auto)]
 
 mod blocks;
-mod collect;
+mod copy;
 mod draw;
 mod grid;
 mod retired;
