@@ -21,7 +21,8 @@ use Rattle.grid.specs.Fields.{old_piece}
 use Rattle.grid.specs.declared.retired.Retired.{Retired}
 use Rattle.grid.proofs.GridSeal.{tiles_are}
 
-no_bits : (n i : ℕ) → ◌≡◌ {A = ℕ} (get_or (replicate n 0) i 0) 0
+-- a list of zeros has no other number
+pub no_bits : (n i : ℕ) → ◌≡◌ {A = ℕ} (get_or (replicate n 0) i 0) 0
 no_bits zero i = refl
 no_bits (suc n) zero = refl
 no_bits (suc n) (suc i) = no_bits n i

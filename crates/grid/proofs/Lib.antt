@@ -6,6 +6,7 @@ pub mod GridPaint
 pub mod GridRevert
 pub mod GridSeal
 pub mod GridSweep
+pub mod OpenLemmas
 pub mod PaintLemmas
 pub mod SealLemmas
 pub mod SweepLemmas

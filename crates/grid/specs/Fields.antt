@@ -1,5 +1,5 @@
 -- What the fields of a grid store: this project's own rule.
-use Rattle.std.specs.Prelude.{◌≡◌, ℕ, ◌+◌, ◌≤◌, List, [], ◌∷◌, length, map}
+use Rattle.std.specs.Prelude.{◌≡◌, ℕ, ◌+◌, ◌^◌, ◌<◌, ◌≤◌, List, [], ◌∷◌, length, map}
 use Rattle.std.specs.List.{All}
 use Rattle.std.specs.Vec.{vec_capacity}
 use Rattle.arena.specs.Blocks.{Home}
@@ -27,5 +27,5 @@ pub record AreWhole (a : Inside) : Type 0 where
   pub retired_from : All (λ r. r.tile.home ≡ home_of a.tiles.items) a.retired.items
   pub spare_is : a.spare.items ≡ []
   pub spare_room : vec_capacity a.retired ≤ vec_capacity a.spare
-  pub room_few : vec_capacity a.retired ≤ 16384
+  pub room_few : vec_capacity a.retired < 2 ^ 32
   pub retired_fits : length a.retired.items ≤ vec_capacity a.retired

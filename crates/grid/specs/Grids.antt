@@ -5,7 +5,7 @@ use Rattle.metric.specs.declared.refusal.Refusal.{Refusal}
 use Rattle.metric.specs.declared.refusal.Refusal.TheVariants.{OutOfRange, BlocksFull}
 use Rattle.arena.specs.Blocks.{Home}
 use Rattle.arena.specs.declared.region.Tile.{Tile}
-use Rattle.bits.specs.Cells.{Cells, IsSide}
+use Rattle.bits.specs.Cells.{Cells, IsSide, IsBitmap}
 use Rattle.bits.specs.Words.{words_across}
 use Rattle.bits.specs.Tiles.{tile_count}
 use Rattle.bits.specs.TileWords.{tile_words}
@@ -39,6 +39,12 @@ pub record Tiled : Type 0 where
   pub retired : List OldPiece
   -- how many retired pieces there is room for
   pub room : ℕ
+
+-- these pieces are the tiles of a bitmap, by position
+pub record AreTilesOf (cells : Cells) (pieces : List Piece) : Type 0 where
+  pub bitmap : IsBitmap cells
+  pub as_many : length pieces ≡ tile_count cells
+  pub words_are : (p : ℕ) → p < tile_count cells → (slice_index_or pieces p no_piece).words ≡ tile_words cells p
 
 -- the draft
 abbrev pub draft : Tiled → Cells

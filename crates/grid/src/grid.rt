@@ -11,6 +11,7 @@ ghost use Rattle.grid.specs.Grids.{Tiled, Draws, Seals, Reverts, Sweeps, refused
 use crate::copy::{put_newest_tiles, put_old_tiles};
 use crate::blocks::{give_own, give_retired, seal_tiles};
 use crate::draw::{blocks_needed, fill_tiles};
+use crate::opening::{Rooms, leave_empty, take_tiles};
 use crate::retired::Retired;
 use crate::spend::{end_own, end_retired, give_all};
 use arena::{Arena, Tile};
@@ -148,15 +149,39 @@ impl Grid {
         put_old_tiles(self.retired.as_slice(), version, bitmap);
     }
 
-    /// The grid of a map that is opened on this bitmap, all of whose tiles come from the arena. Refused for want of memory alone, and then the arena has all its blocks.
+    /// The grid of a map that is opened on this bitmap, which is its version 0: a tile is taken for each position.
+    ///
+    /// Refused for want of memory alone, and then no tile is out. No later call asks for memory.
     pub fn open(alloc: Global, map: &Bitmap, arena: &mut Arena) -> Result<Grid, Refusal>
         requires { tile_count map.now ≤ length arena.old.free }
         ensures opened { IfOk result (λ grid. (draft grid ≡ map.now) × (bitmap_at grid 0 ≡ map.now) × (grid.newest ≡ 0) × (own_blocks grid ≡ replicate (tile_count map.now) None)
-            × (arena.old.free ≡ newest_blocks grid ++ arena.new.free) × (grid.came ≡ replicate (tile_count map.now) 0) × (grid.retired ≡ []) × (grid.home ≡ arena.old.home) × (grid.room ≡ arena.old.home.count)) }
+            × (arena.old.free ≡ newest_blocks grid ++ arena.new.free) × (grid.came ≡ replicate (tile_count map.now) 0) × (grid.retired ≡ []) × (grid.home ≡ arena.old.home) × (grid.room ≡ length arena.old.free)) }
         ensures memory { IfErr result (λ refusal. (refusal ≡ Memory) × (arena.new.free ≡ arena.old.free)) }
         ensures home { arena.new.home ≡ arena.old.home }
     {
-        Err(Refusal::Memory)
+        let count = usize::from(map.tiles());
+        let Ok(came) = vec![in alloc; 0u32; count] else {
+            return Err(Refusal::Memory);
+        };
+        let rooms = Rooms::of(alloc, count, arena.free_len() as usize)?;
+        let Rooms {
+            mut tiles,
+            mut own,
+            retired,
+            spare,
+        } = rooms;
+        take_tiles(map, arena, &mut tiles);
+        leave_empty(count, &mut own);
+        Ok(Grid {
+            width: map.width(),
+            height: map.height(),
+            newest: 0,
+            own,
+            tiles,
+            came,
+            retired,
+            spare,
+        })
     }
 
     /// Gives all tiles back.
