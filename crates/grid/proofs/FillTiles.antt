@@ -1,4 +1,4 @@
--- Filling a rectangle of the draft: each position takes the block that it needs, and its cells are counted.
+-- Drawing on a rectangle of the draft: each position takes the block that it needs, and its cells are counted.
 use Rattle.std.proofs.Common.{◌≡◌, ◌≢◌, ℕ, zero, suc, ◌+◌, ◌-◌, ◌*◌, ◌/◌, ◌%◌, ◌^◌, ◌<◌, ◌≤◌, ◌&&◌, ◌⊎◌, min, Bool, true, false, not, cond, List, [], ◌∷◌, ◌++◌, length, map, take, drop, get_or, set, refl, ap, subst, sym, ◌∙◌, arith}
 use Rattle.std.specs.Prelude.{Option, Some, None, is_some, option_to_list}
 use Rattle.std.specs.List.{range_with_len, sum_by}
@@ -8,7 +8,7 @@ use Rattle.std.proofs.lemmas.List.Sums.{sum_by-le, count_by-le-length}
 use Rattle.bits.proofs.TileBitsLemmas.{words_changed-self}
 use Rattle.std.proofs.lemmas.Bool.{cases_eq}
 use mathlib.Core.Logic.{inl, inr}
-use Rattle.bits.specs.Cells.{Cells, with_rect, IsBitmap}
+use Rattle.bits.specs.Cells.{Cells, IsBitmap}
 use Rattle.bits.specs.Tiles.{tile_count}
 use Rattle.bits.specs.Changes.{changes, differs}
 use Rattle.bits.specs.TileWords.{is_bit, tile_words, filled_words, bits_changed, words_changed, words_differ, tile_changes, changes_by_tile}
@@ -20,7 +20,11 @@ use Rattle.map_core.specs.Story.{trues, new_ones}
 use Rattle.map_core.proofs.TakeBlocks.{IsTaken, taken, taken_first, taken_none, taken_some}
 use Rattle.map_core.proofs.TileCounts.{length-differing, tile_differs_none}
 use Rattle.arena.specs.declared.region.Tile.{Tile}
-use Rattle.grid.proofs.PaintLemmas.{IsPaint, IsPart, part_filled, some_same, needs_here, row_kept, words_kept}
+use Rattle.grid.proofs.PaintLemmas.{IsDrawing, IsMissed, part_drawn, some_same, needs_here, row_kept, words_kept}
+use Rattle.metric.specs.declared.rect.Rect.{Rect}
+use Rattle.grid.specs.declared.ink.Ink.{Ink}
+use Rattle.grid.specs.declared.ink.Part.{Part}
+use Rattle.grid.specs.Inks.{with_ink, inked, IsPart}
 use Rattle.grid.specs.Pieces.{Piece, no_piece, piece_of, piece_if, block_if, words_here, words_at, IsDraft, IsShown, Takes}
 
 -- how far a paint has come
@@ -191,15 +195,15 @@ painting_fits cells new own0 free0 newest p own free changed more a b so_far h f
 
 -- one position more, by the tiles that are read and written
 pub painting_part : (cells : Cells) (own0 : List (Option ℕ)) (free0 : List ℕ) (newest : List Tile) (p : ℕ) (own : List (Option Tile)) (free rest : List ℕ) (changed more : ℕ) (d x : Option Tile) (n : Tile)
-    (x0 y0 x1 y1 : ℕ) (value : Bool) (across a0 b0 a1 b1 : ℕ)
-    → IsPaint cells x0 y0 x1 y1 across → IsPainting cells (with_rect cells x0 y0 x1 y1 value) own0 free0 (map piece_of newest) p (map piece_if own) free changed → p < length own
-    → IsPart p across x0 y0 x1 y1 a0 b0 a1 b1 → n ≡ get_or newest p n
-    → words_here (piece_if x) (piece_of n) ≡ filled_words (words_here (piece_if (get_or own p d)) (piece_of n)) a0 b0 a1 b1 value
+    (r : Rect) (ink : Ink) (across : ℕ) (part : Part)
+    → IsDrawing cells r across → IsPainting cells (with_ink cells r ink) own0 free0 (map piece_of newest) p (map piece_if own) free changed → p < length own
+    → IsPart p across r part → n ≡ get_or newest p n
+    → words_here (piece_if x) (piece_of n) ≡ inked ink part (words_here (piece_if (get_or own p d)) (piece_of n))
     → more ≡ words_changed (words_here (piece_if (get_or own p d)) (piece_of n)) (words_here (piece_if x) (piece_of n))
-    → Takes (words_differ n.words (filled_words n.words a0 b0 a1 b1 value) && not (is_some (get_or own p d))) (block_if (piece_if (get_or own p d))) (block_if (piece_if x)) free rest
-    → IsPainting cells (with_rect cells x0 y0 x1 y1 value) own0 free0 (map piece_of newest) (p + 1) (map piece_if (set own p x)) rest (changed + more)
-painting_part cells own0 free0 newest p own free rest changed more d x n x0 y0 x1 y1 value across a0 b0 a1 b1 paint so_far inside part read_newest words more_is took =
-    let new = with_rect cells x0 y0 x1 y1 value in
+    → Takes (words_differ n.words (inked ink part n.words) && not (is_some (get_or own p d))) (block_if (piece_if (get_or own p d))) (block_if (piece_if x)) free rest
+    → IsPainting cells (with_ink cells r ink) own0 free0 (map piece_of newest) (p + 1) (map piece_if (set own p x)) rest (changed + more)
+painting_part cells own0 free0 newest p own free rest changed more d x n r ink across part drawing so_far inside at read_newest words more_is took =
+    let new = with_ink cells r ink in
     let t = get_or own p d in
     let same = length-map own piece_if in
     let own_long = so_far.own_long in
@@ -209,12 +213,12 @@ painting_part cells own0 free0 newest p own free rest changed more d x n x0 y0 x
     let at_newest : get_or (map piece_of newest) p no_piece ≡ piece_of n = get_or-map piece_of newest p n no_piece (omega arith) ∙ ap piece_of (sym read_newest) in
     let before : words_here (piece_if t) (piece_of n) ≡ tile_words cells p =
     (λ i. words_here ((sym (get_or-map piece_if own p d None inside)) i) (sym at_newest i)) ∙ so_far.left p (omega arith) h in
-    let does = part_filled cells x0 y0 x1 y1 value p across a0 b0 a1 b1 paint.bitmap paint.columns paint.rows paint.across_is part in
-    let test = ap (λ (b : Bool). words_differ n.words (filled_words n.words a0 b0 a1 b1 value) && not b) (some_same t)
-    ∙ needs_here (piece_if t) (piece_of n) cells new p (λ ws. filled_words ws a0 b0 a1 b1 value) before does in
+    let does = part_drawn cells r ink p across part drawing.bitmap drawing.columns drawing.rows drawing.across_is at in
+    let test = ap (λ (b : Bool). words_differ n.words (inked ink part n.words) && not b) (some_same t)
+    ∙ needs_here (piece_if t) (piece_of n) cells new p (inked ink part) before does in
     subst (λ (ys : List (Option Piece)). IsPainting cells new own0 free0 (map piece_of newest) (p + 1) ys rest (changed + more)) (sym (map-set piece_if own p x))
     (painting_next cells new own0 free0 (map piece_of newest) p (map piece_if own) free rest changed more (piece_if t) (piece_if x) (piece_of n) _ so_far h read at_newest
-    (words ∙ (ap (λ (ws : List ℕ). filled_words ws a0 b0 a1 b1 value) before ∙ does)) more_is test took)
+    (words ∙ (ap (inked ink part) before ∙ does)) more_is test took)
 
 -- newest's words are as long as a tile where the draft has them
 pub painting_long : (cells new : Cells) (own0 : List (Option ℕ)) (free0 : List ℕ) (newest : List Tile) (p : ℕ) (own : List (Option Tile)) (free : List ℕ) (changed : ℕ) (d : Option Tile) (n : Tile)
@@ -231,12 +235,12 @@ painting_long cells new own0 free0 newest p own free changed d n so_far inside r
 
 -- where the code finds that a block is needed, one is free
 pub painting_free : (cells : Cells) (own0 : List (Option ℕ)) (free0 : List ℕ) (newest : List Tile) (p : ℕ) (own : List (Option Tile)) (free : List ℕ) (changed : ℕ) (d : Option Tile) (n : Tile)
-    (x0 y0 x1 y1 : ℕ) (value : Bool) (across a0 b0 a1 b1 : ℕ)
-    → IsPaint cells x0 y0 x1 y1 across → IsPainting cells (with_rect cells x0 y0 x1 y1 value) own0 free0 (map piece_of newest) p (map piece_if own) free changed → p < length own
-    → IsPart p across x0 y0 x1 y1 a0 b0 a1 b1 → n ≡ get_or newest p n
-    → (words_differ n.words (filled_words n.words a0 b0 a1 b1 value) && not (is_some (get_or own p d))) ≡ true → free ≢ []
-painting_free cells own0 free0 newest p own free changed d n x0 y0 x1 y1 value across a0 b0 a1 b1 paint so_far inside part read_newest need =
-    let new = with_rect cells x0 y0 x1 y1 value in
+    (r : Rect) (ink : Ink) (across : ℕ) (part : Part)
+    → IsDrawing cells r across → IsPainting cells (with_ink cells r ink) own0 free0 (map piece_of newest) p (map piece_if own) free changed → p < length own
+    → IsPart p across r part → n ≡ get_or newest p n
+    → (words_differ n.words (inked ink part n.words) && not (is_some (get_or own p d))) ≡ true → free ≢ []
+painting_free cells own0 free0 newest p own free changed d n r ink across part drawing so_far inside at read_newest need =
+    let new = with_ink cells r ink in
     let t = get_or own p d in
     let same = length-map own piece_if in
     let own_long = so_far.own_long in
@@ -246,36 +250,36 @@ painting_free cells own0 free0 newest p own free changed d n x0 y0 x1 y1 value a
     let at_newest : get_or (map piece_of newest) p no_piece ≡ piece_of n = get_or-map piece_of newest p n no_piece (omega arith) ∙ ap piece_of (sym read_newest) in
     let before : words_here (piece_if t) (piece_of n) ≡ tile_words cells p =
     (λ i. words_here ((sym (get_or-map piece_if own p d None inside)) i) (sym at_newest i)) ∙ so_far.left p (omega arith) h in
-    let does = part_filled cells x0 y0 x1 y1 value p across a0 b0 a1 b1 paint.bitmap paint.columns paint.rows paint.across_is part in
-    let test = ap (λ (b : Bool). words_differ n.words (filled_words n.words a0 b0 a1 b1 value) && not b) (some_same t)
-    ∙ needs_here (piece_if t) (piece_of n) cells new p (λ ws. filled_words ws a0 b0 a1 b1 value) before does in
+    let does = part_drawn cells r ink p across part drawing.bitmap drawing.columns drawing.rows drawing.across_is at in
+    let test = ap (λ (b : Bool). words_differ n.words (inked ink part n.words) && not b) (some_same t)
+    ∙ needs_here (piece_if t) (piece_of n) cells new p (inked ink part) before does in
     painting_room cells new own0 free0 (map piece_of newest) p (map piece_if own) free changed (piece_if t) so_far h read (sym test ∙ need)
 
 -- a position that the rectangle doesn't reach
 pub painting_missed : (cells : Cells) (own0 : List (Option ℕ)) (free0 : List ℕ) (newest : List Piece) (p : ℕ) (own : List (Option Tile)) (free : List ℕ) (changed : ℕ)
-    (x0 y0 x1 y1 : ℕ) (value : Bool) (across : ℕ)
-    → IsPaint cells x0 y0 x1 y1 across → IsPainting cells (with_rect cells x0 y0 x1 y1 value) own0 free0 newest p (map piece_if own) free changed → p < length own
-    → (min (x1 - 64 * (p % across)) 64 ≤ min (x0 - 64 * (p % across)) 64) ⊎ (min (y1 - 64 * (p / across)) 64 ≤ min (y0 - 64 * (p / across)) 64)
-    → IsPainting cells (with_rect cells x0 y0 x1 y1 value) own0 free0 newest (p + 1) (map piece_if own) free changed
-painting_missed cells own0 free0 newest p own free changed x0 y0 x1 y1 value across paint so_far inside missed =
-    let new = with_rect cells x0 y0 x1 y1 value in
+    (r : Rect) (ink : Ink) (across : ℕ)
+    → IsDrawing cells r across → IsPainting cells (with_ink cells r ink) own0 free0 newest p (map piece_if own) free changed → p < length own
+    → IsMissed p across r
+    → IsPainting cells (with_ink cells r ink) own0 free0 newest (p + 1) (map piece_if own) free changed
+painting_missed cells own0 free0 newest p own free changed r ink across drawing so_far inside missed =
+    let new = with_ink cells r ink in
     let own_long = so_far.own_long in
     let same = length-map own piece_if in
-    let kept = row_kept cells x0 y0 x1 y1 value p across paint.bitmap paint.columns paint.rows paint.across_is missed in
+    let kept = row_kept cells r ink p across drawing.bitmap drawing.columns drawing.rows drawing.across_is missed in
     painting_past cells new own0 free0 newest p (map piece_if own) free changed so_far (omega arith) (words_kept cells new p kept) (sym (tile_differs_none cells new p kept))
 
 -- after the last position the draft is the filled bitmap, and all changes are counted
-pub painting_end : (cells : Cells) (own0 : List (Option ℕ)) (free0 : List ℕ) (newest : List Piece) (p : ℕ) (own : List (Option Piece)) (free : List ℕ) (changed : ℕ) (x0 y0 x1 y1 : ℕ) (value : Bool)
-    → IsPainting cells (with_rect cells x0 y0 x1 y1 value) own0 free0 newest p own free changed → IsBitmap cells → tile_count cells ≤ p
-    → IsDraft (with_rect cells x0 y0 x1 y1 value) own newest
-painting_end cells own0 free0 newest p own free changed x0 y0 x1 y1 value so_far bitmap end =
-    painting_all cells (with_rect cells x0 y0 x1 y1 value) own0 free0 newest p own free changed so_far end (IsBitmap-cells_where cells.width cells.height _ bitmap.width_is bitmap.height_is) refl
+pub painting_end : (cells : Cells) (own0 : List (Option ℕ)) (free0 : List ℕ) (newest : List Piece) (p : ℕ) (own : List (Option Piece)) (free : List ℕ) (changed : ℕ) (r : Rect) (ink : Ink)
+    → IsPainting cells (with_ink cells r ink) own0 free0 newest p own free changed → IsBitmap cells → tile_count cells ≤ p
+    → IsDraft (with_ink cells r ink) own newest
+painting_end cells own0 free0 newest p own free changed r ink so_far bitmap end =
+    painting_all cells (with_ink cells r ink) own0 free0 newest p own free changed so_far end (IsBitmap-cells_where cells.width cells.height _ bitmap.width_is bitmap.height_is) refl
 
-pub painting_counted : (cells : Cells) (own0 : List (Option ℕ)) (free0 : List ℕ) (newest : List Piece) (p : ℕ) (own : List (Option Piece)) (free : List ℕ) (changed : ℕ) (x0 y0 x1 y1 : ℕ) (value : Bool)
-    → IsPainting cells (with_rect cells x0 y0 x1 y1 value) own0 free0 newest p own free changed → IsBitmap cells → p ≡ tile_count cells
-    → changed ≡ changes cells (with_rect cells x0 y0 x1 y1 value)
+pub painting_counted : (cells : Cells) (own0 : List (Option ℕ)) (free0 : List ℕ) (newest : List Piece) (p : ℕ) (own : List (Option Piece)) (free : List ℕ) (changed : ℕ) (r : Rect) (ink : Ink)
+    → IsPainting cells (with_ink cells r ink) own0 free0 newest p own free changed → IsBitmap cells → p ≡ tile_count cells
+    → changed ≡ changes cells (with_ink cells r ink)
 unfolding changes_by_tile
-painting_counted cells own0 free0 newest p own free changed x0 y0 x1 y1 value so_far bitmap end =
+painting_counted cells own0 free0 newest p own free changed r ink so_far bitmap end =
     so_far.count
-    ∙ (ap (λ (k : ℕ). sum_by (tile_changes cells (with_rect cells x0 y0 x1 y1 value)) (range_with_len 0 k)) end
-    ∙ sym (changes_regrouped cells (with_rect cells x0 y0 x1 y1 value) bitmap (IsBitmap-cells_where cells.width cells.height _ bitmap.width_is bitmap.height_is) refl refl))
+    ∙ (ap (λ (k : ℕ). sum_by (tile_changes cells (with_ink cells r ink)) (range_with_len 0 k)) end
+    ∙ sym (changes_regrouped cells (with_ink cells r ink) bitmap (IsBitmap-cells_where cells.width cells.height _ bitmap.width_is bitmap.height_is) refl refl))

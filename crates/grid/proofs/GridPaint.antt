@@ -1,25 +1,30 @@
--- What a paint does to a grid.
+-- What a paint or a stamp does to a grid.
 use Rattle.std.proofs.Common.{◌≡◌, ℕ, ◌+◌, ◌-◌, ◌*◌, ◌/◌, ◌%◌, ◌<◌, ◌≤◌, ◌&&◌, nat_le, nat_lt, Bool, true, false, if◌then◌else◌, List, length, map, drop, get_or, refl, ap, subst, sym, ◌∙◌, arith}
-use Rattle.std.specs.Prelude.{Option, Some, None, is_some, unwrap_or}
+use Rattle.std.specs.Prelude.{Option, Some, None, is_some, unwrap_or, Result, Ok, Err, IfOk, IfErr}
+use Rattle.std.specs.Borrow.{Bor}
 use Rattle.std.specs.List.{All}
 use Rattle.std.proofs.lemmas.Bool.Decides.{nat_tests}
 use Rattle.std.proofs.lemmas.Nat.{mod_below}
 use Rattle.metric.specs.declared.rect.Rect.{Rect}
 use Rattle.metric.specs.declared.refusal.Refusal.{Refusal}
 use Rattle.metric.specs.declared.refusal.Refusal.TheVariants.{OutOfRange, BlocksFull}
-use Rattle.bits.specs.Cells.{Cells, has, cells_where, with_rect, is_within, IsBitmap}
+use Rattle.bits.specs.Cells.{Cells, has, cells_where, with_values, is_within, IsBitmap}
 use Rattle.bits.specs.Changes.{changes}
 use Rattle.bits.specs.Tiles.{tile_of, tile_has}
 use Rattle.bits.specs.TileWords.{is_bit, tile_words}
 use Rattle.bits.proofs.CellsLemmas.{cells_where-same, cells_where-has, IsBitmap-cells_where}
 use Rattle.bits.proofs.TileLemmas.{tile_of-lt, tile_has-tile_of}
 use Rattle.bits.proofs.TileDrawLemmas.{tile_words-row, is_bit-row_word}
-use Rattle.map_core.specs.declared.command.Command.TheVariants.{Paint}
+use Rattle.map_core.specs.declared.command.Command.{Command}
+use Rattle.map_core.specs.declared.command.Command.TheVariants.{Paint, Stamp}
+use Rattle.grid.specs.declared.ink.Ink.{Ink}
+use Rattle.grid.specs.declared.ink.Ink.TheVariants.{Plain, Stamp as Image}
+use Rattle.grid.specs.Inks.{with_ink}
 use Rattle.map_core.specs.Drawing.{drawn, touched, differing, cells_changed, is_inside}
 use Rattle.map_core.specs.Story.{trues, new_ones}
 use Rattle.map_core.specs.Blocks.{own_after}
 use Rattle.grid.specs.Pieces.{Piece, no_piece, block_if, words_at, cells_of, draft_of, IsShown, IsDraft}
-use Rattle.grid.specs.Grids.{Tiled, draft, bitmap_at, own_blocks, needed_by, refused_by, Draws, IsTiled}
+use Rattle.grid.specs.Grids.{Tiled, draft, bitmap_at, own_blocks, needed_by, needed_for, full_by, refused_by, Draws, DrawsTo, IsTiled}
 use Rattle.grid.proofs.PaintLemmas.{draft_width, draft_height}
 
 -- words that are those of a bitmap's tiles show that bitmap
@@ -45,68 +50,75 @@ given_value : (test : Bool) (value old : Bool) → unwrap_or (if test then Some 
 given_value true value old = refl
 given_value false value old = refl
 
--- what a paint draws
-pub paint_drawn : (cells : Cells) (r : Rect) (black : Bool) → drawn cells (Paint r black) ≡ with_rect cells r.x0 r.y0 r.x1 r.y1 black
+-- what a paint draws, and what a stamp does
+pub paint_drawn : (cells : Cells) (r : Rect) (black : Bool) → drawn cells (Paint r black) ≡ with_ink cells r (Plain black)
 unfolding drawn
 paint_drawn cells r black =
     cells_where-same cells.width cells.height _ (λ a b. if is_within r.x0 r.y0 r.x1 r.y1 a b then black else has cells a b)
     (λ x y hx hy. given_value (is_within r.x0 r.y0 r.x1 r.y1 x y) black (has cells x y))
 
-pub paint_touched : (cells : Cells) (r : Rect) (black : Bool) → touched cells (Paint r black) ≡ differing cells (with_rect cells r.x0 r.y0 r.x1 r.y1 black)
-unfolding touched
-paint_touched cells r black = ap (differing cells) (paint_drawn cells r black)
+pub stamp_drawn : (cells : Cells) (x0 y0 : ℕ) (stamp : Bor Cells) (r : Rect) → r.x0 ≡ x0 → r.y0 ≡ y0 → r.x1 ≡ x0 + stamp.now.width → r.y1 ≡ y0 + stamp.now.height
+    → drawn cells (Stamp x0 y0 stamp.now) ≡ with_ink cells r (Image stamp)
+unfolding drawn
+stamp_drawn cells x0 y0 stamp r left top right bottom =
+    cells_where-same cells.width cells.height _ (λ a b. if is_within x0 y0 (x0 + stamp.now.width) (y0 + stamp.now.height) a b then has stamp.now (a - x0) (b - y0) else has cells a b)
+    (λ x y hx hy. given_value (is_within x0 y0 (x0 + stamp.now.width) (y0 + stamp.now.height) x y) (has stamp.now (x - x0) (y - y0)) (has cells x y))
+    ∙ (λ i. with_values cells (sym left i) (sym top i) (sym right i) (sym bottom i) (has stamp.now))
 
--- what filling the tiles of a draft leaves
-pub record Filled (w h : ℕ) (own : List (Option Piece)) (pieces : List Piece) (free : List ℕ) (r : Rect) (black : Bool) (changed : ℕ) (new : List (Option Piece)) (rest : List ℕ) : Type 0 where
-  pub drawn_is : IsDraft (with_rect (draft_of w h own pieces) r.x0 r.y0 r.x1 r.y1 black) new pieces
-  pub changed_is : changed ≡ changes (draft_of w h own pieces) (with_rect (draft_of w h own pieces) r.x0 r.y0 r.x1 r.y1 black)
-  pub own_is : map block_if new ≡ own_after (differing (draft_of w h own pieces) (with_rect (draft_of w h own pieces) r.x0 r.y0 r.x1 r.y1 black)) (map block_if own) free
-  pub free_is : rest ≡ drop (trues (new_ones (differing (draft_of w h own pieces) (with_rect (draft_of w h own pieces) r.x0 r.y0 r.x1 r.y1 black)) (map is_some (map block_if own)))) free
+-- what drawing on the tiles of a draft leaves
+pub record Filled (w h : ℕ) (own : List (Option Piece)) (pieces : List Piece) (free : List ℕ) (r : Rect) (ink : Ink) (changed : ℕ) (new : List (Option Piece)) (rest : List ℕ) : Type 0 where
+  pub drawn_is : IsDraft (with_ink (draft_of w h own pieces) r ink) new pieces
+  pub changed_is : changed ≡ changes (draft_of w h own pieces) (with_ink (draft_of w h own pieces) r ink)
+  pub own_is : map block_if new ≡ own_after (differing (draft_of w h own pieces) (with_ink (draft_of w h own pieces) r ink)) (map block_if own) free
+  pub free_is : rest ≡ drop (trues (new_ones (differing (draft_of w h own pieces) (with_ink (draft_of w h own pieces) r ink)) (map is_some (map block_if own)))) free
 
-pub filled_now : (w h : ℕ) (own own' : List (Option Piece)) (pieces pieces' : List Piece) (free : List ℕ) (r : Rect) (black : Bool) (changed : ℕ) (new : List (Option Piece)) (rest : List ℕ)
-    → own' ≡ own → pieces' ≡ pieces → Filled w h own' pieces' free r black changed new rest → Filled w h own pieces free r black changed new rest
-filled_now w h own own' pieces pieces' free r black changed new rest eo ep filled =
-    subst (λ (o : List (Option Piece)). Filled w h o pieces free r black changed new rest) eo (subst (λ (ps : List Piece). Filled w h own' ps free r black changed new rest) ep filled)
+pub filled_now : (w h : ℕ) (own own' : List (Option Piece)) (pieces pieces' : List Piece) (free : List ℕ) (r : Rect) (ink : Ink) (changed : ℕ) (new : List (Option Piece)) (rest : List ℕ)
+    → own' ≡ own → pieces' ≡ pieces → Filled w h own' pieces' free r ink changed new rest → Filled w h own pieces free r ink changed new rest
+filled_now w h own own' pieces pieces' free r ink changed new rest eo ep filled =
+    subst (λ (o : List (Option Piece)). Filled w h o pieces free r ink changed new rest) eo (subst (λ (ps : List Piece). Filled w h own' ps free r ink changed new rest) ep filled)
 
-module _ (g : Tiled) (free : List ℕ) (r : Rect) (black : Bool) (changed : ℕ) (new : List (Option Piece)) (rest : List ℕ) (filled : Filled g.width g.height g.own g.pieces free r black changed new rest) where
-  painted : Tiled
-  painted = record g { own = new }
+module _ (g : Tiled) (free : List ℕ) (r : Rect) (ink : Ink) (changed : ℕ) (new : List (Option Piece)) (rest : List ℕ) (filled : Filled g.width g.height g.own g.pieces free r ink changed new rest) where
+  draft_drawn : draft_of g.width g.height new g.pieces ≡ with_ink (draft g) r ink
+  draft_drawn = draft_is g.width g.height new g.pieces (with_ink (draft g) r ink) (draft_width g.width g.height g.own g.pieces) (draft_height g.width g.height g.own g.pieces) filled.drawn_is
 
-  pub draft_painted : draft_of g.width g.height new g.pieces ≡ with_rect (draft g) r.x0 r.y0 r.x1 r.y1 black
-  draft_painted = draft_is g.width g.height new g.pieces (with_rect (draft g) r.x0 r.y0 r.x1 r.y1 black) (draft_width g.width g.height g.own g.pieces) (draft_height g.width g.height g.own g.pieces) filled.drawn_is
-
-  pub draws_paint : Draws g free (Paint r black) changed (record g { own = new }) rest
-  draws_paint = record {
-    draft_is = draft_painted ∙ sym (paint_drawn (draft g) r black);
-    changed_is = filled.changed_is ∙ ap (changes (draft g)) (sym (paint_drawn (draft g) r black));
-    own_is = filled.own_is ∙ ap (λ (ts : List Bool). own_after ts (own_blocks g) free) (sym (paint_touched (draft g) r black));
-    free_is = filled.free_is ∙ ap (λ (ts : List Bool). drop (trues (new_ones ts (map is_some (own_blocks g)))) free) (sym (paint_touched (draft g) r black));
+  pub draws_to : DrawsTo g free (with_ink (draft g) r ink) changed (record g { own = new }) rest
+  draws_to = record {
+    draft_is = draft_drawn;
+    changed_is = filled.changed_is;
+    own_is = filled.own_is;
+    free_is = filled.free_is;
     others = refl;
   }
 
-  pub tiled_painted : IsTiled g → IsTiled (record g { own = new })
+  pub tiled_drawn : IsTiled g → IsTiled (record g { own = new })
   unfolding bitmap_at
-  tiled_painted is = record {
+  tiled_drawn is = record {
     width_is = is.width_is;
     height_is = is.height_is;
-    drawn_is = subst (λ (cells : Cells). IsDraft cells new g.pieces) (sym draft_painted) filled.drawn_is;
+    drawn_is = subst (λ (cells : Cells). IsDraft cells new g.pieces) (sym draft_drawn) filled.drawn_is;
     published = is.published;
     came_long = is.came_long;
     came = is.came;
     retired = is.retired;
   }
 
--- the tests of a paint
-pub paint_outside : (g : Tiled) (free : List ℕ) (r : Rect) (black : Bool) → (nat_le r.x1 g.width && nat_le r.y1 g.height) ≡ false → refused_by g free (Paint r black) ≡ Some OutOfRange
-paint_outside g free r black out =
-    ap (λ (b : Bool). if b then (if nat_lt (length free) (needed_by g (Paint r black)) then Some (BlocksFull (needed_by g (Paint r black)) (length free)) else None) else Some OutOfRange)
-    ((λ i. nat_le r.x1 (draft_width g.width g.height g.own g.pieces i) && nat_le r.y1 (draft_height g.width g.height g.own g.pieces i)) ∙ out)
+-- to draw what a command says is that command
+pub draws_command : (g new : Tiled) (free rest : List ℕ) (c : Command) (cells : Cells) (changed : ℕ) → drawn (draft g) c ≡ cells → DrawsTo g free cells changed new rest → Draws g free c changed new rest
+unfolding touched
+draws_command g new free rest c cells changed is to = record {
+  draft_is = to.draft_is ∙ sym is;
+  changed_is = to.changed_is ∙ ap (changes (draft g)) (sym is);
+  own_is = to.own_is ∙ ap (λ (d : Cells). own_after (differing (draft g) d) (own_blocks g) free) (sym is);
+  free_is = to.free_is ∙ ap (λ (d : Cells). drop (needed_for g d) free) (sym is);
+  others = to.others;
+}
 
-pub paint_inside : (g : Tiled) (free : List ℕ) (r : Rect) (black : Bool) → (nat_le r.x1 g.width && nat_le r.y1 g.height) ≡ true
-    → refused_by g free (Paint r black) ≡ (if nat_lt (length free) (needed_by g (Paint r black)) then Some (BlocksFull (needed_by g (Paint r black)) (length free)) else None)
-paint_inside g free r black ok =
-    ap (λ (b : Bool). if b then (if nat_lt (length free) (needed_by g (Paint r black)) then Some (BlocksFull (needed_by g (Paint r black)) (length free)) else None) else Some OutOfRange)
-    ((λ i. nat_le r.x1 (draft_width g.width g.height g.own g.pieces i) && nat_le r.y1 (draft_height g.width g.height g.own g.pieces i)) ∙ ok)
+-- and it is refused for want of blocks as the command is
+pub refused_as : (g : Tiled) (free : List ℕ) (c : Command) (cells : Cells) → drawn (draft g) c ≡ cells → is_inside (draft g) c ≡ true → refused_by g free c ≡ full_by g free cells
+unfolding touched
+refused_as g free c cells is inside =
+    ap (λ (b : Bool). if b then (if nat_lt (length free) (needed_by g c) then Some (BlocksFull (needed_by g c) (length free)) else None) else Some OutOfRange) inside
+    ∙ ap (full_by g free) is
 
 judged : (needed free : ℕ) → needed ≤ free → (if nat_lt free needed then Some (BlocksFull needed free) else None) ≡ None
 judged needed free enough = ap (λ (b : Bool). if b then Some (BlocksFull needed free) else None) (below needed free enough)
@@ -127,24 +139,46 @@ neither : (a b c d : ℕ) → (a ≤ b → d < c) → (nat_le a b && nat_le c d)
 neither a b c d h = grind (arith, nat_tests)
 
 -- what was counted is what is needed
-pub counted_is : (g : Tiled) (own : List (Option Piece)) (pieces : List Piece) (r : Rect) (black : Bool) (needed : ℕ) → own ≡ g.own → pieces ≡ g.pieces
-    → needed ≡ trues (new_ones (differing (draft_of g.width g.height own pieces) (with_rect (draft_of g.width g.height own pieces) r.x0 r.y0 r.x1 r.y1 black)) (map is_some (map block_if own)))
-    → needed ≡ needed_by g (Paint r black)
-counted_is g own pieces r black needed eo ep is =
-    is
-    ∙ ((λ i. trues (new_ones (differing (draft_of g.width g.height (eo i) (ep i)) (with_rect (draft_of g.width g.height (eo i) (ep i)) r.x0 r.y0 r.x1 r.y1 black)) (map is_some (map block_if (eo i)))))
-    ∙ ap (λ (ts : List Bool). trues (new_ones ts (map is_some (own_blocks g)))) (sym (paint_touched (draft g) r black)))
+pub counted_is : (g : Tiled) (own : List (Option Piece)) (pieces : List Piece) (r : Rect) (ink : Ink) (needed : ℕ) → own ≡ g.own → pieces ≡ g.pieces
+    → needed ≡ trues (new_ones (differing (draft_of g.width g.height own pieces) (with_ink (draft_of g.width g.height own pieces) r ink)) (map is_some (map block_if own)))
+    → needed ≡ needed_for g (with_ink (draft g) r ink)
+counted_is g own pieces r ink needed eo ep is =
+    is ∙ (λ i. trues (new_ones (differing (draft_of g.width g.height (eo i) (ep i)) (with_ink (draft_of g.width g.height (eo i) (ep i)) r ink)) (map is_some (map block_if (eo i)))))
 
-pub refused_outside : (g : Tiled) (free : List ℕ) (r : Rect) (black : Bool) → (r.x1 ≤ g.width → g.height < r.y1) → refused_by g free (Paint r black) ≡ Some OutOfRange
-refused_outside g free r black out = paint_outside g free r black (neither r.x1 g.width r.y1 g.height out)
+-- there are too few blocks, or enough
+pub full_where : (g : Tiled) (free : List ℕ) (cells : Cells) (needed room : ℕ) → needed ≡ needed_for g cells → room ≡ length free → room < needed → full_by g free cells ≡ Some (BlocksFull needed room)
+full_where g free cells needed room is room_is short = full (needed_for g cells) (length free) (omega arith) ∙ (λ i. Some (BlocksFull (sym is i) (sym room_is i)))
 
-pub refused_full : (g : Tiled) (free : List ℕ) (r : Rect) (black : Bool) (needed room : ℕ) → r.x1 ≤ g.width → r.y1 ≤ g.height → needed ≡ needed_by g (Paint r black) → room ≡ length free → room < needed
-    → refused_by g free (Paint r black) ≡ Some (BlocksFull needed room)
-refused_full g free r black needed room hx hy is room_is short =
-    paint_inside g free r black (both r.x1 g.width r.y1 g.height hx hy)
-    ∙ (full (needed_by g (Paint r black)) (length free) (omega arith) ∙ (λ i. Some (BlocksFull (sym is i) (sym room_is i))))
+pub enough_where : (g : Tiled) (free : List ℕ) (cells : Cells) (needed room : ℕ) → needed ≡ needed_for g cells → room ≡ length free → needed ≤ room → full_by g free cells ≡ None
+enough_where g free cells needed room is room_is enough = judged (needed_for g cells) (length free) (omega arith)
 
-pub refused_not : (g : Tiled) (free : List ℕ) (r : Rect) (black : Bool) (needed room : ℕ) → r.x1 ≤ g.width → r.y1 ≤ g.height → needed ≡ needed_by g (Paint r black) → room ≡ length free → needed ≤ room
-    → refused_by g free (Paint r black) ≡ None
-refused_not g free r black needed room hx hy is room_is enough =
-    paint_inside g free r black (both r.x1 g.width r.y1 g.height hx hy) ∙ judged (needed_by g (Paint r black)) (length free) (omega arith)
+-- whether a paint or a stamp lies in the map
+pub paint_in : (g : Tiled) (r : Rect) (black : Bool) → r.x1 ≤ g.width → r.y1 ≤ g.height → is_inside (draft g) (Paint r black) ≡ true
+paint_in g r black hx hy = (λ i. nat_le r.x1 (draft_width g.width g.height g.own g.pieces i) && nat_le r.y1 (draft_height g.width g.height g.own g.pieces i)) ∙ both r.x1 g.width r.y1 g.height hx hy
+
+pub paint_out : (g : Tiled) (free : List ℕ) (r : Rect) (black : Bool) → (r.x1 ≤ g.width → g.height < r.y1) → refused_by g free (Paint r black) ≡ Some OutOfRange
+paint_out g free r black out =
+    ap (λ (b : Bool). if b then (if nat_lt (length free) (needed_by g (Paint r black)) then Some (BlocksFull (needed_by g (Paint r black)) (length free)) else None) else Some OutOfRange)
+    ((λ i. nat_le r.x1 (draft_width g.width g.height g.own g.pieces i) && nat_le r.y1 (draft_height g.width g.height g.own g.pieces i)) ∙ neither r.x1 g.width r.y1 g.height out)
+
+pub stamp_in : (g : Tiled) (x y : ℕ) (b : Cells) → x + b.width ≤ g.width → y + b.height ≤ g.height → is_inside (draft g) (Stamp x y b) ≡ true
+stamp_in g x y b hx hy = (λ i. nat_le (x + b.width) (draft_width g.width g.height g.own g.pieces i) && nat_le (y + b.height) (draft_height g.width g.height g.own g.pieces i)) ∙ both (x + b.width) g.width (y + b.height) g.height hx hy
+
+pub stamp_out : (g : Tiled) (free : List ℕ) (x y : ℕ) (b : Cells) → (x + b.width ≤ g.width → g.height < y + b.height) → refused_by g free (Stamp x y b) ≡ Some OutOfRange
+stamp_out g free x y b out =
+    ap (λ (t : Bool). if t then (if nat_lt (length free) (needed_by g (Stamp x y b)) then Some (BlocksFull (needed_by g (Stamp x y b)) (length free)) else None) else Some OutOfRange)
+    ((λ i. nat_le (x + b.width) (draft_width g.width g.height g.own g.pieces i) && nat_le (y + b.height) (draft_height g.width g.height g.own g.pieces i)) ∙ neither (x + b.width) g.width (y + b.height) g.height out)
+
+-- what holds of an accepted answer, said otherwise
+pub IfOk-as : {A E : Type 0} (r : Result A E) (P Q : A → Type 0) → ((a : A) → P a → Q a) → IfOk r P → IfOk r Q
+IfOk-as (Ok a) P Q f p = f a p
+IfOk-as (Err e) P Q f p = p
+
+-- the same refusal, or none, said otherwise
+pub accepted_as : (r : Result ℕ Refusal) (is as' : Option Refusal) → as' ≡ is → IfOk r (λ changed. is ≡ None) → IfOk r (λ changed. as' ≡ None)
+accepted_as (Ok a) is as' e p = e ∙ p
+accepted_as (Err r) is as' e p = p
+
+pub refusal_as : (r : Result ℕ Refusal) (is as' : Option Refusal) → as' ≡ is → IfErr r (λ refusal. is ≡ Some refusal) → IfErr r (λ refusal. as' ≡ Some refusal)
+refusal_as (Ok a) is as' e p = p
+refusal_as (Err r) is as' e p = e ∙ p

@@ -1,4 +1,4 @@
--- Filling a rectangle of the draft, position by position.
+-- Drawing on a rectangle of the draft, position by position.
 use Rattle.std.proofs.Common.{◌≡◌, ◌≢◌, ℕ, zero, suc, ◌+◌, ◌-◌, ◌*◌, ◌/◌, ◌%◌, ◌<◌, ◌≤◌, ◌&&◌, ◌⊎◌, min, Bool, true, false, not, cond, if◌then◌else◌, List, [], ◌∷◌, ◌++◌, length, map, get_or, refl, ap, subst, sym, ◌∙◌, arith}
 use Rattle.std.specs.Prelude.{Option, Some, None, is_some}
 use Rattle.std.proofs.lemmas.Bool.Decides.{nat_tests}
@@ -6,14 +6,18 @@ use Rattle.std.proofs.lemmas.List.{get_or-map, length-map, get_or_default}
 use Rattle.std.proofs.lemmas.Nat.{mul-le}
 use mathlib.Core.Logic.{inl, inr}
 use Rattle.arena.specs.declared.region.Tile.{Tile}
-use Rattle.bits.specs.Cells.{Cells, has, cells_where, with_rect, is_within, IsBitmap}
+use Rattle.bits.specs.Cells.{Cells, has, cells_where, is_within, IsBitmap}
 use Rattle.bits.specs.Words.{words_across}
 use Rattle.bits.specs.Tiles.{tile_count, tiles_down, tile_has, row_word}
-use Rattle.bits.specs.TileWords.{tile_words, filled_words, words_differ, words_changed, tile_changes, within_column, within_row}
+use Rattle.bits.specs.TileWords.{tile_words, filled_words, words_differ, words_changed, tile_changes, laid}
 use Rattle.bits.proofs.TileLemmas.{row_word-same, tile_above}
-use Rattle.bits.proofs.TileDrawLemmas.{filled_tile, has-with_rect_all, tile_rows_differ, tile_words_is, tile_words-row, tile_words-length, tile_changes_words}
+use Rattle.bits.proofs.TileDrawLemmas.{filled_tile, has-with_values_all, tile_rows_differ, tile_words_is, tile_words-row, tile_words-length, tile_changes_words}
 use Rattle.map_core.specs.Drawing.{tile_differs, differing}
 use Rattle.map_core.proofs.TileCounts.{IsCounted, counted_next, tile_differs_none}
+use Rattle.metric.specs.declared.rect.Rect.{Rect}
+use Rattle.grid.specs.declared.ink.Ink.{Ink}
+use Rattle.grid.specs.declared.ink.Part.{Part}
+use Rattle.grid.specs.Inks.{value_of, with_ink, inked, IsInTile, IsPart}
 use Rattle.grid.specs.Pieces.{Piece, no_piece, piece_of, piece_if, block_if, words_here, words_at, cells_of, draft_of, IsShown, IsDraft}
 
 pub draft_width : (w h : ℕ) (own : List (Option Piece)) (newest : List Piece) → (draft_of w h own newest).width ≡ w
@@ -24,27 +28,29 @@ pub draft_height : (w h : ℕ) (own : List (Option Piece)) (newest : List Piece)
 unfolding draft_of cells_of
 draft_height w h own newest = refl
 
--- a part of a rectangle within a tile, as the code computes it
-pub record IsPart (p across x0 y0 x1 y1 a0 b0 a1 b1 : ℕ) : Type 0 where
-  pub left : a0 ≡ min (x0 - 64 * (p % across)) 64
-  pub top : b0 ≡ min (y0 - 64 * (p / across)) 64
-  pub right : a1 ≡ min (x1 - 64 * (p % across)) 64
-  pub bottom : b1 ≡ min (y1 - 64 * (p / across)) 64
-
-pub as_part : (p across x0 y0 x1 y1 a0 b0 a1 b1 : ℕ)
-    → (a0 ≡ min (x0 - 64 * (p % across)) 64) × (b0 ≡ min (y0 - 64 * (p / across)) 64) × (a1 ≡ min (x1 - 64 * (p % across)) 64) × (b1 ≡ min (y1 - 64 * (p / across)) 64)
-    → IsPart p across x0 y0 x1 y1 a0 b0 a1 b1
-as_part p across x0 y0 x1 y1 a0 b0 a1 b1 is = record { left = is.0; top = is.1; right = is.2; bottom = is.3 }
-
--- to fill the part is to fill the rectangle
-pub part_filled : (cells : Cells) (x0 y0 x1 y1 : ℕ) (value : Bool) (p across a0 b0 a1 b1 : ℕ) → IsBitmap cells → x1 ≤ cells.width → y1 ≤ cells.height
-    → across ≡ words_across cells.width → IsPart p across x0 y0 x1 y1 a0 b0 a1 b1
-    → filled_words (tile_words cells p) a0 b0 a1 b1 value ≡ tile_words (with_rect cells x0 y0 x1 y1 value) p
-part_filled cells x0 y0 x1 y1 value p across a0 b0 a1 b1 is hx hy wide part =
+-- to draw the part is to draw on the rectangle
+pub part_drawn : (cells : Cells) (r : Rect) (ink : Ink) (p across : ℕ) (part : Part) → IsBitmap cells → r.x1 ≤ cells.width → r.y1 ≤ cells.height
+    → across ≡ words_across cells.width → IsPart p across r part
+    → inked ink part (tile_words cells p) ≡ tile_words (with_ink cells r ink) p
+part_drawn cells r ink p across part is hx hy wide at =
     (λ i. filled_words (tile_words cells p)
-    ((part.left ∙ ap (λ (w : ℕ). min (x0 - 64 * (p % w)) 64) wide) i) ((part.top ∙ ap (λ (w : ℕ). min (y0 - 64 * (p / w)) 64) wide) i)
-    ((part.right ∙ ap (λ (w : ℕ). min (x1 - 64 * (p % w)) 64) wide) i) ((part.bottom ∙ ap (λ (w : ℕ). min (y1 - 64 * (p / w)) 64) wide) i) value)
-    ∙ filled_tile cells x0 y0 x1 y1 p value is hx hy
+    ((at.left ∙ ap (λ (w : ℕ). min (r.x0 - 64 * (p % w)) 64) wide) i) ((at.top ∙ ap (λ (w : ℕ). min (r.y0 - 64 * (p / w)) 64) wide) i)
+    ((at.right ∙ ap (λ (w : ℕ). min (r.x1 - 64 * (p % w)) 64) wide) i) ((at.bottom ∙ ap (λ (w : ℕ). min (r.y1 - 64 * (p / w)) 64) wide) i)
+    (laid (value_of ink) ((at.from_column ∙ ap (λ (w : ℕ). 64 * (p % w) - r.x0) wide) i) ((at.from_row ∙ ap (λ (w : ℕ). 64 * (p / w) - r.y0) wide) i)
+    ((at.left ∙ ap (λ (w : ℕ). min (r.x0 - 64 * (p % w)) 64) wide) i) ((at.top ∙ ap (λ (w : ℕ). min (r.y0 - 64 * (p / w)) 64) wide) i)))
+    ∙ filled_tile cells r.x0 r.y0 r.x1 r.y1 p (value_of ink) is hx hy
+
+-- a part lies in its tile
+pub in_tile : (p across : ℕ) (r : Rect) (part : Part) → IsPart p across r part → p / across < 64 → IsInTile part
+in_tile p across r part at low = record {
+  columns = (let right = at.right in omega arith);
+  rows = (let bottom = at.bottom in omega arith);
+  from = (let row = at.from_row in omega arith);
+}
+
+-- the rectangle doesn't reach the tile at position p
+abbrev pub IsMissed : ℕ → ℕ → Rect → Type 0
+IsMissed p across r = (min (r.x1 - 64 * (p % across)) 64 ≤ min (r.x0 - 64 * (p % across)) 64) ⊎ (min (r.y1 - 64 * (p / across)) 64 ≤ min (r.y0 - 64 * (p / across)) 64)
 
 -- a cell of a tile that the rectangle doesn't reach
 not_reached : (a b x0 y0 x1 y1 i j : ℕ) (value old : Bool) → i < 64 → j < 64
@@ -54,14 +60,14 @@ not_reached a b x0 y0 x1 y1 i j value old hi hj (inl narrow) = grind (arith, nat
 not_reached a b x0 y0 x1 y1 i j value old hi hj (inr low) = grind (arith, nat_tests)
 
 -- a tile that the rectangle doesn't reach has the same rows
-pub row_kept : (cells : Cells) (x0 y0 x1 y1 : ℕ) (value : Bool) (p across : ℕ) → IsBitmap cells → x1 ≤ cells.width → y1 ≤ cells.height → across ≡ words_across cells.width
-    → (min (x1 - 64 * (p % across)) 64 ≤ min (x0 - 64 * (p % across)) 64) ⊎ (min (y1 - 64 * (p / across)) 64 ≤ min (y0 - 64 * (p / across)) 64)
-    → (i : ℕ) → i < 64 → row_word cells p i ≡ row_word (with_rect cells x0 y0 x1 y1 value) p i
-row_kept cells x0 y0 x1 y1 value p across is hx hy wide none i hi =
-    row_word-same cells (with_rect cells x0 y0 x1 y1 value) p i (λ j hj.
-    sym (has-with_rect_all cells x0 y0 x1 y1 value (64 * (p % words_across cells.width) + j) (64 * (p / words_across cells.width) + i) is hx hy
-    ∙ not_reached (p % words_across cells.width) (p / words_across cells.width) x0 y0 x1 y1 i j value (tile_has cells p i j) hi hj
-    (subst (λ (w : ℕ). (min (x1 - 64 * (p % w)) 64 ≤ min (x0 - 64 * (p % w)) 64) ⊎ (min (y1 - 64 * (p / w)) 64 ≤ min (y0 - 64 * (p / w)) 64)) wide none)))
+pub row_kept : (cells : Cells) (r : Rect) (ink : Ink) (p across : ℕ) → IsBitmap cells → r.x1 ≤ cells.width → r.y1 ≤ cells.height → across ≡ words_across cells.width → IsMissed p across r
+    → (i : ℕ) → i < 64 → row_word cells p i ≡ row_word (with_ink cells r ink) p i
+row_kept cells r ink p across is hx hy wide none i hi =
+    row_word-same cells (with_ink cells r ink) p i (λ j hj.
+    let a = p % words_across cells.width in let b = p / words_across cells.width in
+    sym (has-with_values_all cells r.x0 r.y0 r.x1 r.y1 (value_of ink) (64 * a + j) (64 * b + i) is hx hy
+    ∙ not_reached a b r.x0 r.y0 r.x1 r.y1 i j (value_of ink (64 * a + j - r.x0) (64 * b + i - r.y0)) (tile_has cells p i j) hi hj
+    (subst (λ (w : ℕ). IsMissed p w r) wide none)))
 
 -- and the same words
 pub words_kept : (cells new : Cells) (p : ℕ) → ((i : ℕ) → i < 64 → row_word cells p i ≡ row_word new p i) → tile_words cells p ≡ tile_words new p
@@ -107,49 +113,48 @@ block_read own p t h read =
     sym (get_or-map block_if (map piece_if own) p (piece_if t) _ (let long = length-map own piece_if in omega arith)
     ∙ ap block_if (get_or-map piece_if own p t _ h ∙ ap piece_if (sym read)))
 
--- what all the steps of a paint share
-pub record IsPaint (cells : Cells) (x0 y0 x1 y1 across : ℕ) : Type 0 where
+-- what all the steps of a drawing share
+pub record IsDrawing (cells : Cells) (r : Rect) (across : ℕ) : Type 0 where
   pub bitmap : IsBitmap cells
-  pub columns : x1 ≤ cells.width
-  pub rows : y1 ≤ cells.height
+  pub columns : r.x1 ≤ cells.width
+  pub rows : r.y1 ≤ cells.height
   pub across_is : across ≡ words_across cells.width
 
-pub as_paint : (w h : ℕ) (own : List (Option Piece)) (newest : List Piece) (x0 y0 x1 y1 across : ℕ) → IsDraft (draft_of w h own newest) own newest
-    → x1 ≤ w → y1 ≤ h → across ≡ words_across w → IsPaint (draft_of w h own newest) x0 y0 x1 y1 across
-as_paint w h own newest x0 y0 x1 y1 across draft hx hy wide = record {
+pub as_drawing : (w h : ℕ) (own : List (Option Piece)) (newest : List Piece) (r : Rect) (across : ℕ) → IsDraft (draft_of w h own newest) own newest
+    → r.x1 ≤ w → r.y1 ≤ h → across ≡ words_across w → IsDrawing (draft_of w h own newest) r across
+as_drawing w h own newest r across draft hx hy wide = record {
   bitmap = draft.shown.bitmap;
-  columns = subst (λ (n : ℕ). x1 ≤ n) (sym (draft_width w h own newest)) hx;
-  rows = subst (λ (n : ℕ). y1 ≤ n) (sym (draft_height w h own newest)) hy;
+  columns = subst (λ (n : ℕ). r.x1 ≤ n) (sym (draft_width w h own newest)) hx;
+  rows = subst (λ (n : ℕ). r.y1 ≤ n) (sym (draft_height w h own newest)) hy;
   across_is = wide ∙ ap words_across (sym (draft_width w h own newest));
 }
 
 -- a position that the rectangle reaches is counted
-pub counted_part : (cells : Cells) (own : List (Option Tile)) (newest : List Tile) (x0 y0 x1 y1 : ℕ) (value : Bool) (p across a0 b0 a1 b1 : ℕ) (t : Option Tile) (n : Tile) (needs : Bool) (needed more : ℕ)
-    → IsPaint cells x0 y0 x1 y1 across → IsDraft cells (map piece_if own) (map piece_of newest) → p < length own
-    → IsPart p across x0 y0 x1 y1 a0 b0 a1 b1 → t ≡ get_or own p t → n ≡ get_or newest p n
-    → needs ≡ (words_differ n.words (filled_words n.words a0 b0 a1 b1 value) && not (is_some t)) → more ≡ cond needs 1 0
-    → IsCounted cells (with_rect cells x0 y0 x1 y1 value) (map block_if (map piece_if own)) p needed
-    → IsCounted cells (with_rect cells x0 y0 x1 y1 value) (map block_if (map piece_if own)) (p + 1) (needed + more)
-counted_part cells own newest x0 y0 x1 y1 value p across a0 b0 a1 b1 t n needs needed more paint draft h part read_own read_newest needs_is more_is so_far =
-    let new = with_rect cells x0 y0 x1 y1 value in
+pub counted_part : (cells : Cells) (own : List (Option Tile)) (newest : List Tile) (r : Rect) (ink : Ink) (p across : ℕ) (part : Part) (t : Option Tile) (n : Tile) (needs : Bool) (needed more : ℕ)
+    → IsDrawing cells r across → IsDraft cells (map piece_if own) (map piece_of newest) → p < length own
+    → IsPart p across r part → t ≡ get_or own p t → n ≡ get_or newest p n
+    → needs ≡ (words_differ n.words (inked ink part n.words) && not (is_some t)) → more ≡ cond needs 1 0
+    → IsCounted cells (with_ink cells r ink) (map block_if (map piece_if own)) p needed
+    → IsCounted cells (with_ink cells r ink) (map block_if (map piece_if own)) (p + 1) (needed + more)
+counted_part cells own newest r ink p across part t n needs needed more drawing draft h at read_own read_newest needs_is more_is so_far =
+    let new = with_ink cells r ink in
     let under : p < tile_count cells = (let long = length-map own piece_if in let same = draft.own_long in omega arith) in
     let words = words_read cells own newest p t n draft under read_own read_newest in
-    let does = part_filled cells x0 y0 x1 y1 value p across a0 b0 a1 b1 paint.bitmap paint.columns paint.rows paint.across_is part in
-    let test = ap (λ (b : Bool). words_differ n.words (filled_words n.words a0 b0 a1 b1 value) && not b) (some_same t)
-    ∙ needs_here (piece_if t) (piece_of n) cells new p (λ ws. filled_words ws a0 b0 a1 b1 value) words does in
+    let does = part_drawn cells r ink p across part drawing.bitmap drawing.columns drawing.rows drawing.across_is at in
+    let test = ap (λ (b : Bool). words_differ n.words (inked ink part n.words) && not b) (some_same t)
+    ∙ needs_here (piece_if t) (piece_of n) cells new p (inked ink part) words does in
     counted_next cells new _ p needed more (block_if (piece_if t)) so_far under (block_read own p t h read_own)
     (more_is ∙ ap (λ (b : Bool). cond b 1 0) (needs_is ∙ test))
 
 -- a position that the rectangle doesn't reach
-pub counted_past : (cells : Cells) (own : List (Option Tile)) (newest : List Tile) (x0 y0 x1 y1 : ℕ) (value : Bool) (p across : ℕ) (needed : ℕ)
-    → IsPaint cells x0 y0 x1 y1 across → IsDraft cells (map piece_if own) (map piece_of newest) → p < length own
-    → (min (x1 - 64 * (p % across)) 64 ≤ min (x0 - 64 * (p % across)) 64) ⊎ (min (y1 - 64 * (p / across)) 64 ≤ min (y0 - 64 * (p / across)) 64)
-    → IsCounted cells (with_rect cells x0 y0 x1 y1 value) (map block_if (map piece_if own)) p needed
-    → IsCounted cells (with_rect cells x0 y0 x1 y1 value) (map block_if (map piece_if own)) (p + 1) needed
-counted_past cells own newest x0 y0 x1 y1 value p across needed paint draft h none so_far =
-    let new = with_rect cells x0 y0 x1 y1 value in
+pub counted_past : (cells : Cells) (own : List (Option Tile)) (newest : List Tile) (r : Rect) (ink : Ink) (p across : ℕ) (needed : ℕ)
+    → IsDrawing cells r across → IsDraft cells (map piece_if own) (map piece_of newest) → p < length own → IsMissed p across r
+    → IsCounted cells (with_ink cells r ink) (map block_if (map piece_if own)) p needed
+    → IsCounted cells (with_ink cells r ink) (map block_if (map piece_if own)) (p + 1) needed
+counted_past cells own newest r ink p across needed drawing draft h none so_far =
+    let new = with_ink cells r ink in
     let under : p < tile_count cells = (let long = length-map own piece_if in let same = draft.own_long in omega arith) in
-    let kept = tile_differs_none cells new p (row_kept cells x0 y0 x1 y1 value p across paint.bitmap paint.columns paint.rows paint.across_is none) in
+    let kept = tile_differs_none cells new p (row_kept cells r ink p across drawing.bitmap drawing.columns drawing.rows drawing.across_is none) in
     let o = get_or (map block_if (map piece_if own)) p None in
     let next = counted_next cells new _ p needed 0 o so_far under (get_or_default (map block_if (map piece_if own)) p _ _ (let long = length-map own piece_if in let longer = length-map (map piece_if own) block_if in omega arith))
     (ap (λ (b : Bool). cond (b && not (is_some o)) 1 0) kept) in

@@ -6,12 +6,13 @@ use Rattle.metric.specs.declared.refusal.Refusal.TheVariants.{OutOfRange, Blocks
 use Rattle.arena.specs.Blocks.{Home}
 use Rattle.arena.specs.declared.region.Tile.{Tile}
 use Rattle.bits.specs.Cells.{Cells, IsSide, IsBitmap}
+use Rattle.bits.specs.Changes.{changes}
 use Rattle.bits.specs.Words.{words_across}
 use Rattle.bits.specs.Tiles.{tile_count}
 use Rattle.bits.specs.TileWords.{tile_words}
 use Rattle.map_core.specs.declared.command.Command.{Command}
 use Rattle.map_core.specs.declared.blocks.Retired.{Retired}
-use Rattle.map_core.specs.Drawing.{drawn, touched, cells_changed, is_inside}
+use Rattle.map_core.specs.Drawing.{drawn, touched, differing, cells_changed, is_inside}
 use Rattle.map_core.specs.Story.{trues, new_ones}
 use Rattle.map_core.specs.Blocks.{own_list, own_after, mapped, given_back, blocks_of, is_used}
 use Rattle.map_core.specs.Consistent.{came_after, retired_by}
@@ -97,6 +98,22 @@ needed_by g c = trues (new_ones (touched (draft g) c) (map is_some (own_blocks g
 -- why a paint or a stamp is refused, the log aside
 abbrev pub refused_by : Tiled → List ℕ → Command → Option Refusal
 refused_by g free c = if is_inside (draft g) c then (if nat_lt (length free) (needed_by g c) then Some (BlocksFull (needed_by g c) (length free)) else None) else Some OutOfRange
+
+-- how many new blocks it takes to make the draft this bitmap
+abbrev pub needed_for : Tiled → Cells → ℕ
+needed_for g cells = trues (new_ones (differing (draft g) cells) (map is_some (own_blocks g)))
+
+-- why that is refused
+abbrev pub full_by : Tiled → List ℕ → Cells → Option Refusal
+full_by g free cells = if nat_lt (length free) (needed_for g cells) then Some (BlocksFull (needed_for g cells) (length free)) else None
+
+-- the draft is made this bitmap, with the free list before it and after it
+pub record DrawsTo (g : Tiled) (free : List ℕ) (cells : Cells) (changed : ℕ) (new : Tiled) (rest : List ℕ) : Type 0 where
+  pub draft_is : draft new ≡ cells
+  pub changed_is : changed ≡ changes (draft g) cells
+  pub own_is : own_blocks new ≡ own_after (differing (draft g) cells) (own_blocks g) free
+  pub free_is : rest ≡ drop (needed_for g cells) free
+  pub others : new ≡ record g { own = new.own }
 
 -- a paint or a stamp, with the free list before it and after it
 pub record Draws (g : Tiled) (free : List ℕ) (c : Command) (changed : ℕ) (new : Tiled) (rest : List ℕ) : Type 0 where

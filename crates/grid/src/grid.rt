@@ -6,11 +6,13 @@ ghost use Rattle.metric.specs.declared.refusal.Refusal.TheVariants.{Memory};
 ghost use Rattle.bits.specs.Tiles.{tile_count};
 ghost use Rattle.map_core.specs.declared.command.Command.TheVariants.{Paint, Stamp};
 ghost use Rattle.map_core.specs.Blocks.{own_list};
-ghost use Rattle.grid.specs.Grids.{Tiled, Draws, Seals, Reverts, Sweeps, refused_by, draft, bitmap_at, own_blocks, newest_blocks, retired_blocks};
+ghost use Rattle.grid.specs.Inks.{with_ink};
+ghost use Rattle.grid.specs.Grids.{Tiled, Draws, DrawsTo, full_by, Seals, Reverts, Sweeps, refused_by, draft, bitmap_at, own_blocks, newest_blocks, retired_blocks};
 
 use crate::copy::{put_newest_tiles, put_old_tiles};
 use crate::blocks::{give_own, give_retired, seal_tiles};
-use crate::draw::{blocks_needed, fill_tiles};
+use crate::draw::{area_of, blocks_needed, draw_tiles};
+use crate::ink::Ink;
 use crate::opening::{Rooms, leave_empty, take_tiles};
 use crate::retired::Retired;
 use crate::spend::{end_own, end_retired, give_all};
@@ -57,31 +59,10 @@ impl Grid {
         ensures as_before { OnErr result ((self.new ≡ self.old) × (arena.new ≡ arena.old)) }
         ensures home { arena.new.home ≡ arena.old.home }
     {
-        let (width, height) = (self.width, self.height);
-        if width < rect.x1 || height < rect.y1 {
+        if self.width < rect.x1 || self.height < rect.y1 {
             return Err(Refusal::OutOfRange);
         }
-        let needed = blocks_needed(
-            self.own.as_slice(),
-            self.tiles.as_slice(),
-            width,
-            height,
-            rect,
-            black,
-        );
-        let free = arena.free_len();
-        if free < needed {
-            return Err(Refusal::BlocksFull { needed, free });
-        }
-        Ok(fill_tiles(
-            self.own.as_mut_slice(),
-            self.tiles.as_slice(),
-            arena,
-            width,
-            height,
-            rect,
-            black,
-        ))
+        self.draw(arena, rect, &Ink::Plain(black))
     }
 
     /// Gives each cell of the rectangle at `(x, y)` of the stamp's size the stamp's value in the draft, and answers how many cells became another.
@@ -99,7 +80,45 @@ impl Grid {
         ensures as_before { OnErr result ((self.new ≡ self.old) × (arena.new ≡ arena.old)) }
         ensures home { arena.new.home ≡ arena.old.home }
     {
-        Err(Refusal::OutOfRange)
+        let Some(rect) = area_of(x, y, stamp, self.width, self.height) else {
+            return Err(Refusal::OutOfRange);
+        };
+        self.draw(arena, rect, &Ink::Stamp(stamp))
+    }
+
+    /// Draws on a rectangle of the map. Refused for want of blocks alone.
+    fn draw(&mut self, arena: &mut Arena, rect: Rect, ink: &Ink) -> Result<u32, Refusal>
+        requires home { self.old.home ≡ arena.old.home }
+        requires columns { rect.x1 ≤ self.old.width }
+        requires rows { rect.y1 ≤ self.old.height }
+        ensures done { IfOk result (λ changed. DrawsTo self.old arena.old.free (with_ink (draft self.old) rect ink.now) changed self.new arena.new.free) }
+        ensures accepted { IfOk result (λ changed. full_by self.old arena.old.free (with_ink (draft self.old) rect ink.now) ≡ None) }
+        ensures refused { IfErr result (λ refusal. full_by self.old arena.old.free (with_ink (draft self.old) rect ink.now) ≡ Some refusal) }
+        ensures as_before { OnErr result ((self.new ≡ self.old) × (arena.new ≡ arena.old)) }
+        ensures home { arena.new.home ≡ arena.old.home }
+    {
+        let (width, height) = (self.width, self.height);
+        let needed = blocks_needed(
+            self.own.as_slice(),
+            self.tiles.as_slice(),
+            width,
+            height,
+            rect,
+            ink,
+        );
+        let free = arena.free_len();
+        if free < needed {
+            return Err(Refusal::BlocksFull { needed, free });
+        }
+        Ok(draw_tiles(
+            self.own.as_mut_slice(),
+            self.tiles.as_slice(),
+            arena,
+            width,
+            height,
+            rect,
+            ink,
+        ))
     }
 
     /// Makes the draft the next version, and answers its number.

@@ -5,6 +5,7 @@ mod blocks;
 mod copy;
 mod draw;
 mod grid;
+mod ink;
 mod opening;
 mod retired;
 mod spend;
