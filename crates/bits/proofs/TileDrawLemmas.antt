@@ -5,7 +5,7 @@ use Rattle.std.proofs.lemmas.List.FromFn.{get_or-map-range_with_len, length-map-
 use Rattle.std.proofs.lemmas.Bool.{cases_lt}
 use Rattle.std.proofs.lemmas.Bool.Decides.{nat_tests}
 use mathlib.Core.Logic.{inl, inr}
-use Rattle.bits.specs.Cells.{Cells, has, cells_where, with_values, is_within, IsBitmap}
+use Rattle.bits.specs.Cells.{Cells, has, with_values, is_within, IsBitmap}
 use Rattle.bits.specs.Changes.{differs}
 use Rattle.bits.specs.Words.{words_across}
 use Rattle.bits.specs.Tiles.{tile_has, row_word}

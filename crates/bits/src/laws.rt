@@ -21,6 +21,6 @@ pub fn words_count_changes()
 pub fn tiles_fill_their_part()
     ensures { (cells : Cells) (x0 y0 x1 y1 k : ℕ) (value : ℕ → ℕ → Bool) → IsBitmap cells → x1 ≤ cells.width → y1 ≤ cells.height
         → filled_words (tile_words cells k) (within_column cells k x0) (within_row cells k y0) (within_column cells k x1) (within_row cells k y1)
-            (laid value (64 * (k % words_across cells.width) - x0) (64 * (k / words_across cells.width) - y0) (within_column cells k x0) (within_row cells k y0))
+        (laid value (64 * (k % words_across cells.width) - x0) (64 * (k / words_across cells.width) - y0) (within_column cells k x0) (within_row cells k y0))
         ≡ tile_words (with_values cells x0 y0 x1 y1 value) k }
 {}

@@ -1,6 +1,6 @@
 -- The bits of both words.
-use Rattle.std.proofs.Common.{arith, rules}
-use Rattle.bits.proofs.LayLemmas.{joined_bits, joined_none}
+use Rattle.std.proofs.Common.{arith}
+use Rattle.bits.proofs.LayLemmas.{joined_bits}
 use Rattle.bits.proofs.lay.joined.Goals as goal
 
 pub returns-else-shift-eq0 : goal.returns-else-shift-eq0

@@ -1,6 +1,5 @@
 -- Each step of the writing, by the lemma of that step.
 use Rattle.std.proofs.Common.{arith, refl, ◌∙◌}
-use Rattle.bits.proofs.TileLemmas.{tile_above}
 use Rattle.bits.proofs.PutLemmas.{put_first, put_row, put_all, put_bitmap}
 use Rattle.bits.proofs.bitmap.Bitmap.put_tile.Goals as goal
 
