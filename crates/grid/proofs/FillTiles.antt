@@ -1,5 +1,5 @@
 -- Drawing on a rectangle of the draft: each position takes the block that it needs, and its cells are counted.
-use Rattle.std.proofs.Common.{◌≡◌, ◌≢◌, ℕ, zero, suc, ◌+◌, ◌-◌, ◌*◌, ◌/◌, ◌%◌, ◌^◌, ◌<◌, ◌≤◌, ◌&&◌, ◌⊎◌, min, Bool, true, false, not, cond, List, [], ◌∷◌, ◌++◌, length, map, take, drop, get_or, set, refl, ap, subst, sym, ◌∙◌, arith}
+use Rattle.std.proofs.Common.{◌≡◌, ◌≢◌, ℕ, suc, ◌+◌, ◌*◌, ◌^◌, ◌<◌, ◌≤◌, ◌&&◌, Bool, true, false, not, cond, List, [], ◌∷◌, ◌++◌, length, map, drop, get_or, set, refl, ap, subst, sym, ◌∙◌, arith}
 use Rattle.std.specs.Prelude.{Option, Some, None, is_some, option_to_list}
 use Rattle.std.specs.List.{range_with_len, sum_by}
 use Rattle.std.proofs.lemmas.List.{get_or-map, length-map, map-set, get_or-set_same, get_or-set_other, length-set, drop_more, drop-set-lt, get_or_default, set-get_or}
@@ -11,7 +11,7 @@ use mathlib.Core.Logic.{inl, inr}
 use Rattle.bits.specs.Cells.{Cells, IsBitmap}
 use Rattle.bits.specs.Tiles.{tile_count}
 use Rattle.bits.specs.Changes.{changes, differs}
-use Rattle.bits.specs.TileWords.{is_bit, tile_words, filled_words, bits_changed, words_changed, words_differ, tile_changes, changes_by_tile}
+use Rattle.bits.specs.TileWords.{is_bit, tile_words, bits_changed, words_changed, words_differ, tile_changes, changes_by_tile}
 use Rattle.bits.proofs.CellsLemmas.{IsBitmap-cells_where}
 use Rattle.bits.proofs.TileDrawLemmas.{tile_changes_words, tile_words-length}
 use Rattle.bits.proofs.RegroupLemmas.{total-suc, changes_regrouped}
@@ -25,7 +25,7 @@ use Rattle.metric.specs.declared.rect.Rect.{Rect}
 use Rattle.grid.specs.declared.ink.Ink.{Ink}
 use Rattle.grid.specs.declared.ink.Part.{Part}
 use Rattle.grid.specs.Inks.{with_ink, inked, IsPart}
-use Rattle.grid.specs.Pieces.{Piece, no_piece, piece_of, piece_if, block_if, words_here, words_at, IsDraft, IsShown, Takes}
+use Rattle.grid.specs.Pieces.{Piece, no_piece, piece_of, piece_if, block_if, words_here, words_at, IsDraft, Takes}
 
 -- how far a paint has come
 pub record IsPainting (cells new : Cells) (own0 : List (Option ℕ)) (free0 : List ℕ) (newest : List Piece) (p : ℕ) (own : List (Option Piece)) (free : List ℕ) (changed : ℕ) : Type 0 where

@@ -1,18 +1,17 @@
 -- What a paint or a stamp does to a grid.
-use Rattle.std.proofs.Common.{◌≡◌, ℕ, ◌+◌, ◌-◌, ◌*◌, ◌/◌, ◌%◌, ◌<◌, ◌≤◌, ◌&&◌, nat_le, nat_lt, Bool, true, false, if◌then◌else◌, List, length, map, drop, get_or, refl, ap, subst, sym, ◌∙◌, arith}
+use Rattle.std.proofs.Common.{◌≡◌, ℕ, ◌+◌, ◌-◌, ◌%◌, ◌<◌, ◌≤◌, ◌&&◌, nat_le, nat_lt, Bool, true, false, if◌then◌else◌, List, length, map, drop, get_or, refl, ap, subst, sym, ◌∙◌, arith}
 use Rattle.std.specs.Prelude.{Option, Some, None, is_some, unwrap_or, Result, Ok, Err, IfOk, IfErr}
 use Rattle.std.specs.Borrow.{Bor}
-use Rattle.std.specs.List.{All}
 use Rattle.std.proofs.lemmas.Bool.Decides.{nat_tests}
 use Rattle.std.proofs.lemmas.Nat.{mod_below}
 use Rattle.metric.specs.declared.rect.Rect.{Rect}
 use Rattle.metric.specs.declared.refusal.Refusal.{Refusal}
 use Rattle.metric.specs.declared.refusal.Refusal.TheVariants.{OutOfRange, BlocksFull}
-use Rattle.bits.specs.Cells.{Cells, has, cells_where, with_values, is_within, IsBitmap}
+use Rattle.bits.specs.Cells.{Cells, has, with_values, is_within}
 use Rattle.bits.specs.Changes.{changes}
-use Rattle.bits.specs.Tiles.{tile_of, tile_has}
-use Rattle.bits.specs.TileWords.{is_bit, tile_words}
-use Rattle.bits.proofs.CellsLemmas.{cells_where-same, cells_where-has, IsBitmap-cells_where}
+use Rattle.bits.specs.Tiles.{tile_of}
+use Rattle.bits.specs.TileWords.{is_bit}
+use Rattle.bits.proofs.CellsLemmas.{cells_where-same, cells_where-has}
 use Rattle.bits.proofs.TileLemmas.{tile_of-lt, tile_has-tile_of}
 use Rattle.bits.proofs.TileDrawLemmas.{tile_words-row, is_bit-row_word}
 use Rattle.map_core.specs.declared.command.Command.{Command}
@@ -20,10 +19,10 @@ use Rattle.map_core.specs.declared.command.Command.TheVariants.{Paint, Stamp}
 use Rattle.grid.specs.declared.ink.Ink.{Ink}
 use Rattle.grid.specs.declared.ink.Ink.TheVariants.{Plain, Stamp as Image}
 use Rattle.grid.specs.Inks.{with_ink}
-use Rattle.map_core.specs.Drawing.{drawn, touched, differing, cells_changed, is_inside}
+use Rattle.map_core.specs.Drawing.{drawn, touched, differing, is_inside}
 use Rattle.map_core.specs.Story.{trues, new_ones}
 use Rattle.map_core.specs.Blocks.{own_after}
-use Rattle.grid.specs.Pieces.{Piece, no_piece, block_if, words_at, cells_of, draft_of, IsShown, IsDraft}
+use Rattle.grid.specs.Pieces.{Piece, block_if, words_at, cells_of, draft_of, IsShown, IsDraft}
 use Rattle.grid.specs.Grids.{Tiled, draft, bitmap_at, own_blocks, needed_by, needed_for, full_by, refused_by, Draws, DrawsTo, IsTiled}
 use Rattle.grid.proofs.PaintLemmas.{draft_width, draft_height}
 

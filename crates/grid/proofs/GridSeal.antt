@@ -1,16 +1,15 @@
 -- What a publish does to a grid.
-use Rattle.std.proofs.Common.{◌≡◌, ◌≢◌, ℕ, zero, suc, ◌+◌, ◌-◌, ◌*◌, ◌/◌, ◌%◌, ◌<◌, ◌≤◌, ◌==◌, ◌&&◌, nat_le, nat_lt, Bool, true, false, if◌then◌else◌, List, [], ◌∷◌, ◌++◌, length, map, replicate, get_or, refl, ap, subst, sym, ◌∙◌, arith}
-use Rattle.std.specs.Prelude.{Option, Some, None, unwrap_or}
+use Rattle.std.proofs.Common.{◌≡◌, ◌≢◌, ℕ, zero, suc, ◌+◌, ◌*◌, ◌/◌, ◌%◌, ◌<◌, ◌≤◌, ◌==◌, ◌&&◌, nat_le, Bool, if◌then◌else◌, List, [], ◌∷◌, ◌++◌, length, map, replicate, get_or, refl, ap, subst, sym, ◌∙◌, arith}
+use Rattle.std.specs.Prelude.{Option, Some, None}
 use Rattle.std.specs.List.{All}
 use Rattle.std.proofs.lemmas.Bool.{cases_lt}
 use Rattle.std.proofs.lemmas.Bool.Decides.{nat_tests}
 use Rattle.std.proofs.lemmas.List.{map-append, length-append, length-map, length-replicate, get_or-map}
 use Rattle.std.proofs.lemmas.List.Elements.{All-append, All-nil, All-cons, All-head, All-tail}
-use Rattle.std.proofs.lemmas.Nat.{mod_below}
 use mathlib.Core.Logic.{inl, inr}
-use Rattle.bits.specs.Cells.{Cells, has, cells_where, IsBitmap, IsSide}
+use Rattle.bits.specs.Cells.{Cells, cells_where, IsBitmap}
 use Rattle.bits.specs.Words.{words_across}
-use Rattle.bits.specs.Tiles.{tile_count, tiles_down, tile_of, tile_has}
+use Rattle.bits.specs.Tiles.{tile_count, tiles_down}
 use Rattle.bits.specs.TileWords.{is_bit, tile_words}
 use Rattle.bits.proofs.CellsLemmas.{cells_where-same, has-cells_where, has-cells_where_below, has-cells_where_right}
 use Rattle.bits.proofs.TileLemmas.{tile_of-lt, row_word-same}
@@ -26,9 +25,9 @@ use Rattle.grid.specs.declared.grid.Grid.TheInside.{Inside}
 use Rattle.grid.specs.declared.retired.Retired.{Retired as Entry}
 use Rattle.grid.specs.Fields.{home_of, old_piece, tiled_in}
 use Rattle.grid.specs.Pieces.{Piece, no_piece, piece_of, piece_if, block_if, words_here, words_at, cells_of, draft_of, IsShown, IsDraft}
-use Rattle.grid.specs.Grids.{Tiled, OldPiece, draft, bitmap_at, words_in, old_words, own_blocks, newest_blocks, retired_of, retired_blocks, pieces_after, old_pieces_by, Seals, IsOldPiece, IsTiled}
+use Rattle.grid.specs.Grids.{Tiled, OldPiece, draft, bitmap_at, words_in, old_words, own_blocks, retired_of, retired_blocks, pieces_after, old_pieces_by, Seals, IsOldPiece, IsTiled}
 use Rattle.grid.proofs.PaintLemmas.{draft_width, draft_height, words_kept}
-use Rattle.grid.proofs.GridPaint.{draft_is, shown_is}
+use Rattle.grid.proofs.GridPaint.{draft_is}
 use Rattle.grid.proofs.GridRevert.{bitmap_width, bitmap_height, nothing_there, no_blocks, no_pieces}
 
 -- newest has as many pieces as before
@@ -229,7 +228,7 @@ module _ (g : Tiled) (is : IsTiled g) where
                 ∙ sym (over (get_or g.came p 0) v _ _ early)
             | inr late ↦
                 said_last v p g.retired (old_pieces_by g.newest 0 g.own g.came g.pieces)
-                    (λ k d hk here. let fact = is.retired k d hk in let last : (get_or g.retired k d).last < get_or g.came p 0 = subst (λ (q : ℕ). (get_or g.retired k d).last < get_or g.came q 0) here fact.2 in omega arith)
+                (λ k d hk here. let fact = is.retired k d hk in let last : (get_or g.retired k d).last < get_or g.came p 0 = subst (λ (q : ℕ). (get_or g.retired k d).last < get_or g.came q 0) here fact.2 in omega arith)
                 ∙ (more ∙ (between (get_or g.came p 0) v g.newest _ _ late old ∙ sym (up_to (get_or g.came p 0) v _ _ late)))
           ])
 

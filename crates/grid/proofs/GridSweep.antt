@@ -1,7 +1,7 @@
 -- What giving back retired tiles does to a grid.
-use Rattle.std.proofs.Common.{◌≡◌, ℕ, zero, suc, ◌+◌, ◌-◌, ◌<◌, ◌≤◌, ◌==◌, ◌&&◌, nat_le, Bool, true, false, not, cond, if◌then◌else◌, List, [], ◌∷◌, length, map, get_or, refl, ap, subst, sym, ◌∙◌, arith}
+use Rattle.std.proofs.Common.{◌≡◌, ℕ, ◌+◌, ◌-◌, ◌<◌, ◌≤◌, ◌==◌, ◌&&◌, nat_le, Bool, true, false, not, cond, if◌then◌else◌, List, [], ◌∷◌, length, map, get_or, refl, ap, subst, sym, ◌∙◌, arith}
 use Rattle.std.specs.Prelude.{filter, Contains}
-use Rattle.std.specs.List.{All, list_any, range_with_len}
+use Rattle.std.specs.List.{All, range_with_len}
 use Rattle.std.proofs.lemmas.List.Elements.{All-head, All-tail, All-filter}
 use Rattle.std.proofs.lemmas.List.{length-map, get_or-map}
 use Rattle.std.proofs.lemmas.List.FromFn.{length-range_with_len, get_or-range_with_len}
@@ -15,7 +15,7 @@ use Rattle.grid.specs.declared.retired.Retired.{Retired}
 use Rattle.grid.specs.Pieces.{no_piece, cells_of, IsShown}
 use Rattle.bits.specs.Cells.{Cells}
 use Rattle.grid.specs.Fields.{old_piece}
-use Rattle.grid.specs.Grids.{Tiled, OldPiece, retired_of, retired_blocks, old_words, words_in, bitmap_at, Sweeps, IsOldPiece, IsTiled}
+use Rattle.grid.specs.Grids.{Tiled, OldPiece, retired_of, old_words, bitmap_at, Sweeps, IsOldPiece, IsTiled}
 
 abbrev pub SameTest : List ℕ → ℕ → List Retired → Type 0
 SameTest vs floor rs = All (λ r. is_used vs (retired_of (old_piece r)) ≡ nat_le floor r.last) rs

@@ -1,24 +1,24 @@
 -- Drawing on a rectangle of the draft, position by position.
-use Rattle.std.proofs.Common.{◌≡◌, ◌≢◌, ℕ, zero, suc, ◌+◌, ◌-◌, ◌*◌, ◌/◌, ◌%◌, ◌<◌, ◌≤◌, ◌&&◌, ◌⊎◌, min, Bool, true, false, not, cond, if◌then◌else◌, List, [], ◌∷◌, ◌++◌, length, map, get_or, refl, ap, subst, sym, ◌∙◌, arith}
+use Rattle.std.proofs.Common.{◌≡◌, ℕ, ◌+◌, ◌-◌, ◌*◌, ◌/◌, ◌%◌, ◌<◌, ◌≤◌, ◌&&◌, ◌⊎◌, min, Bool, true, false, not, cond, if◌then◌else◌, List, length, map, get_or, refl, ap, subst, sym, ◌∙◌, arith}
 use Rattle.std.specs.Prelude.{Option, Some, None, is_some}
 use Rattle.std.proofs.lemmas.Bool.Decides.{nat_tests}
 use Rattle.std.proofs.lemmas.List.{get_or-map, length-map, get_or_default}
 use Rattle.std.proofs.lemmas.Nat.{mul-le}
 use mathlib.Core.Logic.{inl, inr}
 use Rattle.arena.specs.declared.region.Tile.{Tile}
-use Rattle.bits.specs.Cells.{Cells, has, cells_where, is_within, IsBitmap}
+use Rattle.bits.specs.Cells.{Cells, is_within, IsBitmap}
 use Rattle.bits.specs.Words.{words_across}
 use Rattle.bits.specs.Tiles.{tile_count, tiles_down, tile_has, row_word}
-use Rattle.bits.specs.TileWords.{tile_words, filled_words, words_differ, words_changed, tile_changes, laid}
+use Rattle.bits.specs.TileWords.{tile_words, filled_words, words_differ, laid}
 use Rattle.bits.proofs.TileLemmas.{row_word-same, tile_above}
-use Rattle.bits.proofs.TileDrawLemmas.{filled_tile, has-with_values_all, tile_rows_differ, tile_words_is, tile_words-row, tile_words-length, tile_changes_words}
-use Rattle.map_core.specs.Drawing.{tile_differs, differing}
+use Rattle.bits.proofs.TileDrawLemmas.{filled_tile, has-with_values_all, tile_rows_differ, tile_words_is, tile_words-row, tile_words-length}
+use Rattle.map_core.specs.Drawing.{tile_differs}
 use Rattle.map_core.proofs.TileCounts.{IsCounted, counted_next, tile_differs_none}
 use Rattle.metric.specs.declared.rect.Rect.{Rect}
 use Rattle.grid.specs.declared.ink.Ink.{Ink}
 use Rattle.grid.specs.declared.ink.Part.{Part}
 use Rattle.grid.specs.Inks.{value_of, with_ink, inked, IsInTile, IsPart}
-use Rattle.grid.specs.Pieces.{Piece, no_piece, piece_of, piece_if, block_if, words_here, words_at, cells_of, draft_of, IsShown, IsDraft}
+use Rattle.grid.specs.Pieces.{Piece, no_piece, piece_of, piece_if, block_if, words_here, cells_of, draft_of, IsDraft}
 
 pub draft_width : (w h : ℕ) (own : List (Option Piece)) (newest : List Piece) → (draft_of w h own newest).width ≡ w
 unfolding draft_of cells_of

@@ -1,7 +1,7 @@
 -- The draft's own tiles become newest's, position by position, and those that they replace are retired.
-use Rattle.std.proofs.Common.{◌≡◌, ℕ, zero, suc, ◌+◌, ◌-◌, ◌<◌, ◌≤◌, List, [], ◌∷◌, ◌++◌, length, map, take, drop, get_or, set, replicate, refl, ap, subst, sym, ◌∙◌, arith, append_assoc, append-nil}
+use Rattle.std.proofs.Common.{◌≡◌, ℕ, ◌+◌, ◌<◌, ◌≤◌, List, [], ◌∷◌, ◌++◌, length, map, take, drop, get_or, set, refl, ap, subst, sym, ◌∙◌, arith, append_assoc, append-nil}
 use Rattle.std.specs.Prelude.{Option, Some, None}
-use Rattle.std.proofs.lemmas.List.{drop_more, drop_all, take_all, take_more, take_more_set, drop-set-lt, length-set, length-map, get_or-map, get_or_default, map-set, set-get_or, length-append, map-append}
+use Rattle.std.proofs.lemmas.List.{drop_more, drop_all, take_all, take_more, take_more_set, drop-set-lt, length-set, length-map, get_or-map, map-set, length-append, map-append}
 use Rattle.arena.specs.declared.region.Tile.{Tile}
 use Rattle.map_core.specs.Blocks.{own_list}
 use Rattle.map_core.specs.Consistent.{came_after}

@@ -1,13 +1,11 @@
 -- A map's draft and versions as tiles, and what each call does to them: this project's own rule.
-use Rattle.std.specs.Prelude.{◌≡◌, ℕ, ◌+◌, ◌-◌, ◌*◌, ◌/◌, ◌%◌, ◌<◌, ◌≤◌, ◌&&◌, ◌==◌, ◌++◌, nat_le, nat_lt, Bool, true, false, not, List, [], ◌∷◌, length, map, drop, filter, replicate, slice_index, slice_index_or, Option, Some, None, is_some, unwrap_or, Contains, if◌then◌else◌}
+use Rattle.std.specs.Prelude.{◌≡◌, ℕ, ◌+◌, ◌<◌, ◌≤◌, ◌&&◌, ◌==◌, ◌++◌, nat_le, nat_lt, not, List, [], ◌∷◌, length, map, drop, filter, replicate, slice_index, slice_index_or, Option, Some, None, is_some, unwrap_or, Contains, if◌then◌else◌}
 use Rattle.std.specs.List.{All}
 use Rattle.metric.specs.declared.refusal.Refusal.{Refusal}
 use Rattle.metric.specs.declared.refusal.Refusal.TheVariants.{OutOfRange, BlocksFull}
 use Rattle.arena.specs.Blocks.{Home}
-use Rattle.arena.specs.declared.region.Tile.{Tile}
 use Rattle.bits.specs.Cells.{Cells, IsSide, IsBitmap}
 use Rattle.bits.specs.Changes.{changes}
-use Rattle.bits.specs.Words.{words_across}
 use Rattle.bits.specs.Tiles.{tile_count}
 use Rattle.bits.specs.TileWords.{tile_words}
 use Rattle.map_core.specs.declared.command.Command.{Command}
@@ -16,7 +14,7 @@ use Rattle.map_core.specs.Drawing.{drawn, touched, differing, cells_changed, is_
 use Rattle.map_core.specs.Story.{trues, new_ones}
 use Rattle.map_core.specs.Blocks.{own_list, own_after, mapped, given_back, blocks_of, is_used}
 use Rattle.map_core.specs.Consistent.{came_after, retired_by}
-use Rattle.grid.specs.Pieces.{Piece, no_piece, block_if, words_here, words_at, cells_of, draft_of, IsDraft, IsShown}
+use Rattle.grid.specs.Pieces.{Piece, no_piece, block_if, cells_of, draft_of, IsDraft, IsShown}
 
 -- a piece that newest no longer has, with its position and the versions that have it
 pub record OldPiece : Type 0 where

@@ -1,5 +1,5 @@
 -- The tiles of a map as blocks with their words, by position: this project's own rule. Where the draft has a tile of its own that is the draft's; elsewhere the draft has newest's.
-use Rattle.std.specs.Prelude.{◌≡◌, ℕ, ◌+◌, ◌*◌, ◌/◌, ◌%◌, ◌<◌, Bool, true, false, List, [], ◌∷◌, length, map, slice_index, slice_index_or, Option, Some, None}
+use Rattle.std.specs.Prelude.{◌≡◌, ℕ, ◌+◌, ◌*◌, ◌/◌, ◌%◌, ◌<◌, Bool, true, false, List, [], ◌∷◌, length, slice_index, slice_index_or, Option, Some, None}
 use Rattle.arena.specs.Blocks.{Home}
 use Rattle.arena.specs.declared.region.Tile.{Tile}
 use Rattle.bits.specs.Cells.{Cells, cells_where, IsBitmap}

@@ -13,9 +13,9 @@ ghost use Rattle.map_core.specs.Story.{trues, new_ones};
 ghost use Rattle.map_core.specs.Blocks.{own_after};
 ghost use Rattle.grid.specs.Pieces.{piece_of, piece_if, block_if, words_here, words_at, draft_of, IsDraft, IsFrom, Takes};
 
+use crate::ink::{Ink, Part};
 use arena::{Arena, Tile};
 use bits::Bitmap;
-use crate::ink::{Ink, Part};
 use metric::{Cell, Rect};
 use std::mem;
 

@@ -6,11 +6,12 @@ ghost use Rattle.metric.specs.declared.refusal.Refusal.TheVariants.{Memory};
 ghost use Rattle.bits.specs.Tiles.{tile_count};
 ghost use Rattle.map_core.specs.declared.command.Command.TheVariants.{Paint, Stamp};
 ghost use Rattle.map_core.specs.Blocks.{own_list};
+ghost use Rattle.grid.specs.Fields.{old_piece};
 ghost use Rattle.grid.specs.Inks.{with_ink};
 ghost use Rattle.grid.specs.Grids.{Tiled, Draws, DrawsTo, full_by, Seals, Reverts, Sweeps, refused_by, draft, bitmap_at, own_blocks, newest_blocks, retired_blocks};
 
-use crate::copy::{put_newest_tiles, put_old_tiles};
 use crate::blocks::{give_own, give_retired, seal_tiles};
+use crate::copy::{put_newest_tiles, put_old_tiles};
 use crate::draw::{area_of, blocks_needed, draw_tiles};
 use crate::ink::Ink;
 use crate::opening::{Rooms, leave_empty, take_tiles};
@@ -175,6 +176,7 @@ impl Grid {
         requires { tile_count map.now ≤ length arena.old.free }
         ensures opened { IfOk result (λ grid. (draft grid ≡ map.now) × (bitmap_at grid 0 ≡ map.now) × (grid.newest ≡ 0) × (own_blocks grid ≡ replicate (tile_count map.now) None)
             × (arena.old.free ≡ newest_blocks grid ++ arena.new.free) × (grid.came ≡ replicate (tile_count map.now) 0) × (grid.retired ≡ []) × (grid.home ≡ arena.old.home) × (grid.room ≡ length arena.old.free)) }
+        ensures size { IfOk result (λ grid. (grid.width ≡ map.now.width) × (grid.height ≡ map.now.height)) }
         ensures memory { IfErr result (λ refusal. (refusal ≡ Memory) × (arena.new.free ≡ arena.old.free)) }
         ensures home { arena.new.home ≡ arena.old.home }
     {
@@ -201,6 +203,13 @@ impl Grid {
             retired,
             spare,
         })
+    }
+
+    /// The tiles that newest no longer has, in the order in which they were retired, each with the first and the last version that have it.
+    pub fn retired(&self) -> &[Retired]
+        ensures { map old_piece result.now ≡ self.now.retired }
+    {
+        self.retired.as_slice()
     }
 
     /// Gives all tiles back.

@@ -1,5 +1,5 @@
 -- A drawing, by what was counted and by what drawing on the tiles leaves.
-use Rattle.std.proofs.Common.{rules, arith, ◌≡◌, map, ap, subst, sym, ◌∙◌}
+use Rattle.std.proofs.Common.{rules, ◌≡◌, map, ap, subst, sym, ◌∙◌}
 use Rattle.std.specs.List.{All}
 use Rattle.arena.specs.Blocks.{Home}
 use Rattle.grid.specs.Pieces.{piece_if, piece_of, IsFrom}

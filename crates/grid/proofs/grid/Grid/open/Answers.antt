@@ -1,5 +1,5 @@
 -- A grid is opened, by what its lists hold.
-use Rattle.std.proofs.Common.{rules, arith, refl, ◌≡◌, ◌^◌, ◌<◌, ◌≤◌, ap, subst, sym, ◌∙◌, List, [], ℕ, ◌++◌, map, length, replicate}
+use Rattle.std.proofs.Common.{arith, refl, ◌≡◌, ap, subst, sym, ◌∙◌, List, ℕ, ◌++◌, map, length, replicate}
 use Rattle.std.specs.Prelude.{Option, None}
 use Rattle.std.specs.List.{All}
 use Rattle.std.proofs.lemmas.List.{length-map}
@@ -11,7 +11,6 @@ use Rattle.grid.specs.declared.grid.Grid.TheInside.{Inside}
 use Rattle.grid.specs.declared.retired.Retired.{Retired}
 use Rattle.grid.specs.Pieces.{Piece, piece_of, piece_if, block_if, IsFrom}
 use Rattle.grid.specs.Fields.{tiled_in, home_of, old_piece}
-use Rattle.grid.specs.Grids.{Tiled, OldPiece}
 use Rattle.grid.proofs.GridRevert.{no_pieces, no_blocks}
 use Rattle.grid.proofs.OpenLemmas.{IsOpenedOn, tiled_opened, draft_opened, version_opened, home_is, some_tile, numbers_are}
 use Rattle.grid.proofs.grid.Grid.open.Goals as goal
