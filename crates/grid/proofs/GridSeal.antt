@@ -283,6 +283,8 @@ module _ (g : Tiled) (is : IsTiled g) where
         ∙ ap (λ (rs : List Retired). retired_blocks g ++ rs) (blocks_replaced g.newest 0 g.own g.came g.pieces);
     home_is = refl;
     room_is = refl;
+    width_is = refl;
+    height_is = refl;
   }
 
   -- a retired piece is retired still
