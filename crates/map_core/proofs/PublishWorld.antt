@@ -29,7 +29,7 @@ use Rattle.map_core.proofs.StepLemmas.{tidy_of}
 use Rattle.map_core.proofs.TidyPublish.{published_story, newest-publish, newest_is, bitmap_of-new}
 
 -- the version with which a position has come is read position by position
-get_or-came_after : (newest : ℕ) (own : List (Option ℕ)) (came : List ℕ) (p : ℕ) → length came ≡ length own → p < length own
+pub get_or-came_after : (newest : ℕ) (own : List (Option ℕ)) (came : List ℕ) (p : ℕ) → length came ≡ length own → p < length own
     → get_or (came_after newest own came) p 0 ≡ came_with newest (get_or own p None) (get_or came p 0)
 get_or-came_after newest [] came p long h = absurd (omega arith)
 get_or-came_after newest (o ∷ own) [] p long h = absurd (omega arith)
@@ -37,7 +37,7 @@ get_or-came_after newest (o ∷ own) (c ∷ came) zero long h = refl
 get_or-came_after newest (o ∷ own) (c ∷ came) (suc p) long h = get_or-came_after newest own came p (omega arith) (omega arith)
 
 -- there is one for each position
-length-came_after : (newest : ℕ) (own : List (Option ℕ)) (came : List ℕ) → length came ≡ length own → length (came_after newest own came) ≡ length came
+pub length-came_after : (newest : ℕ) (own : List (Option ℕ)) (came : List ℕ) → length came ≡ length own → length (came_after newest own came) ≡ length came
 length-came_after newest [] [] long = refl
 length-came_after newest [] (c ∷ came) long = absurd (omega arith)
 length-came_after newest (o ∷ own) [] long = refl
