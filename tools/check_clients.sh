@@ -23,6 +23,7 @@ done
 
 # A server of the map with one obstacle, with these settings; its port comes into the variable `port`.
 serve() {
+    : > "$scratch/port"
     printf 'P1\n6 4\n000000\n001000\n000000\n000000\n' | "$CLEARMAP" serve --connections 1000 "$@" > "$scratch/port" &
     servers="$servers $!"
     for _ in 1 2 3 4 5 6 7 8 9 10; do
@@ -36,7 +37,7 @@ serve() {
 
 if compiler=$(command -v "${CXX:-g++}"); then
     "$compiler" -std=c++17 -O1 -Wall -Wextra -Werror -pthread -o "$scratch/test" clients/cpp/test_clearmap.cpp || failed=1
-    serve && post=$port && rm "$scratch/port" && serve --blocks 2 --versions 2 --log 3 && "$scratch/test" "$post" "$port" || failed=1
+    serve && post=$port && serve --blocks 2 --versions 2 --log 3 && "$scratch/test" "$post" "$port" || failed=1
 else
     echo "clients/cpp left out: there is no ${CXX:-g++}"
 fi

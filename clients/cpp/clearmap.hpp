@@ -350,9 +350,22 @@ public:
     std::optional<Tightest> clear_of(std::uint32_t distance, const Path& p, Metric m = Metric::euclid2) { return one(Queries().clear_of(distance, p, m)); }
 
     /// The straight distance of a path's tightest cell to its nearest obstacle, in cells from middle to middle; infinite where the map has none.
+    /// The path may have any number of points: one of over 1000 is asked in pieces, which share their ends.
     double clearance(const Path& p) {
-        auto found = path(p);
-        return found ? std::sqrt(static_cast<double>(found->distance)) : std::numeric_limits<double>::infinity();
+        constexpr std::size_t longest = 1000;
+        Queries queries;
+        std::size_t start = 0;
+        do {
+            std::size_t end = std::min(start + longest, p.size());
+            queries.path(Path(p.begin() + static_cast<std::ptrdiff_t>(start), p.begin() + static_cast<std::ptrdiff_t>(end)));
+            start += longest - 1;
+        } while (start + 1 < p.size());
+        double least = std::numeric_limits<double>::infinity();
+        for (const Answer& answer : ask(queries)) {
+            if (answer.refused) throw *answer.refused;
+            if (answer.found) least = std::min(least, std::sqrt(static_cast<double>(answer.found->distance)));
+        }
+        return least;
     }
 
     /// Whether a cell is on the map and no obstacle, and its straight distance to the nearest obstacle in cells: exact but for the root's rounding.
@@ -470,6 +483,11 @@ private:
     detail::Wire wire_;
 };
 
+/// A point in metres, y upwards.
+struct Point {
+    double x, y;
+};
+
 /// Where a map lies in the world, as a ROS `map.yaml` says: metres a cell, and the lower left corner in metres, y upwards.
 struct Frame {
     int width, height;
@@ -482,8 +500,54 @@ struct Frame {
         return Cell{static_cast<int>(u), height - 1 - static_cast<int>(t)};
     }
 
+    /// The path through the cells that a plan's segments cross; through a corner it goes by one of the cells beside it. Nothing where the plan
+    /// has no point, or one beside the map. The middle of each cell of it is less than one cell from the plan.
+    std::optional<Path> staircase(const std::vector<Point>& plan) const {
+        Path path;
+        for (std::size_t i = 0; i < plan.size(); ++i) {
+            auto here = cell(plan[i].x, plan[i].y);
+            if (!here) return std::nullopt;
+            if (i == 0) path.push_back(*here);
+            else cross(plan[i - 1], plan[i], path);
+        }
+        if (path.empty()) return std::nullopt;
+        return corners(path);
+    }
+
     /// A length in cells, as `clearance` answers it, in metres.
     double metres(double cells) const { return cells * resolution; }
+
+private:
+    /// A crossing of an edge: how far along the segment it is, and the step that it is in each direction.
+    struct Crossing {
+        double along;
+        int dx, dy;
+    };
+
+    /// The crossings of the edges between two coordinates in cells.
+    static void edges(double from, double to, int dx, int dy, std::vector<Crossing>& found) {
+        double first = std::floor(from), last = std::floor(to), step = last > first ? 1 : -1;
+        for (double at = first; at != last; at += step)
+            found.push_back({((step > 0 ? at + 1 : at) - from) / (to - from), step > 0 ? dx : -dx, step > 0 ? dy : -dy});
+    }
+
+    /// Adds the cells that a segment enters behind its first.
+    void cross(Point start, Point end, Path& path) const {
+        std::vector<Crossing> found;
+        edges((start.x - origin_x) / resolution, (end.x - origin_x) / resolution, 1, 0, found);
+        edges((start.y - origin_y) / resolution, (end.y - origin_y) / resolution, 0, -1, found);
+        std::stable_sort(found.begin(), found.end(), [](const Crossing& a, const Crossing& b) { return a.along < b.along; });
+        for (const Crossing& crossing : found) path.push_back({path.back().x + crossing.dx, path.back().y + crossing.dy});
+    }
+
+    /// A path of neighbouring cells by its ends and the cells where it turns.
+    static Path corners(const Path& cells) {
+        Path kept = {cells.front()};
+        for (std::size_t i = 1; i + 1 < cells.size(); ++i)
+            if (cells[i].x - cells[i - 1].x != cells[i + 1].x - cells[i].x || cells[i].y - cells[i - 1].y != cells[i + 1].y - cells[i].y) kept.push_back(cells[i]);
+        if (cells.size() > 1) kept.push_back(cells.back());
+        return kept;
+    }
 };
 
 }  // namespace clearmap

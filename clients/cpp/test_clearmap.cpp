@@ -91,6 +91,12 @@ static void queries(std::uint16_t port) {
     CHECK(map.clear_of(2, corner, Metric::city)->distance == 1);
     CHECK(!map.clear_of(1, corner, Metric::chess));
     CHECK(map.clearance({{5, 1}, {5, 3}}) == 3.0);
+    Path back_and_forth;
+    for (int i = 0; i < 2500; ++i) back_and_forth.push_back({5, i % 2 == 0 ? 0 : 1});
+    CHECK(map.clearance(back_and_forth) == 3.0);
+    for (Cell last : {Cell{5, 0}, Cell{2, 0}}) back_and_forth.push_back(last);  // in the last piece
+    CHECK(map.clearance(back_and_forth) == 1.0);
+    CHECK(refused(BadPath, "BadPath", {}, [&] { map.clearance({}); }));
     CHECK(map.dump() == "P1\n6 4\n000000\n001000\n000000\n000000\n");
     double cells = -1;
     CHECK(map.is_valid(5, 1, cells) && cells == 3.0);
@@ -189,6 +195,13 @@ static void frames() {
     CHECK(*frame.cell(-0.81, -1.86) == (Cell{3, 0}));
     CHECK(!frame.cell(-1.01, -1.9) && !frame.cell(-0.79, -1.9) && !frame.cell(-0.9, -1.84) && !frame.cell(NAN, 0));
     CHECK(frame.metres(3) > 0.1499 && frame.metres(3) < 0.1501);
+    Frame wide{10, 10, 1, 0, 0};
+    CHECK(*wide.staircase({{0.5, 0.5}, {0.6, 0.7}}) == (Path{{0, 9}}));
+    CHECK(*wide.staircase({{0.5, 0.5}, {5.5, 0.5}, {5.5, 4.5}}) == (Path{{0, 9}, {5, 9}, {5, 5}}));
+    CHECK(*wide.staircase({{0.5, 0.5}, {2.5, 2.5}}) == (Path{{0, 9}, {1, 9}, {1, 8}, {2, 8}, {2, 7}}));
+    CHECK(*wide.staircase({{2.5, 2.5}, {0.5, 1.5}}) == (Path{{2, 7}, {1, 7}, {1, 8}, {0, 8}}));
+    CHECK(*wide.staircase({{3.5, 0.5}, {1.5, 0.5}, {4.5, 0.5}}) == (Path{{3, 9}, {1, 9}, {4, 9}}));
+    CHECK(!wide.staircase({}) && !wide.staircase({{0.5, 0.5}, {10, 0.5}}));
 }
 
 int main(int count, char** words) {

@@ -16,6 +16,7 @@ The server is proved; this file is not. It is tested against the built server an
 Columns x and rows y count from 0 at the upper left. A distance is in cells: `euclid2` is the square of the straight one, `city` and `chess` count
 steps. A client is one connection for one thread: give each thread its own. The server listens on the loopback interface of its machine alone.
 """
+import math
 import re
 import socket
 from typing import Callable, Dict, Iterable, List, NamedTuple, Optional, Sequence, TextIO, Tuple, Type, TypeVar, Union
@@ -482,6 +483,22 @@ class Pinned:
     def clear_of(self, distance: int, points: Iterable[Cell], metric: str = EUCLID2) -> Optional[Tightest]:
         """None where each cell of the path has this distance at least, and else the first that hasn't. With euclid2 the distance is a square."""
         return self._client._call(_clear_of(distance, points, metric), _clear)
+
+    def clearance(self, points: Sequence[Cell]) -> float:
+        """The straight distance of a path's tightest cell to its nearest obstacle, in cells from middle to middle; infinite where the map has none.
+
+        The path may have any number of points: one of over 1000 is asked in pieces, which share their ends.
+        """
+        queries = Queries()
+        for start in range(0, max(len(points) - 1, 1), LONGEST_PATH - 1):
+            queries.path(points[start : start + LONGEST_PATH])
+        least = math.inf
+        for answer in self.ask(queries):
+            if isinstance(answer, Refused):
+                raise answer
+            if isinstance(answer, Tightest):
+                least = min(least, math.sqrt(answer.distance))
+        return least
 
     def dump(self) -> bytes:
         """The version as a plain PBM image."""

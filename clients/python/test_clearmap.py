@@ -1,6 +1,7 @@
 #!/usr/bin/env python3
 """Tests of clearmap.py against the built `clearmap serve`, named by CLEARMAP, and against servers that answer wrongly, late or not at all."""
 import io
+import math
 import os
 import socket
 import subprocess
@@ -73,7 +74,12 @@ class Serving(unittest.TestCase):
                 self.assertEqual(pinned.path(corner, "city"), (1, (2, 0), (2, 1)))
                 self.assertEqual(pinned.clear_of(2, corner, "city"), (1, (2, 0), (2, 1)))
                 self.assertIsNone(pinned.clear_of(1, corner, "chess"))
-                self.assertEqual(pinned.dump(), POST[:-1] + b"\n")
+                self.assertEqual(pinned.dump(), POST)
+                back_and_forth = [(5, turn % 2) for turn in range(2500)]
+                self.assertEqual(pinned.clearance(back_and_forth), 3.0)
+                self.assertEqual(pinned.clearance(back_and_forth + [(5, 0), (2, 0)]), 1.0)
+                self.assertRaises(clearmap.BadPath, pinned.clearance, [])
+                self.assertRaises(clearmap.Crooked, pinned.clearance, [(0, 0), (1, 1)])
             with client.pin() as pinned:
                 self.assertEqual(pinned.version, 0)
 
@@ -105,6 +111,7 @@ class Serving(unittest.TestCase):
             self.assertIsNone(pinned.rect(0, 0, 2, 1))
             self.assertIsNone(pinned.path([(0, 0)]))
             self.assertIsNone(pinned.clear_of(99, [(0, 0)]))
+            self.assertEqual(pinned.clearance([(0, 0)]), math.inf)
 
     def test_many_in_one_trip(self):
         with Server() as server, clearmap.Client(server.port) as client, client.pin() as pinned:
