@@ -493,9 +493,9 @@ struct Frame {
     int width, height;
     double resolution, origin_x, origin_y;
 
-    /// The cell of a point in metres; nothing beside the map. A point within rounding of an edge may be given to either side of it.
+    /// The cell of a point in metres; nothing beside the map. A point within a billionth of a cell of an edge counts as on it.
     std::optional<Cell> cell(double x, double y) const {
-        double u = std::floor((x - origin_x) / resolution), t = std::floor((y - origin_y) / resolution);
+        double u = std::floor(across(x)), t = std::floor(up(y));
         if (!(0 <= u && u < width && 0 <= t && t < height)) return std::nullopt;
         return Cell{static_cast<int>(u), height - 1 - static_cast<int>(t)};
     }
@@ -518,7 +518,17 @@ struct Frame {
     double metres(double cells) const { return cells * resolution; }
 
 private:
-    /// A crossing of an edge: how far along the segment it is, and the step that it is in each direction.
+    /// A number of cells, where it is that of an edge but for rounding: decimals such as 0.05 have no double.
+    static double snapped(double cells) {
+        double edge = std::round(cells);
+        return std::abs(cells - edge) < 1e-9 ? edge : cells;
+    }
+
+    /// A coordinate in cells from the lower left corner.
+    double across(double x) const { return snapped((x - origin_x) / resolution); }
+    double up(double y) const { return snapped((y - origin_y) / resolution); }
+
+    /// A crossing of an edge: how far along the segment it is, in whole trillionths so that rounding parts no two at one corner, and the step.
     struct Crossing {
         double along;
         int dx, dy;
@@ -528,14 +538,14 @@ private:
     static void edges(double from, double to, int dx, int dy, std::vector<Crossing>& found) {
         double first = std::floor(from), last = std::floor(to), step = last > first ? 1 : -1;
         for (double at = first; at != last; at += step)
-            found.push_back({((step > 0 ? at + 1 : at) - from) / (to - from), step > 0 ? dx : -dx, step > 0 ? dy : -dy});
+            found.push_back({std::round(((step > 0 ? at + 1 : at) - from) / (to - from) * 1e12), step > 0 ? dx : -dx, step > 0 ? dy : -dy});
     }
 
     /// Adds the cells that a segment enters behind its first.
     void cross(Point start, Point end, Path& path) const {
         std::vector<Crossing> found;
-        edges((start.x - origin_x) / resolution, (end.x - origin_x) / resolution, 1, 0, found);
-        edges((start.y - origin_y) / resolution, (end.y - origin_y) / resolution, 0, -1, found);
+        edges(across(start.x), across(end.x), 1, 0, found);
+        edges(up(start.y), up(end.y), 0, -1, found);
         std::stable_sort(found.begin(), found.end(), [](const Crossing& a, const Crossing& b) { return a.along < b.along; });
         for (const Crossing& crossing : found) path.push_back({path.back().x + crossing.dx, path.back().y + crossing.dy});
     }

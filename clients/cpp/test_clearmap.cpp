@@ -195,6 +195,9 @@ static void frames() {
     CHECK(*frame.cell(-0.81, -1.86) == (Cell{3, 0}));
     CHECK(!frame.cell(-1.01, -1.9) && !frame.cell(-0.79, -1.9) && !frame.cell(-0.9, -1.84) && !frame.cell(NAN, 0));
     CHECK(frame.metres(3) > 0.1499 && frame.metres(3) < 0.1501);
+    for (int x = 0; x < 384; ++x)  // the left edge of each column belongs to it, as in decimals
+        CHECK(Frame({384, 1, 0.05, -9.6, 0}).cell((-960 + 5 * x) / 100.0, 0)->x == x);
+    CHECK(*Frame({384, 256, 0.05, -9.6, -6.4}).staircase({{0.5, 0.5}, {1.5, 0.8}}) == (Path{{202, 117}, {205, 117}, {205, 116}, {208, 116}, {208, 115}, {212, 115}, {212, 114}, {215, 114}, {215, 113}, {218, 113}, {218, 112}, {222, 112}, {222, 111}}));
     Frame wide{10, 10, 1, 0, 0};
     CHECK(*wide.staircase({{0.5, 0.5}, {0.6, 0.7}}) == (Path{{0, 9}}));
     CHECK(*wide.staircase({{0.5, 0.5}, {5.5, 0.5}, {5.5, 4.5}}) == (Path{{0, 9}, {5, 9}, {5, 5}}));
