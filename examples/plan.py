@@ -21,4 +21,7 @@ def main(yaml, port):
     print(f"{frame.metres(tightest.distance):.3f} m at ({x:.3f}, {y:.3f}), and {frame.free_metres(tightest.distance):.3f} m free in any case")
 
 
-main(*sys.argv[1:])
+try:
+    main(*sys.argv[1:])
+except (ros.RosError, clearmap.ClearmapError) as fault:
+    sys.exit(f"plan.py: {fault}")

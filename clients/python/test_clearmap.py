@@ -78,6 +78,8 @@ class Serving(unittest.TestCase):
                 back_and_forth = [(5, turn % 2) for turn in range(2500)]
                 self.assertEqual(pinned.clearance(back_and_forth), 3.0)
                 self.assertEqual(pinned.clearance(back_and_forth + [(5, 0), (2, 0)]), 1.0)
+                joint = [(5, (turn + 1) % 2) for turn in range(1000)] + [(0, 0), (0, 1)]  # the tightest cell lies between the pieces
+                self.assertEqual(pinned.clearance(joint), 1.0)
                 self.assertRaises(clearmap.BadPath, pinned.clearance, [])
                 self.assertRaises(clearmap.Crooked, pinned.clearance, [(0, 0), (1, 1)])
             with client.pin() as pinned:
@@ -210,6 +212,8 @@ class Failures(unittest.TestCase):
         with Fake(closes=False) as fake, clearmap.Client(fake.port, timeout=0.2) as client:
             with self.assertRaises(clearmap.TimedOut):
                 client.pin()
+            with self.assertRaisesRegex(clearmap.ConnectionLost, "is closed"):
+                client.pin()
 
     def test_half_a_reply(self):
         with Fake(b"OK", closes=True) as fake, clearmap.Client(fake.port) as client:
@@ -245,7 +249,7 @@ class Failures(unittest.TestCase):
             with self.subTest(answer=answer), Fake(answer, closes=False) as fake, clearmap.Client(fake.port, timeout=5) as client:
                 with self.assertRaises(clearmap.WrongAnswer):
                     call(client)
-                with self.assertRaises(clearmap.ConnectionLost):  # the connection isn't used again
+                with self.assertRaisesRegex(clearmap.ConnectionLost, "is closed"):  # the connection isn't used again
                     client.pin()
 
 

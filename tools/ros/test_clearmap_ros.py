@@ -46,6 +46,7 @@ class Images(unittest.TestCase):
             for comment in ("", "# CREATOR: map_saver.cpp 0.050 m/pix\n", "#\n#4 4\n  "):
                 self.assertEqual(rows_of(form(SAMPLES, comment=comment)), SAFE)
                 self.assertEqual(rows_of(form(SAMPLES), unknown_is_free=True), UNKNOWN_FREE)
+        self.assertEqual(ros.obstacles(ros.read_pgm(raw(SAMPLES)), ros.read_settings(YAML)), [[black == 1 for black in row] for row in SAFE])
         self.assertEqual(rows_of(b"P2 4 3 255 0 205 254 254 # a row\n254 254 254 0\n100 89 # here\n90 206"), SAFE)
 
     def test_other_maxima(self):
