@@ -17,6 +17,7 @@ trap finish EXIT
 
 # start_server MAP FLAG ..: serves a map in the background. Its port comes into `port`, and its process into `server`.
 start_server() {
+    : > "$scratch/served"
     clearmap serve "${@:2}" < "$1" > "$scratch/served" &
     server=$!
     until port=$(sed -n 's/^LISTENING //p' "$scratch/served") && [ -n "$port" ]; do
