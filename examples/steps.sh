@@ -1,5 +1,8 @@
+#!/usr/bin/env bash
 # A collect has looked at a reader's word just before that reader announces a version that the collect then drops. The reader's next
 # load tells it so: it holds the newest version, never the one that is gone. Each line of the text is answered by one line.
+. "$(dirname "$0")/setup.bash"
+
 clearmap steps << 'TEXT'
 OPEN 64 64 3 2 1 10
 C PAINT 0 0 1 1
@@ -20,4 +23,4 @@ TEXT
 echo "status $?"
 
 # A map of 128 columns takes two tiles, so one block is too few.
-echo 'OPEN 128 1 1 2 1 10' | clearmap steps; echo "status $?"
+echo 'OPEN 128 1 1 2 1 10' | clearmap steps || echo "status $?"

@@ -1,16 +1,18 @@
 #!/bin/sh
-# Runs each transcript of examples/ with the built program, and compares what it prints with the file beside it.
+# Runs each transcript of examples/ with the built program (or that of CLEARMAP), and compares what it prints with the file beside it.
 # With --write it writes those files instead: look at what changed before you commit it.
 # A transcript that says "# Needs netpbm: TOOL .." is left out, and counted, where a tool of these isn't installed.
 set -u
 cd "$(dirname "$0")/.." || exit 1
-./clearmap --version > /dev/null || exit 1
-scratch=$(mktemp -d)
-trap 'rm -rf "$scratch"' EXIT
-export scratch
-mkdir "$scratch/bin"
-ln -s "$PWD/crates/clearmap/out/clearmap" "$scratch/bin/clearmap"
-PATH="$scratch/bin:$PATH"
+program=${CLEARMAP:-$PWD/crates/clearmap/out/clearmap}
+[ -x "$program" ] || ./clearmap --version > /dev/null || exit 1
+room=$(mktemp -d)
+trap 'rm -rf "$room"' EXIT
+trap 'exit 1' INT TERM
+mkdir "$room/bin"
+ln -s "$program" "$room/bin/clearmap"
+PATH="$room/bin:$PATH"
+export PYTHONDONTWRITEBYTECODE=1
 tried=0
 wrong=0
 left_out=0
@@ -27,10 +29,15 @@ for example in examples/*.sh; do
     fi
     tried=$((tried + 1))
     wanted="${example%.sh}.out"
-    sh "$example" > "$scratch/out" 2>&1
-    if [ "${1-}" = --write ]; then
-        cp "$scratch/out" "$wanted"
-    elif ! diff -u "$wanted" "$scratch/out"; then
+    (cd / && bash "$OLDPWD/$example") > "$room/out" 2>&1
+    status=$?
+    if [ "$status" != 0 ]; then
+        wrong=$((wrong + 1))
+        echo "$example ends with status $status:"
+        cat "$room/out"
+    elif [ "${1-}" = --write ]; then
+        cp "$room/out" "$wanted"
+    elif ! diff -u "$wanted" "$room/out"; then
         wrong=$((wrong + 1))
         echo "$example differs"
     fi

@@ -57,13 +57,15 @@ pub struct AskOptions {
 
 /// Why the words aren't a command to run.
 #[derive(Debug, Drop, Error)]
-pub enum Fault {
+pub enum Fault<'a> {
     /// A mistake in the words, or a wish for help or the version.
     #[error("{0}")]
     Words(ClapError),
     /// `--metric` names no metric.
-    #[error("--metric is one of euclid2, city and chess")]
-    UnknownMetric,
+    #[error("--metric is one of euclid2, city and chess, not '{name}'")]
+    UnknownMetric {
+        name: &'a str,
+    },
     /// The value of a flag isn't a number in its range.
     #[error("--{name} is a number from {least} to {most}")]
     BadNumber {
@@ -82,14 +84,14 @@ pub enum Fault {
     Memory,
 }
 
-impl From<AllocError> for Fault {
-    fn from(_error: AllocError) -> Fault {
+impl From<AllocError> for Fault<'_> {
+    fn from(_error: AllocError) -> Self {
         Fault::Memory
     }
 }
 
-impl From<io::Error> for Fault {
-    fn from(error: io::Error) -> Fault {
+impl From<io::Error> for Fault<'_> {
+    fn from(error: io::Error) -> Self {
         match error.kind() {
             io::ErrorKind::OutOfMemory => Fault::Memory,
             _ => Fault::Unreadable(error),
@@ -97,12 +99,12 @@ impl From<io::Error> for Fault {
     }
 }
 
-impl From<ClapError> for Fault {
+impl From<ClapError> for Fault<'_> {
     ghost use Rattle.clearmap.specs.CommandLine.{IsFaultOf};
 
     ghost from_gives = { IsFaultOf };
 
-    fn from(error: ClapError) -> Fault {
+    fn from(error: ClapError) -> Self {
         match error.kind() {
             ErrorKind::OutOfMemory => Fault::Memory,
             _ => Fault::Words(error),

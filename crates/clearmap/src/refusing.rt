@@ -13,19 +13,21 @@ use metric::{Refusal, Sink};
 use std::alloc::{AllocError, Global};
 
 /// The status of a run whose words are refused.
-fn status_of(fault: &Fault) -> u8
+fn status_of(fault: &Fault<'_>) -> u8
     ensures { IsStatusOf fault.now result }
 {
     match fault {
         Fault::Memory => REFUSED,
         Fault::Words(error) => { if error.use_stderr() { MISTAKEN } else { DONE } }
-        Fault::UnknownMetric | Fault::BadNumber { .. } | Fault::NoCommand | Fault::Unreadable(_) =>
-            MISTAKEN,
+        Fault::UnknownMetric { .. }
+        | Fault::BadNumber { .. }
+        | Fault::NoCommand
+        | Fault::Unreadable(_) => MISTAKEN,
     }
 }
 
 /// What is told: the text of `clap` as it is, and any other with the program's name.
-fn text_of(alloc: Global, fault: &Fault) -> Result<String, AllocError> {
+fn text_of(alloc: Global, fault: &Fault<'_>) -> Result<String, AllocError> {
     match fault {
         Fault::Words(error) => format!(in alloc; "{error}"),
         other => format!(in alloc; "clearmap: {other}\n"),
@@ -51,7 +53,12 @@ fn tell_memory<W: Sink>(writer: &mut W) -> u8
 }
 
 /// Tells why words are refused, on `errors`, or what they asked to be told, on the writer. Answers the status.
-pub fn tell<W: Sink, E: Sink>(alloc: Global, fault: &Fault, writer: &mut W, errors: &mut E) -> u8
+pub fn tell<W: Sink, E: Sink>(
+    alloc: Global,
+    fault: &Fault<'_>,
+    writer: &mut W,
+    errors: &mut E,
+) -> u8
     requires writer { CanFail (W.failed_writes writer.old) }
     requires errors { CanFail (E.failed_writes errors.old) }
     ensures told { W.failed_writes writer.new ≡ W.failed_writes writer.old → E.failed_writes errors.new ≡ E.failed_writes errors.old

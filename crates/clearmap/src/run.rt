@@ -36,7 +36,7 @@ where
 }
 
 /// The process's words.
-fn words_of<R: Env + AllocGlobal>(rt: &R) -> Result<Vec<String>, Fault> {
+fn words_of<R: Env + AllocGlobal>(rt: &R) -> Result<Vec<String>, Fault<'static>> {
     Ok(env::args(rt)?.collect(rt.alloc())?)
 }
 
@@ -78,7 +78,7 @@ where
 }
 
 /// Tells why the process's words can't be had.
-fn tell_fault<R: Print + Eprint + AllocGlobal>(rt: &R, fault: &Fault) -> u8 {
+fn tell_fault<R: Print + Eprint + AllocGlobal>(rt: &R, fault: &Fault<'_>) -> u8 {
     let alloc = rt.alloc();
     let Ok(mut writer) = WriterSink::new(alloc, io::writer(rt)) else {
         return refuse(rt);

@@ -14,7 +14,7 @@ use proto::read_number;
 use std::alloc::Global;
 
 /// The options of `serve` or `ask`, where one of them was named.
-pub fn serve_or_ask<'a>(matches: &ArgMatches<'a>) -> Result<Options<'a>, Fault>
+pub fn serve_or_ask<'a>(matches: &ArgMatches<'a>) -> Result<Options<'a>, Fault<'a>>
     ensures options { IfOk result (AreMatched matches.now) }
 {
     if let Some(flags) = matches.subcommand_matches("serve") {
@@ -27,7 +27,7 @@ pub fn serve_or_ask<'a>(matches: &ArgMatches<'a>) -> Result<Options<'a>, Fault>
 }
 
 /// The flags of `serve`.
-fn serve_options(flags: &ArgMatches<'_>) -> Result<ServeOptions, Fault>
+fn serve_options(flags: &ArgMatches<'_>) -> Result<ServeOptions, Fault<'static>>
     ensures options { IfOk result (AreServeOptions (rows_of (found_of flags.now))) }
 {
     Ok(ServeOptions {
@@ -41,7 +41,7 @@ fn serve_options(flags: &ArgMatches<'_>) -> Result<ServeOptions, Fault>
 }
 
 /// The flag of `ask`.
-fn ask_options(flags: &ArgMatches<'_>) -> Result<AskOptions, Fault>
+fn ask_options(flags: &ArgMatches<'_>) -> Result<AskOptions, Fault<'static>>
     ensures options { IfOk result (AreAskOptions (rows_of (found_of flags.now))) }
 {
     Ok(AskOptions {
@@ -50,7 +50,7 @@ fn ask_options(flags: &ArgMatches<'_>) -> Result<AskOptions, Fault>
 }
 
 /// The port that `--port` gives, from this one on.
-fn port_given(flags: &ArgMatches<'_>, least: u32) -> Result<u16, Fault>
+fn port_given(flags: &ArgMatches<'_>, least: u32) -> Result<u16, Fault<'static>>
     ensures { MatchResult result (λ port. in_range least 65535 (first_value (found_of flags.now) (codes "port")) ≡ Some port) (λ _. in_range least 65535 (first_value (found_of flags.now) (codes "port")) ≡ None) }
 {
     let port = number_given(flags, "port", least, 65535)?;
@@ -63,7 +63,7 @@ fn number_given(
     name: &'static str,
     least: u32,
     most: u32,
-) -> Result<u32, Fault>
+) -> Result<u32, Fault<'static>>
     ensures { MatchResult result (λ n. (in_range least most (first_value (found_of flags.now) name.now) ≡ Some n) × (n ≤ most)) (λ _. in_range least most (first_value (found_of flags.now) name.now) ≡ None) }
 {
     match value_given(flags, name) {

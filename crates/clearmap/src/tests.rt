@@ -302,7 +302,7 @@ fn words_are_read(rt: HostRuntime) -> Result<(), Fail> {
 fn status_of<R: AllocGlobal>(rt: &R, words: &[&str]) -> Option<i32> {
     match options(rt.alloc(), words) {
         Err(Fault::Words(error)) => Some(error.exit_code()),
-        Err(Fault::UnknownMetric) => Some(2),
+        Err(Fault::UnknownMetric { .. }) => Some(2),
         _ => None,
     }
 }

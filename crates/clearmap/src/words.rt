@@ -18,7 +18,7 @@ use std::alloc::Global;
 /// Reads the words of the command line, of which the first is the program's name.
 ///
 /// `--help` and `--version` come as a fault whose text goes to standard output, with status 0.
-pub fn options<'a>(alloc: Global, words: &'a [&'a str]) -> Result<Options<'a>, Fault>
+pub fn options<'a>(alloc: Global, words: &'a [&'a str]) -> Result<Options<'a>, Fault<'a>>
     ensures options { IfOk result (AreOptions (texts_of words.entry.now)) }
     ensures refused { AreTaken (texts_of words.entry.now) → IfErr result (λ fault. fault ≡ Memory) }
     ensures taken { (name : List ℕ) → texts_of words.entry.now ≡ name ∷ codes "dist" ∷ []
@@ -37,7 +37,7 @@ pub fn options<'a>(alloc: Global, words: &'a [&'a str]) -> Result<Options<'a>, F
 }
 
 /// The flags of `dist`.
-fn dist_options<'a>(flags: &ArgMatches<'a>) -> Result<DistOptions<'a>, Fault>
+fn dist_options<'a>(flags: &ArgMatches<'a>) -> Result<DistOptions<'a>, Fault<'a>>
     ensures options { IfOk result (AreDistOptions (rows_of (found_of flags.now))) }
     ensures unknown { OnErr result (option_and_then metric_named (first_of (codes "metric") (rows_of (found_of flags.now))) ≡ None) }
 {
@@ -47,7 +47,9 @@ fn dist_options<'a>(flags: &ArgMatches<'a>) -> Result<DistOptions<'a>, Fault>
             nearest: flags.get_flag("nearest"),
             query: flags.get_str("query"),
         }),
-        None => Err(Fault::UnknownMetric),
+        None => Err(Fault::UnknownMetric {
+            name: flags.get_str("metric").unwrap_or(""),
+        }),
     }
 }
 
@@ -79,7 +81,7 @@ fn program<'a>(alloc: Global) -> Result<Command<'a>, Error>
             .version("0.1.0")
             .about("Exact distances to the nearest obstacle of an occupancy grid")
             .after_help(
-                "Answers and refusals go to standard output. The exit status is 0 where all was done, 1 where the\ninput or the network was refused or a standard stream failed, and 2 where the command line was.\n\nExamples:\n  clearmap dist < map.pbm\n  clearmap serve --connections 2 < map.pbm",
+                "An image is PBM, plain (P1) or raw (P4), 1 to 4096 pixels a side; a black pixel is an obstacle. The map of\na robot has unknown cells besides, which whoever makes the image makes obstacles or free cells.\n\nAnswers and refusals go to standard output. The exit status is 0 where all was done, 1 where the\ninput or the network was refused or a standard stream failed, and 2 where the command line was.\n\nExamples:\n  clearmap dist < map.pbm\n  clearmap serve --connections 2 < map.pbm",
             )
             .subcommand_required(true)
             .subcommand(dist_command(alloc)?)?
@@ -101,7 +103,7 @@ fn dist_command<'a>(alloc: Global) -> Result<Command<'a>, Error>
                 "Print each cell's distance to the nearest obstacle of the image on standard input",
             )
             .after_help(
-                "Examples:\n  clearmap dist --metric chess < map.pbm\n  clearmap dist --query 'AT euclid2 3 4' < map.pbm",
+                "Standard input is an image, PBM plain (P1) or raw (P4), 1 to 4096 pixels a side; a black pixel is an\nobstacle. Each line of the answer is a row of distances, and '-' stands where there is no obstacle.\nStatus 1: a fault of the image or the line is one line in its place, as 'ERR 15 BadImage BadMagic', or a\nstandard stream failed. Status 2: the command line was refused.\n\nExamples:\n  clearmap dist --metric chess < map.pbm\n  clearmap dist --query 'AT euclid2 3 4' < map.pbm",
             )
             .arg(metric_flag(alloc))?
             .arg(nearest_flag(alloc))?

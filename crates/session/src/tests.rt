@@ -6,6 +6,7 @@ mod closing;
 mod limits;
 mod pins;
 mod threads;
+mod tutorial;
 
 use crate::{Blank, Pinned, Session, Store};
 use bits::Bitmap;

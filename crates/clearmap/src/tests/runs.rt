@@ -6,11 +6,11 @@ use std::process::Abort;
 
 /// The text of help.
 const HELP: &str =
-    "Exact distances to the nearest obstacle of an occupancy grid\n\nUsage: clearmap <COMMAND>\n\nCommands:\n  dist   Print each cell's distance to the nearest obstacle of the image on standard input\n  steps  Do the events on standard input in a map with numbered versions, one word at a time\n  serve  Serve the map on standard input to connections on 127.0.0.1, line by line\n  ask    Send the lines on standard input to a server, and print each reply\n  help   Print this message or the help of the given subcommand(s)\n\nOptions:\n  -h, --help     Print help\n  -V, --version  Print version\n\nAnswers and refusals go to standard output. The exit status is 0 where all was done, 1 where the\ninput or the network was refused or a standard stream failed, and 2 where the command line was.\n\nExamples:\n  clearmap dist < map.pbm\n  clearmap serve --connections 2 < map.pbm\n";
+    "Exact distances to the nearest obstacle of an occupancy grid\n\nUsage: clearmap <COMMAND>\n\nCommands:\n  dist   Print each cell's distance to the nearest obstacle of the image on standard input\n  steps  Do the events on standard input in a map with numbered versions, one word at a time\n  serve  Serve the map on standard input to connections on 127.0.0.1, line by line\n  ask    Send the lines on standard input to a server, and print each reply\n  help   Print this message or the help of the given subcommand(s)\n\nOptions:\n  -h, --help     Print help\n  -V, --version  Print version\n\nAn image is PBM, plain (P1) or raw (P4), 1 to 4096 pixels a side; a black pixel is an obstacle. The map of\na robot has unknown cells besides, which whoever makes the image makes obstacles or free cells.\n\nAnswers and refusals go to standard output. The exit status is 0 where all was done, 1 where the\ninput or the network was refused or a standard stream failed, and 2 where the command line was.\n\nExamples:\n  clearmap dist < map.pbm\n  clearmap serve --connections 2 < map.pbm\n";
 
 /// The text of help for `dist`.
 const DIST_HELP: &str =
-    "Print each cell's distance to the nearest obstacle of the image on standard input\n\nUsage: clearmap dist [OPTIONS]\n\nOptions:\n      --metric <METRIC>  The distance, in cells: euclid2 (straight, squared), city or chess [default: euclid2]\n      --nearest          Print each entry as distance/x/y, with its nearest obstacle\n      --query <LINE>     Print only the answer to LINE, as 'AT city 3 4'; there are AT, RECT, PATH and CLEAROF\n  -h, --help             Print help\n\nExamples:\n  clearmap dist --metric chess < map.pbm\n  clearmap dist --query 'AT euclid2 3 4' < map.pbm\n";
+    "Print each cell's distance to the nearest obstacle of the image on standard input\n\nUsage: clearmap dist [OPTIONS]\n\nOptions:\n      --metric <METRIC>  The distance, in cells: euclid2 (straight, squared), city or chess [default: euclid2]\n      --nearest          Print each entry as distance/x/y, with its nearest obstacle\n      --query <LINE>     Print only the answer to LINE, as 'AT city 3 4'; there are AT, RECT, PATH and CLEAROF\n  -h, --help             Print help\n\nStandard input is an image, PBM plain (P1) or raw (P4), 1 to 4096 pixels a side; a black pixel is an\nobstacle. Each line of the answer is a row of distances, and '-' stands where there is no obstacle.\nStatus 1: a fault of the image or the line is one line in its place, as 'ERR 15 BadImage BadMagic', or a\nstandard stream failed. Status 2: the command line was refused.\n\nExamples:\n  clearmap dist --metric chess < map.pbm\n  clearmap dist --query 'AT euclid2 3 4' < map.pbm\n";
 
 /// What words that are no run write to the standard output, to the standard error, and their status.
 const TOLD: [(&[&str], &str, &str, u8); 17] = [
@@ -76,7 +76,7 @@ const TOLD: [(&[&str], &str, &str, u8); 17] = [
     (
         &["clearmap", "dist", "--metric", "taxi"],
         "",
-        "clearmap: --metric is one of euclid2, city and chess\n",
+        "clearmap: --metric is one of euclid2, city and chess, not 'taxi'\n",
         2,
     ),
     (

@@ -1,0 +1,247 @@
+// Tests of clearmap.hpp: test_clearmap POST SMALL, the ports of two servers of the map with one obstacle at column 2 of row 1 of 6 by 4; the second
+// has two blocks, two versions and a log of three. Servers that answer wrongly, late or not at all are threads of this program.
+#include "clearmap.hpp"
+
+#include <cstdio>
+#include <cstdlib>
+#include <functional>
+#include <future>
+#include <thread>
+
+using namespace clearmap;
+
+static int tried = 0;
+
+#define CHECK(what)                                                             \
+    do {                                                                        \
+        ++tried;                                                                \
+        if (!(what)) {                                                          \
+            std::printf("test_clearmap.cpp:%d: not so: %s\n", __LINE__, #what); \
+            std::exit(1);                                                       \
+        }                                                                       \
+    } while (0)
+
+/// Whether a call throws just this kind.
+template <class Kind, class Call>
+static bool throws(Call call) {
+    try {
+        call();
+    } catch (const Kind&) {
+        return true;
+    } catch (const std::exception& other) {
+        std::printf("thrown: %s\n", other.what());
+    }
+    return false;
+}
+
+/// Whether a connection was closed on this side, so that nothing is sent and waited for any more.
+static bool closed(Client& client) {
+    try {
+        client.publish();
+    } catch (const TimedOut&) {
+        return false;
+    } catch (const ConnectionLost& lost) {
+        return std::string(lost.what()) == "the connection is closed";
+    }
+    return false;
+}
+
+/// Whether a call is refused with this number, name and numbers.
+static bool refused(int number, const std::string& name, std::vector<std::uint32_t> numbers, const std::function<void()>& call) {
+    try {
+        call();
+    } catch (const Refused& refusal) {
+        return refusal.number == number && refusal.name == name && refusal.numbers == numbers;
+    }
+    return false;
+}
+
+/// A server of one connection: it answers each line with the next of these texts, and then waits for the test's end or closes.
+class Fake {
+public:
+    Fake(std::vector<std::string> answers, bool closes) : listener_(::socket(AF_INET, SOCK_STREAM, 0)) {
+        sockaddr_in address{};
+        socklen_t size = sizeof address;
+        address.sin_family = AF_INET;
+        address.sin_addr.s_addr = htonl(INADDR_LOOPBACK);
+        if (::bind(listener_, reinterpret_cast<sockaddr*>(&address), size) || ::listen(listener_, 1)) std::exit(1);
+        ::getsockname(listener_, reinterpret_cast<sockaddr*>(&address), &size);
+        port = ntohs(address.sin_port);
+        thread_ = std::thread([this, answers, closes] {
+            int stream = ::accept(listener_, nullptr, nullptr);
+            for (const std::string& answer : answers) {
+                char byte = 0;
+                while (::recv(stream, &byte, 1, 0) == 1 && byte != '\n') {
+                }
+                ::send(stream, answer.data(), answer.size(), MSG_NOSIGNAL);
+            }
+            if (!closes) done_.get_future().wait_for(std::chrono::seconds(20));
+            ::close(stream);
+        });
+    }
+    ~Fake() {
+        done_.set_value();
+        thread_.join();
+        ::close(listener_);
+    }
+    std::uint16_t port = 0;
+
+private:
+    int listener_;
+    std::promise<void> done_;
+    std::thread thread_;
+};
+
+static const Path corner = {{0, 0}, {5, 0}, {5, 3}};
+
+static void queries(std::uint16_t port) {
+    Client client(port);
+    Pinned map = client.pin();
+    CHECK(map.version() == 0);
+    CHECK(map.at({0, 0})->distance == 5 && map.at({0, 0})->obstacle == (Cell{2, 1}));
+    auto least = map.rect(0, 2, 6, 4);
+    CHECK(least->distance == 1 && least->cell == (Cell{2, 2}) && least->obstacle == (Cell{2, 1}));
+    CHECK(map.path(corner, Metric::city)->cell == (Cell{2, 0}));
+    CHECK(map.clear_of(2, corner, Metric::city)->distance == 1);
+    CHECK(!map.clear_of(1, corner, Metric::chess));
+    CHECK(map.clearance({{5, 1}, {5, 3}}) == 3.0);
+    Path back_and_forth;
+    for (int i = 0; i < 2500; ++i) back_and_forth.push_back({5, i % 2 == 0 ? 0 : 1});
+    CHECK(map.clearance(back_and_forth) == 3.0);
+    for (Cell last : {Cell{5, 0}, Cell{2, 0}}) back_and_forth.push_back(last);  // in the last piece
+    CHECK(map.clearance(back_and_forth) == 1.0);
+    Path joint;  // the tightest cell lies between the pieces
+    for (int i = 0; i < 1000; ++i) joint.push_back({5, (i + 1) % 2});
+    for (int y : {0, 1}) joint.push_back({0, y});
+    CHECK(map.clearance(joint) == 1.0);
+    CHECK(refused(BadPath, "BadPath", {}, [&] { map.clearance({}); }));
+    CHECK(map.dump() == "P1\n6 4\n000000\n001000\n000000\n000000\n");
+    double cells = -1;
+    CHECK(map.is_valid(5, 1, cells) && cells == 3.0);
+    for (Cell c : {Cell{2, 1}, Cell{6, 1}, Cell{-1, 1}}) {
+        cells = -1;
+        CHECK(!map.is_valid(c.x, c.y, cells) && cells == 0.0);
+    }
+    Queries many;
+    for (int turn = 0; turn < 300; ++turn) many.at({turn % 6, 1}, Metric::chess).clear_of(1, {{0, 0}, {5, 0}}).at({6, 0});
+    auto answers = map.ask(many.rect(0, 0, 1, 1).path({{0, 0}, {1, 1}}));
+    CHECK(answers.size() == 902);
+    for (int turn = 0; turn < 300; ++turn) {
+        CHECK(answers[3 * turn].found->distance == static_cast<std::uint32_t>(std::abs(turn % 6 - 2)));
+        CHECK(!answers[3 * turn + 1].found && !answers[3 * turn + 1].refused);
+        CHECK(answers[3 * turn + 2].refused->number == OutOfRange);
+    }
+    CHECK(answers[900].found->distance == 5);
+    CHECK(answers[901].refused->numbers == std::vector<std::uint32_t>{1});
+    map.unpin();
+    CHECK(throws<ConnectionLost>([&] { map.at({0, 0}); }));
+}
+
+static void commands(std::uint16_t port) {
+    Client painter(port), planner(port);
+    Pinned before = planner.pin();
+    CHECK(painter.paint(4, 3, 6, 4).changed == 2);
+    Change stamped = painter.stamp({0, 2}, "P1\n3 2\n111\n101");
+    CHECK(stamped.place == 2 && stamped.changed == 5);
+    CHECK(painter.clear(0, 2, 1, 3).changed == 1);
+    CHECK(painter.publish() == 1);
+    CHECK(painter.paint(0, 0, 6, 4).changed == 17);
+    CHECK(painter.revert() == 6);
+    CHECK(before.at({5, 3}, Metric::city)->distance == 5);
+    before.unpin();
+    Collected collected = painter.collect();
+    CHECK(collected.place == 7 && collected.floor == 1 && collected.freed == 1);
+    CHECK(planner.pin().at({5, 3}, Metric::city)->distance == 0);
+    CHECK(planner.pin().version() == 1);  // the pin before was left at its end
+}
+
+static void refusals(std::uint16_t port) {
+    Client client(port);
+    CHECK(refused(BadArguments, "BadArguments", {}, [&] { client.paint(3, 0, 3, 1); }));
+    CHECK(refused(BadArguments, "BadArguments", {}, [&] { client.paint(-1, 0, 3, 1); }));
+    CHECK(refused(OutOfRange, "OutOfRange", {}, [&] { client.stamp({5, 0}, "P1\n2 1\n11"); }));
+    CHECK(refused(BadImage, "BadImage", {}, [&] { client.stamp({0, 0}, "P1\n2 1\n1"); }));
+    Pinned map = client.pin();
+    CHECK(refused(AlreadyPinned, "AlreadyPinned", {}, [&] { client.pin(); }));
+    CHECK(refused(BadPath, "BadPath", {}, [&] { map.path({}); }));
+    CHECK(refused(BadPath, "BadPath", {}, [&] { map.path(Path(1001, Cell{0, 0})); }));
+    CHECK(throws<std::invalid_argument>([&] { map.path(Path(9000, Cell{0, 0})); }));
+    CHECK(refused(Crooked, "Crooked", {2}, [&] { map.path({{0, 0}, {1, 0}, {2, 1}}); }));
+    client.paint(0, 0, 1, 1);
+    client.publish();
+    CHECK(refused(BlocksFull, "BlocksFull", {1, 0}, [&] { client.paint(1, 0, 2, 1); }));
+    CHECK(refused(VersionsFull, "VersionsFull", {}, [&] { client.publish(); }));
+    client.revert();
+    CHECK(refused(LogFull, "LogFull", {}, [&] { client.revert(); }));
+    CHECK(map.at({0, 0})->distance == 5);
+    try {
+        client.stamp({0, 0}, "P1\n2 1\n1");
+    } catch (const Refused& refusal) {
+        CHECK(refusal.fault == "Truncated");
+    }
+}
+
+static void failures() {
+    const std::chrono::milliseconds soon(200);
+    {
+        Fake silent({}, false);
+        Client client(silent.port, soon);
+        CHECK(throws<TimedOut>([&] { client.pin(); }));
+        CHECK(closed(client));
+    }
+    std::uint16_t gone;
+    {
+        Fake half({"OK"}, true);
+        gone = half.port;
+        Client client(half.port);
+        errno = EAGAIN;  // of an earlier call
+        CHECK(closed(client));
+    }
+    CHECK(throws<ConnectionLost>([&] { Client client(gone); }));
+    for (const char* answer : {"OK\n", "OK 1\n", "OK 1 2 3\n", "OK 1 x\n", "OK  1 2\n", "OK 1 4294967296\n", "NONE\n", "OK CLEAR\n", "HTTP/1.1 400 Bad Request\r\n",
+                               "ERR\n", "ERR 6\n", "ERR 10 Nothing\n", "ERR 2 BlocksFull 1\n", "ERR 2 BlocksFull 1 x\n", "ERR 4 VersionsFull\n", "ERR 15 BadImage\n", "\n"}) {
+        Fake fake({answer}, false);
+        Client client(fake.port, std::chrono::seconds(2));
+        CHECK(throws<WrongAnswer>([&] { client.publish(); }));
+        CHECK(closed(client));
+    }
+    for (const char* answer : {"NONE\n", "OK 1 2 3\n", "OK\n"}) {
+        Fake fake({"OK 0\n", answer}, false);
+        Client client(fake.port, std::chrono::seconds(2));
+        Pinned map = client.pin();
+        CHECK(throws<WrongAnswer>([&] { map.clear_of(1, {{0, 0}}); }));
+        CHECK(closed(client));
+    }
+    Fake endless({std::string(200, 'A')}, false);
+    Client client(endless.port);
+    CHECK(throws<WrongAnswer>([&] { client.pin(); }));
+}
+
+static void frames() {
+    Frame frame{4, 3, 0.05, -1, -2};
+    CHECK(*frame.cell(-0.975, -1.975) == (Cell{0, 2}));
+    CHECK(*frame.cell(-0.81, -1.86) == (Cell{3, 0}));
+    CHECK(!frame.cell(-1.01, -1.9) && !frame.cell(-0.79, -1.9) && !frame.cell(-0.9, -1.84) && !frame.cell(NAN, 0));
+    CHECK(frame.metres(3) > 0.1499 && frame.metres(3) < 0.1501);
+    for (int x = 0; x < 384; ++x)  // the left edge of each column belongs to it, as in decimals
+        CHECK(Frame({384, 1, 0.05, -9.6, 0}).cell((-960 + 5 * x) / 100.0, 0)->x == x);
+    CHECK(*Frame({384, 256, 0.05, -9.6, -6.4}).staircase({{0.5, 0.5}, {1.5, 0.8}}) == (Path{{202, 117}, {205, 117}, {205, 116}, {208, 116}, {208, 115}, {212, 115}, {212, 114}, {215, 114}, {215, 113}, {218, 113}, {218, 112}, {222, 112}, {222, 111}}));
+    Frame wide{10, 10, 1, 0, 0};
+    CHECK(*wide.staircase({{0.5, 0.5}, {0.6, 0.7}}) == (Path{{0, 9}}));
+    CHECK(*wide.staircase({{0.5, 0.5}, {5.5, 0.5}, {5.5, 4.5}}) == (Path{{0, 9}, {5, 9}, {5, 5}}));
+    CHECK(*wide.staircase({{0.5, 0.5}, {2.5, 2.5}}) == (Path{{0, 9}, {1, 9}, {1, 8}, {2, 8}, {2, 7}}));
+    CHECK(*wide.staircase({{2.5, 2.5}, {0.5, 1.5}}) == (Path{{2, 7}, {1, 7}, {1, 8}, {0, 8}}));
+    CHECK(*wide.staircase({{3.5, 0.5}, {1.5, 0.5}, {4.5, 0.5}}) == (Path{{3, 9}, {1, 9}, {4, 9}}));
+    CHECK(!wide.staircase({}) && !wide.staircase({{0.5, 0.5}, {10, 0.5}}));
+}
+
+int main(int count, char** words) {
+    if (count != 3) return 2;
+    queries(static_cast<std::uint16_t>(std::atoi(words[1])));
+    commands(static_cast<std::uint16_t>(std::atoi(words[1])));
+    refusals(static_cast<std::uint16_t>(std::atoi(words[2])));
+    failures();
+    frames();
+    std::printf("tests of clearmap.hpp: %d, all good\n", tried);
+    return 0;
+}

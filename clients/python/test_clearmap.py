@@ -1,0 +1,272 @@
+#!/usr/bin/env python3
+"""Tests of clearmap.py against the built `clearmap serve`, named by CLEARMAP, and against servers that answer wrongly, late or not at all."""
+import io
+import math
+import os
+import socket
+import subprocess
+import threading
+import unittest
+
+import clearmap
+
+PROGRAM = os.environ["CLEARMAP"]
+POST = b"P1\n6 4\n000000\n001000\n000000\n000000\n"  # one obstacle, at column 2 of row 1
+
+
+class Server:
+    """A server of a map, on a port that the system picks; killed at the end."""
+
+    def __init__(self, image=POST, *words):
+        self.process = subprocess.Popen(
+            [PROGRAM, "serve", "--connections", "1000", *words], stdin=subprocess.PIPE, stdout=subprocess.PIPE
+        )
+        self.process.stdin.write(image)
+        self.process.stdin.close()
+        self.port = int(self.process.stdout.readline().split()[1])
+
+    def __enter__(self):
+        return self
+
+    def __exit__(self, *_):
+        self.process.kill()
+        self.process.wait()
+        self.process.stdout.close()
+
+
+class Fake:
+    """A server of one connection that answers each line with the next of these bytes, then waits or closes."""
+
+    def __init__(self, *answers, closes=True):
+        self.listener = socket.create_server(("127.0.0.1", 0))
+        self.port = self.listener.getsockname()[1]
+        self.done = threading.Event()
+        self.thread = threading.Thread(target=self.serve, args=(answers, closes))
+        self.thread.start()
+
+    def serve(self, answers, closes):
+        stream, _ = self.listener.accept()
+        with stream, stream.makefile("rb") as lines:
+            for answer in answers:
+                lines.readline()
+                stream.sendall(answer)
+            if not closes:
+                self.done.wait(20)
+
+    def __enter__(self):
+        return self
+
+    def __exit__(self, *_):
+        self.done.set()
+        self.thread.join()
+        self.listener.close()
+
+
+class Serving(unittest.TestCase):
+    def test_queries(self):
+        with Server() as server, clearmap.Client(server.port) as client:
+            with client.pin() as pinned:
+                self.assertEqual(pinned.version, 0)
+                self.assertEqual(pinned.at(0, 0), clearmap.Near(5, (2, 1)))
+                self.assertEqual(pinned.at(5, 3, clearmap.CITY), (5, (2, 1)))
+                self.assertEqual(pinned.rect(0, 2, 6, 4), clearmap.Tightest(1, (2, 2), (2, 1)))
+                corner = [(0, 0), (5, 0), (5, 3)]
+                self.assertEqual(pinned.path(corner, "city"), (1, (2, 0), (2, 1)))
+                self.assertEqual(pinned.clear_of(2, corner, "city"), (1, (2, 0), (2, 1)))
+                self.assertIsNone(pinned.clear_of(1, corner, "chess"))
+                self.assertEqual(pinned.dump(), POST)
+                back_and_forth = [(5, turn % 2) for turn in range(2500)]
+                self.assertEqual(pinned.clearance(back_and_forth), 3.0)
+                self.assertEqual(pinned.clearance(back_and_forth + [(5, 0), (2, 0)]), 1.0)
+                joint = [(5, (turn + 1) % 2) for turn in range(1000)] + [(0, 0), (0, 1)]  # the tightest cell lies between the pieces
+                self.assertEqual(pinned.clearance(joint), 1.0)
+                self.assertRaises(clearmap.BadPath, pinned.clearance, [])
+                self.assertRaises(clearmap.Crooked, pinned.clearance, [(0, 0), (1, 1)])
+            with client.pin() as pinned:
+                self.assertEqual(pinned.version, 0)
+
+    def test_commands(self):
+        with Server() as server, clearmap.Client(server.port) as client:
+            self.assertEqual(client.paint(4, 3, 6, 4), clearmap.Change(1, 2))
+            self.assertEqual(client.stamp(0, 2, b"P1\n3 2\n111\n101"), clearmap.Change(2, 5))
+            self.assertEqual(client.clear(0, 2, 1, 3), clearmap.Change(3, 1))
+            self.assertEqual(client.publish(), 1)
+            self.assertEqual(client.paint(0, 0, 6, 4).changed, 17)
+            self.assertEqual(client.revert(), 6)
+            self.assertEqual(client.collect(), clearmap.Collected(7, 1, 1))
+            with client.pin() as pinned:
+                self.assertEqual((pinned.version, pinned.at(5, 3, "city")), (1, (0, (5, 3))))
+                self.assertEqual(pinned.dump(), b"P1\n6 4\n000000\n001000\n011000\n101011\n")
+
+    def test_a_pin_stays(self):
+        with Server() as server, clearmap.Client(server.port) as painter, clearmap.Client(server.port) as planner:
+            with planner.pin() as before:
+                painter.paint(0, 0, 1, 1)
+                self.assertEqual(painter.publish(), 1)
+                self.assertEqual(before.at(0, 0).distance, 5)
+            with planner.pin() as after:
+                self.assertEqual((after.version, after.at(0, 0)), (1, (0, (0, 0))))
+
+    def test_no_obstacle(self):
+        with Server(b"P1\n2 1\n00\n") as server, clearmap.Client(server.port) as client, client.pin() as pinned:
+            self.assertIsNone(pinned.at(0, 0))
+            self.assertIsNone(pinned.rect(0, 0, 2, 1))
+            self.assertIsNone(pinned.path([(0, 0)]))
+            self.assertIsNone(pinned.clear_of(99, [(0, 0)]))
+            self.assertEqual(pinned.clearance([(0, 0)]), math.inf)
+
+    def test_many_in_one_trip(self):
+        with Server() as server, clearmap.Client(server.port) as client, client.pin() as pinned:
+            queries = clearmap.Queries()
+            for turn in range(300):
+                queries.at(turn % 6, 1, "chess").clear_of(1, [(0, 0), (5, 0)]).at(6, 0)
+            answers = pinned.ask(queries.rect(0, 0, 1, 1).path([(0, 0), (1, 1)]))
+            self.assertEqual(len(answers), 902)
+            for turn in range(300):
+                near, clear, outside = answers[3 * turn : 3 * turn + 3]
+                self.assertEqual(near, (abs(turn % 6 - 2), (2, 1)))
+                self.assertIsNone(clear)
+                self.assertIsInstance(outside, clearmap.OutOfRange)
+            self.assertEqual(answers[900], (5, (0, 0), (2, 1)))
+            self.assertEqual(answers[901].index, 1)
+
+    def test_the_largest(self):
+        image = b"P4\n4096 4096\n\x80" + bytes(4096 * 512 - 1)
+        with Server(image) as server, clearmap.Client(server.port) as client:
+            self.assertEqual(client.stamp(0, 0, image).changed, 0)
+            with client.pin() as pinned:
+                self.assertEqual(pinned.at(4095, 4095), (33538050, (0, 0)))
+                self.assertEqual(pinned.path([(4095, 4095)] * 1000, "city").distance, 8190)
+                dump = pinned.dump()
+                self.assertEqual((len(dump), dump[:14]), (4096 * 4096 + 59 * 4096 + 13, b"P1\n4096 4096\n1"))
+
+
+class Refusals(unittest.TestCase):
+    def refused(self, kind, number, name, details, call):
+        with self.assertRaises(kind) as caught:
+            call()
+        refusal = caught.exception
+        self.assertEqual((refusal.number, refusal.name, refusal.details), (number, name, details))
+
+    def test_each(self):
+        with Server(POST, "--blocks", "2", "--versions", "2", "--log", "3") as server, clearmap.Client(server.port) as client:
+            pinned = clearmap.Pinned(client, 0)  # a pin that isn't there
+            self.refused(clearmap.NotPinned, 6, "NotPinned", (), lambda: pinned.at(0, 0))
+            self.refused(clearmap.BadArguments, 12, "BadArguments", (), lambda: client.paint(3, 0, 3, 1))
+            self.refused(clearmap.BadArguments, 12, "BadArguments", (), lambda: client.paint(-1, 0, 3, 1))
+            self.refused(clearmap.OutOfRange, 1, "OutOfRange", (), lambda: client.paint(0, 0, 7, 1))
+            self.refused(clearmap.OutOfRange, 1, "OutOfRange", (), lambda: client.stamp(5, 0, b"P1\n2 1\n11"))
+            self.refused(clearmap.OutOfRange, 1, "OutOfRange", (), lambda: client.stamp(4096, 0, b"P1\n2 1\n11"))
+            self.refused(clearmap.BadImage, 15, "BadImage", ("Truncated",), lambda: client.stamp(0, 0, b"P1\n2 1\n1"))
+            with client.pin() as pinned:
+                self.refused(clearmap.AlreadyPinned, 7, "AlreadyPinned", (), client.pin)
+                self.refused(clearmap.BadPath, 8, "BadPath", (), lambda: pinned.path([]))
+                self.refused(clearmap.BadPath, 8, "BadPath", (), lambda: pinned.path([(0, 0)] * 5000))
+                self.refused(clearmap.Crooked, 9, "Crooked", (2,), lambda: pinned.path([(0, 0), (1, 0), (2, 1)]))
+                self.refused(clearmap.OutOfRange, 1, "OutOfRange", (), lambda: pinned.at(0, 4))
+                client.paint(0, 0, 1, 1)
+                client.publish()
+                self.refused(clearmap.BlocksFull, 2, "BlocksFull", (1, 0), lambda: client.paint(1, 0, 2, 1))
+                self.refused(clearmap.VersionsFull, 3, "VersionsFull", (), client.publish)
+                client.revert()
+                self.refused(clearmap.LogFull, 4, "LogFull", (), client.revert)
+                self.assertEqual(pinned.at(0, 0).distance, 5)
+
+    def test_what_is_never_sent(self):
+        with Server() as server, clearmap.Client(server.port) as client, client.pin() as pinned:
+            with self.assertRaises(ValueError):
+                pinned.at(0, 0, "city 0 0\nPAINT")
+            with self.assertRaises(ValueError):
+                pinned.at("0", 0)
+            with self.assertRaises(ValueError):
+                pinned.path([(4294967295, 4294967295)] * 1000)
+            with self.assertRaises(ValueError):
+                client.stamp(-1, 0, b"P1\n1 1\n1")
+            self.assertEqual(pinned.at(0, 0).distance, 5)
+
+
+class Failures(unittest.TestCase):
+    def test_no_server(self):
+        with socket.create_server(("127.0.0.1", 0)) as listener:
+            port = listener.getsockname()[1]
+        with self.assertRaises(clearmap.ConnectionLost):
+            clearmap.Client(port)
+
+    def test_a_server_that_is_killed(self):
+        with Server() as server, clearmap.Client(server.port) as client, client.pin() as pinned:
+            server.process.kill()
+            server.process.wait()
+            with self.assertRaises(clearmap.ConnectionLost):
+                pinned.at(0, 0)
+            with self.assertRaises(clearmap.ConnectionLost):
+                client.publish()
+
+    def test_a_server_that_is_full(self):
+        """The one worker has a connection, so a second one gets no reply before the first ends."""
+        with Server(POST, "--workers", "1") as server, clearmap.Client(server.port) as first:
+            first.publish()
+            with clearmap.Client(server.port, timeout=0.2) as second, self.assertRaises(clearmap.TimedOut):
+                second.pin()
+
+    def test_silence(self):
+        with Fake(closes=False) as fake, clearmap.Client(fake.port, timeout=0.2) as client:
+            with self.assertRaises(clearmap.TimedOut):
+                client.pin()
+            with self.assertRaisesRegex(clearmap.ConnectionLost, "is closed"):
+                client.pin()
+
+    def test_half_a_reply(self):
+        with Fake(b"OK", closes=True) as fake, clearmap.Client(fake.port) as client:
+            with self.assertRaises(clearmap.ConnectionLost):
+                client.pin()
+        with Fake(b"OK 0\n", b"OK 20\nP1\n", closes=True) as fake, clearmap.Client(fake.port) as client:
+            with self.assertRaises(clearmap.ConnectionLost):
+                with client.pin() as pinned:
+                    pinned.dump()
+
+    def test_wrong_answers(self):
+        rows = (
+            (b"OK\n", lambda client: client.publish()),
+            (b"OK 1\n", lambda client: client.publish()),
+            (b"OK 1 2 3\n", lambda client: client.publish()),
+            (b"OK 1 x\n", lambda client: client.publish()),
+            (b"OK  1 2\n", lambda client: client.publish()),
+            (b"NONE\n", lambda client: client.pin()),
+            (b"OK CLEAR\n", lambda client: client.collect()),
+            (b"HTTP/1.1 400 Bad Request\r\n", lambda client: client.pin()),
+            (b"ERR 6\n", lambda client: client.pin()),
+            (b"ERR 10 Nothing\n", lambda client: client.pin()),
+            (b"ERR 2 BlocksFull 1\n", lambda client: client.paint(0, 0, 1, 1)),
+            (b"ERR x NotPinned\n", lambda client: client.pin()),
+            (b"ERR 4 VersionsFull\n", lambda client: client.publish()),
+            (b"\xff\xfe\n", lambda client: client.revert()),
+            (b"A" * 200, lambda client: client.revert()),
+            (b"OK 0 0\n", lambda client: clearmap.Pinned(client, 0).at(0, 0)),
+            (b"NONE\n", lambda client: clearmap.Pinned(client, 0).clear_of(1, [(0, 0)])),
+            (b"OK 9999999999\n", lambda client: clearmap.Pinned(client, 0).dump()),
+        )
+        for answer, call in rows:
+            with self.subTest(answer=answer), Fake(answer, closes=False) as fake, clearmap.Client(fake.port, timeout=5) as client:
+                with self.assertRaises(clearmap.WrongAnswer):
+                    call(client)
+                with self.assertRaisesRegex(clearmap.ConnectionLost, "is closed"):  # the connection isn't used again
+                    client.pin()
+
+
+class Tables(unittest.TestCase):
+    def table(self, image, *words):
+        run = subprocess.run([PROGRAM, "dist", *words], input=image, capture_output=True, check=True)
+        return clearmap.read_distances(io.StringIO(run.stdout.decode()))
+
+    def test_tables(self):
+        room = b"P1\n3 2\n100\n000\n"
+        self.assertEqual(self.table(room), [[0, 1, 4], [1, 2, 5]])
+        self.assertEqual(self.table(room, "--nearest")[1][2], clearmap.Near(5, (0, 0)))
+        self.assertEqual(self.table(b"P1\n2 1\n00\n"), [[None, None]])
+        for text in ("ERR 15 BadImage Truncated\n", "", "0 1\n0\n", "1/2\n", "-1\n", "0  1\n"):
+            with self.assertRaises(clearmap.WrongAnswer, msg=text):
+                clearmap.read_distances(io.StringIO(text))
+
+
+if __name__ == "__main__":
+    unittest.main()

@@ -1,0 +1,27 @@
+#!/usr/bin/env python3
+"""How far a plan in metres keeps from the obstacles of a served map: plan.py MAP.yaml PORT, with a point X Y on each line of standard input."""
+import pathlib
+import sys
+
+top = pathlib.Path(__file__).resolve().parent.parent
+sys.path[:0] = [str(top / "clients/python"), str(top / "tools/ros")]
+import clearmap
+import clearmap_ros as ros
+
+
+def main(yaml, port):
+    frame = ros.read_map(yaml).frame
+    path = frame.staircase(ros.read_plan(sys.stdin))
+    with clearmap.Client(int(port)) as client, client.pin() as pinned:
+        found = [pinned.path(piece) for piece in ros.pieces(path)]
+    if None in found:
+        return print("the map has no obstacle")
+    tightest = min(found, key=lambda it: it.distance)
+    x, y = frame.centre(tightest.cell)
+    print(f"{frame.metres(tightest.distance):.3f} m at ({x:.3f}, {y:.3f}), and {frame.free_metres(tightest.distance):.3f} m free in any case")
+
+
+try:
+    main(*sys.argv[1:])
+except (ros.RosError, clearmap.ClearmapError) as fault:
+    sys.exit(f"plan.py: {fault}")

@@ -1,0 +1,44 @@
+#!/bin/sh
+# Runs the tests of tools/ros and of the clients against the built program; CLEARMAP names another one. Loopback alone, and nothing is left.
+# Wants python3; for the client in C++ a compiler, as Debian's g++, and leaves it out with a word where there is none.
+set -u
+cd "$(dirname "$0")/.." || exit 1
+CLEARMAP=${CLEARMAP:-$PWD/crates/clearmap/out/clearmap}
+export CLEARMAP PYTHONDONTWRITEBYTECODE=1
+"$CLEARMAP" --version > /dev/null || exit 1
+scratch=$(mktemp -d)
+servers=''
+finish() {
+    for server in $servers; do kill "$server"; done
+    rm -rf "$scratch"
+}
+trap finish EXIT
+trap 'exit 1' INT TERM
+failed=0
+
+for test in tools/ros/test_clearmap_ros.py clients/python/test_clearmap.py; do
+    python3 "$test" > "$scratch/log" 2>&1 || { failed=1; cat "$scratch/log"; }
+    echo "$test: $(sed -n 's/^Ran \([0-9]* tests\).*/\1/p' "$scratch/log"), $(tail -n 1 "$scratch/log")"
+done
+
+# A server of the map with one obstacle, with these settings; its port comes into the variable `port`.
+serve() {
+    : > "$scratch/port"
+    printf 'P1\n6 4\n000000\n001000\n000000\n000000\n' | "$CLEARMAP" serve --connections 1000 "$@" > "$scratch/port" &
+    servers="$servers $!"
+    for _ in 1 2 3 4 5 6 7 8 9 10; do
+        port=$(sed -n 's/^LISTENING //p' "$scratch/port")
+        [ -z "$port" ] || return 0
+        sleep 0.5
+    done
+    echo 'no server listens'
+    return 1
+}
+
+if compiler=$(command -v "${CXX:-g++}"); then
+    "$compiler" -std=c++17 -O1 -Wall -Wextra -Werror -pthread -o "$scratch/test" clients/cpp/test_clearmap.cpp || failed=1
+    serve && post=$port && serve --blocks 2 --versions 2 --log 3 && "$scratch/test" "$post" "$port" || failed=1
+else
+    echo "clients/cpp left out: there is no ${CXX:-g++}"
+fi
+[ "$failed" = 0 ]

@@ -1,0 +1,113 @@
+#!/usr/bin/env python3
+"""Checks what README.md and docs/ quote: pieces of files, runs at a terminal, the conversation of docs/PROTOCOL.md, and links.
+
+A block behind `<!-- from FILE -->` stands so in that file; a line `..` in it stands for what is left out. A block whose first line begins with `$ ` is run
+by bash, with `clearmap` on the path, in a scratch folder of its page; blocks that name a port are left out, as they take two terminals.
+"""
+import os
+import pathlib
+import re
+import subprocess
+import sys
+import tempfile
+
+TOP = pathlib.Path(__file__).resolve().parent.parent
+PROGRAM = pathlib.Path(os.environ.get("CLEARMAP", TOP / "crates/clearmap/out/clearmap"))
+PAGES = [TOP / "README.md", TOP / "CONTRIBUTING.md", *sorted((TOP / "docs").glob("*.md"))]
+wrong = []
+
+
+def blocks(text):
+    """The indented blocks of a page, each with the line before it that isn't empty."""
+    found, before, block = [], "", []
+    for line in text.split("\n") + ["end"]:
+        if line.startswith("    ") or (block and not line):
+            block.append(line[4:])
+        else:
+            if block:
+                found.append((before, "\n".join(block).rstrip("\n")))
+                block = []
+            before = line or before
+    return found
+
+
+def lines_of(text):
+    """Lines without what surrounds them, so that a piece of a file may be moved to the left."""
+    return "\n".join(line.strip() for line in text.split("\n"))
+
+
+def check_quotes(page, text):
+    """Each quoted piece stands in its file, in this order."""
+    count = 0
+    for before, block in blocks(text):
+        if source := re.fullmatch(r"<!-- from (\S+) -->", before.strip()):
+            count += 1
+            rest = lines_of((TOP / source[1]).read_text())
+            for piece in re.split(r"\n?^ *\.\.$\n?", block, flags=re.M):
+                head, found, rest = rest.partition(lines_of(piece))
+                if not found:
+                    wrong.append(f"{page.name} quotes what {source[1]} hasn't: {piece[:60]!r}")
+    return count
+
+
+def check_runs(page, text, folder):
+    """Each command prints what stands below it."""
+    count = 0
+    for _, block in blocks(text):
+        if not block.startswith("$ ") or "--port" in block:
+            continue
+        for command, printed in re.findall(r"^\$ (.*)\n?((?:(?!\$ ).*\n?)*)", block, flags=re.M):
+            count += 1
+            run = subprocess.run(["bash", "-c", command], cwd=folder, stdin=subprocess.DEVNULL, capture_output=True, text=True, timeout=60)
+            if (run.stdout + run.stderr).rstrip("\n") != printed.rstrip("\n"):
+                wrong.append(f"{page.name}: {command!r} prints {run.stdout + run.stderr!r}")
+    return count
+
+
+def check_conversation():
+    """A server answers the lines of docs/PROTOCOL.md as the page says."""
+    (lines,) = (block.split("\n") for _, block in blocks((TOP / "docs/PROTOCOL.md").read_text()) if block.startswith("> "))
+    asked = "".join(line[2:] + "\n" for line in lines if line.startswith("> "))
+    wanted = "".join(line + "\n" for line in lines if not line.startswith("> "))
+    server = subprocess.Popen([PROGRAM, "serve", "--connections", "1"], stdin=subprocess.PIPE, stdout=subprocess.PIPE, text=True)
+    try:
+        server.stdin.write("P1\n6 4\n000000\n001000\n000000\n000000\n")
+        server.stdin.close()
+        port = server.stdout.readline().split()[1]
+        got = subprocess.run([PROGRAM, "ask", "--port", port], input=asked, capture_output=True, text=True, timeout=60).stdout
+        if got != wanted:
+            wrong.append(f"PROTOCOL.md: a server answers {got!r}")
+    finally:
+        server.kill()
+        server.wait()
+        server.stdout.close()
+
+
+def check_links(page, text):
+    """Each link to a file names one."""
+    for target in re.findall(r"\]\(([^)#:]+)\)", text):
+        if not (page.parent / target).exists():
+            wrong.append(f"{page.name} links to {target}, which isn't there")
+
+
+def main():
+    quotes = runs = 0
+    with tempfile.TemporaryDirectory() as room:
+        pathlib.Path(room, "bin").mkdir()
+        pathlib.Path(room, "bin/clearmap").symlink_to(PROGRAM)
+        os.environ["PATH"] = f"{room}/bin:{os.environ['PATH']}"
+        for page in PAGES:
+            text = page.read_text()
+            folder = pathlib.Path(room, page.stem)
+            folder.mkdir()
+            (folder / "examples").symlink_to(TOP / "examples")
+            check_links(page, text)
+            quotes += check_quotes(page, text)
+            runs += check_runs(page, text, folder)
+    check_conversation()
+    print("\n".join([*wrong, f"pages {len(PAGES)}, quotes {quotes}, runs {runs}, wrong {len(wrong)}"]))
+    return 1 if wrong else 0
+
+
+if __name__ == "__main__":
+    sys.exit(main())

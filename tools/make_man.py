@@ -1,0 +1,139 @@
+#!/usr/bin/env python3
+"""Writes man/clearmap.1 from the program's --help, and man/clearmap-protocol.7 from docs/PROTOCOL.md. With --check it compares instead.
+
+    tools/make_man.py [--check] [PROGRAM]
+"""
+import pathlib
+import re
+import subprocess
+import sys
+
+TOP = pathlib.Path(__file__).resolve().parent.parent
+COMMANDS = ("dist", "steps", "serve", "ask")
+
+
+def plain(text):
+    """Text of a page: what roff would read as its own is escaped, and the marks of Markdown become fonts."""
+    text = text.replace("\\|", "|").replace("\\", "\\e").replace("-", "\\-")
+    text = re.sub(r"\[([^]]*)\]\([^)]*\)", r"\1", text)
+    text = re.sub(r"\*\*([^*]*)\*\*", r"\\fB\1\\fP", text)
+    text = re.sub(r"`([^`]*)`", r"\\fB\1\\fP", text)
+    return "\n".join("\\&" + line if line[:1] in ".'" else line for line in text.split("\n"))
+
+
+def verbatim(lines):
+    """Lines as they are, in a fixed font."""
+    return [".PP", ".nf", ".RS", *(plain(line) for line in lines), ".RE", ".fi"]
+
+
+def heading(name, section, title):
+    return [f'.TH {name} {section} "" "{VERSION}" "{title}"']
+
+
+class Help:
+    """A --help: what it is about, its usage, its options as pairs of words and text, and the paragraphs behind them."""
+
+    def __init__(self, *words):
+        text = subprocess.run([PROGRAM, *words, "--help"], capture_output=True, text=True, check=True).stdout.rstrip("\n")
+        self.about, _, rest = text.partition("\n\nUsage: ")
+        self.usage = rest.split("\n")[0]
+        listed, *self.behind = rest.partition("\nOptions:\n")[2].split("\n\n")
+        pairs = [line.strip().split("  ", 1) for line in listed.split("\n")]
+        self.options = [(words, said.strip()) for words, said in pairs]
+
+
+def paragraphs(after):
+    """The paragraphs behind the options; examples and lists keep their lines."""
+    page = []
+    for paragraph in after:
+        lines = paragraph.split("\n")
+        head = lines[0]
+        indented = [line for line in lines if line.startswith("  ")]
+        if head in ("Examples:", "Example:"):
+            page += [".PP", head, *verbatim([line.strip() for line in indented])]
+        elif indented:
+            page += [".PP", plain("\n".join(line for line in lines if not line.startswith("  "))), *verbatim([line.strip() for line in indented])]
+        else:
+            page += [".PP", plain(paragraph)]
+    return page
+
+
+def options(listed):
+    page = []
+    for words, said in listed:
+        page += [".TP", "\\fB" + plain(words) + "\\fP", plain(said)]
+    return page
+
+
+def program_page():
+    top = Help()
+    parts = [Help(command) for command in COMMANDS]
+    page = heading("CLEARMAP", 1, "Clearance maps")
+    page += [".SH NAME", "clearmap \\- " + plain(top.about[0].lower() + top.about[1:]), ".SH SYNOPSIS"]
+    for part in parts:
+        page += [".B " + plain(part.usage), ".br"]
+    page += [".SH DESCRIPTION", *paragraphs(text for text in top.behind if not text.startswith("Example")), *options(top.options)]
+    for command, part in zip(COMMANDS, parts):
+        page += [f".SH {command.upper()}", plain(part.about) + ".", *options(part.options), *paragraphs(part.behind)]
+    page += [".SH EXAMPLES", *paragraphs(text for text in top.behind if text.startswith("Example"))[2:]]
+    return page + [".SH SEE ALSO", ".BR clearmap\\-protocol (7),", ".BR pbm (5)"]
+
+
+def rows_of(block):
+    """The cells of a Markdown table's rows."""
+    return [[cell.strip() for cell in re.split(r"(?<!\\)\|", line.strip().strip("|"))] for line in block if not re.fullmatch(r"[|\- ]+", line)]
+
+
+def table(block):
+    """A table as a list: the first cell of each row, and then each other cell behind its column's name."""
+    names, *rows = rows_of(block)
+    page = []
+    for row in rows:
+        said = [f"{name}: {cell}." for name, cell in zip(names[1:], row[1:]) if cell]
+        page += [".TP", plain(row[0]), plain(" ".join(said))]
+    return page
+
+
+def protocol_page():
+    page = heading("CLEARMAP\\-PROTOCOL", 7, "Clearance maps")
+    page += [".SH NAME", "clearmap\\-protocol \\- the lines of a clearance map server, and its replies", ".SH DESCRIPTION"]
+    blocks = (TOP / "docs/PROTOCOL.md").read_text().split("\n\n")
+    for block in blocks[1:]:
+        lines = block.strip("\n").split("\n")
+        if lines[0].startswith("## "):
+            page += [".SH " + plain(lines[0][3:].upper())]
+            lines = lines[1:]
+        if not lines:
+            continue
+        if lines[0].startswith("|"):
+            page += table(lines)
+        elif lines[0].startswith("    "):
+            page += verbatim([line[4:] for line in lines])
+        elif lines[0].startswith("- "):
+            for item in "\n".join(lines)[2:].split("\n- "):
+                page += [".IP \\(bu 2", plain(re.sub(r"\n +", "\n", item))]
+        else:
+            page += [".PP", plain("\n".join(lines))]
+    return page + [".SH SEE ALSO", ".BR clearmap (1),", ".BR pbm (5)"]
+
+
+def main():
+    pages = {"clearmap.1": program_page(), "clearmap-protocol.7": protocol_page()}
+    wrong = 0
+    for name, lines in pages.items():
+        text = '.\\" Written by tools/make_man.py.\n' + "\n".join(lines) + "\n"
+        path = TOP / "man" / name
+        if not CHECKS:
+            path.write_text(text)
+        elif not path.exists() or path.read_text() != text:
+            wrong += 1
+            print(f"man/{name} isn't what --help and docs/PROTOCOL.md say: run tools/make_man.py")
+    return 1 if wrong else 0
+
+
+if __name__ == "__main__":
+    WORDS = [word for word in sys.argv[1:] if word != "--check"]
+    CHECKS = "--check" in sys.argv
+    PROGRAM = WORDS[0] if WORDS else str(TOP / "crates/clearmap/out/clearmap")
+    VERSION = subprocess.run([PROGRAM, "--version"], capture_output=True, text=True, check=True).stdout.strip()
+    sys.exit(main())
