@@ -12,7 +12,7 @@ use Rattle.map_core.specs.Story.{Story, newest, bitmap_of, trues}
 use Rattle.map_core.specs.Legal.{refused, IsReply, IsAnswer, after_draw, told}
 use Rattle.map_core.specs.Words.{Base}
 use Rattle.map_core.specs.Views.{story}
-use Rattle.map_core.specs.Consistent.{IsDraw}
+use Rattle.map_core.specs.Drawing.{IsDraw}
 use Rattle.desk.specs.Marked.{MarkedCells, drawn_on}
 use Rattle.desk.specs.Contents.{changes_of, contents_of, IsTold, IsJudged, Does}
 use Rattle.desk.specs.Stored.{Stored, contents_stored, IsWhole}

@@ -16,7 +16,7 @@ use Rattle.map_core.specs.Story.{newest, kept, kept_log, trues, either}
 use Rattle.map_core.specs.Legal.{needed, refused_blocks, is_log_full, is_versions_full}
 use Rattle.map_core.specs.Words.{Base}
 use Rattle.map_core.specs.Views.{story, blocks}
-use Rattle.map_core.specs.Consistent.{IsDraw}
+use Rattle.map_core.specs.Drawing.{IsDraw}
 use Rattle.map_core.proofs.CountLemmas.{trues-either}
 use Rattle.map_core.proofs.JudgeLemmas.{blocks_refused, blocks_enough, judged_outside, judged_full, judged_paint, judged_stamp, judged_publish, judged_revert, judged_collect}
 use Rattle.map_core.proofs.TidyDraft.{length-touched}

@@ -13,7 +13,7 @@ use Rattle.map_core.specs.Legal.{refused, IsAnswer, IsLegal}
 use Rattle.map_core.specs.Words.{Base}
 use Rattle.map_core.specs.Views.{story}
 use Rattle.map_core.specs.Tidy.{IsReady}
-use Rattle.map_core.specs.Consistent.{IsDraw}
+use Rattle.map_core.specs.Drawing.{IsDraw}
 use Rattle.desk.specs.Marked.{MarkedCells, drawn_on}
 
 -- how many positions had changed at the publish of a version; none had at the opening

@@ -1,5 +1,5 @@
 -- The last step of a command, on a world by its parts.
-use Rattle.std.proofs.Common.{◌≡◌, ℕ, suc, ◌+◌, ◌≤◌, false, List, [], ◌∷◌, ◌++◌, length, set, map, take, replicate, refl, ap, subst, sym, ◌∙◌, arith}
+use Rattle.std.proofs.Common.{◌≡◌, ℕ, suc, ◌+◌, ◌≤◌, false, List, [], ◌∷◌, ◌++◌, length, set, map, take, refl, ap, subst, sym, ◌∙◌, arith}
 use Rattle.std.specs.Prelude.{Option, Some, None, nat_lt, slice_get}
 use Rattle.std.proofs.lemmas.Bool.Decides.{nat_tests}
 use Rattle.std.proofs.lemmas.List.{take-append-le, length-append}
@@ -11,17 +11,19 @@ use Rattle.map_core.specs.declared.command.Reply.{Reply}
 use Rattle.map_core.specs.declared.command.Reply.TheVariants.{Reverted}
 use Rattle.map_core.specs.declared.event.Event.TheVariants.{Keep}
 use Rattle.map_core.specs.declared.event.StepReply.TheVariants as says
+use Rattle.map_core.specs.declared.ledger.Ledger.{Ledger}
 use Rattle.map_core.specs.declared.reader.Standing.{Standing}
 use Rattle.map_core.specs.declared.setting.Setting.{Setting}
-use Rattle.map_core.specs.Story.{Story, newest, bitmap_of}
+use Rattle.map_core.specs.Story.{Story, newest}
 use Rattle.map_core.specs.Legal.{told}
-use Rattle.map_core.specs.Blocks.{Blocks, own_list, given_back, moved}
-use Rattle.map_core.specs.Words.{Base, now_at, now_word, now_of}
+use Rattle.map_core.specs.Ledger.{IsLedger}
+use Rattle.map_core.specs.Blocks.{Blocks, own_list, moved}
+use Rattle.map_core.specs.Words.{Base, now_at, now_of}
 use Rattle.map_core.specs.Views.{Hand, Reader, State, story, blocks, story_of, blocks_of_state}
 use Rattle.map_core.specs.Steps.{Outcome, does, keep, steps_before, reply_of}
-use Rattle.map_core.specs.Consistent.{hand_of, reader_of, state_of, Summary, IsSummary, Room, IsConsistent, IsLastOf}
+use Rattle.map_core.specs.Summary.{Summary, IsSummary}
+use Rattle.map_core.specs.Consistent.{hand_of, reader_of, state_of, Room, IsConsistent, IsLastOf}
 use Rattle.map_core.specs.Tidy.{IsOfMap}
-use Rattle.map_core.proofs.CameLemmas.{came-same_changes}
 use Rattle.map_core.proofs.DoesLemmas.{does-keeps}
 use Rattle.map_core.proofs.StepLemmas.{tidy_of, story-push, blocks-push}
 use Rattle.map_core.proofs.KeepWorld.{that_hand}
@@ -80,15 +82,16 @@ pub consistent_commit : (g : Setting) (b : Cells) (words : List ℕ) (log : List
     → does (state_of g b words log hand done scanned standings) Keep
     ≡ Some record { state = state_of g b (set words 0 now) (log ++ record { command = c; reply = reply } ∷ []) None new_done new_scanned standings; answer = says.Committed reply; stored = Some now_at }
     → IsSummary record { setting = g; opening = b } (told (story record { setting = g; opening = b } log) c reply) (moved (story record { setting = g; opening = b } log) c reply (blocks record { setting = g; opening = b } log)) new
-    → room.scanned ≤ new_room.scanned → room.free ≤ new_room.free → room.retired ≤ new_room.retired
-    → IsConsistent (state_of g b (set words 0 now) (log ++ record { command = c; reply = reply } ∷ []) None new_done new_scanned standings) None new_steps standings new new_room
-consistent_commit g b words log hand done new_done steps new_steps scanned new_scanned standings c reply now u new room new_room consistent is summary scanned_room free_room retired_room =
+    → room.scanned ≤ new_room.scanned → room.free ≤ new_room.free → room.retired ≤ new_room.retired → IsOfMap record { setting = g; opening = b } new_room.scratch
+    → IsConsistent (state_of new.ledger.setting b (set words 0 now) (log ++ record { command = c; reply = reply } ∷ []) None new_done new_scanned standings) None new_steps standings new new_room
+consistent_commit g b words log hand done new_done steps new_steps scanned new_scanned standings c reply now u new room new_room consistent is summary scanned_room free_room retired_room scratch =
     let k : Base = record { setting = g; opening = b } in
     let e : Entry = record { command = c; reply = reply } in
     let keeps = does-keeps (state_of g b words log hand done scanned standings) Keep _ consistent.whole is in
     let scanned_before = consistent.roomy.scanned in
     let free_before = consistent.roomy.free in
     let retired_before = consistent.roomy.retired in
+    subst (λ (h : Setting). IsConsistent (state_of h b (set words 0 now) (log ++ e ∷ []) None new_done new_scanned standings) None new_steps standings new new_room) (sym summary.ledger_is.setting_is)
     record {
       whole = keeps.whole;
       steps = tt;
@@ -103,7 +106,7 @@ consistent_commit g b words log hand done new_done steps new_steps scanned new_s
       summary =
           subst (λ (s : Story). IsSummary k s (blocks k (log ++ e ∷ [])) new) (sym (story-push k log e))
           (subst (λ (m : Blocks). IsSummary k (told (story k log) c reply) m new) (sym (blocks-push k log e)) summary);
-      roomy = record { log = tt; scanned = omega arith; free = omega arith; retired = omega arith };
+      roomy = record { log = tt; scanned = omega arith; free = omega arith; retired = omega arith; scratch = scratch };
     }
 
 -- the last step is to be done of the command that is in hand
@@ -157,30 +160,6 @@ published_of_map w hand steps standings u room consistent =
     subst (λ (b : Cells). IsOfMap w.base b) (sym consistent.summary.published_is) ((tidy_of w consistent.whole).published (newest (story_of w)) (omega arith))
 
 -- the reply of a revert
-pub reply_revert : (k : Base) (log : List Entry) (scanned : List ℕ) (place : ℕ) → place ≡ length log + 1 → Reverted place ≡ reply_of (story k log) Revert scanned
+pub reply_revert : (k : Base) (s : Story) (l : Ledger) (scanned : List ℕ) (reply : Reply) → IsLedger k s l → reply ≡ Reverted (l.places + 1) → reply ≡ reply_of s Revert scanned
 unfolding reply_of
-reply_revert k log scanned place is = ap Reverted (is ∙ ap (λ (n : ℕ). n + 1) (sym (places_are k log)))
-
--- NOW after a revert
-pub now_revert : (k : Base) (log : List Entry) (reply : Reply) (place version now : ℕ) → place ≡ length log + 1 → version ≡ newest (story k log) → now ≡ now_word place version → now ≡ now_of (told (story k log) Revert reply)
-unfolding now_of told newest
-now_revert k log reply place version now place_is version_is is =
-    is ∙ (ap (λ (n : ℕ). now_word n version) (place_is ∙ ap (λ (n : ℕ). n + 1) (sym (places_are k log))) ∙ ap (λ (v : ℕ). now_word ((story k log).places + 1) v) version_is)
-
--- what is kept after a revert
-pub summary_revert : (k : Base) (s : Story) (m : Blocks) (u : Summary) (reply : Reply) (draft : Cells) (own : List (Option ℕ)) (free : List ℕ) → IsSummary k s m u
-    → draft ≡ u.published → own ≡ replicate (length u.own) None → free ≡ given_back (own_list u.own) u.free
-    → IsSummary k (told s Revert reply) (moved s Revert reply m) record u { draft = draft; own = own; free = free }
-unfolding told moved newest bitmap_of
-summary_revert k s m u reply draft own free kept draft_is own_is free_is = record {
-  newest_is = kept.newest_is;
-  floor_is = kept.floor_is;
-  draft_is = draft_is ∙ kept.published_is;
-  scratch = kept.scratch;
-  published_is = kept.published_is;
-  came_long = kept.came_long;
-  came_is = λ p h. kept.came_is p h ∙ came-same_changes s (told s Revert reply) refl p _;
-  own_is = own_is ∙ ap (λ (os : List (Option ℕ)). replicate (length os) None) kept.own_is;
-  free_is = free_is ∙ (ap (λ (os : List (Option ℕ)). given_back (own_list os) u.free) kept.own_is ∙ ap (given_back (own_list m.own)) kept.free_is);
-  retired_is = kept.retired_is;
-}
+reply_revert k s l scanned reply is said = said ∙ ap (λ (n : ℕ). Reverted (n + 1)) is.places_is

@@ -2,7 +2,7 @@
 
 ghost use Rattle.std.specs.Prelude.{◌≡◌, ◌+◌, ◌-◌, ◌^◌, ◌<◌, ◌≤◌, length};
 ghost use Rattle.map_core.specs.declared.command.Command.TheVariants.{Publish, Revert, Collect};
-ghost use Rattle.map_core.specs.Consistent.{IsDraw};
+ghost use Rattle.map_core.specs.Drawing.{IsDraw};
 ghost use Rattle.desk.specs.Contents.{IsJudged, Does};
 ghost use Rattle.desk.specs.Stored.{changes_between};
 

@@ -2,7 +2,7 @@
 use Rattle.std.proofs.Common.{subst, sym}
 use Rattle.std.specs.Prelude.{None}
 use Rattle.map_core.specs.declared.command.Command.{Command}
-use Rattle.map_core.specs.Consistent.{IsDraw}
+use Rattle.map_core.specs.Drawing.{IsDraw}
 use Rattle.desk.proofs.JudgeLemmas.{judges_outside, in_map, judges_full, judges_draw, judges_publish, judges_revert, judges_collect, judged_draw, judged_other}
 use Rattle.desk.proofs.sheets.Sheets.judge.Goals as goal
 
