@@ -4,6 +4,8 @@ pub mod FillLemmas
 pub mod StoredLemmas
 pub mod TileLemmas
 pub mod WriteLemmas
+pub mod LayLemmas
+pub mod PutLemmas
 pub mod RegroupLemmas
 pub mod TileBitsLemmas
 pub mod TileDrawLemmas

@@ -53,7 +53,7 @@ abbrev pub IsMask : ℕ → ℕ → ℕ → Type 0
 IsMask from to mask = (j : ℕ) → j < 64 → bit_at mask j ≡ cond (nat_le from j && nat_lt j to) 1 0
 
 -- a word with the columns of a mask set
-pub filled_black : (word from to mask : ℕ) → word < 2 ^ 64 → mask < 2 ^ 64 → IsMask from to mask → bit_or word mask ≡ filled_word word from to true
+pub filled_black : (word from to mask : ℕ) → word < 2 ^ 64 → mask < 2 ^ 64 → IsMask from to mask → bit_or word mask ≡ filled_word word from to (λ j. true)
 unfolding filled_word
 filled_black word from to mask fits mask_fits is =
     same_from_bits_below 64 _ _ (or_lt 64 word mask fits mask_fits) (word_where-lt _ 64) (λ j h.
@@ -64,7 +64,7 @@ filled_black word from to mask fits mask_fits is =
 
 -- a word with the columns of a mask cleared
 pub filled_white : (word from to mask : ℕ) → word < 2 ^ 64 → mask < 2 ^ 64 → IsMask from to mask
-    → bit_and word (2 ^ 64 - 1 - mask) ≡ filled_word word from to false
+    → bit_and word (2 ^ 64 - 1 - mask) ≡ filled_word word from to (λ j. false)
 unfolding filled_word
 filled_white word from to mask fits mask_fits is =
     same_from_bits_below 64 _ _ (let less = and_le_l word (2 ^ 64 - 1 - mask) in omega arith) (word_where-lt _ 64) (λ j h.
@@ -118,29 +118,29 @@ pub ones_few : (a b : ℕ) → a < 2 ^ 64 → b < 2 ^ 64 → ones (bit_xor a b) 
 ones_few a b ha hb = ones-le 64 (bit_xor a b) (xor_lt 64 a b ha hb)
 
 -- how far the filling of a tile has come, and what it has counted
-pub record IsTileFilling (old now : List ℕ) (x0 y0 x1 y : ℕ) (value : Bool) (changed : ℕ) : Type 0 where
+pub record IsTileFilling (old now : List ℕ) (x0 y0 x1 y : ℕ) (value : ℕ → ℕ → Bool) (changed : ℕ) : Type 0 where
   pub is : now ≡ filled_words old x0 y0 x1 y value
   pub count : changed ≡ words_changed old now
   pub few : changed ≤ 64 * y
 
 -- row i by then
-pub filled_words-row : (old : List ℕ) (x0 y0 x1 y : ℕ) (value : Bool) (i : ℕ) → i < 64
-    → get_or (filled_words old x0 y0 x1 y value) i 0 ≡ (if nat_le y0 i && nat_lt i y then filled_word (get_or old i 0) x0 x1 value else get_or old i 0)
+pub filled_words-row : (old : List ℕ) (x0 y0 x1 y : ℕ) (value : ℕ → ℕ → Bool) (i : ℕ) → i < 64
+    → get_or (filled_words old x0 y0 x1 y value) i 0 ≡ (if nat_le y0 i && nat_lt i y then filled_word (get_or old i 0) x0 x1 (λ j. value j i) else get_or old i 0)
 unfolding filled_words
 filled_words-row old x0 y0 x1 y value i h =
-    get_or-map-range_with_len (λ i. if nat_le y0 i && nat_lt i y then filled_word (get_or old i 0) x0 x1 value else get_or old i 0) 0 64 i i 0 h (omega arith)
+    get_or-map-range_with_len (λ i. if nat_le y0 i && nat_lt i y then filled_word (get_or old i 0) x0 x1 (λ j. value j i) else get_or old i 0) 0 64 i i 0 h (omega arith)
 
-pub filled_words-length : (old : List ℕ) (x0 y0 x1 y : ℕ) (value : Bool) → length (filled_words old x0 y0 x1 y value) ≡ 64
+pub filled_words-length : (old : List ℕ) (x0 y0 x1 y : ℕ) (value : ℕ → ℕ → Bool) → length (filled_words old x0 y0 x1 y value) ≡ 64
 unfolding filled_words
-filled_words-length old x0 y0 x1 y value = length-map-range_with_len (λ i. if nat_le y0 i && nat_lt i y then filled_word (get_or old i 0) x0 x1 value else get_or old i 0) 0 64
+filled_words-length old x0 y0 x1 y value = length-map-range_with_len (λ i. if nat_le y0 i && nat_lt i y then filled_word (get_or old i 0) x0 x1 (λ j. value j i) else get_or old i 0) 0 64
 
 -- words with these rows are the filled ones
-pub filled_words_is : (old now : List ℕ) (x0 y0 x1 y : ℕ) (value : Bool) → length now ≡ 64
-    → ((i : ℕ) → i < 64 → get_or now i 0 ≡ (if nat_le y0 i && nat_lt i y then filled_word (get_or old i 0) x0 x1 value else get_or old i 0))
+pub filled_words_is : (old now : List ℕ) (x0 y0 x1 y : ℕ) (value : ℕ → ℕ → Bool) → length now ≡ 64
+    → ((i : ℕ) → i < 64 → get_or now i 0 ≡ (if nat_le y0 i && nat_lt i y then filled_word (get_or old i 0) x0 x1 (λ j. value j i) else get_or old i 0))
     → now ≡ filled_words old x0 y0 x1 y value
 unfolding filled_words
 filled_words_is old now x0 y0 x1 y value long rows =
-    fill_by_all (λ i. if nat_le y0 i && nat_lt i y then filled_word (get_or old i 0) x0 x1 value else get_or old i 0) now 64 0 long rows
+    fill_by_all (λ i. if nat_le y0 i && nat_lt i y then filled_word (get_or old i 0) x0 x1 (λ j. value j i) else get_or old i 0) now 64 0 long rows
 
 no_row : (y0 i : ℕ) (a b : ℕ) → b ≡ (if nat_le y0 i && nat_lt i y0 then a else b)
 no_row y0 i a b = grind (arith, nat_tests)
@@ -174,7 +174,7 @@ words_changed-set old now i word h long same =
     let is : bits_changed (get_or old i 0) (get_or (set now i word) i 0) ≡ bits_changed (get_or old i 0) word = ap (bits_changed (get_or old i 0)) here in
     omega (arith, parts, was, is)
 
-pub tile_filling_none : (old : List ℕ) (x0 y0 x1 : ℕ) (value : Bool) → length old ≡ 64 → IsTileFilling old old x0 y0 x1 y0 value 0
+pub tile_filling_none : (old : List ℕ) (x0 y0 x1 : ℕ) (value : ℕ → ℕ → Bool) → length old ≡ 64 → IsTileFilling old old x0 y0 x1 y0 value 0
 tile_filling_none old x0 y0 x1 value long = record {
   is = filled_words_is old old x0 y0 x1 y0 value long (λ i h. no_row y0 i _ _);
   count = sym (words_changed-self old);
@@ -182,13 +182,13 @@ tile_filling_none old x0 y0 x1 value long = record {
 }
 
 -- the next row is as at first
-pub tile_filling_read : (old now : List ℕ) (x0 y0 x1 y : ℕ) (value : Bool) (changed : ℕ) → IsTileFilling old now x0 y0 x1 y value changed → y < 64
+pub tile_filling_read : (old now : List ℕ) (x0 y0 x1 y : ℕ) (value : ℕ → ℕ → Bool) (changed : ℕ) → IsTileFilling old now x0 y0 x1 y value changed → y < 64
     → get_or now y 0 ≡ get_or old y 0
 tile_filling_read old now x0 y0 x1 y value changed so_far h =
     ap (λ (ws : List ℕ). get_or ws y 0) so_far.is ∙ (filled_words-row old x0 y0 x1 y value y h ∙ next_row y0 y _ _)
 
-pub tile_filling_more : (old now : List ℕ) (x0 y0 x1 y : ℕ) (value : Bool) (changed : ℕ) (read word more : ℕ) → IsTileFilling old now x0 y0 x1 y value changed
-    → y0 ≤ y → y < 64 → read ≡ get_or now y 0 → word ≡ filled_word read x0 x1 value → more ≡ bits_changed read word → more ≤ 64
+pub tile_filling_more : (old now : List ℕ) (x0 y0 x1 y : ℕ) (value : ℕ → ℕ → Bool) (changed : ℕ) (read word more : ℕ) → IsTileFilling old now x0 y0 x1 y value changed
+    → y0 ≤ y → y < 64 → read ≡ get_or now y 0 → word ≡ filled_word read x0 x1 (λ j. value j y) → more ≡ bits_changed read word → more ≤ 64
     → IsTileFilling old (set now y word) x0 y0 x1 (y + 1) value (changed + more)
 tile_filling_more old now x0 y0 x1 y value changed read word more so_far up h read_is word_is more_is small =
     let as_old = tile_filling_read old now x0 y0 x1 y value changed so_far h in
@@ -206,8 +206,9 @@ tile_filling_more old now x0 y0 x1 y value changed read word more so_far up h re
                 ap (λ (k : ℕ). get_or (set now y word) k 0) here
                 ∙ (get_or-set_same now y word 0 (omega arith)
                 ∙ (word_is
-                ∙ (ap (λ (w : ℕ). filled_word w x0 x1 value) (first ∙ ap (λ (k : ℕ). get_or old k 0) (sym here))
-                ∙ last_row y0 y i _ _ up here)))
+                ∙ (ap (λ (w : ℕ). filled_word w x0 x1 (λ j. value j y)) first
+                ∙ (ap (λ (k : ℕ). filled_word (get_or old k 0) x0 x1 (λ j. value j k)) (sym here)
+                ∙ last_row y0 y i _ _ up here))))
             | inr apart ↦
                 get_or-set_other now y i word 0 apart
                 ∙ (ap (λ (ws : List ℕ). get_or ws i 0) so_far.is
@@ -245,27 +246,27 @@ inside_row : (y0 y1 i a b : ℕ) → y0 ≤ i → i < y1 → (if nat_le y0 i && 
 inside_row y0 y1 i a b low high = grind (arith, nat_tests)
 
 -- a row that the filling changes
-pub row_would_change : (words : List ℕ) (x0 y0 x1 y1 y : ℕ) (value : Bool) (old : ℕ) → y0 ≤ y → y < y1 → y1 ≤ 64 → old ≡ get_or words y 0
-    → filled_word old x0 x1 value ≢ old → true ≡ words_differ words (filled_words words x0 y0 x1 y1 value)
+pub row_would_change : (words : List ℕ) (x0 y0 x1 y1 y : ℕ) (value : ℕ → ℕ → Bool) (old : ℕ) → y0 ≤ y → y < y1 → y1 ≤ 64 → old ≡ get_or words y 0
+    → filled_word old x0 x1 (λ j. value j y) ≢ old → true ≡ words_differ words (filled_words words x0 y0 x1 y1 value)
 unfolding words_differ
 row_would_change words x0 y0 x1 y1 y value old low high within read other =
-    let now : get_or (filled_words words x0 y0 x1 y1 value) y 0 ≡ filled_word old x0 x1 value =
-    filled_words-row words x0 y0 x1 y1 value y (omega arith) ∙ (inside_row y0 y1 y _ _ low high ∙ ap (λ (w : ℕ). filled_word w x0 x1 value) (sym read)) in
+    let now : get_or (filled_words words x0 y0 x1 y1 value) y 0 ≡ filled_word old x0 x1 (λ j. value j y) =
+    filled_words-row words x0 y0 x1 y1 value y (omega arith) ∙ (inside_row y0 y1 y _ _ low high ∙ ap (λ (w : ℕ). filled_word w x0 x1 (λ j. value j y)) (sym read)) in
     sym (any_in_range (λ i. not (get_or words i 0 == get_or (filled_words words x0 y0 x1 y1 value) i 0)) 64 y (omega arith) (unequal _ _ (λ e. other (sym now ∙ (sym e ∙ sym read)))))
 
 -- the rows that the filling has reached stay
-abbrev pub StaysTo : List ℕ → ℕ → ℕ → ℕ → Bool → ℕ → Type 0
-StaysTo words x0 x1 y0 value y = (i : ℕ) → y0 ≤ i → i < y → filled_word (get_or words i 0) x0 x1 value ≡ get_or words i 0
+abbrev pub StaysTo : List ℕ → ℕ → ℕ → ℕ → (ℕ → ℕ → Bool) → ℕ → Type 0
+StaysTo words x0 x1 y0 value y = (i : ℕ) → y0 ≤ i → i < y → filled_word (get_or words i 0) x0 x1 (λ j. value j i) ≡ get_or words i 0
 
-pub stays_more : (words : List ℕ) (x0 x1 y0 : ℕ) (value : Bool) (y old : ℕ) → StaysTo words x0 x1 y0 value y → old ≡ get_or words y 0
-    → filled_word old x0 x1 value ≡ old → StaysTo words x0 x1 y0 value (y + 1)
+pub stays_more : (words : List ℕ) (x0 x1 y0 : ℕ) (value : ℕ → ℕ → Bool) (y old : ℕ) → StaysTo words x0 x1 y0 value y → old ≡ get_or words y 0
+    → filled_word old x0 x1 (λ j. value j y) ≡ old → StaysTo words x0 x1 y0 value (y + 1)
 stays_more words x0 x1 y0 value y old so_far read same i low high =
     elim (cases_eq i y) [
-      | inl here ↦ ap (λ (k : ℕ). filled_word (get_or words k 0) x0 x1 value) here ∙ (ap (λ (w : ℕ). filled_word w x0 x1 value) (sym read) ∙ (same ∙ (read ∙ ap (λ (k : ℕ). get_or words k 0) (sym here))))
+      | inl here ↦ ap (λ (k : ℕ). filled_word (get_or words k 0) x0 x1 (λ j. value j k)) here ∙ (ap (λ (w : ℕ). filled_word w x0 x1 (λ j. value j y)) (sym read) ∙ (same ∙ (read ∙ ap (λ (k : ℕ). get_or words k 0) (sym here))))
       | inr apart ↦ so_far i low (omega arith)
     ]
 
-pub nothing_would_change : (words : List ℕ) (x0 y0 x1 y1 y : ℕ) (value : Bool) → StaysTo words x0 x1 y0 value y → y1 ≤ y
+pub nothing_would_change : (words : List ℕ) (x0 y0 x1 y1 y : ℕ) (value : ℕ → ℕ → Bool) → StaysTo words x0 x1 y0 value y → y1 ≤ y
     → false ≡ words_differ words (filled_words words x0 y0 x1 y1 value)
 unfolding words_differ
 nothing_would_change words x0 y0 x1 y1 y value so_far end =

@@ -5,12 +5,12 @@ use Rattle.std.proofs.lemmas.List.FromFn.{get_or-map-range_with_len, length-map-
 use Rattle.std.proofs.lemmas.Bool.{cases_lt}
 use Rattle.std.proofs.lemmas.Bool.Decides.{nat_tests}
 use mathlib.Core.Logic.{inl, inr}
-use Rattle.bits.specs.Cells.{Cells, has, with_rect, is_within, IsBitmap}
+use Rattle.bits.specs.Cells.{Cells, has, with_values, is_within, IsBitmap}
 use Rattle.bits.specs.Changes.{differs}
 use Rattle.bits.specs.Words.{words_across}
 use Rattle.bits.specs.Tiles.{tile_has, row_word}
-use Rattle.bits.specs.TileWords.{tile_words, is_bit, filled_word, filled_words, bits_changed, words_changed, words_differ, tile_changes, within_column, within_row}
-use Rattle.bits.proofs.CellsLemmas.{has-with_rect, has-outside, IsBitmap-cells_where}
+use Rattle.bits.specs.TileWords.{tile_words, is_bit, filled_word, filled_words, bits_changed, words_changed, words_differ, tile_changes, within_column, within_row, laid}
+use Rattle.bits.proofs.CellsLemmas.{has-cells_where, has-outside, IsBitmap-cells_where}
 use Rattle.bits.proofs.ChangesLemmas.{sum_by-same, one}
 use Rattle.bits.proofs.TileLemmas.{bit_at-row_word, bit_at-word_where, word_where-lt, row_word-lt, row_word_is}
 use Rattle.bits.proofs.TileBitsLemmas.{filled_words-row, filled_words-length}
@@ -47,70 +47,83 @@ tile_changes_words old new k =
     (sym (ap (λ (w : ℕ). is_bit w j) (tile_words-row new k i (omega arith)) ∙ is_bit-row_word new k i j (omega arith)) i')))))
 
 -- a cell of a tile, by the part of the rectangle in the tile and by the rectangle
-in_part : (a b x0 y0 x1 y1 i j : ℕ) (value old : Bool) → i < 64 → j < 64
+in_part : (a b x0 y0 x1 y1 i j : ℕ) (value part old : Bool) → i < 64 → j < 64
+    → (x0 ≤ 64 * a + j → y0 ≤ 64 * b + i → value ≡ part)
     → (if is_within x0 y0 x1 y1 (64 * a + j) (64 * b + i) then value else old)
-    ≡ (if nat_le (min (y0 - 64 * b) 64) i && nat_lt i (min (y1 - 64 * b) 64) then (if nat_le (min (x0 - 64 * a) 64) j && nat_lt j (min (x1 - 64 * a) 64) then value else old) else old)
-in_part a b x0 y0 x1 y1 i j value old hi hj = grind (arith, nat_tests)
+    ≡ (if nat_le (min (y0 - 64 * b) 64) i && nat_lt i (min (y1 - 64 * b) 64) then (if nat_le (min (x0 - 64 * a) 64) j && nat_lt j (min (x1 - 64 * a) 64) then part else old) else old)
+in_part a b x0 y0 x1 y1 i j value part old hi hj same = grind (arith, nat_tests)
+
+-- where the picture's cell lies
+picture_cell : (value : ℕ → ℕ → Bool) (a b x0 y0 i j : ℕ) → i < 64 → j < 64 → x0 ≤ 64 * a + j → y0 ≤ 64 * b + i
+    → value (64 * a + j - x0) (64 * b + i - y0) ≡ laid value (64 * a - x0) (64 * b - y0) (min (x0 - 64 * a) 64) (min (y0 - 64 * b) 64) j i
+picture_cell value a b x0 y0 i j hi hj right below =
+    let column : 64 * a + j - x0 ≡ 64 * a - x0 + (j - min (x0 - 64 * a) 64) = omega arith in
+    let row : 64 * b + i - y0 ≡ 64 * b - y0 + (i - min (y0 - 64 * b) 64) = omega arith in
+    λ k. value (column k) (row k)
 
 -- outside the map no rectangle is
 not_in : (w h x0 y0 x1 y1 x y : ℕ) (value : Bool) → x1 ≤ w → y1 ≤ h → (x < w → h ≤ y) → (if is_within x0 y0 x1 y1 x y then value else false) ≡ false
 not_in w h x0 y0 x1 y1 x y value hx hy out = grind (arith, nat_tests)
 
-out_of : (cells : Cells) → IsBitmap cells → (x y : ℕ) → (x < cells.width → cells.height ≤ y) → has cells x y ≡ false
+-- outside of a bitmap no cell is an obstacle
+pub out_of : (cells : Cells) → IsBitmap cells → (x y : ℕ) → (x < cells.width → cells.height ≤ y) → has cells x y ≡ false
 out_of cells is x y outside =
     elim (has cells x y) as (λ test. has cells x y ≡ test → test ≡ false) [
       | true ↦ λ e. let inside = has-outside cells is x y e in absurd (let up = outside inside.column in let down = inside.row in omega arith)
       | false ↦ λ e. refl
     ] refl
 
--- each cell, also past the edge, of a bitmap with a rectangle in it written
-pub has-with_rect_all : (cells : Cells) (x0 y0 x1 y1 : ℕ) (value : Bool) (x y : ℕ) → IsBitmap cells → x1 ≤ cells.width → y1 ≤ cells.height
-    → has (with_rect cells x0 y0 x1 y1 value) x y ≡ (if is_within x0 y0 x1 y1 x y then value else has cells x y)
-has-with_rect_all cells x0 y0 x1 y1 value x y is hx hy =
-    let written : IsBitmap (with_rect cells x0 y0 x1 y1 value) = IsBitmap-cells_where cells.width cells.height _ is.width_is is.height_is in
+-- each cell, also past the edge, of a bitmap with a picture in it
+pub has-with_values_all : (cells : Cells) (x0 y0 x1 y1 : ℕ) (value : ℕ → ℕ → Bool) (x y : ℕ) → IsBitmap cells → x1 ≤ cells.width → y1 ≤ cells.height
+    → has (with_values cells x0 y0 x1 y1 value) x y ≡ (if is_within x0 y0 x1 y1 x y then value (x - x0) (y - y0) else has cells x y)
+has-with_values_all cells x0 y0 x1 y1 value x y is hx hy =
+    let test : ℕ → ℕ → Bool = λ a b. if is_within x0 y0 x1 y1 a b then value (a - x0) (b - y0) else has cells a b in
+    let written : IsBitmap (with_values cells x0 y0 x1 y1 value) = IsBitmap-cells_where cells.width cells.height _ is.width_is is.height_is in
     let outside = λ (out : x < cells.width → cells.height ≤ y).
-    out_of (with_rect cells x0 y0 x1 y1 value) written x y out
-    ∙ (sym (not_in cells.width cells.height x0 y0 x1 y1 x y value hx hy out)
-    ∙ ap (λ (o : Bool). if is_within x0 y0 x1 y1 x y then value else o) (sym (out_of cells is x y out))) in
+    out_of (with_values cells x0 y0 x1 y1 value) written x y out
+    ∙ (sym (not_in cells.width cells.height x0 y0 x1 y1 x y (value (x - x0) (y - y0)) hx hy out)
+    ∙ ap (λ (o : Bool). if is_within x0 y0 x1 y1 x y then value (x - x0) (y - y0) else o) (sym (out_of cells is x y out))) in
     elim (cases_lt x cells.width) [
       | inl column ↦ elim (cases_lt y cells.height) [
-        | inl row ↦ has-with_rect cells x0 y0 x1 y1 value x y column row
+        | inl row ↦ has-cells_where cells.width cells.height test x y column row
         | inr past ↦ outside (λ h. past)
       ]
       | inr past ↦ outside (λ h. absurd (omega arith))
     ]
-
-word_at : (rows cols value old : Bool) → (if rows then (if cols then value else old) else old) ≡ (if rows then (if cols then value else old) else old)
-word_at rows cols value old = refl
 
 -- a row of the written bitmap, where the rectangle's part reaches it and where not
 row_reached : (test : Bool) (a b : ℕ) (c : ℕ) → (test ≡ true → c ≡ a) → (test ≡ false → c ≡ b) → (if test then a else b) ≡ c
 row_reached true a b c yes' no' = sym (yes' refl)
 row_reached false a b c yes' no' = sym (no' refl)
 
-pub filled_tile : (cells : Cells) (x0 y0 x1 y1 k : ℕ) (value : Bool) → IsBitmap cells → x1 ≤ cells.width → y1 ≤ cells.height
-    → filled_words (tile_words cells k) (within_column cells k x0) (within_row cells k y0) (within_column cells k x1) (within_row cells k y1) value
-    ≡ tile_words (with_rect cells x0 y0 x1 y1 value) k
+-- to fill the part of a picture that lies in a tile is to lay the picture
+pub filled_tile : (cells : Cells) (x0 y0 x1 y1 k : ℕ) (value : ℕ → ℕ → Bool) → IsBitmap cells → x1 ≤ cells.width → y1 ≤ cells.height
+    → filled_words (tile_words cells k) (within_column cells k x0) (within_row cells k y0) (within_column cells k x1) (within_row cells k y1)
+    (laid value (64 * (k % words_across cells.width) - x0) (64 * (k / words_across cells.width) - y0) (within_column cells k x0) (within_row cells k y0))
+    ≡ tile_words (with_values cells x0 y0 x1 y1 value) k
 unfolding filled_word
 filled_tile cells x0 y0 x1 y1 k value is hx hy =
     let lx0 = within_column cells k x0 in let ly0 = within_row cells k y0 in let lx1 = within_column cells k x1 in let ly1 = within_row cells k y1 in
-    let new = with_rect cells x0 y0 x1 y1 value in
-    tile_words_is new k _ (filled_words-length (tile_words cells k) lx0 ly0 lx1 ly1 value) (λ i hi.
+    let a = k % words_across cells.width in
+    let b = k / words_across cells.width in
+    let new = with_values cells x0 y0 x1 y1 value in
+    let part : ℕ → ℕ → Bool = laid value (64 * a - x0) (64 * b - y0) lx0 ly0 in
+    tile_words_is new k _ (filled_words-length (tile_words cells k) lx0 ly0 lx1 ly1 part) (λ i hi.
     let cell = λ (j : ℕ) (hj : j < 64).
-    has-with_rect_all cells x0 y0 x1 y1 value (64 * (k % words_across cells.width) + j) (64 * (k / words_across cells.width) + i) is hx hy
-    ∙ in_part (k % words_across cells.width) (k / words_across cells.width) x0 y0 x1 y1 i j value (tile_has cells k i j) hi hj in
-    filled_words-row (tile_words cells k) lx0 ly0 lx1 ly1 value i hi
-    ∙ (ap (λ (w : ℕ). if nat_le ly0 i && nat_lt i ly1 then filled_word w lx0 lx1 value else w) (tile_words-row cells k i hi)
-    ∙ row_reached (nat_le ly0 i && nat_lt i ly1) (filled_word (row_word cells k i) lx0 lx1 value) (row_word cells k i) (row_word new k i)
-    (λ reached. sym (row_word_is new k i (filled_word (row_word cells k i) lx0 lx1 value) (word_where-lt _ 64) (λ j hj.
-    bit_at-word_where (λ j. if nat_le lx0 j && nat_lt j lx1 then value else is_bit (row_word cells k i) j) 64 j hj
-    ∙ (ap (λ (o : Bool). cond (if nat_le lx0 j && nat_lt j lx1 then value else o) 1 0) (is_bit-row_word cells k i j hj)
+    has-with_values_all cells x0 y0 x1 y1 value (64 * a + j) (64 * b + i) is hx hy
+    ∙ in_part a b x0 y0 x1 y1 i j (value (64 * a + j - x0) (64 * b + i - y0)) (part j i) (tile_has cells k i j) hi hj (picture_cell value a b x0 y0 i j hi hj) in
+    filled_words-row (tile_words cells k) lx0 ly0 lx1 ly1 part i hi
+    ∙ (ap (λ (w : ℕ). if nat_le ly0 i && nat_lt i ly1 then filled_word w lx0 lx1 (λ j. part j i) else w) (tile_words-row cells k i hi)
+    ∙ row_reached (nat_le ly0 i && nat_lt i ly1) (filled_word (row_word cells k i) lx0 lx1 (λ j. part j i)) (row_word cells k i) (row_word new k i)
+    (λ reached. sym (row_word_is new k i (filled_word (row_word cells k i) lx0 lx1 (λ j. part j i)) (word_where-lt _ 64) (λ j hj.
+    bit_at-word_where (λ j. if nat_le lx0 j && nat_lt j lx1 then part j i else is_bit (row_word cells k i) j) 64 j hj
+    ∙ (ap (λ (o : Bool). cond (if nat_le lx0 j && nat_lt j lx1 then part j i else o) 1 0) (is_bit-row_word cells k i j hj)
     ∙ ap (λ (t : Bool). cond t 1 0)
-    (sym (cell j hj ∙ ap (λ (r : Bool). if r then (if nat_le lx0 j && nat_lt j lx1 then value else tile_has cells k i j) else tile_has cells k i j) reached))))))
+    (sym (cell j hj ∙ ap (λ (r : Bool). if r then (if nat_le lx0 j && nat_lt j lx1 then part j i else tile_has cells k i j) else tile_has cells k i j) reached))))))
     (λ missed. sym (row_word_is new k i (row_word cells k i) (row_word-lt cells k i) (λ j hj.
     bit_at-row_word cells k i j hj
     ∙ ap (λ (t : Bool). cond t 1 0)
-    (sym (cell j hj ∙ ap (λ (r : Bool). if r then (if nat_le lx0 j && nat_lt j lx1 then value else tile_has cells k i j) else tile_has cells k i j) missed)))))))
+    (sym (cell j hj ∙ ap (λ (r : Bool). if r then (if nat_le lx0 j && nat_lt j lx1 then part j i else tile_has cells k i j) else tile_has cells k i j) missed)))))))
 
 -- a tile's rows differ where its words do
 pub tile_rows_differ : (old new : Cells) (k : ℕ) → words_differ (tile_words old k) (tile_words new k) ≡ list_any (λ i. not (row_word old k i == row_word new k i)) (range_with_len 0 64)

@@ -60,6 +60,12 @@ pub row_word_is : (cells : Cells) (k i word : ℕ) → word < 2 ^ 64
 row_word_is cells k i word fits says =
     same_from_bits_below 64 word (row_word cells k i) fits (row_word-lt cells k i) (λ j h. says j h ∙ sym (bit_at-row_word cells k i j h))
 
+-- rows of tiles with the same cells are equal
+pub row_word-same : (a b : Cells) (k i : ℕ) → ((j : ℕ) → j < 64 → tile_has a k i j ≡ tile_has b k i j) → row_word a k i ≡ row_word b k i
+row_word-same a b k i same =
+    row_word_is b k i (row_word a k i) (row_word-lt a k i)
+    (λ j h. bit_at-row_word a k i j h ∙ ap (λ (test : Bool). cond test 1 0) (same j h))
+
 -- a cell is found again in its tile
 pub tile_has-tile_of : (cells : Cells) (x y : ℕ) → x < cells.width → tile_has cells (tile_of cells x y) (y % 64) (x % 64) ≡ has cells x y
 tile_has-tile_of cells x y hx =

@@ -57,3 +57,7 @@ with_rect cells x0 y0 x1 y1 value = cells_where cells.width cells.height (λ a b
 abbrev pub with_stamp : Cells → ℕ → ℕ → Cells → Cells
 with_stamp cells x y stamp =
     cells_where cells.width cells.height (λ a b. if is_within x y (x + stamp.width) (y + stamp.height) a b then has stamp (a - x) (b - y) else has cells a b)
+
+-- the bitmap with each cell of a rectangle given its value in a picture, whose first cell comes upon (x0, y0)
+abbrev pub with_values : Cells → ℕ → ℕ → ℕ → ℕ → (ℕ → ℕ → Bool) → Cells
+with_values cells x0 y0 x1 y1 value = cells_where cells.width cells.height (λ a b. if is_within x0 y0 x1 y1 a b then value (a - x0) (b - y0) else has cells a b)

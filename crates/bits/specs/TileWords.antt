@@ -1,5 +1,5 @@
 -- A tile as 64 words of 64 bits, one a row: this project's own rule. Bit j of word i is the cell of column j and row i of the tile.
-use Rattle.std.specs.Prelude.{ℕ, ◌-◌, ◌*◌, ◌/◌, ◌%◌, min, ◌==◌, ◌&&◌, nat_lt, nat_le, Bool, not, List, map, sum_by, count_by, slice_index, if◌then◌else◌}
+use Rattle.std.specs.Prelude.{ℕ, ◌+◌, ◌-◌, ◌*◌, ◌/◌, ◌%◌, min, ◌==◌, ◌&&◌, nat_lt, nat_le, Bool, not, List, map, sum_by, count_by, slice_index, if◌then◌else◌}
 use Rattle.std.specs.Int.{bit_at}
 use Rattle.std.specs.List.{list_any, range_with_len}
 use Rattle.bits.specs.Cells.{Cells}
@@ -15,14 +15,22 @@ tile_words cells k = map (row_word cells k) (range_with_len 0 64)
 abbrev pub is_bit : ℕ → ℕ → Bool
 is_bit word j = bit_at word j == 1
 
--- the word with the columns x0 to x1 - 1 written anew
-unfoldable pub filled_word : ℕ → ℕ → ℕ → Bool → ℕ
-filled_word word x0 x1 value = word_where (λ j. if nat_le x0 j && nat_lt j x1 then value else is_bit word j) 64
+-- the word with the columns x0 to x1 - 1 written anew, each by its own value
+unfoldable pub filled_word : ℕ → ℕ → ℕ → (ℕ → Bool) → ℕ
+filled_word word x0 x1 value = word_where (λ j. if nat_le x0 j && nat_lt j x1 then value j else is_bit word j) 64
 
--- the words of a tile with the columns x0 to x1 - 1 of the rows y0 to y1 - 1 written anew
-unfoldable pub filled_words : List ℕ → ℕ → ℕ → ℕ → ℕ → Bool → List ℕ
+-- the words of a tile with the columns x0 to x1 - 1 of the rows y0 to y1 - 1 written anew, each cell by its own value
+unfoldable pub filled_words : List ℕ → ℕ → ℕ → ℕ → ℕ → (ℕ → ℕ → Bool) → List ℕ
 filled_words words x0 y0 x1 y1 value =
-    map (λ i. if nat_le y0 i && nat_lt i y1 then filled_word (slice_index words i) x0 x1 value else slice_index words i) (range_with_len 0 64)
+    map (λ i. if nat_le y0 i && nat_lt i y1 then filled_word (slice_index words i) x0 x1 (λ j. value j i) else slice_index words i) (range_with_len 0 64)
+
+-- one value for each cell
+abbrev pub every : Bool → ℕ → ℕ → Bool
+every value x y = value
+
+-- a picture that is laid so that its cell (x, y) comes upon the cell (x0, y0)
+abbrev pub laid : (ℕ → ℕ → Bool) → ℕ → ℕ → ℕ → ℕ → ℕ → ℕ → Bool
+laid value x y x0 y0 j i = value (x + (j - x0)) (y + (i - y0))
 
 -- how many columns differ between two words
 unfoldable pub bits_changed : ℕ → ℕ → ℕ

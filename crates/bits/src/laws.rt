@@ -1,10 +1,11 @@
 //! Laws of tiles: what is counted tile by tile, and what filling the words of a tile does to a bitmap.
 
 ghost use Rattle.std.specs.Prelude.{◌≡◌, ℕ, ◌<◌, ◌≤◌, ◌-◌, ◌*◌, ◌/◌, ◌%◌, ◌+◌, Bool, min};
-ghost use Rattle.bits.specs.Cells.{Cells, with_rect, IsBitmap};
+ghost use Rattle.bits.specs.Cells.{Cells, with_values, IsBitmap};
 ghost use Rattle.bits.specs.Changes.{changes};
+ghost use Rattle.bits.specs.Words.{words_across};
 ghost use Rattle.bits.specs.Tiles.{tile_count};
-ghost use Rattle.bits.specs.TileWords.{tile_words, tile_changes, changes_by_tile, words_changed, filled_words, within_column, within_row};
+ghost use Rattle.bits.specs.TileWords.{tile_words, tile_changes, changes_by_tile, words_changed, filled_words, within_column, within_row, laid};
 
 /// Counted row by row or tile by tile, as many cells differ between two bitmaps of one size.
 pub fn tiles_count_all_changes()
@@ -16,9 +17,10 @@ pub fn words_count_changes()
     ensures { (old new : Cells) (k : ℕ) → tile_changes old new k ≡ words_changed (tile_words old k) (tile_words new k) }
 {}
 
-/// To fill the part of a rectangle that lies in a tile, on the words of the tile, is to fill the rectangle.
+/// To fill the part of a picture that lies in a tile, on the words of the tile, is to lay the picture.
 pub fn tiles_fill_their_part()
-    ensures { (cells : Cells) (x0 y0 x1 y1 k : ℕ) (value : Bool) → IsBitmap cells → x1 ≤ cells.width → y1 ≤ cells.height
-        → filled_words (tile_words cells k) (within_column cells k x0) (within_row cells k y0) (within_column cells k x1) (within_row cells k y1) value
-        ≡ tile_words (with_rect cells x0 y0 x1 y1 value) k }
+    ensures { (cells : Cells) (x0 y0 x1 y1 k : ℕ) (value : ℕ → ℕ → Bool) → IsBitmap cells → x1 ≤ cells.width → y1 ≤ cells.height
+        → filled_words (tile_words cells k) (within_column cells k x0) (within_row cells k y0) (within_column cells k x1) (within_row cells k y1)
+        (laid value (64 * (k % words_across cells.width) - x0) (64 * (k / words_across cells.width) - y0) (within_column cells k x0) (within_row cells k y0))
+        ≡ tile_words (with_values cells x0 y0 x1 y1 value) k }
 {}

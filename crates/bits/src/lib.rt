@@ -4,6 +4,7 @@
 mod bitmap;
 mod fill;
 mod laws;
+mod lay;
 mod stamp;
 #[cfg(test)]
 mod tests;

@@ -2,7 +2,9 @@
 
 ghost use Rattle.std.specs.Prelude.{◌≡◌, ◌≤◌, ◌<◌};
 ghost use Rattle.bits.specs.Tiles.{tile_count, row_word};
+ghost use Rattle.bits.specs.Cells.{IsBitmap};
 ghost use Rattle.bits.specs.Words.{words_across};
+ghost use Rattle.bits.specs.Writes.{with_tile};
 
 use crate::bitmap::Bitmap;
 
@@ -14,6 +16,7 @@ impl Bitmap {
     pub fn tiles(&self) -> u16
         ensures tiles { result ≡ tile_count self.now }
         ensures few { result ≤ 4096 }
+        ensures bitmap { IsBitmap self.now }
     {
         self.tiles_across() * self.height().div_ceil(TILE_SIDE)
     }
@@ -40,6 +43,20 @@ impl Bitmap {
             self.row_words(y)[usize::from(position % across)]
         } else {
             0
+        }
+    }
+
+    /// Writes the cells of the tile at this position: word i is its row i, bit j of it is column j. Bits past the edge are left out.
+    pub fn put_tile(&mut self, position: u16, words: &[u64; 64])
+        requires { position < tile_count self.old }
+        ensures written { self.new ≡ with_tile self.old position words.now }
+        ensures bitmap { IsBitmap self.new }
+    {
+        let height = self.height();
+        let across = self.tiles_across();
+        let top = TILE_SIDE * (position / across);
+        'rows: for y in top..(top + TILE_SIDE).min(height) {
+            self.set_word(y, position % across, words[usize::from(y - top)]);
         }
     }
 }

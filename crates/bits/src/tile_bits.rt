@@ -2,7 +2,7 @@
 
 ghost use Rattle.std.specs.Prelude.{◌≡◌, ℕ, ◌≤◌, ◌<◌, ◌==◌, ◌&&◌, nat_le, nat_lt, Bool, cond, length};
 ghost use Rattle.std.specs.Int.{bit_at};
-ghost use Rattle.bits.specs.TileWords.{filled_word, filled_words, bits_changed, words_changed, words_differ};
+ghost use Rattle.bits.specs.TileWords.{filled_word, filled_words, bits_changed, words_changed, words_differ, every};
 
 use metric::Rect;
 
@@ -14,7 +14,7 @@ impl TileBits {
     pub fn fill(words: &mut [u64; 64], rect: Rect, black: bool) -> u32
         requires columns { rect.x1 ≤ 64 }
         requires rows { rect.y1 ≤ 64 }
-        ensures filled { words.new ≡ filled_words words.old rect.x0 rect.y0 rect.x1 rect.y1 black }
+        ensures filled { words.new ≡ filled_words words.old rect.x0 rect.y0 rect.x1 rect.y1 (every black) }
         ensures changed { result ≡ words_changed words.old words.new }
     {
         let (from, to) = (u32::from(rect.x0), u32::from(rect.x1));
@@ -33,7 +33,7 @@ impl TileBits {
     pub fn would_change(words: &[u64; 64], rect: Rect, black: bool) -> bool
         requires columns { rect.x1 ≤ 64 }
         requires rows { rect.y1 ≤ 64 }
-        ensures { result ≡ words_differ words.now (filled_words words.now rect.x0 rect.y0 rect.x1 rect.y1 black) }
+        ensures { result ≡ words_differ words.now (filled_words words.now rect.x0 rect.y0 rect.x1 rect.y1 (every black)) }
     {
         let (from, to) = (u32::from(rect.x0), u32::from(rect.x1));
         'rows: for y in rect.y0..rect.y1 {
@@ -47,7 +47,7 @@ impl TileBits {
 }
 
 /// The word with 1 in the columns from `from` up to `to`.
-fn columns(from: u32, to: u32) -> u64
+pub fn columns(from: u32, to: u32) -> u64
     requires some { from < to }
     requires within { to ≤ 64 }
     ensures { (j : ℕ) → j < 64 → bit_at result j ≡ cond (nat_le from j && nat_lt j to) 1 0 }
@@ -59,14 +59,14 @@ fn columns(from: u32, to: u32) -> u64
 fn filled(word: u64, from: u32, to: u32, black: bool) -> u64
     requires some { from < to }
     requires within { to ≤ 64 }
-    ensures { result ≡ filled_word word from to black }
+    ensures { result ≡ filled_word word from to (λ j. black) }
 {
     let mask = columns(from, to);
     if black { word | mask } else { word & !mask }
 }
 
 /// How many columns differ.
-fn changes(old: u64, new: u64) -> u32
+pub fn changes(old: u64, new: u64) -> u32
     ensures changes { result ≡ bits_changed old new }
     ensures few { result ≤ 64 }
 {

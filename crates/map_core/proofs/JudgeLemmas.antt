@@ -11,7 +11,7 @@ use Rattle.map_core.specs.declared.command.Command.{Command}
 use Rattle.map_core.specs.declared.command.Command.TheVariants.{Paint, Stamp, Publish, Revert, Collect}
 use Rattle.map_core.specs.declared.reader.Standing.{Standing}
 use Rattle.map_core.specs.declared.setting.Setting.{Setting}
-use Rattle.map_core.specs.Drawing.{drawn, draws, touched, differing, is_inside, lies_within}
+use Rattle.map_core.specs.Drawing.{drawn, draws, touched, differing, is_inside}
 use Rattle.map_core.specs.Story.{Story, trues, new_ones, inuse}
 use Rattle.map_core.specs.Ledger.{IsBalanced, refused_by_ledger}
 use Rattle.map_core.specs.Legal.{needed, refused, refused_blocks, is_log_full, is_versions_full}
@@ -19,7 +19,7 @@ use Rattle.map_core.specs.Views.{State, story_of, blocks_of_state}
 use Rattle.map_core.specs.Tidy.{IsOfMap}
 use Rattle.map_core.specs.Summary.{Summary}
 use Rattle.map_core.specs.Consistent.{Room, IsConsistent}
-use Rattle.map_core.proofs.LedgerLemmas.{balanced, refused_first, refused_next, refused_for_draw, refused_for_none, inside_of_ledger}
+use Rattle.map_core.proofs.LedgerLemmas.{balanced, refused_first, refused_next, refused_for_draw, refused_for_none, inside_told}
 use Rattle.map_core.proofs.StepLemmas.{tidy_of}
 use Rattle.map_core.proofs.TidyDraft.{tile_count-of_map, IsOfMap-drawn, free_is}
 
@@ -122,10 +122,7 @@ judged_other w v hand steps standings u room same consistent c by is =
 -- it lies in the map
 pub judged_inside : (w : State) (hand : Option Command) (steps : ℕ) (standings : List Standing) (u : Summary) (room : Room) → IsConsistent w hand steps standings u room → (c : Command)
     → refused_by_ledger u.ledger c ≡ None → is_inside (story_of w).draft c ≡ true
-judged_inside w hand steps standings u room consistent c by =
-    let is = consistent.summary.ledger_is in
-    let of_map = (tidy_of w consistent.whole).draft in
-    ap (λ (n : ℕ). lies_within n (story_of w).draft.height c) (of_map.width_is ∙ sym is.width_is) ∙ (ap (λ (n : ℕ). lies_within u.ledger.width n c) (of_map.height_is ∙ sym is.height_is) ∙ inside_of_ledger u.ledger c by)
+judged_inside w hand steps standings u room consistent c by = inside_told w.base (story_of w) u.ledger consistent.summary.ledger_is (tidy_of w consistent.whole).draft c by
 
 -- a command whose area isn't in the map
 pub judged_outside : (g : Setting) (s : Story) (c : Command) → false ≡ is_inside s.draft c → Some OutOfRange ≡ refused g s c

@@ -11,7 +11,7 @@ use Rattle.map_core.specs.declared.command.Reply.{Reply}
 use Rattle.map_core.specs.declared.command.Reply.TheVariants.{Collected}
 use Rattle.map_core.specs.declared.ledger.Ledger.{Ledger}
 use Rattle.map_core.specs.declared.setting.Setting.{Setting}
-use Rattle.map_core.specs.Drawing.{IsDraw, draws, lies_within}
+use Rattle.map_core.specs.Drawing.{IsDraw, draws, is_inside, lies_within}
 use Rattle.map_core.specs.Ledger.{IsLedger, IsBalanced, has_no_slot, refused_by_ledger, refused_draw_blocks, first_refusal}
 use Rattle.map_core.specs.Story.{Story, newest, kept, kept_log}
 use Rattle.map_core.specs.Legal.{IsLegal, refused, refused_blocks, told, after_draw, floor_told}
@@ -106,13 +106,17 @@ refused_for_none g s Revert is = refl
 refused_for_none g s Collect is = refl
 
 -- what a ledger doesn't refuse lies in the map
-pub inside_of_ledger : (l : Ledger) (c : Command) → refused_by_ledger l c ≡ None → lies_within l.width l.height c ≡ true
+inside_of_ledger : (l : Ledger) (c : Command) → refused_by_ledger l c ≡ None → lies_within l.width l.height c ≡ true
 unfolding refused_by_ledger
 inside_of_ledger l c by = tested (lies_within l.width l.height c) _ by
   where
     tested : (inside : Bool) (rest : Option Refusal) → (if inside then rest else Some OutOfRange) ≡ None → inside ≡ true
     tested true rest is = refl
     tested false rest is = absurd (cc)
+
+-- what the ledger of a story doesn't refuse lies in the map
+pub inside_told : (k : Base) (s : Story) (l : Ledger) → IsLedger k s l → IsOfMap k s.draft → (c : Command) → refused_by_ledger l c ≡ None → is_inside s.draft c ≡ true
+inside_told k s l is of_map c by = inside_is k s l is of_map c ∙ inside_of_ledger l c by
 
 -- the story after a paint or a stamp
 pub told_draw : (s : Story) (c : Command) (reply : Reply) → IsDraw c → told s c reply ≡ after_draw s c

@@ -57,23 +57,35 @@ back_is : (k : Base) (s : Story) (m : Blocks) → IsTidy k s m → (f : ℕ) →
     → filter (λ r. not (is_used (kept (collected_story s f)) r)) m.retired ≡ filter (λ r. not (nat_le f r.last)) m.retired
 back_is k s m tidy f high = filters_same (IsRetired k s m) _ _ (λ r h. ap not (used_is k s m f high r h)) m.retired tidy.retired
 
--- what is kept after a collect, by its floor
-summary_collected : (k : Base) (s : Story) (m : Blocks) (u : Summary) (ledger : Ledger) (place f freed : ℕ) (free : List ℕ) (retired : List Retired) → IsTidy k s m → IsSummary k s m u → f ≤ newest s
+-- what is kept once the blocks that no kept version maps are given back
+pub summary_swept : (k : Base) (s : Story) (m : Blocks) (u : Summary) (ledger : Ledger) (place f freed : ℕ) (free : List ℕ) (retired : List Retired) → IsSummary k s m u
     → IsLedger k (told s Collect (Collected place f freed)) ledger
-    → retired ≡ filter (λ r. nat_le f r.last) u.retired → free ≡ given_back (blocks_of (filter (λ r. not (nat_le f r.last)) u.retired)) u.free
+    → retired ≡ filter (is_used (kept (collected_story s f))) u.retired → free ≡ given_back (blocks_of (filter (λ r. not (is_used (kept (collected_story s f)) r)) u.retired)) u.free
     → IsSummary k (told s Collect (Collected place f freed)) (moved s Collect (Collected place f freed) m) record u { ledger = ledger; free = free; retired = retired }
 unfolding told moved newest bitmap_of
-summary_collected k s m u ledger place f freed free retired tidy keeps high entered retired_is free_is = record {
+summary_swept k s m u ledger place f freed free retired keeps entered retired_is free_is = record {
   ledger_is = entered;
   draft_is = keeps.draft_is;
   published_is = keeps.published_is;
   came_long = keeps.came_long;
   came_is = λ p h. keeps.came_is p h ∙ came-same_changes s (collected_story s f) refl p _;
   own_is = keeps.own_is;
-  free_is = free_is ∙ (ap (λ (rs : List Retired). given_back (blocks_of (filter (λ r. not (nat_le f r.last)) rs)) u.free) keeps.retired_is
-      ∙ (ap (given_back (blocks_of (filter (λ r. not (nat_le f r.last)) m.retired))) keeps.free_is ∙ ap (λ (rs : List Retired). given_back (blocks_of rs) m.free) (sym (back_is k s m tidy f high))));
-  retired_is = retired_is ∙ (ap (filter (λ r. nat_le f r.last)) keeps.retired_is ∙ sym (stay_is k s m tidy f high));
+  free_is = free_is ∙ (ap (λ (rs : List Retired). given_back (blocks_of (filter (λ r. not (is_used (kept (collected_story s f)) r)) rs)) u.free) keeps.retired_is
+      ∙ ap (given_back (blocks_of (filter (λ r. not (is_used (kept (collected_story s f)) r)) m.retired))) keeps.free_is);
+  retired_is = retired_is ∙ ap (filter (is_used (kept (collected_story s f)))) keeps.retired_is;
 }
+
+-- the same, by the floor
+summary_collected : (k : Base) (s : Story) (m : Blocks) (u : Summary) (ledger : Ledger) (place f freed : ℕ) (free : List ℕ) (retired : List Retired) → IsTidy k s m → IsSummary k s m u → f ≤ newest s
+    → IsLedger k (told s Collect (Collected place f freed)) ledger
+    → retired ≡ filter (λ r. nat_le f r.last) u.retired → free ≡ given_back (blocks_of (filter (λ r. not (nat_le f r.last)) u.retired)) u.free
+    → IsSummary k (told s Collect (Collected place f freed)) (moved s Collect (Collected place f freed) m) record u { ledger = ledger; free = free; retired = retired }
+summary_collected k s m u ledger place f freed free retired tidy keeps high entered retired_is free_is =
+    let stay : filter (λ r. nat_le f r.last) u.retired ≡ filter (is_used (kept (collected_story s f))) u.retired =
+    ap (filter (λ r. nat_le f r.last)) keeps.retired_is ∙ (sym (stay_is k s m tidy f high) ∙ ap (filter (is_used (kept (collected_story s f)))) (sym keeps.retired_is)) in
+    let back : filter (λ r. not (nat_le f r.last)) u.retired ≡ filter (λ r. not (is_used (kept (collected_story s f)) r)) u.retired =
+    ap (filter (λ r. not (nat_le f r.last))) keeps.retired_is ∙ (sym (back_is k s m tidy f high) ∙ ap (filter (λ r. not (is_used (kept (collected_story s f)) r))) (sym keeps.retired_is)) in
+    summary_swept k s m u ledger place f freed free retired keeps entered (retired_is ∙ stay) (free_is ∙ ap (λ (rs : List Retired). given_back (blocks_of rs) u.free) back)
 
 -- what is kept after a collect
 pub summary_collect : (k : Base) (s : Story) (m : Blocks) (u : Summary) (ledger : Ledger) (reply : Reply) (place f freed : ℕ) (free : List ℕ) (retired : List Retired) → IsTidy k s m → IsSummary k s m u → f ≤ newest s

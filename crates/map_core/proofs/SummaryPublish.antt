@@ -17,7 +17,7 @@ use Rattle.map_core.proofs.CameLemmas.{came-push, came-changed, came-same, chang
 use Rattle.map_core.proofs.TidyPublish.{published_story, newest-publish, newest_is, bitmap_of-new}
 
 -- the version with which a position has come is read position by position
-get_or-came_after : (newest : ℕ) (own : List (Option ℕ)) (came : List ℕ) (p : ℕ) → length came ≡ length own → p < length own
+pub get_or-came_after : (newest : ℕ) (own : List (Option ℕ)) (came : List ℕ) (p : ℕ) → length came ≡ length own → p < length own
     → get_or (came_after newest own came) p 0 ≡ came_with newest (get_or own p None) (get_or came p 0)
 get_or-came_after newest [] came p long h = absurd (omega arith)
 get_or-came_after newest (o ∷ own) [] p long h = absurd (omega arith)

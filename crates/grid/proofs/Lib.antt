@@ -1,0 +1,12 @@
+pub mod BlocksLemmas
+pub mod CopyLemmas
+pub mod DrawLemmas
+pub mod FillTiles
+pub mod GridPaint
+pub mod GridRevert
+pub mod GridSeal
+pub mod GridSweep
+pub mod OpenLemmas
+pub mod PaintLemmas
+pub mod SealLemmas
+pub mod SweepLemmas

@@ -1,0 +1,39 @@
+-- Each position is counted where it needs a block.
+use Rattle.std.proofs.Common.{arith, ◌∙◌}
+use Rattle.map_core.proofs.TileCounts.{counted_all, counted_few, as_count, as_count-le}
+use Rattle.grid.proofs.PaintLemmas.{as_drawing, in_tile, as_many, counted_part, counted_past, few_rows, few_across, few_tiles}
+use Rattle.grid.proofs.draw.blocks_needed.Goals as goal
+use Rattle.grid.proofs.draw.blocks_needed.Goals.{in-Some, in_default}
+
+pub part_of-requires-clause-within : goal.part_of-requires-clause-within
+part_of-requires-clause-within c =
+    let drawing = as_drawing _ _ _ _ c.args.rect c.div_ceil-across.result c.requires.draft c.requires.columns c.requires.rows (omega arith) in
+    few_rows _ _ _ drawing.bitmap (omega (arith, as_many _ _ _ c.requires.draft)) drawing.across_is
+
+pub part_of-requires-clause-few : goal.part_of-requires-clause-few
+part_of-requires-clause-few c =
+    let drawing = as_drawing _ _ _ _ c.args.rect c.div_ceil-across.result c.requires.draft c.requires.columns c.requires.rows (omega arith) in
+    few_across _ _ drawing.bitmap drawing.across_is
+
+pub needs_block-is_needed-requires : goal.needs_block-is_needed-requires
+needs_block-is_needed-requires c =
+    let drawing = as_drawing _ _ _ _ c.args.rect c.div_ceil-across.result c.requires.draft c.requires.columns c.requires.rows (omega arith) in
+    in_tile _ _ c.args.rect c.in-Some.part c.in-Some.ensures.part
+    (few_rows _ _ _ drawing.bitmap (omega (arith, as_many _ _ _ c.requires.draft)) drawing.across_is)
+
+pub overflow_add-needed : goal.overflow_add-needed
+overflow_add-needed c =
+    omega (arith, counted_few _ _ _ _ _ c.positions.invariant, c.from-needed.ensures, as_count-le c.needs_block-is_needed.result, as_many _ _ _ c.requires.draft, few_tiles _ c.requires.draft.shown.bitmap)
+
+pub positions-preserved : goal.positions-preserved
+positions-preserved c =
+    let drawing = as_drawing _ _ _ _ c.args.rect c.div_ceil-across.result c.requires.draft c.requires.columns c.requires.rows (omega arith) in
+    elim c.match-part_of.branch [
+      | in-Some w ↦ rw w.needed-is
+          (counted_part _ _ _ c.args.rect c.args.ink.now _ _ w.in-Some.part w.index-own-position.result w.index-newest-position.result _ _ _ drawing c.requires.draft (omega arith) w.in-Some.ensures.part
+          w.index-own-position.is w.index-newest-position.is w.needs_block-is_needed.ensures (w.from-needed.ensures ∙ as_count _) c.positions.invariant)
+      | in_default w ↦ rw w.needed-is (counted_past _ _ _ c.args.rect c.args.ink.now _ _ _ drawing c.requires.draft (omega arith) w.in_default.ensures.none c.positions.invariant)
+    ]
+
+pub returns : goal.returns
+returns c = counted_all _ _ _ c.positions.position _ c.positions.invariant (omega (arith, as_many _ _ _ c.requires.draft))
