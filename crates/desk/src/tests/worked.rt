@@ -103,9 +103,9 @@ fn a_seat_makes_each_command(rt: HostRuntime) -> Result<(), Fail> {
         sessions: 1,
         log: 10,
     };
-    let opened = prepare(rt.alloc(), setting, 64, 64)?;
     let beside = bar(&rt, rt.alloc())?;
     let stamp = bar(&rt, rt.alloc())?;
+    let opened = prepare(rt.alloc(), setting, 64, 64)?;
     commands_of_one_seat::<Brand, _>(&rt, rt.alloc(), opened, beside, stamp)
 }
 
@@ -142,44 +142,6 @@ fn commands_of_one_seat<Id: StoreName, R: Abort>(
     assert_eq!(rt; desk.collect(&mut a), collected(7, 1, 1));
     hand_back(rt, &mut seats, a);
     assert_eq!(rt; close(desk, seats).len(), 7);
-    Ok(())
-}
-
-#[test]
-fn a_full_log_leaves_the_draft(rt: HostRuntime) -> Result<(), Fail> {
-    let setting = Setting {
-        blocks: 3,
-        versions: 2,
-        sessions: 2,
-        log: 2,
-    };
-    let opened = prepare(rt.alloc(), setting, 64, 64)?;
-    paints_past_the_log::<Brand, _>(&rt, rt.alloc(), opened)
-}
-
-/// The paint after the last entry is refused, and its cell stays free.
-fn paints_past_the_log<Id: StoreName, R: Abort>(
-    rt: &R,
-    alloc: Global,
-    opened: Opened,
-) -> Result<(), Fail>
-    requires { opened.desk ≡ Id.store }
-{
-    let Named {
-        mut desk,
-        mut seats,
-        map: _,
-    } = name::<Id>(alloc, opened)?;
-    let mut a = next(rt, &mut seats);
-    assert_eq!(rt; paint(rt, &mut desk, &mut a, [0, 0, 1, 1]), painted(1, 1));
-    assert_eq!(rt; desk.publish(&mut a), published(2, 1));
-    let refused = paint(rt, &mut desk, &mut a, [1, 0, 2, 1]);
-    assert_eq!(rt; refused, Err(Refusal::LogFull));
-    for x in 0..64 {
-        assert_eq!(rt; is_set(rt, desk.draft(), x), x == 0, "cell {x}");
-    }
-    hand_back(rt, &mut seats, a);
-    assert_eq!(rt; close(desk, seats).len(), 2);
     Ok(())
 }
 
