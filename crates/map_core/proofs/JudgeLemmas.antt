@@ -5,16 +5,14 @@ use Rattle.std.proofs.lemmas.Bool.Decides.{nat_tests}
 use Rattle.bits.specs.Cells.{Cells}
 use Rattle.bits.specs.Tiles.{tile_count}
 use Rattle.metric.specs.declared.refusal.Refusal.{Refusal}
-use Rattle.metric.specs.declared.refusal.Refusal.TheVariants.{OutOfRange, BlocksFull, VersionsFull, LogFull}
-use Rattle.metric.specs.declared.rect.Rect.{Rect}
+use Rattle.metric.specs.declared.refusal.Refusal.TheVariants.{BlocksFull}
 use Rattle.map_core.specs.declared.command.Command.{Command}
-use Rattle.map_core.specs.declared.command.Command.TheVariants.{Paint, Stamp, Publish, Revert, Collect}
 use Rattle.map_core.specs.declared.reader.Standing.{Standing}
 use Rattle.map_core.specs.declared.setting.Setting.{Setting}
 use Rattle.map_core.specs.Drawing.{drawn, draws, touched, differing, is_inside}
 use Rattle.map_core.specs.Story.{Story, trues, new_ones, inuse}
 use Rattle.map_core.specs.Ledger.{IsBalanced, refused_by_ledger}
-use Rattle.map_core.specs.Legal.{needed, refused, refused_blocks, is_log_full, is_versions_full}
+use Rattle.map_core.specs.Legal.{needed, refused, refused_blocks}
 use Rattle.map_core.specs.Views.{State, story_of, blocks_of_state}
 use Rattle.map_core.specs.Tidy.{IsOfMap}
 use Rattle.map_core.specs.Summary.{Summary}
@@ -123,48 +121,3 @@ judged_other w v hand steps standings u room same consistent c by is =
 pub judged_inside : (w : State) (hand : Option Command) (steps : ℕ) (standings : List Standing) (u : Summary) (room : Room) → IsConsistent w hand steps standings u room → (c : Command)
     → refused_by_ledger u.ledger c ≡ None → is_inside (story_of w).draft c ≡ true
 judged_inside w hand steps standings u room consistent c by = inside_told w.base (story_of w) u.ledger consistent.summary.ledger_is (tidy_of w consistent.whole).draft c by
-
--- a command whose area isn't in the map
-pub judged_outside : (g : Setting) (s : Story) (c : Command) → false ≡ is_inside s.draft c → Some OutOfRange ≡ refused g s c
-unfolding refused
-judged_outside g s (Paint r black) outside = sym (rw (sym outside))
-judged_outside g s (Stamp x y b) outside = sym (rw (sym outside))
-judged_outside g s Publish outside = absurd (cc)
-judged_outside g s Revert outside = absurd (cc)
-judged_outside g s Collect outside = absurd (cc)
-
--- a command that finds the log full
-pub judged_full : (g : Setting) (s : Story) (c : Command) → true ≡ is_inside s.draft c → is_log_full g s ≡ true → Some LogFull ≡ refused g s c
-unfolding refused
-judged_full g s (Paint r black) inside full = sym (rw (sym inside, full))
-judged_full g s (Stamp x y b) inside full = sym (rw (sym inside, full))
-judged_full g s Publish inside full = sym (rw full)
-judged_full g s Revert inside full = sym (rw full)
-judged_full g s Collect inside full = sym (rw full)
-
--- a paint that finds room in the log
-pub judged_paint : (g : Setting) (s : Story) (r : Rect) (black : Bool) → true ≡ is_inside s.draft (Paint r black) → is_log_full g s ≡ false
-    → refused_blocks g s (Paint r black) ≡ refused g s (Paint r black)
-unfolding refused
-judged_paint g s r black inside full = sym (rw (sym inside, full))
-
--- a stamp that finds room in the log
-pub judged_stamp : (g : Setting) (s : Story) (x y : ℕ) (b : Cells) → true ≡ is_inside s.draft (Stamp x y b) → is_log_full g s ≡ false
-    → refused_blocks g s (Stamp x y b) ≡ refused g s (Stamp x y b)
-unfolding refused
-judged_stamp g s x y b inside full = sym (rw (sym inside, full))
-
--- a publish that finds room in the log
-pub judged_publish : (g : Setting) (s : Story) → is_log_full g s ≡ false → (if is_versions_full g s then Some VersionsFull else None) ≡ refused g s Publish
-unfolding refused
-judged_publish g s full = sym (rw full)
-
--- a revert that finds room in the log
-pub judged_revert : (g : Setting) (s : Story) → is_log_full g s ≡ false → None ≡ refused g s Revert
-unfolding refused
-judged_revert g s full = sym (rw full)
-
--- a collect that finds room in the log
-pub judged_collect : (g : Setting) (s : Story) → is_log_full g s ≡ false → None ≡ refused g s Collect
-unfolding refused
-judged_collect g s full = sym (rw full)

@@ -65,7 +65,7 @@ slots_are k s l is =
     ∙ (ap (λ (n : ℕ). nat_le l.setting.versions (suc n - s.floor)) (sym is.newest_is) ∙ ap (λ (f : ℕ). nat_le l.setting.versions (suc l.newest - f)) (sym is.floor_is)))
 
 -- a command is refused by the ledger, or for want of blocks
-pub refused_in_turn : (k : Base) (s : Story) (l : Ledger) → IsLedger k s l → IsOfMap k s.draft → (c : Command) → refused k.setting s c ≡ first_refusal (refused_by_ledger l c) (refused_draw_blocks k.setting s c)
+refused_in_turn : (k : Base) (s : Story) (l : Ledger) → IsLedger k s l → IsOfMap k s.draft → (c : Command) → refused k.setting s c ≡ first_refusal (refused_by_ledger l c) (refused_draw_blocks k.setting s c)
 unfolding refused refused_by_ledger kept_log
 refused_in_turn k s l is of_map (Paint r black) =
     in_turn _ _ _ _ None (refused_blocks k.setting s (Paint r black)) (inside_is k s l is of_map (Paint r black)) (full_is k s l is)

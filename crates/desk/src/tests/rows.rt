@@ -32,6 +32,12 @@ pub enum Step {
 /// A step, its answer, and how many blocks are free then.
 pub type Row = (Step, Answer, u32);
 
+/// The rectangle with these corners.
+pub fn rect_of(rt: &impl Abort, corners: [u16; 4]) -> Rect {
+    let [x0, y0, x1, y1] = corners;
+    Rect::new(x0, y0, x1, y1).expect(rt, "a rectangle")
+}
+
 /// Takes a step, whose answer was `last` before it.
 fn take<Id: StoreName>(
     rt: &impl Abort,
@@ -45,10 +51,7 @@ fn take<Id: StoreName>(
     requires { map.now ≡ Id.store.base.opening }
 {
     match step {
-        Step::Paint([x0, y0, x1, y1], black) => {
-            let rect = Rect::new(x0, y0, x1, y1).expect(rt, "a rectangle");
-            desk.paint(seat, rect, black)
-        }
+        Step::Paint(corners, black) => desk.paint(seat, rect_of(rt, corners), black),
         Step::Publish => desk.publish(seat),
         Step::Revert => desk.revert(seat),
         Step::Collect => desk.collect(seat),
