@@ -10,3 +10,4 @@ pub mod OpenLemmas
 pub mod PaintLemmas
 pub mod SealLemmas
 pub mod SweepLemmas
+pub mod TestLemmas

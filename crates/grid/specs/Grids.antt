@@ -134,6 +134,8 @@ pub record Seals (g new : Tiled) : Type 0 where
   pub retired_is : retired_blocks new ≡ retired_blocks g ++ retired_by g.newest 0 (own_blocks g) g.came (newest_blocks g)
   pub home_is : new.home ≡ g.home
   pub room_is : new.room ≡ g.room
+  pub width_is : new.width ≡ g.width
+  pub height_is : new.height ≡ g.height
 
 -- a revert: the draft's own pieces go back
 pub record Reverts (g : Tiled) (free : List ℕ) (new : Tiled) (rest : List ℕ) : Type 0 where

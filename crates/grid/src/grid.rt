@@ -131,15 +131,17 @@ impl Grid {
         ensures sealed { Seals self.old self.new }
         ensures number { result ≡ self.new.newest }
     {
+        let last = self.newest;
         seal_tiles(
-            self.newest,
+            last,
             self.own.as_mut_slice(),
             self.tiles.as_mut_slice(),
             self.came.as_mut_slice(),
             &mut self.retired,
         );
-        self.newest += 1;
-        self.newest
+        let newest = &mut self.newest;
+        *newest = last + 1;
+        *newest
     }
 
     /// Makes the draft the newest version again.
@@ -206,6 +208,13 @@ impl Grid {
             retired,
             spare,
         })
+    }
+
+    /// The newest version.
+    pub fn newest(&self) -> u32
+        ensures { result ≡ self.now.newest }
+    {
+        self.newest
     }
 
     /// The tiles that newest no longer has, in the order in which they were retired, each with the first and the last version that have it.
