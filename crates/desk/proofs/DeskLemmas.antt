@@ -1,11 +1,10 @@
 -- A desk's command: why it is refused, that its entry may be committed, and what the desk is then.
 use Rattle.std.proofs.Common.{◌≡◌, ℕ, ◌+◌, ◌<◌, ◌≤◌, ◌==◌, cond, Bool, true, List, [], ◌∷◌, ◌++◌, refl, ap, subst, sym, ◌∙◌, arith, add-zero}
-use Rattle.std.specs.Prelude.{Option, Some, None, ◌⊎◌, slice_get, Contains}
+use Rattle.std.specs.Prelude.{Option, Some, slice_get, Contains}
 use Rattle.std.proofs.lemmas.Bool.Decides.{nat_tests}
 use Rattle.std.proofs.lemmas.Option.{slice_get_within, get_or_from_slice_get}
 use mathlib.Core.Logic.{inl, inr}
 use Rattle.metric.specs.declared.refusal.Refusal.{Refusal}
-use Rattle.metric.specs.declared.refusal.Refusal.TheVariants.{Memory}
 use Rattle.map_core.specs.declared.command.Command.{Command}
 use Rattle.map_core.specs.declared.command.Command.TheVariants.{Paint, Stamp, Publish, Revert, Collect}
 use Rattle.map_core.specs.declared.command.Reply.{Reply}

@@ -1,5 +1,5 @@
 -- What is held after a paint or a stamp, and after a revert.
-use Rattle.std.proofs.Common.{◌≡◌, ℕ, ◌+◌, ◌-◌, ◌<◌, Bool, true, false, if◌then◌else◌, List, length, drop, map, replicate, refl, ap, subst, sym, ◌∙◌, arith}
+use Rattle.std.proofs.Common.{◌≡◌, ℕ, ◌+◌, ◌-◌, Bool, true, false, if◌then◌else◌, List, length, drop, map, replicate, refl, ap, subst, sym, ◌∙◌, arith}
 use Rattle.std.specs.Prelude.{Option, Some, None, is_some, nat_lt, unwrap_or}
 use Rattle.std.proofs.lemmas.List.{length-map}
 use mathlib.Core.Logic.{inl, inr}
@@ -17,7 +17,7 @@ use Rattle.map_core.specs.Drawing.{touched, differing, cells_changed, is_inside,
 use Rattle.map_core.specs.Story.{Story, newest, bitmap_of, trues, new_ones, inuse}
 use Rattle.map_core.specs.Legal.{needed, refused, refused_blocks, IsReply, IsAnswer, told, after_draw}
 use Rattle.map_core.specs.Blocks.{Blocks, directory_of, own_after, moved, drawn_blocks}
-use Rattle.map_core.specs.Ledger.{IsLedger, refused_by_ledger, refused_draw_blocks}
+use Rattle.map_core.specs.Ledger.{refused_by_ledger, refused_draw_blocks}
 use Rattle.map_core.specs.Summary.{Summary, IsSummary}
 use Rattle.map_core.specs.Words.{Base}
 use Rattle.map_core.specs.Views.{story, blocks}
@@ -25,7 +25,7 @@ use Rattle.map_core.specs.Tidy.{IsTidy}
 use Rattle.map_core.proofs.LedgerLemmas.{refused_first, refused_next, refused_for_none, inside_told, told_draw, ledger_draw, ledger_revert}
 use Rattle.map_core.proofs.SummaryDraw.{IsDrawnOn, moved_draw, summary_draw, summary_revert}
 use Rattle.map_core.proofs.TidyDraft.{free_is}
-use Rattle.grid.specs.Grids.{Tiled, Draws, Reverts, draft, bitmap_at, own_blocks, needed_by, refused_by}
+use Rattle.grid.specs.Grids.{Draws, Reverts, draft, own_blocks, needed_by, refused_by}
 use Rattle.grid.specs.Pieces.{block_if}
 use Rattle.desk.specs.declared.holding.Holding.{Holding}
 use Rattle.desk.specs.Holdings.{summary_of, Holds, IsTold, Judges, Refuses, Does}

@@ -1,13 +1,10 @@
 -- What is held at the opening, what a command asks, and that all blocks come back at the end.
-use Rattle.std.proofs.Common.{◌≡◌, ℕ, ◌+◌, ◌-◌, ◌≤◌, suc, List, [], ◌∷◌, ◌++◌, length, map, drop, replicate, get_or, refl, ap, subst, sym, ◌∙◌, arith}
+use Rattle.std.proofs.Common.{◌≡◌, ℕ, ◌+◌, ◌-◌, suc, List, [], ◌∷◌, ◌++◌, length, map, drop, replicate, get_or, refl, ap, subst, sym, ◌∙◌, arith}
 use Rattle.std.specs.Prelude.{Option, None}
 use Rattle.std.specs.List.{range_with_len}
 use Rattle.std.proofs.lemmas.List.{length-map, length-replicate, get_or-replicate}
-use Rattle.std.proofs.lemmas.List.FromFn.{length-range_with_len, get_or-range_with_len}
 use Rattle.bits.specs.Cells.{Cells, IsBitmap}
 use Rattle.bits.specs.Tiles.{tile_count}
-use Rattle.arena.specs.Blocks.{Home}
-use Rattle.arena.specs.Chain.{Pool}
 use Rattle.map_core.specs.declared.ledger.Ledger.{Ledger}
 use Rattle.map_core.specs.declared.setting.Setting.{Setting}
 use Rattle.map_core.specs.declared.command.Entry.{Entry}
@@ -19,10 +16,9 @@ use Rattle.map_core.specs.Words.{Base, tiles}
 use Rattle.map_core.specs.Views.{story, blocks}
 use Rattle.map_core.proofs.LedgerLemmas.{balanced}
 use Rattle.map_core.proofs.OpenWorld.{fits_ready, bad_field-none}
-use Rattle.grid.specs.Grids.{Tiled, draft, bitmap_at, own_blocks, newest_blocks, retired_of, retired_blocks}
-use Rattle.grid.specs.Pieces.{block_if}
+use Rattle.grid.specs.Grids.{draft, bitmap_at, own_blocks, newest_blocks, retired_of}
 use Rattle.desk.specs.declared.holding.Holding.{Holding}
-use Rattle.desk.specs.Holdings.{summary_of, Holds, IsTold, CanAnswer}
+use Rattle.desk.specs.Holdings.{IsTold, CanAnswer}
 use Rattle.desk.proofs.HoldLemmas.{tidy_told}
 
 -- what the parts of a holding are at its opening

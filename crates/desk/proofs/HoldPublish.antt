@@ -1,5 +1,5 @@
 -- What is held after a publish.
-use Rattle.std.proofs.Common.{◌≡◌, ℕ, ◌+◌, ◌<◌, ◌≤◌, List, ◌++◌, length, replicate, refl, ap, subst, sym, ◌∙◌, arith}
+use Rattle.std.proofs.Common.{◌≡◌, ℕ, ◌+◌, List, ◌++◌, replicate, ap, subst, sym, ◌∙◌, arith}
 use Rattle.std.specs.Prelude.{Option, None}
 use Rattle.std.proofs.lemmas.Bool.{cases_lt}
 use Rattle.std.proofs.lemmas.List.{length-map}
@@ -12,17 +12,17 @@ use Rattle.map_core.specs.Story.{Story, newest, bitmap_of, IsKept}
 use Rattle.map_core.specs.Legal.{IsReply, IsAnswer, told}
 use Rattle.map_core.specs.Blocks.{Blocks, mapped, moved}
 use Rattle.map_core.specs.Ledger.{refused_by_ledger}
-use Rattle.map_core.specs.Summary.{Summary, IsSummary, came_after, retired_by}
+use Rattle.map_core.specs.Summary.{IsSummary, came_after, retired_by}
 use Rattle.map_core.specs.Words.{Base}
 use Rattle.map_core.specs.Views.{story, blocks}
 use Rattle.map_core.specs.Tidy.{IsTidy}
 use Rattle.map_core.proofs.LedgerLemmas.{refused_next, ledger_publish}
 use Rattle.map_core.proofs.SummaryPublish.{newest_published, summary_publish}
 use Rattle.map_core.proofs.TidyPublish.{newest-publish, bitmap_of-publish, bitmap_of-new, directory_of-new}
-use Rattle.grid.specs.Grids.{Seals, draft, bitmap_at, own_blocks, newest_blocks, retired_blocks}
+use Rattle.grid.specs.Grids.{Seals, bitmap_at, own_blocks, newest_blocks, retired_blocks}
 use Rattle.grid.specs.Pieces.{block_if}
 use Rattle.desk.specs.declared.holding.Holding.{Holding}
-use Rattle.desk.specs.Holdings.{summary_of, Holds, IsTold, Does}
+use Rattle.desk.specs.Holdings.{summary_of, Holds, Does}
 use Rattle.desk.proofs.HoldLemmas.{tidy_told, told_more}
 
 -- the bitmap of each version that is kept then

@@ -1,5 +1,5 @@
 -- The versions that sessions of a desk have pinned.
-use Rattle.std.proofs.Common.{◌≡◌, ◌≢◌, ℕ, ◌≤◌, List, set, ap, subst, sym, ◌∙◌, arith}
+use Rattle.std.proofs.Common.{◌≡◌, ◌≢◌, ℕ, set, ap, subst, sym, ◌∙◌, arith}
 use Rattle.std.specs.Prelude.{Option, Some, ◌⊎◌, slice_get}
 use Rattle.std.proofs.lemmas.List.{length-set}
 use mathlib.Core.Logic.{inl, inr}

@@ -1,8 +1,8 @@
 -- A command is refused, or committed with its answer.
-use Rattle.std.proofs.Common.{◌≡◌, ℕ, List, [], ◌∷◌, ◌++◌, refl, ap, sym, subst, ◌∙◌, arith}
+use Rattle.std.proofs.Common.{◌≡◌, ℕ, List, [], ◌∷◌, ◌++◌, refl, ap, sym, subst, ◌∙◌}
 use Rattle.std.specs.Prelude.{Option, Some, Contains}
 use Rattle.shelf.specs.declared.signed.Signed.{Signed}
-use Rattle.shelf.specs.Roles.{KeeperView, ReaderView, entries}
+use Rattle.shelf.specs.Roles.{KeeperView, ReaderView}
 use Rattle.shelf.specs.Steps.{ordered, committed, met, met_by}
 use Rattle.desk.specs.Desks.{DeskView, IsDesk}
 use Rattle.desk.proofs.DeskLemmas.{IsDone, refused_is, may_commit, floor_computed, desk_after, accepted_is, desk_met, reader_met}

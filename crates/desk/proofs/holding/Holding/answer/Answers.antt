@@ -1,6 +1,6 @@
 -- A command is refused by the ledger, or for want of memory.
 use Rattle.std.proofs.Common.{sym, ◌∙◌}
-use Rattle.desk.proofs.HoldDraw.{judged_first, judged_starved}
+use Rattle.desk.proofs.HoldDraw.{judged_first}
 use Rattle.desk.proofs.holding.Holding.answer.Goals as goal
 
 pub returns-in-Some-clause-refused : goal.returns-in-Some-clause-refused

@@ -1,5 +1,5 @@
 -- What is held at the opening.
-use Rattle.std.proofs.Common.{◌≡◌, ℕ, ◌+◌, sym, ap, ◌∙◌, List, length, arith}
+use Rattle.std.proofs.Common.{sym, ap, ◌∙◌, length, arith}
 use Rattle.std.proofs.lemmas.List.FromFn.{length-range_with_len}
 use Rattle.arena.specs.Blocks.{Home}
 use Rattle.map_core.proofs.OpenWorld.{bad_field-none}
