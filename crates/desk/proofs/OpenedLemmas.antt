@@ -5,7 +5,8 @@ use Rattle.std.specs.Prelude.{Option, Some, None, slice_get}
 use Rattle.shelf.specs.declared.signed.Signed.{Signed}
 use Rattle.shelf.specs.Roles.{KeeperView, resting}
 use Rattle.shelf.specs.Store.{StoreId, readers_of}
-use Rattle.desk.specs.Contents.{Contents, IsTold}
+use Rattle.desk.specs.declared.holding.Holding.{Holding}
+use Rattle.desk.specs.Holdings.{IsTold}
 use Rattle.desk.specs.Desks.{IsDesk}
 
 -- a session that has pinned nothing
@@ -19,14 +20,14 @@ none_pinned (suc n) zero version there = cc
 none_pinned (suc n) (suc session) version there = none_pinned n session version there
 
 -- the desk of a store with a name is that of the store without
-pub desk_named : (z y : StoreId) (k : KeeperView) (contents : Contents) (log : List Signed) (pins : List (Option ℕ)) → y ≡ z → IsTold y.base [] contents → log ≡ [] → pins ≡ replicate (readers_of y) None
-    → k ≡ resting (readers_of z) [] → IsDesk z record { log = log; pins = pins } k contents
-desk_named z y k contents log pins same told log_is pins_are keeper_is =
-    subst (λ (l : List Signed). IsDesk z record { log = l; pins = pins } k contents) (sym log_is)
-    (subst (λ (ps : List (Option ℕ)). IsDesk z record { log = []; pins = ps } k contents) (sym (pins_are ∙ ap (λ (x : StoreId). replicate (readers_of x) None) same))
+pub desk_named : (z y : StoreId) (k : KeeperView) (h : Holding) (log : List Signed) (pins : List (Option ℕ)) → y ≡ z → IsTold y.base [] h → log ≡ [] → pins ≡ replicate (readers_of y) None
+    → k ≡ resting (readers_of z) [] → IsDesk z record { log = log; pins = pins } k h
+desk_named z y k h log pins same told log_is pins_are keeper_is =
+    subst (λ (l : List Signed). IsDesk z record { log = l; pins = pins } k h) (sym log_is)
+    (subst (λ (ps : List (Option ℕ)). IsDesk z record { log = []; pins = ps } k h) (sym (pins_are ∙ ap (λ (x : StoreId). replicate (readers_of x) None) same))
     record {
       keeper_is = keeper_is;
-      told = subst (λ (x : StoreId). IsTold x.base [] contents) same told;
+      told = subst (λ (x : StoreId). IsTold x.base [] h) same told;
       pin_each = length-replicate (readers_of z) None;
       pinned = λ session version there. absurd (none_pinned (readers_of z) session version there);
     })

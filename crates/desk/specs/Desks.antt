@@ -12,7 +12,8 @@ use Rattle.epoch.specs.Floor.{new_floor}
 use Rattle.shelf.specs.declared.signed.Signed.{Signed}
 use Rattle.shelf.specs.Roles.{KeeperView, ReaderView, entries, resting}
 use Rattle.shelf.specs.Store.{StoreId, readers_of}
-use Rattle.desk.specs.Contents.{Contents, IsTold}
+use Rattle.desk.specs.declared.holding.Holding.{Holding}
+use Rattle.desk.specs.Holdings.{IsTold}
 
 -- what contracts see of a desk: its log, and for each session the version that it has pinned
 pub record DeskView : Type 0 where
@@ -23,10 +24,10 @@ pub record DeskView : Type 0 where
 abbrev pub story_told : StoreId → List Signed → Story
 story_told store log = story store.base (entries log)
 
--- the keeper's seat rests at the desk's log, the sheets are what the log tells, and each pinned version is kept
-pub record IsDesk (store : StoreId) (d : DeskView) (keeper : KeeperView) (contents : Contents) : Type 0 where
+-- the keeper's seat rests at the desk's log, what is held is what the log tells, and each pinned version is kept
+pub record IsDesk (store : StoreId) (d : DeskView) (keeper : KeeperView) (h : Holding) : Type 0 where
   pub keeper_is : keeper ≡ resting (readers_of store) d.log
-  pub told : IsTold store.base (entries d.log) contents
+  pub told : IsTold store.base (entries d.log) h
   pub pin_each : length d.pins ≡ readers_of store
   pub pinned : (session version : ℕ) → slice_get d.pins session ≡ Some (Some version) → IsKept (story_told store d.log) version
 

@@ -1,5 +1,2 @@
-pub mod Marked
-pub mod Contents
-pub mod Stored
+pub mod Holdings
 pub mod Desks
-pub mod Fields

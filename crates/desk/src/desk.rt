@@ -5,20 +5,20 @@ mod commands;
 mod fresh;
 mod pins;
 
-use crate::sheets::Sheets;
-#[cfg(test)]
-use bits::Bitmap;
+use crate::holding::Holding;
 pub use fresh::FreshDesk;
 use shelf::{KeeperSeat, Signed, StoreName};
 use std::marker::Model;
 
 /// The value behind the writers' lock of a store. Contracts see it as its log, and for each session the version that it has pinned.
 ///
-/// The type keeps that the log is legal, that draft and kept versions are what the log tells, that each pinned version is kept, and that
-/// the keeper's seat rests at the log.
+/// The type keeps that the log is legal, that ledger, draft, kept versions and blocks are what the log tells, that each pinned version is
+/// kept, and that the keeper's seat rests at the log.
+///
+/// It can't be let go: it is closed.
 pub struct Desk<Id: StoreName> {
     keeper: KeeperSeat<Id>,
-    sheets: Sheets,
+    holding: Holding,
     log: Vec<Signed>,
     pins: Vec<Option<u32>>,
 }
@@ -30,13 +30,13 @@ impl<Id: StoreName> Model for Desk<Id> {
 
     ghost view = { λ d. record { log = d.log.items; pins = d.pins.items } };
 
-    ghost invariant = { λ d. IsDesk Id.store record { log = d.log.items; pins = d.pins.items } d.keeper d.sheets.contents };
+    ghost invariant = { λ d. IsDesk Id.store record { log = d.log.items; pins = d.pins.items } d.keeper d.holding };
 }
 
 #[cfg(test)]
 impl<Id: StoreName> Desk<Id> {
-    /// The draft's bitmap.
-    pub fn draft(&self) -> &Bitmap {
-        self.sheets.draft()
+    /// How many blocks are free.
+    pub fn free_blocks(&self) -> u32 {
+        self.holding.arena.free_len()
     }
 }

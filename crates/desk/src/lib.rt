@@ -2,10 +2,8 @@
 #![tactic(auto)]
 
 mod desk;
-mod draft;
-mod sheets;
+mod holding;
 #[cfg(test)]
 mod tests;
-mod tiles;
 
 pub use desk::{Desk, FreshDesk};

@@ -13,7 +13,7 @@ use Rattle.map_core.specs.declared.blocks.Retired.{Retired}
 use Rattle.map_core.specs.Drawing.{drawn, touched, differing, cells_changed, is_inside}
 use Rattle.map_core.specs.Story.{trues, new_ones}
 use Rattle.map_core.specs.Blocks.{own_list, own_after, mapped, given_back, blocks_of, is_used}
-use Rattle.map_core.specs.Consistent.{came_after, retired_by}
+use Rattle.map_core.specs.Summary.{came_after, retired_by}
 use Rattle.grid.specs.Pieces.{Piece, no_piece, block_if, cells_of, draft_of, IsDraft, IsShown}
 
 -- a piece that newest no longer has, with its position and the versions that have it

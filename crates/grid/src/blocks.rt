@@ -4,7 +4,7 @@ ghost use Rattle.std.specs.Prelude.{◌≡◌, ◌≤◌, ◌<◌, ◌+◌, ◌-
 ghost use Rattle.std.specs.List.{All};
 ghost use Rattle.std.specs.Vec.{vec_capacity};
 ghost use Rattle.map_core.specs.Blocks.{own_list, given_back, blocks_of, mapped};
-ghost use Rattle.map_core.specs.Consistent.{came_after, retired_by};
+ghost use Rattle.map_core.specs.Summary.{came_after, retired_by};
 ghost use Rattle.grid.specs.Pieces.{piece_of, piece_if, block_if, IsFrom};
 ghost use Rattle.grid.specs.Grids.{retired_of, pieces_after, old_pieces_by};
 ghost use Rattle.grid.specs.Fields.{old_piece, home_of};

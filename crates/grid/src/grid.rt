@@ -1,5 +1,7 @@
 //! The draft and the versions of a map as tiles.
 
+mod judge;
+
 ghost use Rattle.std.specs.Prelude.{◌≡◌, ◌≤◌, ◌<◌, ◌+◌, ◌-◌, ◌*◌, ◌/◌, ◌%◌, ◌^◌, ◌++◌, ℕ, length, map, replicate, drop, Some, None, IfSome, IfNone, IfOk, IfErr, OnErr, MatchResult, is_some, true, false, List, [], ◌∷◌};
 ghost use Rattle.std.specs.List.{range_with_len};
 ghost use Rattle.metric.specs.declared.refusal.Refusal.TheVariants.{Memory};
@@ -178,6 +180,7 @@ impl Grid {
         requires { tile_count map.now ≤ length arena.old.free }
         ensures opened { IfOk result (λ grid. (draft grid ≡ map.now) × (bitmap_at grid 0 ≡ map.now) × (grid.newest ≡ 0) × (own_blocks grid ≡ replicate (tile_count map.now) None)
             × (arena.old.free ≡ newest_blocks grid ++ arena.new.free) × (grid.came ≡ replicate (tile_count map.now) 0) × (grid.retired ≡ []) × (grid.home ≡ arena.old.home) × (grid.room ≡ length arena.old.free)) }
+        ensures tiles { IfOk result (λ grid. length grid.pieces ≡ tile_count map.now) }
         ensures size { IfOk result (λ grid. (grid.width ≡ map.now.width) × (grid.height ≡ map.now.height)) }
         ensures memory { IfErr result (λ refusal. (refusal ≡ Memory) × (arena.new.free ≡ arena.old.free)) }
         ensures home { arena.new.home ≡ arena.old.home }

@@ -1,24 +1,23 @@
 -- What is kept of the log is enough to judge a command.
-use Rattle.std.proofs.Common.{◌≡◌, ℕ, suc, ◌+◌, ◌-◌, ◌<◌, ◌≤◌, Bool, true, false, if◌then◌else◌, List, length, map, refl, ap, subst, sym, ◌∙◌, arith}
-use Rattle.std.specs.Prelude.{Option, Some, None, is_some, nat_lt, nat_le}
+use Rattle.std.proofs.Common.{◌≡◌, ℕ, ◌+◌, ◌-◌, ◌<◌, ◌≤◌, Bool, true, false, if◌then◌else◌, List, length, map, ap, subst, sym, ◌∙◌, arith}
+use Rattle.std.specs.Prelude.{Option, Some, None, is_some, nat_lt}
 use Rattle.std.proofs.lemmas.Bool.Decides.{nat_tests}
 use Rattle.bits.specs.Cells.{Cells}
 use Rattle.bits.specs.Tiles.{tile_count}
 use Rattle.metric.specs.declared.refusal.Refusal.{Refusal}
-use Rattle.metric.specs.declared.refusal.Refusal.TheVariants.{OutOfRange, BlocksFull, VersionsFull, LogFull}
-use Rattle.metric.specs.declared.rect.Rect.{Rect}
+use Rattle.metric.specs.declared.refusal.Refusal.TheVariants.{BlocksFull}
 use Rattle.map_core.specs.declared.command.Command.{Command}
-use Rattle.map_core.specs.declared.command.Command.TheVariants.{Paint, Stamp, Publish, Revert, Collect}
 use Rattle.map_core.specs.declared.reader.Standing.{Standing}
 use Rattle.map_core.specs.declared.setting.Setting.{Setting}
-use Rattle.map_core.specs.Drawing.{drawn, touched, differing, is_inside}
-use Rattle.map_core.specs.Story.{Story, kept_log, newest, kept, trues, new_ones, inuse}
-use Rattle.map_core.specs.Legal.{needed, refused, refused_blocks, is_log_full, is_versions_full}
+use Rattle.map_core.specs.Drawing.{drawn, draws, touched, differing, is_inside}
+use Rattle.map_core.specs.Story.{Story, trues, new_ones, inuse}
+use Rattle.map_core.specs.Ledger.{IsBalanced, refused_by_ledger}
+use Rattle.map_core.specs.Legal.{needed, refused, refused_blocks}
 use Rattle.map_core.specs.Views.{State, story_of, blocks_of_state}
 use Rattle.map_core.specs.Tidy.{IsOfMap}
-use Rattle.map_core.specs.Consistent.{Summary, Room, IsConsistent}
-use Rattle.std.proofs.lemmas.List.FromFn.{length-range_with_len}
-use Rattle.map_core.proofs.LogLemmas.{places_are}
+use Rattle.map_core.specs.Summary.{Summary}
+use Rattle.map_core.specs.Consistent.{Room, IsConsistent}
+use Rattle.map_core.proofs.LedgerLemmas.{balanced, refused_first, refused_next, refused_for_draw, refused_for_none, inside_told}
 use Rattle.map_core.proofs.StepLemmas.{tidy_of}
 use Rattle.map_core.proofs.TidyDraft.{tile_count-of_map, IsOfMap-drawn, free_is}
 
@@ -27,12 +26,12 @@ pub draft_of_map : (w : State) (hand : Option Command) (steps : ℕ) (standings 
 draft_of_map w hand steps standings u room consistent = subst (λ (b : Cells). IsOfMap w.base b) (sym consistent.summary.draft_is) (tidy_of w consistent.whole).draft
 
 -- the scratch bitmap is as wide as the draft
-pub same_width : (w : State) (hand : Option Command) (steps : ℕ) (standings : List Standing) (u : Summary) (room : Room) → IsConsistent w hand steps standings u room → u.scratch.width ≡ u.draft.width
-same_width w hand steps standings u room consistent = consistent.summary.scratch.width_is ∙ sym (draft_of_map w hand steps standings u room consistent).width_is
+pub same_width : (w : State) (hand : Option Command) (steps : ℕ) (standings : List Standing) (u : Summary) (room : Room) → IsConsistent w hand steps standings u room → room.scratch.width ≡ u.draft.width
+same_width w hand steps standings u room consistent = consistent.roomy.scratch.width_is ∙ sym (draft_of_map w hand steps standings u room consistent).width_is
 
 -- and as high
-pub same_height : (w : State) (hand : Option Command) (steps : ℕ) (standings : List Standing) (u : Summary) (room : Room) → IsConsistent w hand steps standings u room → u.scratch.height ≡ u.draft.height
-same_height w hand steps standings u room consistent = consistent.summary.scratch.height_is ∙ sym (draft_of_map w hand steps standings u room consistent).height_is
+pub same_height : (w : State) (hand : Option Command) (steps : ℕ) (standings : List Standing) (u : Summary) (room : Room) → IsConsistent w hand steps standings u room → room.scratch.height ≡ u.draft.height
+same_height w hand steps standings u room consistent = consistent.roomy.scratch.height_is ∙ sym (draft_of_map w hand steps standings u room consistent).height_is
 
 -- a bitmap that is drawn on the draft is of the map's size
 pub drawn_of_map : (w : State) (hand : Option Command) (steps : ℕ) (standings : List Standing) (u : Summary) (room : Room) → IsConsistent w hand steps standings u room → (copy new : Cells) (c : Command)
@@ -42,24 +41,13 @@ drawn_of_map w hand steps standings u room consistent copy new c same is =
 
 -- what is kept stays right with another scratch bitmap
 pub consistent_scratch : (w : State) (hand : Option Command) (steps : ℕ) (standings : List Standing) (u : Summary) (room : Room) → IsConsistent w hand steps standings u room → (scratch : Cells)
-    → IsOfMap w.base scratch → IsConsistent w hand steps standings record u { scratch = scratch } room
+    → IsOfMap w.base scratch → IsConsistent w hand steps standings u record room { scratch = scratch }
 consistent_scratch w hand steps standings u room consistent scratch of_map = record {
   whole = consistent.whole;
   steps = consistent.steps;
   standing = consistent.standing;
-  summary = let kept = consistent.summary in record {
-    newest_is = kept.newest_is;
-    floor_is = kept.floor_is;
-    draft_is = kept.draft_is;
-    scratch = of_map;
-    published_is = kept.published_is;
-    came_long = kept.came_long;
-    came_is = kept.came_is;
-    own_is = kept.own_is;
-    free_is = kept.free_is;
-    retired_is = kept.retired_is;
-  };
-  roomy = consistent.roomy;
+  summary = consistent.summary;
+  roomy = let roomy = consistent.roomy in record { log = roomy.log; scanned = roomy.scanned; free = roomy.free; retired = roomy.retired; scratch = of_map };
 }
 
 -- the draft's own blocks are kept for each position
@@ -104,104 +92,32 @@ blocks_enough g s c n free n_is free_is enough =
     let test : nat_lt (g.blocks - inuse s) (needed s c) ≡ false = grind (arith, nat_tests) in
     sym (rw test)
 
--- a command whose area isn't in the map
-pub judged_outside : (g : Setting) (s : Story) (c : Command) → false ≡ is_inside s.draft c → Some OutOfRange ≡ refused g s c
-unfolding refused
-judged_outside g s (Paint r black) outside = sym (rw (sym outside))
-judged_outside g s (Stamp x y b) outside = sym (rw (sym outside))
-judged_outside g s Publish outside = absurd (cc)
-judged_outside g s Revert outside = absurd (cc)
-judged_outside g s Collect outside = absurd (cc)
+-- the ledger has room for one more entry
+pub balanced_ledger : (w : State) (hand : Option Command) (steps : ℕ) (standings : List Standing) (u : Summary) (room : Room) → IsConsistent w hand steps standings u room → IsBalanced u.ledger
+balanced_ledger w hand steps standings u room consistent = balanced w.base w.keeper.log u.ledger consistent.whole.ready consistent.whole.keeper.legal consistent.summary.ledger_is
 
--- a command that finds the log full
-pub judged_full : (g : Setting) (s : Story) (c : Command) → true ≡ is_inside s.draft c → is_log_full g s ≡ true → Some LogFull ≡ refused g s c
-unfolding refused
-judged_full g s (Paint r black) inside full = sym (rw (sym inside, full))
-judged_full g s (Stamp x y b) inside full = sym (rw (sym inside, full))
-judged_full g s Publish inside full = sym (rw full)
-judged_full g s Revert inside full = sym (rw full)
-judged_full g s Collect inside full = sym (rw full)
+-- a command that the ledger refuses is refused
+pub judged_first : (w v : State) (hand : Option Command) (steps : ℕ) (standings : List Standing) (u : Summary) (room : Room) → v ≡ w → IsConsistent v hand steps standings u room → (c : Command) (refusal : Refusal)
+    → refused_by_ledger u.ledger c ≡ Some refusal → Some refusal ≡ refused w.base.setting (story_of w) c
+judged_first w v hand steps standings u room same consistent c refusal by =
+    subst (λ (x : State). Some refusal ≡ refused x.base.setting (story_of x) c) same
+    (sym (refused_first v.base (story_of v) u.ledger consistent.summary.ledger_is (tidy_of v consistent.whole).draft c refusal by))
 
--- a paint that finds room in the log
-pub judged_paint : (g : Setting) (s : Story) (r : Rect) (black : Bool) → true ≡ is_inside s.draft (Paint r black) → is_log_full g s ≡ false
-    → refused_blocks g s (Paint r black) ≡ refused g s (Paint r black)
-unfolding refused
-judged_paint g s r black inside full = sym (rw (sym inside, full))
+-- one that it doesn't refuse is refused for want of blocks alone, where it is a paint or a stamp
+pub judged_draw : (w v : State) (hand : Option Command) (steps : ℕ) (standings : List Standing) (u : Summary) (room : Room) → v ≡ w → IsConsistent v hand steps standings u room → (c : Command)
+    → refused_by_ledger u.ledger c ≡ None → draws c ≡ true → refused_blocks w.base.setting (story_of w) c ≡ refused w.base.setting (story_of w) c
+judged_draw w v hand steps standings u room same consistent c by is =
+    subst (λ (x : State). refused_blocks x.base.setting (story_of x) c ≡ refused x.base.setting (story_of x) c) same
+    (sym (refused_next v.base (story_of v) u.ledger consistent.summary.ledger_is (tidy_of v consistent.whole).draft c by ∙ refused_for_draw v.base.setting (story_of v) c is))
 
--- a stamp that finds room in the log
-pub judged_stamp : (g : Setting) (s : Story) (x y : ℕ) (b : Cells) → true ≡ is_inside s.draft (Stamp x y b) → is_log_full g s ≡ false
-    → refused_blocks g s (Stamp x y b) ≡ refused g s (Stamp x y b)
-unfolding refused
-judged_stamp g s x y b inside full = sym (rw (sym inside, full))
+-- and isn't refused, where it is none
+pub judged_other : (w v : State) (hand : Option Command) (steps : ℕ) (standings : List Standing) (u : Summary) (room : Room) → v ≡ w → IsConsistent v hand steps standings u room → (c : Command)
+    → refused_by_ledger u.ledger c ≡ None → draws c ≡ false → None ≡ refused w.base.setting (story_of w) c
+judged_other w v hand steps standings u room same consistent c by is =
+    subst (λ (x : State). None ≡ refused x.base.setting (story_of x) c) same
+    (sym (refused_next v.base (story_of v) u.ledger consistent.summary.ledger_is (tidy_of v consistent.whole).draft c by ∙ refused_for_none v.base.setting (story_of v) c is))
 
--- a publish that finds room in the log
-pub judged_publish : (g : Setting) (s : Story) → is_log_full g s ≡ false → (if is_versions_full g s then Some VersionsFull else None) ≡ refused g s Publish
-unfolding refused
-judged_publish g s full = sym (rw full)
-
--- a revert that finds room in the log
-pub judged_revert : (g : Setting) (s : Story) → is_log_full g s ≡ false → None ≡ refused g s Revert
-unfolding refused
-judged_revert g s full = sym (rw full)
-
--- a collect that finds room in the log
-pub judged_collect : (g : Setting) (s : Story) → is_log_full g s ≡ false → None ≡ refused g s Collect
-unfolding refused
-judged_collect g s full = sym (rw full)
-
--- the log that is kept is full, or it isn't
-pub full_is : (w : State) (limit : ℕ) → limit ≡ w.base.setting.log → is_log_full w.base.setting (story_of w) ≡ nat_le limit (length w.keeper.log)
-unfolding kept_log
-full_is w limit is = ap (λ (n : ℕ). nat_le w.base.setting.log n) (places_are w.base w.keeper.log) ∙ ap (λ (l : ℕ). nat_le l (length w.keeper.log)) (sym is)
-
--- how many versions are kept
-pub versions_kept : (w : State) (hand : Option Command) (steps : ℕ) (standings : List Standing) (u : Summary) (room : Room) → IsConsistent w hand steps standings u room → u.newest + 1 ≡ length (kept (story_of w)) + u.floor
-unfolding kept
-versions_kept w hand steps standings u room consistent =
-    let floor_in = (tidy_of w consistent.whole).floor_in in
-    let newest_is = consistent.summary.newest_is in
-    let floor_is = consistent.summary.floor_is in
-    omega (arith, length-range_with_len (story_of w).floor (suc (newest (story_of w)) - (story_of w).floor))
-
--- the area of a command, by the draft that is kept
-pub inside_now : (w : State) (hand : Option Command) (steps : ℕ) (standings : List Standing) (u : Summary) (room : Room) → IsConsistent w hand steps standings u room → (c : Command) (test : Bool)
-    → test ≡ is_inside u.draft c → test ≡ is_inside (story_of w).draft c
-inside_now w hand steps standings u room consistent c test is = is ∙ ap (λ (b : Cells). is_inside b c) consistent.summary.draft_is
-
--- the log is full
-pub is_full : (w : State) (hand : Option Command) (steps : ℕ) (standings : List Standing) (u : Summary) (room : Room) → IsConsistent w hand steps standings u room → (n : ℕ) → n ≡ length w.keeper.log → w.base.setting.log ≤ n → is_log_full w.base.setting (story_of w) ≡ true
-is_full w hand steps standings u room consistent n is h = full_is w w.base.setting.log refl ∙ (let few : w.base.setting.log ≤ length w.keeper.log = omega arith in grind (arith, nat_tests))
-
--- the log has room
-pub not_full : (w : State) (n : ℕ) → n ≡ length w.keeper.log → n < w.base.setting.log → is_log_full w.base.setting (story_of w) ≡ false
-not_full w n is h = full_is w w.base.setting.log refl ∙ (let few : length w.keeper.log < w.base.setting.log = omega arith in grind (arith, nat_tests))
-
--- there is no slot
-pub slots_full : (w : State) (hand : Option Command) (steps : ℕ) (standings : List Standing) (u : Summary) (room : Room) → IsConsistent w hand steps standings u room → (n : ℕ) → n ≡ u.newest + 1 - u.floor
-    → w.base.setting.versions ≤ n → Some VersionsFull ≡ (if is_versions_full w.base.setting (story_of w) then Some VersionsFull else None)
-slots_full w hand steps standings u room consistent n is h =
-    let count = versions_kept w hand steps standings u room consistent in
-    let many : w.base.setting.versions ≤ length (kept (story_of w)) = omega arith in
-    let test : is_versions_full w.base.setting (story_of w) ≡ true = grind (arith, nat_tests) in
-    sym (rw test)
-
--- there is a slot
-pub slots_free : (w : State) (hand : Option Command) (steps : ℕ) (standings : List Standing) (u : Summary) (room : Room) → IsConsistent w hand steps standings u room → (n : ℕ) → n ≡ u.newest + 1 - u.floor
-    → n < w.base.setting.versions → None ≡ (if is_versions_full w.base.setting (story_of w) then Some VersionsFull else None)
-slots_free w hand steps standings u room consistent n is h =
-    let count = versions_kept w hand steps standings u room consistent in
-    let few : length (kept (story_of w)) < w.base.setting.versions = omega arith in
-    let test : is_versions_full w.base.setting (story_of w) ≡ false = grind (arith, nat_tests) in
-    sym (rw test)
-
--- what a command that lies in the map meets, where the log has room: by its kind
-pub judged_kind : (w v : State) (hand : Option Command) (steps : ℕ) (standings : List Standing) (u : Summary) (room : Room) → v ≡ w → IsConsistent v hand steps standings u room → (c : Command) (n : ℕ)
-    → true ≡ is_inside u.draft c → n ≡ length v.keeper.log → n < v.base.setting.log → (result : Option Refusal)
-    → (P : Command → Setting → Story → Type 0)
-    → ((g : Setting) (s : Story) → true ≡ is_inside s.draft c → is_log_full g s ≡ false → P c g s → result ≡ refused g s c)
-    → P c w.base.setting (story_of w) → result ≡ refused w.base.setting (story_of w) c
-judged_kind w v hand steps standings u room same consistent c n inside count room_left result P judge given =
-    judge w.base.setting (story_of w)
-    (subst (λ (x : State). true ≡ is_inside (story_of x).draft c) same (inside_now v hand steps standings u room consistent c true inside))
-    (subst (λ (x : State). is_log_full x.base.setting (story_of x) ≡ false) same (not_full v n count room_left))
-    given
+-- it lies in the map
+pub judged_inside : (w : State) (hand : Option Command) (steps : ℕ) (standings : List Standing) (u : Summary) (room : Room) → IsConsistent w hand steps standings u room → (c : Command)
+    → refused_by_ledger u.ledger c ≡ None → is_inside (story_of w).draft c ≡ true
+judged_inside w hand steps standings u room consistent c by = inside_told w.base (story_of w) u.ledger consistent.summary.ledger_is (tidy_of w consistent.whole).draft c by

@@ -9,6 +9,7 @@ pub mod FreedLemmas
 pub mod GiveBack
 pub mod JudgeLemmas
 pub mod KeepWorld
+pub mod LedgerLemmas
 pub mod LogLemmas
 pub mod OpenWords
 pub mod OpenWorld
@@ -27,6 +28,9 @@ pub mod SoundKeeper
 pub mod SoundReader
 pub mod SpareLemmas
 pub mod StepLemmas
+pub mod SummaryCollect
+pub mod SummaryDraw
+pub mod SummaryPublish
 pub mod StepsLeft
 pub mod TakeBlocks
 pub mod TileCounts

@@ -10,17 +10,20 @@ use Rattle.bits.specs.Cells.{Cells, IsBitmap, cells_where}
 use Rattle.bits.specs.Tiles.{tile_count}
 use Rattle.bits.proofs.CellsLemmas.{IsBitmap-cells_where}
 use Rattle.map_core.specs.declared.command.Entry.{Entry}
+use Rattle.map_core.specs.declared.ledger.Ledger.{Ledger}
 use Rattle.map_core.specs.declared.reader.Standing.{Standing}
 use Rattle.map_core.specs.declared.setting.Setting.{Setting}
 use Rattle.map_core.specs.Setting.{bad_field}
 use Rattle.map_core.specs.Story.{opened, newest, bitmap_of, IsKept}
+use Rattle.map_core.specs.Ledger.{IsLedger}
 use Rattle.map_core.specs.Blocks.{opened_blocks, directory_of}
 use Rattle.map_core.specs.Words.{Base, tiles, now_of, pin_at, pin_word, map_at, tile_at, slot_of}
 use Rattle.map_core.specs.Views.{Reader, State, story, blocks}
 use Rattle.map_core.specs.Tidy.{IsReady, IsOfMap}
 use Rattle.map_core.specs.Sound.{Shows, KeeperSound, ReaderSound, IsWhole}
 use Rattle.map_core.specs.Runs.{AreOpeningWords, IsOpened, fresh_reader}
-use Rattle.map_core.specs.Consistent.{reader_of, state_of, IsStanding, Summary, Room, IsConsistent}
+use Rattle.map_core.specs.Summary.{Summary}
+use Rattle.map_core.specs.Consistent.{reader_of, state_of, IsStanding, Room, IsConsistent}
 use Rattle.map_core.proofs.SafeLemmas.{IsSafe-whole}
 
 -- what the limits of a setting say of its fields
@@ -130,10 +133,9 @@ pub record IsNew (g : Setting) (b opening : Cells) (words : List ℕ) (log : Lis
   pub words_are : AreOpeningWords record { setting = g; opening = b } words
   pub log_is : log ≡ []
   pub standings_are : standings ≡ replicate g.sessions fresh_standing
-  pub newest_is : u.newest ≡ 0
-  pub floor_is : u.floor ≡ 0
+  pub ledger_is : u.ledger ≡ record { setting = g; width = b.width; height = b.height; places = 0; newest = 0; floor = 0 }
   pub draft_is : u.draft ≡ b
-  pub scratch_is : u.scratch ≡ cells_where b.width b.height (λ x y. false)
+  pub scratch_is : room.scratch ≡ cells_where b.width b.height (λ x y. false)
   pub published_is : u.published ≡ b
   pub came_is : u.came ≡ replicate (tile_count b) 0
   pub own_is : u.own ≡ replicate (tile_count b) None
@@ -150,12 +152,13 @@ map-fresh (suc n) = ap (λ (xs : List Reader). fresh_reader ∷ xs) (map-fresh n
 
 -- the state of a world before its first event
 state-new : (g : Setting) (b opening : Cells) (words : List ℕ) (log : List Entry) (scanned : List ℕ) (standings : List Standing) (u : Summary) (room : Room) → IsNew g b opening words log standings u room
-    → opened_state record { setting = g; opening = b } words ≡ state_of g opening words log None 0 scanned standings
+    → opened_state record { setting = g; opening = b } words ≡ state_of u.ledger.setting opening words log None 0 scanned standings
 state-new g b opening words log scanned standings u room new =
     let readers : replicate g.sessions fresh_reader ≡ map (reader_of []) standings = sym (ap (map (reader_of [])) new.standings_are ∙ map-fresh g.sessions) in
     ap (λ (xs : List Reader). record { base = record { setting = g; opening = b }; words = words; keeper = record { log = []; hand = None }; readers = xs }) readers
     ∙ (ap (λ (c : Cells). state_of g c words [] None 0 scanned standings) (sym new.opening_is)
-    ∙ ap (λ (l : List Entry). state_of g opening words l None 0 scanned standings) (sym new.log_is))
+    ∙ (ap (λ (l : List Entry). state_of g opening words l None 0 scanned standings) (sym new.log_is)
+    ∙ ap (λ (l : Ledger). state_of l.setting opening words log None 0 scanned standings) (sym new.ledger_is)))
 
 -- what is kept beside the words of a world is what the empty log says
 consistent_opened : (g : Setting) (b opening : Cells) (words : List ℕ) (log : List Entry) (standings : List Standing) (u : Summary) (room : Room) → IsNew g b opening words log standings u room
@@ -170,10 +173,8 @@ consistent_opened g b opening words log standings u room new =
           let fresh = slice_get-replicate g.sessions r fresh_standing p (ap (λ (ps : List Standing). slice_get ps r) (sym new.standings_are) ∙ there) in
           subst (λ (q : Standing). IsStanding k [] q) (sym fresh.0) record { within = omega arith; version_is = refl; small = lit< tt };
       summary = record {
-        newest_is = new.newest_is;
-        floor_is = new.floor_is;
+        ledger_is = subst (λ (l : Ledger). IsLedger k (story k []) l) (sym new.ledger_is) record { setting_is = refl; width_is = refl; height_is = refl; places_is = refl; newest_is = refl; floor_is = refl };
         draft_is = new.draft_is;
-        scratch = subst (λ (c : Cells). IsOfMap k c) (sym new.scratch_is) record { width_is = refl; height_is = refl; bitmap = IsBitmap-cells_where b.width b.height (λ x y. false) new.bitmap.width_is new.bitmap.height_is };
         published_is = new.published_is;
         came_long = ap length new.came_is ∙ length-replicate (tile_count b) 0;
         came_is = λ p h. ap (λ (ns : List ℕ). get_or ns p 0) new.came_is ∙ get_or-replicate (tile_count b) p 0 0 h;
@@ -181,18 +182,24 @@ consistent_opened g b opening words log standings u room new =
         free_is = new.free_is;
         retired_is = new.retired_is;
       };
-      roomy = record { log = tt; scanned = new.scanned_room; free = new.free_room; retired = new.retired_room };
+      roomy = record {
+        log = tt;
+        scanned = new.scanned_room;
+        free = new.free_room;
+        retired = new.retired_room;
+        scratch = subst (λ (c : Cells). IsOfMap k c) (sym new.scratch_is) record { width_is = refl; height_is = refl; bitmap = IsBitmap-cells_where b.width b.height (λ x y. false) new.bitmap.width_is new.bitmap.height_is };
+      };
     }
 
 -- a world is consistent before its first event
 pub consistent_new : (g : Setting) (b opening : Cells) (words : List ℕ) (log : List Entry) (scanned : List ℕ) (standings : List Standing) (u : Summary) (room : Room) → IsNew g b opening words log standings u room
-    → IsConsistent (state_of g opening words log None 0 scanned standings) None 0 standings u room
+    → IsConsistent (state_of u.ledger.setting opening words log None 0 scanned standings) None 0 standings u room
 consistent_new g b opening words log scanned standings u room new =
     subst (λ (w : State). IsConsistent w None 0 standings u room) (state-new g b opening words log scanned standings u room new) (consistent_opened g b opening words log standings u room new)
 
 -- and it is opened
 pub opened_new : (g : Setting) (b opening : Cells) (words : List ℕ) (log : List Entry) (scanned : List ℕ) (standings : List Standing) (u : Summary) (room : Room) → IsNew g b opening words log standings u room
-    → IsOpened record { setting = g; opening = b } (state_of g opening words log None 0 scanned standings)
+    → IsOpened record { setting = g; opening = b } (state_of u.ledger.setting opening words log None 0 scanned standings)
 opened_new g b opening words log scanned standings u room new =
     subst (λ (w : State). IsOpened record { setting = g; opening = b } w) (state-new g b opening words log scanned standings u room new)
     (IsOpened-opening record { setting = g; opening = b } words (fits_ready g b new.bitmap new.fits) new.words_are)

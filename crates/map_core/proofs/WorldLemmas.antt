@@ -16,7 +16,8 @@ use Rattle.map_core.specs.Views.{Reader, State, story, story_of}
 use Rattle.map_core.specs.Steps.{Outcome, does}
 use Rattle.map_core.specs.Runs.{SafeStep}
 use Rattle.map_core.specs.Sound.{IsWhole}
-use Rattle.map_core.specs.Consistent.{reader_of, IsStanding, Summary, Room, IsConsistent}
+use Rattle.map_core.specs.Summary.{Summary}
+use Rattle.map_core.specs.Consistent.{reader_of, IsStanding, Room, IsConsistent}
 use Rattle.map_core.proofs.DoesLemmas.{does-keeps}
 use Rattle.map_core.proofs.PlaceLemmas.{map-within, slot-within}
 use Rattle.map_core.proofs.SafeLemmas.{IsSafe-whole}
@@ -64,7 +65,7 @@ consistent_reader w hand steps standings u room e words readers answer stored r 
             | inr other ↦ consistent.standing q z other.1
           ];
       summary = consistent.summary;
-      roomy = record { log = consistent.roomy.log; scanned = consistent.roomy.scanned; free = consistent.roomy.free; retired = consistent.roomy.retired };
+      roomy = record { log = consistent.roomy.log; scanned = consistent.roomy.scanned; free = consistent.roomy.free; retired = consistent.roomy.retired; scratch = consistent.roomy.scratch };
     }
 
 -- a reader's word is one of the words
@@ -76,11 +77,11 @@ reader_word w hand steps standings u room consistent r h =
     omega arith
 
 -- what is kept of a reader after it has seen the whole log
-pub place_whole : (w : State) (hand : Option Command) (steps : ℕ) (standings : List Standing) (u : Summary) (room : Room) → IsConsistent w hand steps standings u room → (p : Standing) → p.seen ≡ length w.keeper.log → p.version ≡ u.newest
-    → u.newest < 2 ^ 32 → IsStanding w.base w.keeper.log p
+pub place_whole : (w : State) (hand : Option Command) (steps : ℕ) (standings : List Standing) (u : Summary) (room : Room) → IsConsistent w hand steps standings u room → (p : Standing) → p.seen ≡ length w.keeper.log → p.version ≡ u.ledger.newest
+    → u.ledger.newest < 2 ^ 32 → IsStanding w.base w.keeper.log p
 place_whole w hand steps standings u room consistent p seen version small = record {
   within = omega arith;
-  version_is = version ∙ (consistent.summary.newest_is ∙ ap (λ (l : List Entry). newest (story w.base l)) (sym (take_all p.seen w.keeper.log (omega arith))));
+  version_is = version ∙ (consistent.summary.ledger_is.newest_is ∙ ap (λ (l : List Entry). newest (story w.base l)) (sym (take_all p.seen w.keeper.log (omega arith))));
   small = omega arith;
 }
 

@@ -10,7 +10,8 @@ use Rattle.map_core.specs.Blocks.{directory_of, own_list, mapped}
 use Rattle.map_core.specs.Words.{tiles, map_at, tile_at, slot_of, next_slot}
 use Rattle.map_core.specs.Views.{State, story_of, blocks_of_state}
 use Rattle.map_core.specs.Steps.{own_positions, tile_steps, tile_write, map_write}
-use Rattle.map_core.specs.Consistent.{Summary, Room, IsConsistent}
+use Rattle.map_core.specs.Summary.{Summary}
+use Rattle.map_core.specs.Consistent.{Room, IsConsistent}
 use Rattle.map_core.proofs.LogLemmas.{places-legal}
 use Rattle.map_core.proofs.SpareLemmas.{own_within}
 use Rattle.map_core.proofs.SoundCommit.{mapped_none}
@@ -22,13 +23,13 @@ pub consistent_of : (w v : State) (hand : Option Command) (steps : ℕ) (standin
 consistent_of w v hand steps standings u room same consistent = subst (λ (x : State). IsConsistent x hand steps standings u room) same consistent
 
 -- there are few versions
-pub newest_few : (w : State) (hand : Option Command) (steps : ℕ) (standings : List Standing) (u : Summary) (room : Room) → IsConsistent w hand steps standings u room → u.newest ≤ 1048576
+pub newest_few : (w : State) (hand : Option Command) (steps : ℕ) (standings : List Standing) (u : Summary) (room : Room) → IsConsistent w hand steps standings u room → u.ledger.newest ≤ 1048576
 newest_few w hand steps standings u room consistent =
     let counts = places-legal w.base w.keeper.log consistent.whole.keeper.legal in
     let fits = counts.0 in
     let few = counts.1 in
     let most = consistent.whole.ready.log in
-    let is = consistent.summary.newest_is in
+    let is = consistent.summary.ledger_is.newest_is in
     omega arith
 
 -- there is a block, or none, for each position
@@ -37,9 +38,9 @@ own_within_tiles w hand steps standings u room consistent = ap length consistent
 
 -- where a word of the next directory goes
 pub next_at : (w : State) (hand : Option Command) (steps : ℕ) (standings : List Standing) (u : Summary) (room : Room) → IsConsistent w hand steps standings u room → (p at : ℕ)
-    → at ≡ map_at w.base (slot_of w.base (story_of w) (u.newest + 1)) p → at ≡ (map_write w.base (story_of w) (blocks_of_state w) p).at
+    → at ≡ map_at w.base (slot_of w.base (story_of w) (u.ledger.newest + 1)) p → at ≡ (map_write w.base (story_of w) (blocks_of_state w) p).at
 unfolding slot_of next_slot map_write
-next_at w hand steps standings u room consistent p at is = is ∙ ap (λ (n : ℕ). map_at w.base ((n + 1) % w.base.setting.versions) p) consistent.summary.newest_is
+next_at w hand steps standings u room consistent p at is = is ∙ ap (λ (n : ℕ). map_at w.base ((n + 1) % w.base.setting.versions) p) consistent.summary.ledger_is.newest_is
 
 -- the new directory has the draft's own block
 mapped_some : (own : List (Option ℕ)) (bs : List ℕ) (p b : ℕ) (o : Option ℕ) → length own ≡ length bs → p < length own → get_or own p o ≡ Some b → get_or (mapped own bs) p 0 ≡ b
@@ -73,13 +74,13 @@ word_own w hand steps standings u room consistent p b o inside is =
 
 -- the word of a position without one is newest's
 pub word_newest : (w : State) (hand : Option Command) (steps : ℕ) (standings : List Standing) (u : Summary) (room : Room) → IsConsistent w hand steps standings u room → (p at word : ℕ) (o : Option ℕ) → p < tiles w.base
-    → get_or u.own p o ≡ None → at ≡ map_at w.base (slot_of w.base (story_of w) u.newest) p → word ≡ get_or w.words at 0 → word ≡ (map_write w.base (story_of w) (blocks_of_state w) p).word
+    → get_or u.own p o ≡ None → at ≡ map_at w.base (slot_of w.base (story_of w) u.ledger.newest) p → word ≡ get_or w.words at 0 → word ≡ (map_write w.base (story_of w) (blocks_of_state w) p).word
 unfolding map_write IsKept
 word_newest w hand steps standings u room consistent p at word o inside is at_is read =
     let tidy = tidy_of w consistent.whole in
     let long = tidy.shape.own in
     let shows = consistent.whole.keeper.shows (newest (story_of w)) (tidy.floor_in, omega arith) in
-    let place = at_is ∙ ap (λ (n : ℕ). map_at w.base (slot_of w.base (story_of w) n) p) consistent.summary.newest_is in
+    let place = at_is ∙ ap (λ (n : ℕ). map_at w.base (slot_of w.base (story_of w) n) p) consistent.summary.ledger_is.newest_is in
     read ∙ (ap (λ (n : ℕ). get_or w.words n 0) place ∙ (shows.mapped p inside
     ∙ sym (mapped_none (blocks_of_state w).own (directory_of (blocks_of_state w) (newest (story_of w))) p (newest_long w hand steps standings u room consistent)
     (none_at (blocks_of_state w).own p o (omega arith) (ap (λ (own : List (Option ℕ)). get_or own p o) (sym consistent.summary.own_is) ∙ is)))))

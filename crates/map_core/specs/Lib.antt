@@ -10,4 +10,6 @@ pub mod Safe
 pub mod Runs
 pub mod Tidy
 pub mod Sound
+pub mod Ledger
+pub mod Summary
 pub mod Consistent

@@ -7,7 +7,7 @@ ghost use Rattle.bits.specs.Tiles.{tile_count};
 ghost use Rattle.map_core.specs.Drawing.{differing};
 ghost use Rattle.map_core.specs.Story.{trues, new_ones};
 ghost use Rattle.map_core.specs.Blocks.{own_list, own_after, given_back, blocks_of};
-ghost use Rattle.map_core.specs.Consistent.{came_after, retired_by};
+ghost use Rattle.map_core.specs.Summary.{came_after, retired_by};
 
 use crate::tiles::needs_block;
 use bits::Bitmap;

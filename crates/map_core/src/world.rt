@@ -12,8 +12,8 @@ mod words;
 use crate::blocks::Retired;
 use crate::command::{Command, Entry};
 use crate::event::{Event, NotEnabled, StepReply};
+use crate::ledger::Ledger;
 use crate::reader::Standing;
-use crate::setting::Setting;
 use bits::Bitmap;
 use std::alloc::Global;
 use std::collections::VecDeque;
@@ -22,8 +22,8 @@ use std::marker::Model;
 /// A world. Contracts see it as what it was opened with, its words, its keeper and its readers.
 #[derive(Drop)]
 pub struct World {
-    // What it was opened with.
-    setting: Setting,
+    // What is counted of its log, and what it was opened with.
+    ledger: Ledger,
     opening: Bitmap,
     // NOW, a word for each reader, the slots' directories, the blocks' rows.
     words: Vec<u64>,
@@ -34,9 +34,7 @@ pub struct World {
     steps: u32,
     scanned: Vec<u64>,
     readers: Vec<Standing>,
-    // What the log says: the newest version, the least that is kept, the draft, and the newest version's bitmap.
-    newest: u32,
-    floor: u32,
+    // What the log says: the draft, and the newest version's bitmap.
     draft: Bitmap,
     published: Bitmap,
     // Room to draw on before a command is accepted, and while it is done.
@@ -58,9 +56,9 @@ impl Model for World {
     ghost use Rattle.std.specs.Vec.{vec_capacity};
     ghost use Rattle.std.specs.VecDeque.{deque_capacity};
 
-    ghost view = { λ a. state_of a.setting a.opening a.words.items a.log.items a.hand a.done a.scanned.items a.readers.items };
+    ghost view = { λ a. state_of a.ledger.setting a.opening a.words.items a.log.items a.hand a.done a.scanned.items a.readers.items };
 
-    ghost invariant = { λ a. IsConsistent (state_of a.setting a.opening a.words.items a.log.items a.hand a.done a.scanned.items a.readers.items) a.hand a.steps a.readers.items record { newest = a.newest; floor = a.floor; draft = a.draft; scratch = a.scratch; published = a.published; came = a.came.items; own = a.own.items; free = a.free.items; retired = a.retired.items } record { log = vec_capacity a.log; scanned = vec_capacity a.scanned; free = deque_capacity a.free; retired = vec_capacity a.retired } };
+    ghost invariant = { λ a. IsConsistent (state_of a.ledger.setting a.opening a.words.items a.log.items a.hand a.done a.scanned.items a.readers.items) a.hand a.steps a.readers.items record { ledger = a.ledger; draft = a.draft; published = a.published; came = a.came.items; own = a.own.items; free = a.free.items; retired = a.retired.items } record { log = vec_capacity a.log; scanned = vec_capacity a.scanned; free = deque_capacity a.free; retired = vec_capacity a.retired; scratch = a.scratch } };
 }
 
 impl World {

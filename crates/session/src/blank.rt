@@ -70,9 +70,10 @@ impl Blank {
     /// Lets it go: nothing was opened.
     pub fn discard(self) {
         let Blank {
-            desk: _,
+            desk,
             readers: _,
             map: _,
         } = self;
+        desk.discard();
     }
 }

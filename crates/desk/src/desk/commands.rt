@@ -1,39 +1,18 @@
 //! The commands of a desk. Each lends a session's seat, which has seen a beginning of the log before its command's place, and the whole log at its end.
 
-ghost use Rattle.std.specs.Prelude.{◌≡◌, ◌<◌, ◌⊎◌, ℕ, List, length, Some, None, IfOk, IfErr, IfNone, IfSome};
-ghost use Rattle.std.specs.Vec.{vec_capacity};
+ghost use Rattle.std.specs.Prelude.{◌≡◌, IfOk, IfErr};
 ghost use mathlib.Core.List.{IsPrefix};
-ghost use Rattle.metric.specs.declared.refusal.Refusal.TheVariants.{Memory};
 ghost use Rattle.map_core.specs.declared.command.Command.TheVariants.{Paint, Stamp, Publish, Revert, Collect};
-ghost use Rattle.desk.specs.Contents.{IsJudged, Judges};
 ghost use Rattle.map_core.specs.Legal.{IsLegal};
 ghost use Rattle.shelf.specs.Roles.{entries};
 ghost use Rattle.desk.specs.Desks.{IsAccepted, IsRefused};
 
 use crate::desk::Desk;
-use crate::sheets::Sheets;
 use bits::Bitmap;
 use epoch::floor_after;
 use map_core::{Command, Entry, Reply};
 use metric::{Rect, Refusal};
 use shelf::{ReaderSeat, Signed, StoreName, meet};
-
-/// Why a command is refused, if it is: by what the sheets hold, or for want of room for its entry.
-fn refusal_of(sheets: &mut Sheets, log: &mut Vec<Signed>, command: &Command) -> Option<Refusal>
-    ensures as_before { sheets.new.contents ≡ sheets.old.contents }
-    ensures log { log.new.items ≡ log.old.items }
-    ensures refused { IfSome result (λ refusal. Judges sheets.old.contents command.now (Some refusal) ⊎ (Judges sheets.old.contents command.now None × (refusal ≡ Memory))) }
-    ensures judged { IfNone result (IsJudged sheets.new command.now) }
-    ensures room { IfNone result (length log.new.items < vec_capacity log.new) }
-{
-    if let Some(refusal) = sheets.judge(command) {
-        return Some(refusal);
-    }
-    if log.reserve(1).is_err() {
-        return Some(Refusal::Memory);
-    }
-    None
-}
 
 impl<Id: StoreName> Desk<Id> {
     /// Does a command, or hands it back with why it is refused.
@@ -50,15 +29,16 @@ impl<Id: StoreName> Desk<Id> {
         ensures legal { IsLegal Id.store.base.setting Id.store.base.opening (entries self.new.log) }
     {
         meet(&mut self.keeper, seat);
-        if let Some(refusal) = refusal_of(&mut self.sheets, &mut self.log, &command) {
-            return Err((command, refusal));
-        }
         let floor = floor_after(
-            self.sheets.floor(),
-            self.sheets.newest(),
+            self.holding.ledger.floor,
+            self.holding.ledger.newest,
             self.pins.as_slice(),
         );
-        let reply = self.sheets.commit(&command, floor);
+        let has_room = self.log.reserve(1).is_ok();
+        let reply = match self.holding.answer(&command, floor, has_room) {
+            Ok(reply) => reply,
+            Err(refusal) => return Err((command, refusal)),
+        };
         let signed = Signed {
             by: seat.number(),
             entry: Entry { command, reply },

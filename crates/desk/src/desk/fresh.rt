@@ -7,7 +7,7 @@ ghost use Rattle.map_core.specs.Setting.{bad_field};
 ghost use Rattle.shelf.specs.Store.{readers_of};
 
 use crate::desk::Desk;
-use crate::sheets::Sheets;
+use crate::holding::Holding;
 use bits::Bitmap;
 use map_core::Setting;
 use metric::Refusal;
@@ -16,10 +16,11 @@ use std::alloc::Global;
 use std::marker::Model;
 
 /// A desk of a store that has no name yet. Contracts see it as the store.
-#[derive(Drop)]
+///
+/// It can't be let go: it is named, or discarded.
 pub struct FreshDesk {
     keeper: FreshKeeper,
-    sheets: Sheets,
+    holding: Holding,
     log: Vec<Signed>,
     pins: Vec<Option<u32>>,
 }
@@ -27,13 +28,13 @@ pub struct FreshDesk {
 impl Model for FreshDesk {
     ghost use Rattle.std.specs.Prelude.{◌≡◌, [], replicate, None};
     ghost use Rattle.shelf.specs.Store.{StoreId, readers_of};
-    ghost use Rattle.desk.specs.Contents.{IsTold};
+    ghost use Rattle.desk.specs.Holdings.{IsTold};
 
     ghost Value = { StoreId };
 
     ghost view = { λ d. d.keeper };
 
-    ghost invariant = { λ d. IsTold d.keeper.base [] d.sheets.contents × (d.log.items ≡ []) × (d.pins.items ≡ replicate (readers_of d.keeper) None) };
+    ghost invariant = { λ d. IsTold d.keeper.base [] d.holding × (d.log.items ≡ []) × (d.pins.items ≡ replicate (readers_of d.keeper) None) };
 }
 
 impl FreshDesk {
@@ -56,10 +57,21 @@ impl FreshDesk {
         };
         Ok(FreshDesk {
             keeper,
-            sheets: Sheets::of(alloc, setting, map)?,
+            holding: Holding::of(alloc, setting, map)?,
             log: Vec::new(alloc),
             pins,
         })
+    }
+
+    /// Lets it go: nothing was opened.
+    pub fn discard(self) {
+        let FreshDesk {
+            keeper: _,
+            holding,
+            log: _,
+            pins: _,
+        } = self;
+        holding.end();
     }
 
     /// The desk of the store with this name. Condition: the name is its store's.
@@ -69,13 +81,13 @@ impl FreshDesk {
     {
         let FreshDesk {
             keeper,
-            sheets,
+            holding,
             log,
             pins,
         } = self;
         Desk {
             keeper: keeper.named::<Id>(),
-            sheets,
+            holding,
             log,
             pins,
         }

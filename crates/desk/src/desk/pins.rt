@@ -27,8 +27,8 @@ impl<Id: StoreName> Desk<Id> {
         ensures legal { IsLegal Id.store.base.setting Id.store.base.opening (entries self.new.log) }
     {
         meet(&mut self.keeper, seat);
-        let version = self.sheets.newest();
-        self.sheets.copy_into(version, bitmap);
+        let version = self.holding.ledger.newest;
+        self.holding.grid.copy_into(version, bitmap);
         self.pins[seat.number() as usize] = Some(version);
         version
     }

@@ -1,21 +1,10 @@
 //! What commands are answered.
 
-use crate::sheets::Sheets;
-use map_core::{Command, Reply};
+use map_core::Reply;
 use metric::Refusal;
 
 /// What a command is answered.
 pub type Answer = Result<Reply, Refusal>;
-
-/// Judges a command, and does it if it isn't refused. A collect keeps the versions from this floor on, as far as there are any.
-pub fn answer(sheets: &mut Sheets, command: &Command, floor: u32) -> Answer {
-    if let Some(refusal) = sheets.judge(command) {
-        return Err(refusal);
-    }
-    let low = sheets.floor();
-    let high = sheets.newest();
-    Ok(sheets.commit(command, floor.min(high).max(low)))
-}
 
 /// A paint or a stamp changed so many cells.
 pub fn painted(place: u32, changed: u32) -> Answer {

@@ -15,7 +15,6 @@ use std::alloc::Global;
 use std::process::Abort;
 
 /// A desk without a name, its store's readers, and the map that it was opened on.
-#[derive(Drop)]
 pub struct Opened {
     pub desk: FreshDesk,
     pub readers: Vec<FreshReader>,
@@ -63,10 +62,11 @@ fn seats_of<Id: StoreName>(
 pub fn name<Id: StoreName>(alloc: Global, opened: Opened) -> Result<Named<Id>, Refusal>
     requires { opened.desk ≡ Id.store }
 {
-    let Ok(room) = Vec::with_capacity(alloc, opened.readers.len()) else {
+    let Opened { desk, readers, map } = opened;
+    let Ok(room) = Vec::with_capacity(alloc, readers.len()) else {
+        desk.discard();
         return Err(Refusal::Memory);
     };
-    let Opened { desk, readers, map } = opened;
     let seats = seats_of::<Id>(readers, room);
     let desk = desk.named::<Id>();
     Ok(Named { desk, seats, map })

@@ -5,9 +5,10 @@ ghost use Rattle.std.specs.Prelude.{◌≡◌};
 use crate::desk::Desk;
 use crate::tests::answers::{Answer, collected, painted, published, reverted};
 use crate::tests::opened::{Named, Opened, close, hand_back, hold, name, next, prepare};
+use crate::tests::rows::rect_of;
 use bits::Bitmap;
 use map_core::Setting;
-use metric::{Cell, Rect, Refusal};
+use metric::{Cell, Refusal};
 use shelf::{ReaderSeat, StoreName};
 use std::alloc::Global;
 use std::marker::Brand;
@@ -21,9 +22,7 @@ fn paint<Id: StoreName>(
     seat: &mut ReaderSeat<Id>,
     corners: [u16; 4],
 ) -> Answer {
-    let [x0, y0, x1, y1] = corners;
-    let rect = Rect::new(x0, y0, x1, y1).expect(rt, "a rectangle");
-    desk.paint(seat, rect, true)
+    desk.paint(seat, rect_of(rt, corners), true)
 }
 
 /// Whether this cell of the first row is an obstacle.
@@ -89,7 +88,7 @@ fn pins_beside_publishes<Id: StoreName, R: Abort>(
 /// A bitmap of one row whose cells are all obstacles.
 fn bar(rt: &impl Abort, alloc: Global) -> Result<Bitmap, Fail> {
     let mut bar = Bitmap::blank(alloc, 3, 1)?;
-    let all = Rect::new(0, 0, 3, 1).expect(rt, "a rectangle");
+    let all = rect_of(rt, [0, 0, 3, 1]);
     assert!(rt; bar.holds_rect(all));
     bar.fill(all, true);
     Ok(bar)
@@ -103,9 +102,9 @@ fn a_seat_makes_each_command(rt: HostRuntime) -> Result<(), Fail> {
         sessions: 1,
         log: 10,
     };
-    let opened = prepare(rt.alloc(), setting, 64, 64)?;
     let beside = bar(&rt, rt.alloc())?;
     let stamp = bar(&rt, rt.alloc())?;
+    let opened = prepare(rt.alloc(), setting, 64, 64)?;
     commands_of_one_seat::<Brand, _>(&rt, rt.alloc(), opened, beside, stamp)
 }
 
@@ -142,85 +141,5 @@ fn commands_of_one_seat<Id: StoreName, R: Abort>(
     assert_eq!(rt; desk.collect(&mut a), collected(7, 1, 1));
     hand_back(rt, &mut seats, a);
     assert_eq!(rt; close(desk, seats).len(), 7);
-    Ok(())
-}
-
-#[test]
-fn a_full_log_leaves_the_draft(rt: HostRuntime) -> Result<(), Fail> {
-    let setting = Setting {
-        blocks: 3,
-        versions: 2,
-        sessions: 2,
-        log: 2,
-    };
-    let opened = prepare(rt.alloc(), setting, 64, 64)?;
-    paints_past_the_log::<Brand, _>(&rt, rt.alloc(), opened)
-}
-
-/// The paint after the last entry is refused, and its cell stays free.
-fn paints_past_the_log<Id: StoreName, R: Abort>(
-    rt: &R,
-    alloc: Global,
-    opened: Opened,
-) -> Result<(), Fail>
-    requires { opened.desk ≡ Id.store }
-{
-    let Named {
-        mut desk,
-        mut seats,
-        map: _,
-    } = name::<Id>(alloc, opened)?;
-    let mut a = next(rt, &mut seats);
-    assert_eq!(rt; paint(rt, &mut desk, &mut a, [0, 0, 1, 1]), painted(1, 1));
-    assert_eq!(rt; desk.publish(&mut a), published(2, 1));
-    let refused = paint(rt, &mut desk, &mut a, [1, 0, 2, 1]);
-    assert_eq!(rt; refused, Err(Refusal::LogFull));
-    for x in 0..64 {
-        assert_eq!(rt; is_set(rt, desk.draft(), x), x == 0, "cell {x}");
-    }
-    hand_back(rt, &mut seats, a);
-    assert_eq!(rt; close(desk, seats).len(), 2);
-    Ok(())
-}
-
-#[test]
-fn a_log_of_a_thousand_entries(rt: HostRuntime) -> Result<(), Fail> {
-    let setting = Setting {
-        blocks: 3,
-        versions: 2,
-        sessions: 1,
-        log: 1_000,
-    };
-    let opened = prepare(rt.alloc(), setting, 64, 64)?;
-    fills_a_long_log::<Brand, _>(&rt, rt.alloc(), opened)
-}
-
-/// The last place is a publish's, and each command after it is refused.
-fn fills_a_long_log<Id: StoreName, R: Abort>(
-    rt: &R,
-    alloc: Global,
-    opened: Opened,
-) -> Result<(), Fail>
-    requires { opened.desk ≡ Id.store }
-{
-    let Named {
-        mut desk,
-        mut seats,
-        map,
-    } = name::<Id>(alloc, opened)?;
-    let mut a = next(rt, &mut seats);
-    for place in 1..1_000 {
-        assert_eq!(rt; desk.revert(&mut a), reverted(place));
-    }
-    assert_eq!(rt; desk.publish(&mut a), published(1_000, 1));
-    let painted = paint(rt, &mut desk, &mut a, [0, 0, 1, 1]);
-    assert_eq!(rt; painted, Err(Refusal::LogFull));
-    let stamped = desk.stamp(&mut a, 0, 0, map);
-    assert!(rt; matches!(stamped, Err((_, Refusal::LogFull))), "a stamp");
-    assert_eq!(rt; desk.publish(&mut a), Err(Refusal::LogFull));
-    assert_eq!(rt; desk.revert(&mut a), Err(Refusal::LogFull));
-    assert_eq!(rt; desk.collect(&mut a), Err(Refusal::LogFull));
-    hand_back(rt, &mut seats, a);
-    assert_eq!(rt; close(desk, seats).len(), 1_000);
     Ok(())
 }

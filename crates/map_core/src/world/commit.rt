@@ -8,9 +8,8 @@ ghost use Rattle.map_core.specs.declared.command.Command.TheVariants.{Publish, R
 ghost use Rattle.map_core.specs.Consistent.{IsLastOf, IsDrawing};
 
 use crate::blocks::{give_back_own, give_back_retired, publish_own, take_blocks};
-use crate::command::{Command, Entry, Reply};
+use crate::command::{Command, Entry};
 use crate::event::StepReply;
-use crate::now::Now;
 use crate::world::World;
 use crate::world::words::NOW_AT;
 
@@ -45,11 +44,9 @@ impl World {
             &mut self.free,
         );
         self.draft.copy_from(&self.scratch);
-        let place = self.log.len() as u32 + 1;
-        let reply = Reply::Painted { place, changed };
+        let reply = self.ledger.enter_draw(changed);
         self.log.push_reserved(Entry { command, reply });
-        let version = self.newest;
-        self.words[NOW_AT] = Now { place, version }.word();
+        self.words[NOW_AT] = self.ledger.now_word();
         StepReply::Committed { reply }
     }
 
@@ -58,25 +55,22 @@ impl World {
         requires { IsLastOf self.old Publish }
         ensures { SafeStep self.old Keep (Ok result) self.new }
     {
-        let first = self.map_at(self.newest, 0);
+        let first = self.map_at(self.ledger.newest, 0);
         let tiles = usize::from(self.opening.tiles());
         publish_own(
-            self.newest,
+            self.ledger.newest,
             &self.words[first..first + tiles],
             self.own.as_mut_slice(),
             self.came.as_mut_slice(),
             &mut self.retired,
         );
         self.published.copy_from(&self.draft);
-        let version = self.newest + 1;
-        let place = self.log.len() as u32 + 1;
-        let reply = Reply::Published { place, version };
+        let reply = self.ledger.enter_publish();
         self.log.push_reserved(Entry {
             command: Command::Publish,
             reply,
         });
-        self.words[NOW_AT] = Now { place, version }.word();
-        self.newest = version;
+        self.words[NOW_AT] = self.ledger.now_word();
         self.hand = None;
         StepReply::Committed { reply }
     }
@@ -88,14 +82,12 @@ impl World {
     {
         self.draft.copy_from(&self.published);
         give_back_own(self.own.as_mut_slice(), &mut self.free);
-        let place = self.log.len() as u32 + 1;
-        let reply = Reply::Reverted { place };
+        let reply = self.ledger.enter_revert();
         self.log.push_reserved(Entry {
             command: Command::Revert,
             reply,
         });
-        let version = self.newest;
-        self.words[NOW_AT] = Now { place, version }.word();
+        self.words[NOW_AT] = self.ledger.now_word();
         self.hand = None;
         StepReply::Committed { reply }
     }
@@ -105,24 +97,17 @@ impl World {
         requires { IsLastOf self.old Collect }
         ensures { SafeStep self.old Keep (Ok result) self.new }
     {
-        let least = least_announced(self.newest, self.scanned.as_slice());
-        let floor = self.floor.max(least);
+        let least = least_announced(self.ledger.newest, self.scanned.as_slice());
+        let floor = self.ledger.floor.max(least);
         let before = self.retired.len();
         give_back_retired(floor, &mut self.retired, &mut self.free);
         let freed = (before - self.retired.len()) as u32;
-        let place = self.log.len() as u32 + 1;
-        let reply = Reply::Collected {
-            place,
-            floor,
-            freed,
-        };
+        let reply = self.ledger.enter_collect(floor, freed);
         self.log.push_reserved(Entry {
             command: Command::Collect,
             reply,
         });
-        let version = self.newest;
-        self.words[NOW_AT] = Now { place, version }.word();
-        self.floor = floor;
+        self.words[NOW_AT] = self.ledger.now_word();
         self.hand = None;
         StepReply::Committed { reply }
     }

@@ -35,10 +35,10 @@ impl World {
         ensures word { result.1 ≡ (map_write self.now.base (story_of self.now) (blocks_of_state self.now) position).word }
         ensures within { result.0 < length self.now.words }
     {
-        let place = self.map_at(self.newest + 1, position);
+        let place = self.map_at(self.ledger.newest + 1, position);
         let word = match self.own[position as usize] {
             Some(block) => u64::from(block),
-            None => self.words[self.map_at(self.newest, position)],
+            None => self.words[self.map_at(self.ledger.newest, position)],
         };
         (place, word)
     }

@@ -11,6 +11,7 @@ ghost use Rattle.map_core.specs.Words.{word_count, map_at, tile_at};
 ghost use Rattle.map_core.specs.Steps.{steps_left};
 ghost use Rattle.map_core.specs.Runs.{IsOpened, AreOpeningWords};
 
+use crate::ledger::Ledger;
 use crate::reader::Standing;
 use crate::setting::Setting;
 use crate::world::World;
@@ -148,7 +149,7 @@ impl World {
             return Err(Refusal::Memory);
         };
         Ok(World {
-            setting,
+            ledger: Ledger::of(setting, map),
             opening: map.try_copy(alloc)?,
             words: opening_words(alloc, setting, map)?,
             log: Vec::new(alloc),
@@ -157,8 +158,6 @@ impl World {
             steps: 0,
             scanned: with_room(alloc, setting.sessions as usize)?,
             readers,
-            newest: 0,
-            floor: 0,
             draft: map.try_copy(alloc)?,
             scratch: Bitmap::blank(alloc, map.width(), map.height())?,
             published: map.try_copy(alloc)?,

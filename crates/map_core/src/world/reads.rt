@@ -45,7 +45,7 @@ impl World {
         let Now { place, version } = Now::of(self.words[NOW_AT]);
         self.readers[reader as usize] = Standing {
             seen: self.log.len(),
-            version: self.newest,
+            version: self.ledger.newest,
             announced: standing.announced,
             holds: standing.next_hold(version),
         };

@@ -23,9 +23,9 @@ impl World {
         ensures place { result ≡ map_at self.now.base (slot_of self.now.base (story_of self.now) version) position }
         ensures within { result < length self.now.words }
     {
-        let slot = (version % self.setting.versions) as usize;
+        let slot = (version % self.ledger.setting.versions) as usize;
         let tiles = usize::from(self.opening.tiles());
-        1 + self.setting.sessions as usize + (slot * tiles + position as usize)
+        1 + self.ledger.setting.sessions as usize + (slot * tiles + position as usize)
     }
 
     /// Where the word stands that has a row of a block.
@@ -36,7 +36,9 @@ impl World {
         ensures within { result < length self.now.words }
     {
         let tiles = usize::from(self.opening.tiles());
-        let directories = self.setting.versions as usize * tiles;
-        1 + self.setting.sessions as usize + directories + (block as usize * 64 + row as usize)
+        let directories = self.ledger.setting.versions as usize * tiles;
+        1 + self.ledger.setting.sessions as usize
+            + directories
+            + (block as usize * 64 + row as usize)
     }
 }

@@ -1,8 +1,12 @@
 -- The last step of a collect.
-use Rattle.std.proofs.Common.{◌≡◌, ◌+◌, ◌-◌, arith, refl, length}
-use Rattle.map_core.proofs.CollectWorld.{summary_collect, freed_collect, reply_collect, now_collect, room_retired, floor_risen, stay_few}
-use Rattle.map_core.proofs.CommitWorld.{last_known, last_does, consistent_commit, log_few}
+use Rattle.std.proofs.Common.{ap, ◌≡◌, ◌-◌, arith, refl, length}
+use Rattle.map_core.specs.declared.ledger.Ledger.{Ledger}
+use Rattle.map_core.proofs.CollectWorld.{reply_collect, room_retired, floor_risen, stay_few}
+use Rattle.map_core.proofs.CommitWorld.{last_known, last_does, consistent_commit}
+use Rattle.map_core.proofs.JudgeLemmas.{balanced_ledger}
+use Rattle.map_core.proofs.LedgerLemmas.{ledger_collect, now_of_ledger}
 use Rattle.map_core.proofs.StepLemmas.{tidy_of}
+use Rattle.map_core.proofs.SummaryCollect.{summary_collect, freed_collect}
 use Rattle.map_core.proofs.WorldLemmas.{safe_done, now_word_there}
 use Rattle.map_core.proofs.world.World.collect.Goals as goal
 
@@ -16,11 +20,8 @@ overflow_sub-freed c =
 pub overflow_cast-freed : goal.overflow_cast-freed
 overflow_cast-freed c = omega (arith, c.len-before.ensures, c.self.inside.retired.ok, (room_retired _ _ _ _ _ _ c.self.invariant).1)
 
-pub overflow_cast-place : goal.overflow_cast-place
-overflow_cast-place c = omega (arith, log_few _ _ _ _ _ _ c.self.invariant, c.len-2.ensures, c.self.inside.log.ok)
-
-pub overflow_add-place : goal.overflow_add-place
-overflow_add-place c = omega (arith, log_few _ _ _ _ _ _ c.self.invariant, c.len-2.ensures, c.self.inside.log.ok)
+pub enter_collect-reply-requires : goal.enter_collect-reply-requires
+enter_collect-reply-requires c = balanced_ledger _ _ _ _ _ _ c.self.invariant
 
 pub index_mut-requires : goal.index_mut-requires
 index_mut-requires c = omega (arith, now_word_there _ _ _ _ _ _ c.self.invariant, c.self.inside.words.ok)
@@ -28,25 +29,25 @@ index_mut-requires c = omega (arith, now_word_there _ _ _ _ _ _ c.self.invariant
 pub invariant_of-self : goal.invariant_of-self
 invariant_of-self c =
     let known = last_known c.args.self.now _ _ c.self.inside.hand _ _ c.self.view_is refl c.requires in
-    let place : c.len-2.result + 1 ≡ length c.self.inside.log.items + 1 = omega (arith, c.len-2.ensures, c.self.inside.log.ok) in
+    let entered = ledger_collect _ _ _ c.enter_collect-reply.new.self c.enter_collect-reply.result _ c.max-floor.result _ c.self.invariant.summary.ledger_is c.enter_collect-reply.ensures.reply c.enter_collect-reply.ensures.entered in
     let risen = floor_risen _ _ _ _ _ _ c.self.invariant c.self.inside.scanned.items _ c.max-floor.result (rw (← c.as_slice.ensures.value) c.least_announced-least.ensures) c.max-floor.ensures in
     let tidy = tidy_of _ c.self.invariant.whole in
     let count : c.len-before.result - c.len.result ≡ length c.self.inside.retired.items - length c.give_back_retired.new.retired.items = omega (arith, c.len.ensures, c.len-before.ensures, c.self.inside.retired.ok, c.give_back_retired.new.retired.ok) in
     let freed = freed_collect _ _ _ _ _ _ _ tidy c.self.invariant.summary risen.low risen.high c.give_back_retired.ensures.retired count in
-    let does = last_does _ _ _ _ _ _ _ _ _ _ _ _ _ c.word.result c.self.invariant known (reply_collect _ _ _ _ _ _ place risen.floor_is freed) (now_collect _ _ _ _ _ _ place c.self.invariant.summary.newest_is c.word.ensures) in
+    let does = last_does _ _ _ _ _ _ _ _ _ _ _ _ _ c.now_word.result c.self.invariant known (reply_collect _ _ _ _ _ _ _ c.self.invariant.summary.ledger_is c.enter_collect-reply.ensures.reply risen.floor_is freed) (now_of_ledger _ _ _ _ entered c.now_word.ensures) in
     rw (c.push_reserved.ensures.items)
     (consistent_commit _ _ _ _ _ _ c.self.inside.done _ _ _ c.self.inside.scanned.items _ _ _ _ _ _ _ _ c.self.invariant does
-    (summary_collect _ _ _ _ _ _ _ _ _ tidy c.self.invariant.summary risen.high c.give_back_retired.ensures.retired c.give_back_retired.ensures.free)
-    (omega arith) (omega (arith, c.give_back_retired.ensures.free_capacity)) (omega (arith, c.give_back_retired.ensures.retired_capacity)))
+    (summary_collect _ _ _ _ _ _ _ _ _ _ _ tidy c.self.invariant.summary risen.high c.enter_collect-reply.ensures.reply entered c.give_back_retired.ensures.retired c.give_back_retired.ensures.free)
+    (omega arith) (omega (arith, c.give_back_retired.ensures.free_capacity)) (omega (arith, c.give_back_retired.ensures.retired_capacity)) c.self.invariant.roomy.scratch)
 
 pub returns : goal.returns
 returns c =
     let known = last_known c.args.self.now _ _ c.self.inside.hand _ _ c.self.view_is refl c.requires in
-    let place : c.len-2.result + 1 ≡ length c.self.inside.log.items + 1 = omega (arith, c.len-2.ensures, c.self.inside.log.ok) in
+    let entered = ledger_collect _ _ _ c.enter_collect-reply.new.self c.enter_collect-reply.result _ c.max-floor.result _ c.self.invariant.summary.ledger_is c.enter_collect-reply.ensures.reply c.enter_collect-reply.ensures.entered in
     let risen = floor_risen _ _ _ _ _ _ c.self.invariant c.self.inside.scanned.items _ c.max-floor.result (rw (← c.as_slice.ensures.value) c.least_announced-least.ensures) c.max-floor.ensures in
     let tidy = tidy_of _ c.self.invariant.whole in
     let count : c.len-before.result - c.len.result ≡ length c.self.inside.retired.items - length c.give_back_retired.new.retired.items = omega (arith, c.len.ensures, c.len-before.ensures, c.self.inside.retired.ok, c.give_back_retired.new.retired.ok) in
     let freed = freed_collect _ _ _ _ _ _ _ tidy c.self.invariant.summary risen.low risen.high c.give_back_retired.ensures.retired count in
-    rw (← c.self.view_is, c.push_reserved.ensures.items)
+    rw (← c.self.view_is, ap (λ (l : Ledger). l.setting) c.enter_collect-reply.ensures.entered, c.push_reserved.ensures.items)
     (safe_done _ _ _ c.self.invariant.whole
-    (last_does _ _ _ _ _ _ _ _ _ _ _ _ _ c.word.result c.self.invariant known (reply_collect _ _ _ _ _ _ place risen.floor_is freed) (now_collect _ _ _ _ _ _ place c.self.invariant.summary.newest_is c.word.ensures)))
+    (last_does _ _ _ _ _ _ _ _ _ _ _ _ _ c.now_word.result c.self.invariant known (reply_collect _ _ _ _ _ _ _ c.self.invariant.summary.ledger_is c.enter_collect-reply.ensures.reply risen.floor_is freed) (now_of_ledger _ _ _ _ entered c.now_word.ensures)))

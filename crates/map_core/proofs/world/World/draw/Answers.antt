@@ -1,10 +1,14 @@
 -- The step of a paint or a stamp.
-use Rattle.std.proofs.Common.{◌≡◌, ◌+◌, arith, refl, ap, subst, sym, ◌∙◌, length}
+use Rattle.std.proofs.Common.{◌≡◌, arith, refl, ap, subst, sym, ◌∙◌, length}
 use Rattle.bits.specs.Cells.{Cells, IsBitmap}
-use Rattle.map_core.proofs.CommitWorld.{last_does, consistent_commit, log_few}
-use Rattle.map_core.proofs.DrawWorld.{drawing_known, hand_inside, reply_draw, now_draw, count_draw, summary_draw, written_back}
-use Rattle.map_core.proofs.JudgeLemmas.{draft_of_map, same_width, same_height, drawn_of_map, own_long}
+use Rattle.map_core.specs.declared.ledger.Ledger.{Ledger}
+use Rattle.map_core.specs.Drawing.{drawn}
+use Rattle.map_core.proofs.CommitWorld.{last_does, consistent_commit}
+use Rattle.map_core.proofs.DrawWorld.{drawing_known, hand_inside, reply_draw, count_draw, written_back}
+use Rattle.map_core.proofs.JudgeLemmas.{draft_of_map, same_width, same_height, drawn_of_map, own_long, balanced_ledger}
+use Rattle.map_core.proofs.LedgerLemmas.{ledger_draw, now_of_ledger}
 use Rattle.map_core.proofs.StepLemmas.{tidy_of}
+use Rattle.map_core.proofs.SummaryDraw.{summary_draw}
 use Rattle.map_core.proofs.TidyDraft.{tile_count-of_map}
 use Rattle.map_core.proofs.WorldLemmas.{safe_done, now_word_there}
 use Rattle.map_core.proofs.world.World.draw.Goals as goal
@@ -38,11 +42,8 @@ pub copy_from-requires-2-clause-height : goal.copy_from-requires-2-clause-height
 copy_from-requires-2-clause-height c =
     (draft_of_map _ _ _ _ _ _ c.self.invariant).height_is ∙ sym (drawn_of_map _ _ _ _ _ _ c.self.invariant _ _ c.in-Some.command c.copy_from.ensures c.draw-changed.ensures.drawn).height_is
 
-pub overflow_cast-place : goal.overflow_cast-place
-overflow_cast-place c = omega (arith, log_few _ _ _ _ _ _ c.self.invariant, c.len.ensures, c.self.inside.log.ok)
-
-pub overflow_add-place : goal.overflow_add-place
-overflow_add-place c = omega (arith, log_few _ _ _ _ _ _ c.self.invariant, c.len.ensures, c.self.inside.log.ok)
+pub enter_draw-reply-requires : goal.enter_draw-reply-requires
+enter_draw-reply-requires c = balanced_ledger _ _ _ _ _ _ c.self.invariant
 
 pub index_mut-requires : goal.index_mut-requires
 index_mut-requires c = omega (arith, now_word_there _ _ _ _ _ _ c.self.invariant, c.self.inside.words.ok)
@@ -50,29 +51,29 @@ index_mut-requires c = omega (arith, now_word_there _ _ _ _ _ _ c.self.invariant
 pub invariant_of-self : goal.invariant_of-self
 invariant_of-self c =
     let known = drawing_known c.args.self.now _ _ _ _ _ c.self.view_is refl c.requires (sym c.take.ensures.value ∙ c.in-Some.is) in
-    let place : c.len.result + 1 ≡ length c.self.inside.log.items + 1 = omega (arith, c.len.ensures, c.self.inside.log.ok) in
+    let entered = ledger_draw _ _ _ c.enter_draw-reply.new.self _ c.enter_draw-reply.result c.self.invariant.summary.ledger_is known.draws c.enter_draw-reply.ensures.entered in
     let size : length c.take_blocks.new.own ≡ length c.self.inside.own.items = omega (arith, ap length c.as_mut_slice.ensures.value) in
-    let does = last_does _ _ _ _ _ _ _ _ _ _ _ _ _ c.word.result c.self.invariant known.last
-    (reply_draw _ _ _ _ _ _ known.draws place (count_draw _ _ _ _ _ _ c.self.invariant _ _ _ c.copy_from.ensures c.draw-changed.ensures.changed))
-    (now_draw _ _ _ _ _ _ _ known.draws place c.self.invariant.summary.newest_is c.word.ensures) in
+    let does = last_does _ _ _ _ _ _ _ _ _ _ _ _ _ c.now_word.result c.self.invariant known.last
+    (reply_draw _ _ _ _ _ _ _ c.self.invariant.summary.ledger_is known.draws c.enter_draw-reply.ensures.reply (count_draw _ _ _ _ _ _ c.self.invariant _ _ _ c.copy_from.ensures c.draw-changed.ensures.changed))
+    (now_of_ledger _ _ _ _ entered c.now_word.ensures) in
     rw (c.push_reserved.ensures.items, c.take.ensures.after)
     (consistent_commit _ _ _ _ _ _ c.self.inside.done _ _ _ c.self.inside.scanned.items _ _ _ _ _ _ _ _ c.self.invariant does
     (summary_draw _ _ _ _ _ _ _ _ _ _ c.self.invariant.summary (tidy_of _ c.self.invariant.whole).shape.changed known.draws
-    (drawn_of_map _ _ _ _ _ _ c.self.invariant _ _ c.in-Some.command c.copy_from.ensures c.draw-changed.ensures.drawn)
+    entered
     record {
-      draft_is = c.copy_from-2.ensures;
-      scratch_is = rw (← c.copy_from.ensures) c.draw-changed.ensures.drawn;
-      own_is = written_back _ _ _ _ (omega (arith, c.self.inside.own.ok)) size ∙ rw (← c.as_mut_slice.ensures.value) c.take_blocks.ensures.own;
-      free_is = rw (← c.as_mut_slice.ensures.value) c.take_blocks.ensures.free;
+      draft_is = c.copy_from-2.ensures ∙ (c.draw-changed.ensures.drawn ∙ ap (λ (b : Cells). drawn b c.in-Some.command) c.copy_from.ensures);
+      own_is = written_back _ _ _ _ (omega (arith, c.self.inside.own.ok)) size ∙ (rw (c.copy_from-2.ensures, ← c.as_mut_slice.ensures.value) c.take_blocks.ensures.own);
+      free_is = rw (c.copy_from-2.ensures, ← c.as_mut_slice.ensures.value) c.take_blocks.ensures.free;
     })
-    (omega arith) (omega (arith, c.take_blocks.ensures.capacity)) (omega arith))
+    (omega arith) (omega (arith, c.take_blocks.ensures.capacity)) (omega arith)
+    (drawn_of_map _ _ _ _ _ _ c.self.invariant _ _ c.in-Some.command c.copy_from.ensures c.draw-changed.ensures.drawn))
 
 pub returns : goal.returns
 returns c =
     let known = drawing_known c.args.self.now _ _ _ _ _ c.self.view_is refl c.requires (sym c.take.ensures.value ∙ c.in-Some.is) in
-    let place : c.len.result + 1 ≡ length c.self.inside.log.items + 1 = omega (arith, c.len.ensures, c.self.inside.log.ok) in
-    rw (← c.self.view_is, c.push_reserved.ensures.items, c.take.ensures.after)
+    let entered = ledger_draw _ _ _ c.enter_draw-reply.new.self _ c.enter_draw-reply.result c.self.invariant.summary.ledger_is known.draws c.enter_draw-reply.ensures.entered in
+    rw (← c.self.view_is, ap (λ (l : Ledger). l.setting) c.enter_draw-reply.ensures.entered, c.push_reserved.ensures.items, c.take.ensures.after)
     (safe_done _ _ _ c.self.invariant.whole
-    (last_does _ _ _ _ _ _ _ _ _ _ _ _ _ c.word.result c.self.invariant known.last
-    (reply_draw _ _ _ _ _ _ known.draws place (count_draw _ _ _ _ _ _ c.self.invariant _ _ _ c.copy_from.ensures c.draw-changed.ensures.changed))
-    (now_draw _ _ _ _ _ _ _ known.draws place c.self.invariant.summary.newest_is c.word.ensures)))
+    (last_does _ _ _ _ _ _ _ _ _ _ _ _ _ c.now_word.result c.self.invariant known.last
+    (reply_draw _ _ _ _ _ _ _ c.self.invariant.summary.ledger_is known.draws c.enter_draw-reply.ensures.reply (count_draw _ _ _ _ _ _ c.self.invariant _ _ _ c.copy_from.ensures c.draw-changed.ensures.changed))
+    (now_of_ledger _ _ _ _ entered c.now_word.ensures)))

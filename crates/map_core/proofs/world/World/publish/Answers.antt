@@ -1,13 +1,19 @@
 -- The last step of a publish.
-use Rattle.std.proofs.Common.{◌≡◌, ◌+◌, arith, refl, ap, sym, ◌∙◌, length}
-use Rattle.map_core.proofs.CommitWorld.{last_known, last_does, consistent_commit, log_few, published_of_map}
+use Rattle.std.proofs.Common.{arith, refl, ap, sym, ◌∙◌, length}
+use Rattle.map_core.specs.declared.ledger.Ledger.{Ledger}
+use Rattle.map_core.proofs.CommitWorld.{last_known, last_does, consistent_commit, published_of_map}
 use Rattle.map_core.proofs.GiveBack.{cleared_back}
-use Rattle.map_core.proofs.JudgeLemmas.{draft_of_map}
-use Rattle.map_core.proofs.PublishWorld.{summary_publish, reply_publish, now_publish, room_replaced, newest_part, came_back, own_few_places, directory_long, came_and_own, part_within, part_is, part_small}
+use Rattle.map_core.proofs.JudgeLemmas.{draft_of_map, balanced_ledger}
+use Rattle.map_core.proofs.LedgerLemmas.{ledger_publish, now_of_ledger}
+use Rattle.map_core.proofs.PublishWorld.{reply_publish, room_replaced, newest_part, came_back, own_few_places, directory_long, came_and_own, part_within, part_is, part_small}
 use Rattle.map_core.proofs.StepLemmas.{tidy_of}
+use Rattle.map_core.proofs.SummaryPublish.{summary_publish, newest_published}
 use Rattle.map_core.proofs.WorldLemmas.{safe_done}
 use Rattle.map_core.proofs.WriteWorld.{newest_few}
 use Rattle.map_core.proofs.world.World.publish.Goals as goal
+
+pub enter_publish-reply-requires : goal.enter_publish-reply-requires
+enter_publish-reply-requires c = balanced_ledger _ _ _ _ _ _ c.self.invariant
 
 pub publish_own-requires-clause-newest : goal.publish_own-requires-clause-newest
 publish_own-requires-clause-newest c = omega (arith, newest_few _ _ _ _ _ _ c.self.invariant)
@@ -20,15 +26,6 @@ copy_from-requires-clause-width c = (published_of_map _ _ _ _ _ _ c.self.invaria
 
 pub copy_from-requires-clause-height : goal.copy_from-requires-clause-height
 copy_from-requires-clause-height c = (published_of_map _ _ _ _ _ _ c.self.invariant).height_is ∙ sym (draft_of_map _ _ _ _ _ _ c.self.invariant).height_is
-
-pub overflow_add-version : goal.overflow_add-version
-overflow_add-version c = omega (arith, newest_few _ _ _ _ _ _ c.self.invariant)
-
-pub overflow_cast-place : goal.overflow_cast-place
-overflow_cast-place c = omega (arith, log_few _ _ _ _ _ _ c.self.invariant, c.len.ensures, c.self.inside.log.ok)
-
-pub overflow_add-place : goal.overflow_add-place
-overflow_add-place c = omega (arith, log_few _ _ _ _ _ _ c.self.invariant, c.len.ensures, c.self.inside.log.ok)
 
 pub slice_bounds-publish_own-end : goal.slice_bounds-publish_own-end
 slice_bounds-publish_own-end c =
@@ -55,23 +52,23 @@ publish_own-requires-clause-came c = omega (arith, ap length c.as_mut_slice.ensu
 pub invariant_of-self : goal.invariant_of-self
 invariant_of-self c =
     let known = last_known c.args.self.now _ _ c.self.inside.hand _ _ c.self.view_is refl c.requires in
-    let place : c.len.result + 1 ≡ length c.self.inside.log.items + 1 = omega (arith, c.len.ensures, c.self.inside.log.ok) in
     let tidy = tidy_of _ c.self.invariant.whole in
+    let entered = ledger_publish _ _ _ c.enter_publish-reply.new.self c.enter_publish-reply.result c.self.invariant.summary.ledger_is (newest_published _ _ _ _ tidy.shape) c.enter_publish-reply.ensures.entered in
     let part = newest_part _ _ _ _ _ c.self.view_is (c.from-tiles.ensures ∙ c.tiles.ensures.tiles) c.map_at-first.ensures.place in
-    let does = last_does _ _ _ _ _ _ _ _ _ _ _ _ _ c.word.result c.self.invariant known (reply_publish _ _ _ _ _ _ place c.self.invariant.summary.newest_is refl) (now_publish _ _ _ tidy.shape _ _ _ _ _ place c.self.invariant.summary.newest_is refl c.word.ensures) in
+    let does = last_does _ _ _ _ _ _ _ _ _ _ _ _ _ c.now_word.result c.self.invariant known (reply_publish _ _ _ _ _ c.self.invariant.summary.ledger_is c.enter_publish-reply.ensures.reply) (now_of_ledger _ _ _ _ entered c.now_word.ensures) in
     rw (c.push_reserved.ensures.items)
     (consistent_commit _ _ _ _ _ _ c.self.inside.done _ _ _ c.self.inside.scanned.items _ _ _ _ _ _ _ _ c.self.invariant does
-    (summary_publish _ _ _ _ _ _ _ _ _ _ c.self.invariant.summary tidy refl c.copy_from.ensures
+    (summary_publish _ _ _ _ _ _ _ _ _ _ c.self.invariant.summary tidy entered c.copy_from.ensures
     (cleared_back _ _ _ _ _ c.publish_own.ensures.own c.as_mut_slice.ensures.value (omega (arith, c.self.inside.own.ok)))
     (came_back _ _ _ _ _ _ _ _ c.publish_own.ensures.came c.as_mut_slice.ensures.value c.as_mut_slice-2.ensures.value (came_and_own _ _ _ _ _ _ c.self.invariant) (omega (arith, c.self.inside.came.ok)))
     (rw (← c.as_mut_slice.ensures.value, ← c.as_mut_slice-2.ensures.value, ← part_is _ _ _ _ _ _ c.self.invariant _ _ part, ← c.deref.ensures.value) c.publish_own.ensures.retired))
-    (omega arith) (omega arith) (omega (arith, c.publish_own.ensures.capacity)))
+    (omega arith) (omega arith) (omega (arith, c.publish_own.ensures.capacity)) c.self.invariant.roomy.scratch)
 
 pub returns : goal.returns
 returns c =
     let known = last_known c.args.self.now _ _ c.self.inside.hand _ _ c.self.view_is refl c.requires in
-    let place : c.len.result + 1 ≡ length c.self.inside.log.items + 1 = omega (arith, c.len.ensures, c.self.inside.log.ok) in
     let tidy = tidy_of _ c.self.invariant.whole in
-    rw (← c.self.view_is, c.push_reserved.ensures.items)
+    let entered = ledger_publish _ _ _ c.enter_publish-reply.new.self c.enter_publish-reply.result c.self.invariant.summary.ledger_is (newest_published _ _ _ _ tidy.shape) c.enter_publish-reply.ensures.entered in
+    rw (← c.self.view_is, ap (λ (l : Ledger). l.setting) c.enter_publish-reply.ensures.entered, c.push_reserved.ensures.items)
     (safe_done _ _ _ c.self.invariant.whole
-    (last_does _ _ _ _ _ _ _ _ _ _ _ _ _ c.word.result c.self.invariant known (reply_publish _ _ _ _ _ _ place c.self.invariant.summary.newest_is refl) (now_publish _ _ _ tidy.shape _ _ _ _ _ place c.self.invariant.summary.newest_is refl c.word.ensures)))
+    (last_does _ _ _ _ _ _ _ _ _ _ _ _ _ c.now_word.result c.self.invariant known (reply_publish _ _ _ _ _ c.self.invariant.summary.ledger_is c.enter_publish-reply.ensures.reply) (now_of_ledger _ _ _ _ entered c.now_word.ensures)))

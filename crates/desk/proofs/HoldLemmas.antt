@@ -1,0 +1,70 @@
+-- What is held goes with one more entry of the log.
+use Rattle.std.proofs.Common.{◌≡◌, ℕ, List, [], ◌∷◌, ◌++◌, length, get_or, ap, subst, sym, ◌∙◌, arith}
+use Rattle.map_core.specs.declared.command.Command.{Command}
+use Rattle.map_core.specs.declared.command.Entry.{Entry}
+use Rattle.map_core.specs.declared.command.Reply.{Reply}
+use Rattle.map_core.specs.Story.{Story, newest, bitmap_of, IsKept}
+use Rattle.map_core.specs.Legal.{IsAnswer, told}
+use Rattle.map_core.specs.Blocks.{Blocks, directory_of, moved}
+use Rattle.map_core.specs.Words.{Base}
+use Rattle.map_core.specs.Views.{story, blocks}
+use Rattle.map_core.specs.Tidy.{IsTidy}
+use Rattle.map_core.specs.Summary.{IsSummary}
+use Rattle.map_core.proofs.StepLemmas.{story-push, blocks-push}
+use Rattle.map_core.proofs.TidyLog.{IsTidy-legal, IsLegal-push}
+use Rattle.arena.specs.Blocks.{Home}
+use Rattle.grid.specs.Grids.{Tiled, draft, bitmap_at, own_blocks, newest_blocks, retired_blocks}
+use Rattle.desk.specs.declared.holding.Holding.{Holding}
+use Rattle.desk.specs.Holdings.{summary_of, Holds, IsTold}
+
+-- what holds of the map and its blocks
+pub tidy_told : (k : Base) (log : List Entry) (h : Holding) → IsTold k log h → IsTidy k (story k log) (blocks k log)
+tidy_told k log h tells = IsTidy-legal k log tells.ready tells.legal
+
+-- the log with one more answer tells what is held after it
+pub told_more : (k : Base) (log : List Entry) (old new : Holding) (c : Command) (reply : Reply) → IsTold k log old → IsAnswer k.setting (story k log) c reply
+    → Holds k (told (story k log) c reply) (moved (story k log) c reply (blocks k log)) new → IsTold k (log ++ record { command = c; reply = reply } ∷ []) new
+unfolding story
+told_more k log old new c reply tells answer holds =
+    let e : Entry = record { command = c; reply = reply } in
+    record {
+      ready = tells.ready;
+      legal = IsLegal-push k.setting _ log e tells.legal answer;
+      holds =
+          subst (λ (s : Story). Holds k s (blocks k (log ++ e ∷ [])) new) (sym (story-push k log e))
+          (subst (λ (m : Blocks). Holds k (told (story k log) c reply) m new) (sym (blocks-push k log e)) holds);
+    }
+
+-- a grid in which only the draft's own tiles differ has the same versions
+same_versions : (g new : Tiled) → new ≡ record g { own = new.own } → (v : ℕ) → bitmap_at new v ≡ bitmap_at g v
+unfolding bitmap_at
+same_versions g new others v = ap (λ (x : Tiled). bitmap_at x v) others
+
+-- and so newest's bitmap
+same_published : (g new : Tiled) → new ≡ record g { own = new.own } → bitmap_at new new.newest ≡ bitmap_at g g.newest
+unfolding bitmap_at
+same_published g new others = ap (λ (x : Tiled). bitmap_at x x.newest) others
+
+-- what is held where only the draft has changed, and the log's versions are the same
+pub holds_draft : (k : Base) (s t : Story) (m n : Blocks) (old new : Holding) → Holds k s m old → new.grid ≡ record old.grid { own = new.grid.own } → new.arena.home ≡ old.arena.home
+    → IsSummary k t n record (summary_of old) { ledger = new.ledger; draft = draft new.grid; own = own_blocks new.grid; free = new.arena.free }
+    → newest t ≡ newest s → t.floor ≡ s.floor → ((v : ℕ) → bitmap_of t v ≡ bitmap_of s v) → directory_of n (newest t) ≡ directory_of m (newest s) → Holds k t n new
+unfolding IsKept
+holds_draft k s t m n old new holds others home kept newest_same floor_same bitmaps directory = record {
+  summary = record {
+    ledger_is = kept.ledger_is;
+    draft_is = kept.draft_is;
+    published_is = same_published old.grid new.grid others ∙ kept.published_is;
+    came_long = ap (λ (g : Tiled). length g.came) others ∙ kept.came_long;
+    came_is = λ p h. ap (λ (g : Tiled). get_or g.came p 0) others ∙ kept.came_is p h;
+    own_is = kept.own_is;
+    free_is = kept.free_is;
+    retired_is = ap retired_blocks others ∙ kept.retired_is;
+  };
+  newest_is = ap (λ (g : Tiled). g.newest) others ∙ (holds.newest_is ∙ sym newest_same);
+  mapped = ap newest_blocks others ∙ (holds.mapped ∙ sym directory);
+  versions = λ v is_kept. same_versions old.grid new.grid others v ∙ (holds.versions v (omega (arith, is_kept.0, floor_same), omega (arith, is_kept.1, newest_same)) ∙ sym (bitmaps v));
+  home_is = ap (λ (g : Tiled). g.home) others ∙ (holds.home_is ∙ sym home);
+  count_is = ap (λ (x : Home). x.count) home ∙ holds.count_is;
+  room_is = ap (λ (g : Tiled). g.room) others ∙ holds.room_is;
+}

@@ -1,0 +1,38 @@
+-- What is held at the opening.
+use Rattle.std.proofs.Common.{sym, ap, ◌∙◌, length, arith}
+use Rattle.std.proofs.lemmas.List.FromFn.{length-range_with_len}
+use Rattle.arena.specs.Blocks.{Home}
+use Rattle.map_core.proofs.OpenWorld.{bad_field-none}
+use Rattle.desk.proofs.HoldOpen.{told_new}
+use Rattle.desk.proofs.holding.Holding.of.Goals as goal
+
+pub new-requires : goal.new-requires
+new-requires c = (bad_field-none _ _ c.requires).few_blocks
+
+pub open-requires : goal.open-requires
+open-requires c = omega (arith, (bad_field-none _ _ c.requires).blocks, ap length c.in_ok-arena.ensures.free, length-range_with_len 0 c.args.setting.blocks)
+
+pub end-requires : goal.end-requires
+end-requires c =
+    ap length (c.in-Err.ensures.memory.1 ∙ c.in_ok-arena.ensures.free) ∙ (length-range_with_len 0 c.args.setting.blocks ∙ sym (ap (λ (h : Home). h.count) c.open.ensures.home ∙ c.in_ok-arena.ensures.count))
+
+pub returns-in-Ok-clause-opened : goal.returns-in-Ok-clause-opened
+returns-in-Ok-clause-opened c =
+    let opened = c.in-Ok.ensures.opened in
+    let blocks = length-range_with_len 0 c.args.setting.blocks in
+    told_new c.args.setting c.args.map.now _ record {
+      fits = c.requires;
+      bitmap = c.width.ensures.bitmap;
+      ledger_is = c.of.ensures;
+      draft_is = opened.0;
+      version_0 = opened.1;
+      newest_is = opened.2;
+      own_is = opened.3;
+      parts = sym c.in_ok-arena.ensures.free ∙ opened.4;
+      came_is = opened.5;
+      retired_is = opened.6;
+      pieces_long = c.in-Ok.ensures.tiles;
+      home_is = opened.7 ∙ sym c.open.ensures.home;
+      room_is = opened.8 ∙ (ap length c.in_ok-arena.ensures.free ∙ blocks);
+      count_is = ap (λ (h : Home). h.count) c.open.ensures.home ∙ c.in_ok-arena.ensures.count;
+    }

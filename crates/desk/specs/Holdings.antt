@@ -1,0 +1,59 @@
+-- What a desk holds of a map, and what that says of its log: this project's own rule.
+use Rattle.std.specs.Prelude.{◌≡◌, ℕ, ◌+◌, ◌≤◌, ◌⊎◌, List, [], ◌∷◌, ◌++◌, length, Option, Some, None}
+use Rattle.metric.specs.declared.refusal.Refusal.{Refusal}
+use Rattle.metric.specs.declared.refusal.Refusal.TheVariants.{Memory}
+use Rattle.map_core.specs.declared.command.Command.{Command}
+use Rattle.map_core.specs.declared.command.Reply.{Reply}
+use Rattle.map_core.specs.declared.command.Entry.{Entry}
+use Rattle.map_core.specs.Story.{Story, newest, bitmap_of, IsKept}
+use Rattle.map_core.specs.Legal.{refused, IsAnswer, IsLegal}
+use Rattle.map_core.specs.Blocks.{Blocks, directory_of, own_list}
+use Rattle.map_core.specs.Words.{Base}
+use Rattle.map_core.specs.Views.{story, blocks}
+use Rattle.map_core.specs.Tidy.{IsReady}
+use Rattle.map_core.specs.Ledger.{IsBalanced}
+use Rattle.map_core.specs.Summary.{Summary, IsSummary}
+use Rattle.grid.specs.Grids.{draft, bitmap_at, own_blocks, newest_blocks, retired_blocks}
+use Rattle.desk.specs.declared.holding.Holding.{Holding}
+
+-- what is kept of the log
+abbrev pub summary_of : Holding → Summary
+summary_of h =
+    record { ledger = h.ledger; draft = draft h.grid; published = bitmap_at h.grid h.grid.newest; came = h.grid.came; own = own_blocks h.grid; free = h.arena.free; retired = retired_blocks h.grid }
+
+-- ledger, tiles and free blocks are what a story and its blocks say
+pub record Holds (k : Base) (s : Story) (m : Blocks) (h : Holding) : Type 0 where
+  pub summary : IsSummary k s m (summary_of h)
+  pub newest_is : h.grid.newest ≡ newest s
+  pub mapped : newest_blocks h.grid ≡ directory_of m (newest s)
+  pub versions : (v : ℕ) → IsKept s v → bitmap_at h.grid v ≡ bitmap_of s v
+  -- the tiles come from the arena, which has as many blocks as the setting says
+  pub home_is : h.grid.home ≡ h.arena.home
+  pub count_is : h.arena.home.count ≡ k.setting.blocks
+  pub room_is : h.grid.room ≡ k.setting.blocks
+
+-- what is held is what a legal log of the map tells
+pub record IsTold (k : Base) (log : List Entry) (h : Holding) : Type 0 where
+  pub ready : IsReady k
+  pub legal : IsLegal k.setting k.opening log
+  pub holds : Holds k (story k log) (blocks k log) h
+
+-- a command can be answered: the ledger has room, and the tiles are the arena's
+pub record CanAnswer (h : Holding) : Type 0 where
+  pub balanced : IsBalanced h.ledger
+  pub newest_is : h.grid.newest ≡ h.ledger.newest
+  pub home_is : h.grid.home ≡ h.arena.home
+  pub room : length h.grid.retired + length (own_list (own_blocks h.grid)) ≤ h.grid.room
+
+-- a command is refused for this reason, or for none, after whatever log tells what is held
+abbrev pub Judges : Holding → Command → Option Refusal → Type 0
+Judges h c refusal = (k : Base) (log : List Entry) → IsTold k log h → refusal ≡ refused k.setting (story k log) c
+
+-- a command is refused: for this reason by the log, or for want of memory, where the log has no reason
+abbrev pub Refuses : Holding → Command → Refusal → Type 0
+Refuses h c refusal = Judges h c (Some refusal) ⊎ (Judges h c None × (refusal ≡ Memory))
+
+-- a command is answered after whatever log tells what is held, and then the log with that entry tells it
+abbrev pub Does : Holding → Command → Reply → Holding → Type 0
+Does old c reply new =
+    (k : Base) (log : List Entry) → IsTold k log old → IsAnswer k.setting (story k log) c reply × IsTold k (log ++ record { command = c; reply = reply } ∷ []) new

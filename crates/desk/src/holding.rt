@@ -1,0 +1,65 @@
+//! What a desk holds of a map: its ledger, its draft and versions as tiles, and the arena of their blocks.
+
+mod answer;
+
+ghost use Rattle.std.specs.Prelude.{◌≡◌, ◌+◌, [], length, IfOk, IfErr};
+ghost use Rattle.bits.specs.Tiles.{tile_count};
+ghost use Rattle.metric.specs.declared.refusal.Refusal.TheVariants.{Memory};
+ghost use Rattle.map_core.specs.Blocks.{own_list};
+ghost use Rattle.map_core.specs.Setting.{bad_field};
+ghost use Rattle.grid.specs.Grids.{own_blocks};
+ghost use Rattle.desk.specs.Holdings.{IsTold};
+
+use arena::Arena;
+use bits::Bitmap;
+use grid::Grid;
+use map_core::{Ledger, Setting};
+use metric::Refusal;
+use std::alloc::Global;
+
+/// What a desk holds of a map. It can't be let go: it is ended.
+pub struct Holding {
+    pub ledger: Ledger,
+    pub grid: Grid,
+    pub arena: Arena,
+}
+
+impl Holding {
+    /// What is held of a map that is opened on this bitmap: its draft and version 0 are the bitmap, and its log is empty.
+    ///
+    /// All room is taken here. Refused for want of memory alone.
+    pub fn of(alloc: Global, setting: Setting, map: &Bitmap) -> Result<Holding, Refusal>
+        requires { bad_field (tile_count map.now) setting ≡ None }
+        ensures opened { IfOk result (IsTold record { setting = setting; opening = map.now } []) }
+        ensures memory { IfErr result (λ refusal. refusal ≡ Memory) }
+    {
+        // Asking for a side shows the proof that it is a bitmap.
+        let _ = map.width();
+        let mut arena = Arena::new(alloc, setting.blocks)?;
+        match Grid::open(alloc, map, &mut arena) {
+            Ok(grid) => Ok(Holding {
+                ledger: Ledger::of(setting, map),
+                grid,
+                arena,
+            }),
+            Err(refusal) => {
+                arena.end();
+                Err(refusal)
+            }
+        }
+    }
+
+    /// Gives all blocks back, and ends the arena.
+    pub fn end(self)
+        requires home { self.grid.home ≡ self.arena.home }
+        requires all { length self.arena.free + (length (own_list (own_blocks self.grid)) + (length self.grid.pieces + length self.grid.retired)) ≡ self.arena.home.count }
+    {
+        let Holding {
+            ledger: _,
+            grid,
+            mut arena,
+        } = self;
+        grid.end(&mut arena);
+        arena.end();
+    }
+}

@@ -1,0 +1,56 @@
+-- What a ledger counts of a log, and which commands it refuses: this project's own rule.
+use Rattle.std.specs.Prelude.{◌≡◌, suc, ◌+◌, ◌-◌, ◌^◌, ◌<◌, ◌≤◌, nat_le, Bool, Option, Some, None, if◌then◌else◌}
+use Rattle.metric.specs.declared.refusal.Refusal.{Refusal}
+use Rattle.metric.specs.declared.refusal.Refusal.TheVariants.{OutOfRange, VersionsFull, LogFull}
+use Rattle.map_core.specs.declared.command.Command.{Command}
+use Rattle.map_core.specs.declared.command.Command.TheVariants.{Paint, Stamp, Publish, Revert, Collect}
+use Rattle.map_core.specs.declared.ledger.Ledger.{Ledger}
+use Rattle.map_core.specs.declared.setting.Setting.{Setting}
+use Rattle.map_core.specs.Drawing.{lies_within}
+use Rattle.map_core.specs.Legal.{refused_blocks}
+use Rattle.map_core.specs.Story.{Story, newest}
+use Rattle.map_core.specs.Words.{Base}
+
+-- a ledger counts what a story of this map has
+pub record IsLedger (k : Base) (s : Story) (l : Ledger) : Type 0 where
+  pub setting_is : l.setting ≡ k.setting
+  pub width_is : l.width ≡ k.opening.width
+  pub height_is : l.height ≡ k.opening.height
+  pub places_is : l.places ≡ s.places
+  pub newest_is : l.newest ≡ newest s
+  pub floor_is : l.floor ≡ s.floor
+
+-- a ledger has room for one more entry, and keeps newest
+pub record IsBalanced (l : Ledger) : Type 0 where
+  pub floor_in : l.floor ≤ l.newest
+  pub few_versions : l.newest + 1 < 2 ^ 32
+  pub few_places : l.places + 1 < 2 ^ 32
+
+-- whether as many versions are kept as there are slots
+abbrev pub has_no_slot : Ledger → Bool
+has_no_slot l = nat_le l.setting.versions (suc l.newest - l.floor)
+
+-- why a command is refused for want of a slot; a publish alone takes one
+abbrev pub refused_slots : Ledger → Command → Option Refusal
+refused_slots l (Paint r black) = None
+refused_slots l (Stamp x y b) = None
+refused_slots l Publish = if has_no_slot l then Some VersionsFull else None
+refused_slots l Revert = None
+refused_slots l Collect = None
+
+-- why a ledger refuses a command, blocks aside
+unfoldable pub refused_by_ledger : Ledger → Command → Option Refusal
+refused_by_ledger l c = if lies_within l.width l.height c then (if nat_le l.setting.log l.places then Some LogFull else refused_slots l c) else Some OutOfRange
+
+-- why a command is refused for want of blocks; a paint or a stamp alone takes some
+abbrev pub refused_draw_blocks : Setting → Story → Command → Option Refusal
+refused_draw_blocks g s (Paint r black) = refused_blocks g s (Paint r black)
+refused_draw_blocks g s (Stamp x y b) = refused_blocks g s (Stamp x y b)
+refused_draw_blocks g s Publish = None
+refused_draw_blocks g s Revert = None
+refused_draw_blocks g s Collect = None
+
+-- the first of two refusals
+abbrev pub first_refusal : Option Refusal → Option Refusal → Option Refusal
+first_refusal (Some refusal) next = Some refusal
+first_refusal None next = next

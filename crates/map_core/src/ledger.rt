@@ -1,0 +1,139 @@
+//! The ledger of a log: what is counted of it, which commands that refuses, and the replies.
+
+ghost use Rattle.std.specs.Prelude.{◌≡◌, ◌+◌, Some, None, if◌then◌else◌};
+ghost use Rattle.metric.specs.declared.refusal.Refusal.TheVariants.{VersionsFull};
+ghost use Rattle.map_core.specs.declared.command.Reply.TheVariants.{Painted, Published, Reverted, Collected};
+ghost use Rattle.map_core.specs.Ledger.{IsBalanced, has_no_slot, refused_by_ledger};
+ghost use Rattle.map_core.specs.Words.{now_word};
+
+use crate::command::{Command, Reply};
+use crate::now::Now;
+use crate::setting::Setting;
+use bits::Bitmap;
+use metric::Refusal;
+
+/// What is counted of a log: how many entries it has, the newest version, and the least that is kept; with the setting and the size of the map.
+///
+/// Whoever keeps a log enters each command that it does, and has the reply from here.
+#[derive(Clone, Copy, Debug)]
+pub struct Ledger {
+    pub setting: Setting,
+    pub width: u16,
+    pub height: u16,
+    pub places: u32,
+    pub newest: u32,
+    pub floor: u32,
+}
+
+impl Ledger {
+    /// The ledger of the empty log of a map that is opened on this bitmap.
+    pub fn of(setting: Setting, map: &Bitmap) -> Ledger
+        ensures { result ≡ record { setting = setting; width = map.now.width; height = map.now.height; places = 0; newest = 0; floor = 0 } }
+    {
+        Ledger {
+            setting,
+            width: map.width(),
+            height: map.height(),
+            places: 0,
+            newest: 0,
+            floor: 0,
+        }
+    }
+
+    /// Whether a publish is refused for want of a slot.
+    fn judge_slots(&self) -> Option<Refusal>
+        requires { IsBalanced self.now }
+        ensures { result ≡ (if has_no_slot self.now then Some VersionsFull else None) }
+    {
+        if self.setting.versions <= self.newest + 1 - self.floor {
+            Some(Refusal::VersionsFull)
+        } else {
+            None
+        }
+    }
+
+    /// Why a command is refused, blocks aside, if it is: for its area (`OutOfRange`), for want of room in the log (`LogFull`) or, a publish,
+    /// of a slot (`VersionsFull`), in this order.
+    #[tactic(auto, unfolding(crate::specs::Ledger::refused_by_ledger))]
+    pub fn judge(&self, command: &Command) -> Option<Refusal>
+        requires { IsBalanced self.now }
+        ensures { result ≡ refused_by_ledger self.now command.now }
+    {
+        if !command.lies_within(self.width, self.height) {
+            return Some(Refusal::OutOfRange);
+        }
+        if self.setting.log <= self.places {
+            return Some(Refusal::LogFull);
+        }
+        match command {
+            Command::Paint { .. } => None,
+            Command::Stamp { .. } => None,
+            Command::Publish => self.judge_slots(),
+            Command::Revert => None,
+            Command::Collect => None,
+        }
+    }
+
+    /// Enters a paint or a stamp that changed so many cells.
+    pub fn enter_draw(&mut self, changed: u32) -> Reply
+        requires { IsBalanced self.old }
+        ensures entered { self.new ≡ record self.old { places = self.old.places + 1 } }
+        ensures reply { result ≡ Painted (self.old.places + 1) changed }
+    {
+        self.places += 1;
+        Reply::Painted {
+            place: self.places,
+            changed,
+        }
+    }
+
+    /// Enters a publish.
+    pub fn enter_publish(&mut self) -> Reply
+        requires { IsBalanced self.old }
+        ensures entered { self.new ≡ record self.old { places = self.old.places + 1; newest = self.old.newest + 1 } }
+        ensures reply { result ≡ Published (self.old.places + 1) (self.old.newest + 1) }
+    {
+        self.places += 1;
+        self.newest += 1;
+        Reply::Published {
+            place: self.places,
+            version: self.newest,
+        }
+    }
+
+    /// Enters a revert.
+    pub fn enter_revert(&mut self) -> Reply
+        requires { IsBalanced self.old }
+        ensures entered { self.new ≡ record self.old { places = self.old.places + 1 } }
+        ensures reply { result ≡ Reverted (self.old.places + 1) }
+    {
+        self.places += 1;
+        Reply::Reverted { place: self.places }
+    }
+
+    /// Enters a collect that raised the floor to this version, and gave so many blocks back.
+    pub fn enter_collect(&mut self, floor: u32, freed: u32) -> Reply
+        requires { IsBalanced self.old }
+        ensures entered { self.new ≡ record self.old { places = self.old.places + 1; floor = floor } }
+        ensures reply { result ≡ Collected (self.old.places + 1) floor freed }
+    {
+        self.places += 1;
+        self.floor = floor;
+        Reply::Collected {
+            place: self.places,
+            floor,
+            freed,
+        }
+    }
+
+    /// The word NOW after the log.
+    pub fn now_word(&self) -> u64
+        ensures { result ≡ now_word self.now.places self.now.newest }
+    {
+        let now = Now {
+            place: self.places,
+            version: self.newest,
+        };
+        now.word()
+    }
+}
