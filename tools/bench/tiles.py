@@ -43,7 +43,7 @@ def build(folder):
     kept = [line for line in lines if line.split(":")[0] in wanted]
     (folder / "crates").mkdir()
     for name in wanted:
-        shutil.copytree(ROOT / "crates" / name, folder / "crates" / name)
+        shutil.copytree(ROOT / "crates" / name, folder / "crates" / name, ignore=shutil.ignore_patterns("incremental"))
     shutil.copy(ROOT / "HANDLES", folder / "HANDLES")
     (folder / "crates.txt").write_text("\n".join(kept) + "\n")
     subprocess.run(["rt", "new", "crates/measure", "start_io"], cwd=folder, check=True, capture_output=True)
