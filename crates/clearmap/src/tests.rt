@@ -1,12 +1,14 @@
 //! The worked rows through the engine, streams that fail, and the command line.
 
 mod asking;
+pub mod compare;
 mod limits;
 mod runs;
 mod serving;
 
 use crate::arguments::{AskOptions, DistOptions, Fault, Options, ServeOptions};
 use crate::dist::dist_run;
+use crate::tests::compare::{holds, same};
 use crate::words::options;
 use metric::{MemorySink, MemorySource, MetricKind, Sink, Source};
 use std::process::Abort;
@@ -124,12 +126,9 @@ fn images_are_answered(rt: HostRuntime) {
         let mut reader = MemorySource::new(image);
         let mut writer = MemorySink::new(rt.alloc());
         let got = dist_run(rt.alloc(), &DEFAULT, &mut reader, &mut writer);
-        assert_eq!(rt; got, status, "at {image:?}");
-        assert_eq!(rt; writer.bytes(), want.as_bytes(), "at {image:?}");
-        assert!(rt;
-            reader.left().is_empty(),
-            "the input is read to its end at {image:?}"
-        );
+        same(&rt, got, status, image);
+        same(&rt, writer.bytes(), want.as_bytes(), image);
+        holds(&rt, reader.left().is_empty(), ("left to read", image));
     }
 }
 
@@ -144,8 +143,8 @@ fn flags_are_heeded(rt: HostRuntime) {
         let mut reader = MemorySource::new(image);
         let mut writer = MemorySink::new(rt.alloc());
         let status = dist_run(rt.alloc(), &options, &mut reader, &mut writer);
-        assert_eq!(rt; status, 0, "at {want:?}");
-        assert_eq!(rt; writer.bytes(), want.as_bytes(), "at {want:?}");
+        same(&rt, status, 0, want);
+        same(&rt, writer.bytes(), want.as_bytes(), want);
     }
 }
 
@@ -159,12 +158,9 @@ fn queries_are_answered(rt: HostRuntime) {
         let mut reader = MemorySource::new(image);
         let mut writer = MemorySink::new(rt.alloc());
         let got = dist_run(rt.alloc(), &options, &mut reader, &mut writer);
-        assert_eq!(rt; got, status, "at {line:?}");
-        assert_eq!(rt; writer.bytes(), want.as_bytes(), "at {line:?}");
-        assert!(rt;
-            reader.left().is_empty(),
-            "the input is read to its end at {line:?}"
-        );
+        same(&rt, got, status, line);
+        same(&rt, writer.bytes(), want.as_bytes(), line);
+        holds(&rt, reader.left().is_empty(), ("left to read", line));
     }
 }
 
@@ -176,9 +172,9 @@ fn the_line_is_taken(rt: HostRuntime) -> Result<(), Fail> {
         ..DEFAULT
     };
     let said = options(rt.alloc(), &words)?;
-    assert_eq!(rt; said, Options::Dist(wanted));
+    same(&rt, said, Options::Dist(wanted), "said");
     let steps = options(rt.alloc(), &["clearmap", "steps"])?;
-    assert_eq!(rt; steps, Options::Steps);
+    same(&rt, steps, Options::Steps, "steps");
     Ok(())
 }
 
@@ -187,15 +183,20 @@ fn written_after_failed_read<R: Abort + AllocGlobal>(rt: &R, read: u64) -> usize
     let mut reader = MemorySource::new(ROOM).failing_at(read);
     let mut writer = MemorySink::new(rt.alloc());
     let status = dist_run(rt.alloc(), &DEFAULT, &mut reader, &mut writer);
-    assert_eq!(rt; status, 1, "at read {read}");
-    assert_eq!(rt; reader.failed_reads(), 1, "at read {read}");
+    same(rt, status, 1, ("at read", read));
+    same(rt, reader.failed_reads(), 1, ("at read", read));
     writer.bytes().len()
 }
 
 #[test]
 fn a_failed_read_writes_nothing(rt: HostRuntime) {
     for read in 1..16 {
-        assert_eq!(rt; written_after_failed_read(&rt, read), 0, "at read {read}");
+        same(
+            &rt,
+            written_after_failed_read(&rt, read),
+            0,
+            ("at read", read),
+        );
     }
 }
 
@@ -207,9 +208,9 @@ fn a_failed_write_ends_the_run(rt: HostRuntime) {
         let mut reader = MemorySource::new(ROOM);
         let mut writer = MemorySink::new(rt.alloc()).failing_at(call);
         let status = dist_run(rt.alloc(), &DEFAULT, &mut reader, &mut writer);
-        assert_eq!(rt; status, 1, "at call {call}");
-        assert_eq!(rt; writer.bytes(), want, "at call {call}");
-        assert_eq!(rt; writer.failed_writes(), 1, "at call {call}");
+        same(&rt, status, 1, ("at call", call));
+        same(&rt, writer.bytes(), want, ("at call", call));
+        same(&rt, writer.failed_writes(), 1, ("at call", call));
     }
 }
 
@@ -251,7 +252,12 @@ const SERVED: ServeOptions = ServeOptions {
 #[test]
 fn words_of_the_network_are_read(rt: HostRuntime) -> Result<(), Fail> {
     let bare = ["clearmap", "serve", "--connections", "1000000"];
-    assert_eq!(rt; options(rt.alloc(), &bare)?, Options::Serve(SERVED));
+    same(
+        &rt,
+        options(rt.alloc(), &bare)?,
+        Options::Serve(SERVED),
+        "options",
+    );
     let full = [
         "clearmap",
         "serve",
@@ -272,11 +278,18 @@ fn words_of_the_network_are_read(rt: HostRuntime) -> Result<(), Fail> {
         log: 7,
         workers: 16,
     };
-    assert_eq!(rt; options(rt.alloc(), &full)?, Options::Serve(want));
+    same(
+        &rt,
+        options(rt.alloc(), &full)?,
+        Options::Serve(want),
+        "options",
+    );
     let ask = ["clearmap", "ask", "--port", "7400"];
-    assert_eq!(rt;
+    same(
+        &rt,
         options(rt.alloc(), &ask)?,
-        Options::Ask(AskOptions { port: 7400 })
+        Options::Ask(AskOptions { port: 7400 }),
+        "options",
     );
     Ok(())
 }
@@ -285,14 +298,15 @@ fn words_of_the_network_are_read(rt: HostRuntime) -> Result<(), Fail> {
 fn words_are_read(rt: HostRuntime) -> Result<(), Fail> {
     for (words, metric, nearest) in WORDS {
         let said = options(rt.alloc(), words)?;
-        assert_eq!(rt;
+        same(
+            &rt,
             said,
             Options::Dist(DistOptions {
                 metric,
                 nearest,
                 query: None,
             }),
-            "at {words:?}"
+            words,
         );
     }
     Ok(())
@@ -309,45 +323,58 @@ fn status_of<R: AllocGlobal>(rt: &R, words: &[&str]) -> Option<i32> {
 
 #[test]
 fn mistakes_are_told_from_wishes(rt: HostRuntime) {
-    assert_eq!(rt;
+    same(
+        &rt,
         status_of(&rt, &["clearmap"]),
         Some(2),
-        "a command is wanted"
+        "a command is wanted",
     );
-    assert_eq!(rt;
+    same(
+        &rt,
         status_of(&rt, &["clearmap", "dits"]),
         Some(2),
-        "an unknown command"
+        "an unknown command",
     );
-    assert_eq!(rt;
+    same(
+        &rt,
         status_of(&rt, &["clearmap", "dist", "map.pbm"]),
         Some(2),
-        "a word too many"
+        "a word too many",
     );
-    assert_eq!(rt;
+    same(
+        &rt,
         status_of(&rt, &["clearmap", "dist", "--fast"]),
         Some(2),
-        "an unknown flag"
+        "an unknown flag",
     );
-    assert_eq!(rt;
+    same(
+        &rt,
         status_of(&rt, &["clearmap", "dist", "--metric", "taxi"]),
         Some(2),
-        "an unknown metric"
+        "an unknown metric",
     );
-    assert_eq!(rt;
+    same(
+        &rt,
         status_of(&rt, &["clearmap", "dist", "--metric"]),
         Some(2),
-        "no metric"
+        "no metric",
     );
-    assert_eq!(rt; status_of(&rt, &["clearmap", "--help"]), Some(0), "help");
-    assert_eq!(rt;
+    same(
+        &rt,
+        status_of(&rt, &["clearmap", "--help"]),
+        Some(0),
+        "help",
+    );
+    same(
+        &rt,
         status_of(&rt, &["clearmap", "dist", "--help"]),
         Some(0),
-        "help for dist"
+        "help for dist",
     );
-    assert_eq!(rt;
+    same(
+        &rt,
         status_of(&rt, &["clearmap", "--version"]),
         Some(0),
-        "the version"
+        "the version",
     );
 }

@@ -1,6 +1,7 @@
 //! Worked texts through the engine, lines of other forms, and streams that fail.
 
 use crate::steps::steps_run;
+use crate::tests::compare::{holds, same};
 use metric::{MemorySink, MemorySource, Sink, Source};
 use std::alloc::Global;
 use std::test::Fail;
@@ -180,9 +181,9 @@ fn lines_are_answered(rt: HostRuntime) -> Result<(), Fail> {
         let mut reader = MemorySource::new(text.as_bytes());
         let mut writer = MemorySink::new(rt.alloc());
         let status = steps_run(rt.alloc(), &mut reader, &mut writer);
-        assert_eq!(rt; writer.bytes(), answers.as_bytes(), "at {text:?}");
-        assert_eq!(rt; status, 0, "at {text:?}");
-        assert!(rt; reader.left().is_empty(), "the input is read to its end");
+        same(&rt, writer.bytes(), answers.as_bytes(), &text);
+        same(&rt, status, 0, &text);
+        holds(&rt, reader.left().is_empty(), ("left to read", &text));
     }
     Ok(())
 }
@@ -193,8 +194,8 @@ fn first_lines_are_refused(rt: HostRuntime) {
         let mut reader = MemorySource::new(text.as_bytes());
         let mut writer = MemorySink::new(rt.alloc());
         let status = steps_run(rt.alloc(), &mut reader, &mut writer);
-        assert_eq!(rt; writer.bytes(), want.as_bytes(), "at {text:?}");
-        assert_eq!(rt; status, 1, "at {text:?}");
+        same(&rt, writer.bytes(), want.as_bytes(), text);
+        same(&rt, status, 1, text);
     }
 }
 
@@ -206,8 +207,13 @@ fn what_no_line_feed_ends_is_no_line(rt: HostRuntime) {
     let mut reader = MemorySource::new(SHORT.as_bytes());
     let mut writer = MemorySink::new(rt.alloc());
     let status = steps_run(rt.alloc(), &mut reader, &mut writer);
-    assert_eq!(rt; status, 0);
-    assert_eq!(rt; writer.bytes(), b"OPENED 1\nNOW 0 0\n".as_slice());
+    same(&rt, status, 0, "status");
+    same(
+        &rt,
+        writer.bytes(),
+        b"OPENED 1\nNOW 0 0\n".as_slice(),
+        "bytes",
+    );
 }
 
 #[test]
@@ -216,9 +222,9 @@ fn a_failed_read_writes_nothing(rt: HostRuntime) {
         let mut reader = MemorySource::new(SHORT.as_bytes()).failing_at(read);
         let mut writer = MemorySink::new(rt.alloc());
         let status = steps_run(rt.alloc(), &mut reader, &mut writer);
-        assert_eq!(rt; status, 1, "at read {read}");
-        assert_eq!(rt; reader.failed_reads(), 1, "at read {read}");
-        assert!(rt; writer.bytes().is_empty(), "at read {read}");
+        same(&rt, status, 1, ("at read", read));
+        same(&rt, reader.failed_reads(), 1, ("at read", read));
+        holds(&rt, writer.bytes().is_empty(), ("at read", read));
     }
 }
 
@@ -230,8 +236,8 @@ fn a_failed_write_ends_the_run(rt: HostRuntime) {
         let mut reader = MemorySource::new(SHORT.as_bytes());
         let mut writer = MemorySink::new(rt.alloc()).failing_at(call);
         let status = steps_run(rt.alloc(), &mut reader, &mut writer);
-        assert_eq!(rt; status, 1, "at call {call}");
-        assert_eq!(rt; writer.bytes(), want, "at call {call}");
-        assert_eq!(rt; writer.failed_writes(), 1, "at call {call}");
+        same(&rt, status, 1, ("at call", call));
+        same(&rt, writer.bytes(), want, ("at call", call));
+        same(&rt, writer.failed_writes(), 1, ("at call", call));
     }
 }

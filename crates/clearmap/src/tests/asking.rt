@@ -1,6 +1,7 @@
 //! Lines that are asked: what is sent, what is printed, and servers that end early.
 
 use crate::ask::ask_run;
+use crate::tests::compare::{holds, same};
 use metric::{MemorySink, MemorySource, MemoryStream, Sink, Source};
 
 /// What comes in, what the server says, what is sent and printed, and the status.
@@ -90,9 +91,9 @@ fn lines_are_asked(rt: HostRuntime) {
         let mut reader = MemorySource::new(input);
         let mut writer = MemorySink::new(rt.alloc());
         let got = ask_run(rt.alloc(), &mut stream, &mut reader, &mut writer);
-        assert_eq!(rt; got, *status, "run {number}");
-        assert_eq!(rt; stream.bytes(), *sent, "what run {number} sends");
-        assert_eq!(rt; writer.bytes(), *printed, "what run {number} prints");
+        same(&rt, got, *status, ("run", number));
+        same(&rt, stream.bytes(), *sent, ("sent", number));
+        same(&rt, writer.bytes(), *printed, ("printed", number));
     }
 }
 
@@ -112,8 +113,8 @@ fn a_failed_connection_is_told(rt: HostRuntime) {
         let status = ask_run(rt.alloc(), &mut stream, &mut reader, &mut writer);
         let printed = writer.bytes();
         match printed.strip_suffix(b"FAULT net\n".as_slice()) {
-            Some(front) => assert!(rt; status == 1 && SAID.starts_with(front), "read {k}"),
-            None => assert!(rt; status == 0 && printed == SAID, "read {k}"),
+            Some(front) => holds(&rt, status == 1 && SAID.starts_with(front), ("read", k)),
+            None => holds(&rt, status == 0 && printed == SAID, ("read", k)),
         }
     }
     for k in 1..20u64 {
@@ -122,10 +123,11 @@ fn a_failed_connection_is_told(rt: HostRuntime) {
         let mut reader = MemorySource::new(INPUT);
         let mut writer = MemorySink::new(rt.alloc());
         let status = ask_run(rt.alloc(), &mut stream, &mut reader, &mut writer);
-        assert!(rt; INPUT.starts_with(stream.bytes()), "write {k}");
-        assert!(rt;
+        holds(&rt, INPUT.starts_with(stream.bytes()), ("write", k));
+        holds(
+            &rt,
             status == 0 || writer.bytes().ends_with(b"FAULT net\n"),
-            "write {k}"
+            ("write", k),
         );
     }
 }
@@ -138,15 +140,15 @@ fn a_failed_standard_stream_ends_the_run(rt: HostRuntime) {
         let mut writer = MemorySink::new(rt.alloc());
         let status = ask_run(rt.alloc(), &mut stream, &mut reader, &mut writer);
         let failed = reader.failed_reads() == 1;
-        assert!(rt; failed == (status == 1), "read {k}");
-        assert!(rt; SAID.starts_with(writer.bytes()), "read {k}");
+        holds(&rt, failed == (status == 1), ("read", k));
+        holds(&rt, SAID.starts_with(writer.bytes()), ("read", k));
     }
     for k in 1..9u64 {
         let mut stream = MemoryStream::new(MemorySource::new(SAID), MemorySink::new(rt.alloc()));
         let mut reader = MemorySource::new(INPUT);
         let mut writer = MemorySink::new(rt.alloc()).failing_at(k);
         let status = ask_run(rt.alloc(), &mut stream, &mut reader, &mut writer);
-        assert_eq!(rt; status, 1, "write {k}");
-        assert!(rt; SAID.starts_with(writer.bytes()), "write {k}");
+        same(&rt, status, 1, ("write", k));
+        holds(&rt, SAID.starts_with(writer.bytes()), ("write", k));
     }
 }

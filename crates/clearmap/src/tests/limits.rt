@@ -4,6 +4,7 @@ ghost use Rattle.std.specs.Prelude.{◌<◌};
 
 use crate::arguments::DistOptions;
 use crate::dist::dist_run;
+use crate::tests::compare::same;
 use metric::{MemorySink, MemorySource, MetricKind};
 use std::alloc::Global;
 use std::process::Abort;
@@ -14,7 +15,7 @@ fn written<R: Abort + AllocGlobal>(rt: &R, options: &DistOptions<'_>, image: &[u
     let mut reader = MemorySource::new(image);
     let mut writer = MemorySink::new(rt.alloc());
     let status = dist_run(rt.alloc(), options, &mut reader, &mut writer);
-    assert_eq!(rt; status, 0);
+    same(rt, status, 0, "status");
     writer
 }
 
@@ -57,7 +58,7 @@ fn images_of_many_rows(rt: HostRuntime) -> Result<(), Fail> {
                     want.push_str(format!(in rt.alloc(); "{far}/0/0{end}")?.as_str())?;
                 }
             }
-            assert_eq!(rt; writer.bytes(), want.as_bytes(), "at {height} rows");
+            same(&rt, writer.bytes(), want.as_bytes(), ("rows", height));
         }
     }
     Ok(())
@@ -72,7 +73,7 @@ fn images_without_an_obstacle(rt: HostRuntime) -> Result<(), Fail> {
             query: None,
         };
         let writer = written(&rt, &options, b"P1\n3 2\n000\n000\n");
-        assert_eq!(rt; writer.bytes(), b"- - -\n- - -\n".as_slice());
+        same(&rt, writer.bytes(), b"- - -\n- - -\n".as_slice(), "bytes");
     }
     Ok(())
 }
@@ -96,7 +97,12 @@ fn the_last_cell_of_the_largest_map(rt: HostRuntime) -> Result<(), Fail> {
         query: Some("AT euclid2 4095 4095"),
     };
     let writer = written(&rt, &options, image.as_slice());
-    assert_eq!(rt; writer.bytes(), b"OK 33538050 0 0\n".as_slice());
+    same(
+        &rt,
+        writer.bytes(),
+        b"OK 33538050 0 0\n".as_slice(),
+        "bytes",
+    );
     Ok(())
 }
 
@@ -116,7 +122,7 @@ fn a_path_of_a_thousand_points(rt: HostRuntime) -> Result<(), Fail> {
         let mut reader = MemorySource::new(b"P1\n3 2\n100\n000\n");
         let mut writer = MemorySink::new(rt.alloc());
         let _status = dist_run(rt.alloc(), &options, &mut reader, &mut writer);
-        assert_eq!(rt; writer.bytes(), want.as_bytes());
+        same(&rt, writer.bytes(), want.as_bytes(), "bytes");
     }
     Ok(())
 }

@@ -1,6 +1,7 @@
 //! Whole runs by their words: which stream a text goes to, its status, and streams that fail.
 
 use crate::engine::run_words;
+use crate::tests::compare::{holds, same};
 use metric::{MemorySink, MemorySource, Sink, Source};
 use std::process::Abort;
 
@@ -100,10 +101,10 @@ fn refused_words_are_told(rt: HostRuntime) {
         let mut writer = MemorySink::new(rt.alloc());
         let mut errors = MemorySink::new(rt.alloc());
         let got = run_words(rt.alloc(), words, &mut reader, &mut writer, &mut errors);
-        assert_eq!(rt; got, status, "at {words:?}");
-        assert_eq!(rt; writer.bytes(), text.as_bytes(), "at {words:?}");
-        assert_eq!(rt; errors.bytes(), mistake.as_bytes(), "at {words:?}");
-        assert_eq!(rt; reader.left().len(), 8, "nothing is read at {words:?}");
+        same(&rt, got, status, words);
+        same(&rt, writer.bytes(), text.as_bytes(), words);
+        same(&rt, errors.bytes(), mistake.as_bytes(), words);
+        same(&rt, reader.left().len(), 8, ("left to read", words));
     }
 }
 
@@ -153,9 +154,9 @@ fn words_are_done(rt: HostRuntime) {
         let mut writer = MemorySink::new(rt.alloc());
         let mut errors = MemorySink::new(rt.alloc());
         let got = run_words(rt.alloc(), words, &mut reader, &mut writer, &mut errors);
-        assert_eq!(rt; got, status, "at {words:?}");
-        assert_eq!(rt; writer.bytes(), text.as_bytes(), "at {words:?}");
-        assert!(rt; errors.bytes().is_empty(), "at {words:?}");
+        same(&rt, got, status, words);
+        same(&rt, writer.bytes(), text.as_bytes(), words);
+        holds(&rt, errors.bytes().is_empty(), words);
     }
 }
 
@@ -177,10 +178,10 @@ fn fails_at_each<R: Abort + AllocGlobal>(
         } else {
             run_words(rt.alloc(), words, &mut reader, &mut failing, &mut other)
         };
-        assert_eq!(rt; status, 1, "at call {call} of {words:?}");
-        assert_eq!(rt; failing.bytes(), want, "at call {call} of {words:?}");
-        assert_eq!(rt; failing.failed_writes(), 1, "at call {call} of {words:?}");
-        assert!(rt; other.bytes().is_empty(), "at call {call} of {words:?}");
+        same(rt, status, 1, (call, words));
+        same(rt, failing.bytes(), want, (call, words));
+        same(rt, failing.failed_writes(), 1, (call, words));
+        holds(rt, other.bytes().is_empty(), (call, words));
     }
 }
 
@@ -192,12 +193,13 @@ fn begins_at_each<R: Abort + AllocGlobal>(rt: &R, run: &(&[&str], &str, &str, u8
         let mut failing = MemorySink::new(rt.alloc()).failing_at(call);
         let mut errors = MemorySink::new(rt.alloc());
         let status = run_words(rt.alloc(), words, &mut reader, &mut failing, &mut errors);
-        assert_eq!(rt; status, 1, "at call {call} of {words:?}");
-        assert!(rt;
+        same(rt, status, 1, (call, words));
+        holds(
+            rt,
             text.as_bytes().starts_with(failing.bytes()),
-            "at call {call} of {words:?}"
+            (call, words),
         );
-        assert_eq!(rt; failing.failed_writes(), 1, "at call {call} of {words:?}");
+        same(rt, failing.failed_writes(), 1, (call, words));
     }
 }
 
@@ -227,11 +229,12 @@ fn a_failed_read_writes_nothing(rt: HostRuntime) {
         let mut writer = MemorySink::new(rt.alloc());
         let mut errors = MemorySink::new(rt.alloc());
         let status = run_words(rt.alloc(), &words, &mut reader, &mut writer, &mut errors);
-        assert_eq!(rt; status, 1, "at {words:?}");
-        assert_eq!(rt; reader.failed_reads(), 1, "at {words:?}");
-        assert!(rt;
+        same(&rt, status, 1, words);
+        same(&rt, reader.failed_reads(), 1, words);
+        holds(
+            &rt,
             writer.bytes().is_empty() && errors.bytes().is_empty(),
-            "at {words:?}"
+            words,
         );
     }
 }

@@ -5,6 +5,7 @@ use crate::ask::ask_run;
 use crate::net::ask;
 use crate::serve::serve_run;
 use crate::socket::Socket;
+use crate::tests::compare::same;
 use bits::Bitmap;
 use crossbeam_channel::{Receiver, Sender, bounded};
 use metric::{MemorySink, MemorySource};
@@ -98,11 +99,23 @@ fn two_clients_are_served(rt: HostRuntime) -> Result<(), Fail> {
         },
     );
     let (first, second) = asked;
-    assert_eq!(rt; first.0.bytes(), b"OK 1 1\nOK 2 1\nBYE\n".as_slice());
-    assert_eq!(rt; second.0.bytes(), b"OK 1\nOK 2 1 0\nBYE\n".as_slice());
-    assert_eq!(rt;
+    same(
+        &rt,
+        first.0.bytes(),
+        b"OK 1 1\nOK 2 1\nBYE\n".as_slice(),
+        "bytes",
+    );
+    same(
+        &rt,
+        second.0.bytes(),
+        b"OK 1\nOK 2 1 0\nBYE\n".as_slice(),
+        "bytes",
+    );
+    same(
+        &rt,
         served.0.bytes(),
-        told(alloc, port, "SERVED 2 2\n")?.as_bytes()
+        told(alloc, port, "SERVED 2 2\n")?.as_bytes(),
+        "bytes",
     );
     assert!(rt; first.1 == 0 && second.1 == 0 && served.1 == 0);
     Ok(())
@@ -148,9 +161,11 @@ fn a_broken_connection_counts(rt: HostRuntime) -> Result<(), Fail> {
             .bytes()
             .ends_with(b" 0 0\nERR 11 UnknownCommand\nBYE\n")
     );
-    assert_eq!(rt;
+    same(
+        &rt,
         served.0.bytes(),
-        told(alloc, port, "SERVED 5 2\n")?.as_bytes()
+        told(alloc, port, "SERVED 5 2\n")?.as_bytes(),
+        "bytes",
     );
     assert!(rt; asked.1 == 0 && served.1 == 0);
     Ok(())
@@ -188,8 +203,8 @@ fn a_bad_setting_is_told(rt: HostRuntime) -> Result<(), Fail> {
         let listener = TcpListener::bind(&rt, local(0))?;
         let mut writer = MemorySink::new(alloc);
         let status = serve_run(&rt, alloc, listener, room(alloc)?, &options, &mut writer);
-        assert_eq!(rt; status, 1);
-        assert_eq!(rt; writer.bytes(), want.as_bytes());
+        same(&rt, status, 1, "status");
+        same(&rt, writer.bytes(), want.as_bytes(), "bytes");
     }
     Ok(())
 }
@@ -203,7 +218,7 @@ fn no_server_is_told(rt: HostRuntime) -> Result<(), Fail> {
     let mut reader = MemorySource::new(b"PIN\n");
     let mut writer = MemorySink::new(alloc);
     let status = ask(&rt, alloc, &AskOptions { port }, &mut reader, &mut writer);
-    assert_eq!(rt; status, 1);
-    assert_eq!(rt; writer.bytes(), b"FAULT net\n".as_slice());
+    same(&rt, status, 1, "status");
+    same(&rt, writer.bytes(), b"FAULT net\n".as_slice(), "bytes");
     Ok(())
 }
