@@ -12,16 +12,21 @@ use crate::setting::Setting;
 use bits::Bitmap;
 use metric::Refusal;
 
-/// What is counted of a log: how many entries it has, the newest version, and the least that is kept; with the setting and the size of the map.
+/// What is counted of a log, with the setting and the size of the map.
 ///
-/// Whoever keeps a log enters each command that it does, and has the reply from here.
+/// Whoever keeps a log judges each command by its ledger and enters each that it does, which gives the reply. The conditions of these calls hold
+/// after any legal log: the floor is at most the newest version, and one entry and one version more can be counted.
 #[derive(Clone, Copy, Debug)]
 pub struct Ledger {
     pub setting: Setting,
+    /// The map's columns and rows, 1 to 4096 each.
     pub width: u16,
     pub height: u16,
+    /// How many entries the log has: the place of its last one, from 1.
     pub places: u32,
+    /// The newest version, from 0.
     pub newest: u32,
+    /// The least version that is kept.
     pub floor: u32,
 }
 
@@ -74,7 +79,7 @@ impl Ledger {
         }
     }
 
-    /// Enters a paint or a stamp that changed so many cells.
+    /// Enters a paint or a stamp that changed so many cells: `Reply::Painted`, with its place.
     pub fn enter_draw(&mut self, changed: u32) -> Reply
         requires { IsBalanced self.old }
         ensures entered { self.new ≡ record self.old { places = self.old.places + 1 } }
@@ -87,7 +92,7 @@ impl Ledger {
         }
     }
 
-    /// Enters a publish.
+    /// Enters a publish: `Reply::Published`, with its place and the next version, which is newest then.
     pub fn enter_publish(&mut self) -> Reply
         requires { IsBalanced self.old }
         ensures entered { self.new ≡ record self.old { places = self.old.places + 1; newest = self.old.newest + 1 } }
@@ -101,7 +106,7 @@ impl Ledger {
         }
     }
 
-    /// Enters a revert.
+    /// Enters a revert: `Reply::Reverted`, with its place.
     pub fn enter_revert(&mut self) -> Reply
         requires { IsBalanced self.old }
         ensures entered { self.new ≡ record self.old { places = self.old.places + 1 } }
@@ -111,7 +116,7 @@ impl Ledger {
         Reply::Reverted { place: self.places }
     }
 
-    /// Enters a collect that raised the floor to this version, and gave so many blocks back.
+    /// Enters a collect that raised the floor to this version, and gave so many blocks back: `Reply::Collected`, with its place and both.
     pub fn enter_collect(&mut self, floor: u32, freed: u32) -> Reply
         requires { IsBalanced self.old }
         ensures entered { self.new ≡ record self.old { places = self.old.places + 1; floor = floor } }
@@ -126,7 +131,7 @@ impl Ledger {
         }
     }
 
-    /// The word NOW after the log.
+    /// The word NOW after the log: the place of its last entry, and newest.
     pub fn now_word(&self) -> u64
         ensures { result ≡ now_word self.now.places self.now.newest }
     {
