@@ -1,5 +1,5 @@
 -- Drawing on a rectangle of the draft: each position takes the block that it needs, and its cells are counted.
-use Rattle.std.proofs.Common.{◌≡◌, ◌≢◌, ℕ, suc, ◌+◌, ◌*◌, ◌^◌, ◌<◌, ◌≤◌, ◌&&◌, Bool, true, false, not, cond, List, [], ◌∷◌, ◌++◌, length, map, drop, get_or, set, refl, ap, subst, sym, ◌∙◌, arith}
+use Rattle.std.proofs.Common.{zero, ◌≡◌, ◌≢◌, ℕ, suc, ◌+◌, ◌*◌, ◌^◌, ◌<◌, ◌≤◌, ◌&&◌, Bool, true, false, not, cond, List, [], ◌∷◌, ◌++◌, length, map, drop, get_or, set, refl, ap, subst, sym, ◌∙◌, arith}
 use Rattle.std.specs.Prelude.{Option, Some, None, is_some, option_to_list}
 use Rattle.std.specs.List.{range_with_len, sum_by}
 use Rattle.std.proofs.lemmas.List.{get_or-map, length-map, map-set, get_or-set_same, get_or-set_other, length-set, drop_more, drop-set-lt, get_or_default, set-get_or}
@@ -20,11 +20,11 @@ use Rattle.map_core.specs.Story.{trues, new_ones}
 use Rattle.map_core.proofs.TakeBlocks.{IsTaken, taken, taken_first, taken_none, taken_some}
 use Rattle.map_core.proofs.TileCounts.{length-differing, tile_differs_none}
 use Rattle.arena.specs.declared.region.Tile.{Tile}
-use Rattle.grid.proofs.PaintLemmas.{IsDrawing, IsMissed, part_drawn, some_same, needs_here, row_kept, words_kept}
+use Rattle.grid.proofs.PaintLemmas.{IsDrawing, part_drawn, some_same, needs_here, row_kept, words_kept}
 use Rattle.metric.specs.declared.rect.Rect.{Rect}
 use Rattle.grid.specs.declared.ink.Ink.{Ink}
 use Rattle.grid.specs.declared.ink.Part.{Part}
-use Rattle.grid.specs.Inks.{with_ink, inked, IsPart}
+use Rattle.grid.specs.Inks.{with_ink, inked, IsPart, IsMissed}
 use Rattle.grid.specs.Pieces.{Piece, no_piece, piece_of, piece_if, block_if, words_here, words_at, IsDraft, Takes}
 
 -- how far a paint has come
@@ -267,6 +267,27 @@ painting_missed cells own0 free0 newest p own free changed r ink across drawing 
     let same = length-map own piece_if in
     let kept = row_kept cells r ink p across drawing.bitmap drawing.columns drawing.rows drawing.across_is missed in
     painting_past cells new own0 free0 newest p (map piece_if own) free changed so_far (omega arith) (words_kept cells new p kept) (sym (tile_differs_none cells new p kept))
+
+-- positions that the rectangle doesn't reach, together
+pub painting_missed_all : (cells : Cells) (own0 : List (Option ℕ)) (free0 : List ℕ) (newest : List Piece) (p : ℕ) (own : List (Option Tile)) (free : List ℕ) (changed : ℕ) (r : Rect) (ink : Ink) (across k : ℕ)
+    → IsDrawing cells r across → IsPainting cells (with_ink cells r ink) own0 free0 newest p (map piece_if own) free changed → p + k ≤ length own → ((q : ℕ) → p ≤ q → q < p + k → IsMissed q across r)
+    → IsPainting cells (with_ink cells r ink) own0 free0 newest (p + k) (map piece_if own) free changed
+painting_missed_all cells own0 free0 newest p own free changed r ink across zero drawing so_far h none =
+    subst (λ (q : ℕ). IsPainting cells (with_ink cells r ink) own0 free0 newest q (map piece_if own) free changed) (let same : p ≡ p + 0 = omega arith in same) so_far
+painting_missed_all cells own0 free0 newest p own free changed r ink across (suc k) drawing so_far h none =
+    subst (λ (q : ℕ). IsPainting cells (with_ink cells r ink) own0 free0 newest q (map piece_if own) free changed) (let same : p + 1 + k ≡ p + suc k = omega arith in same)
+    (painting_missed_all cells own0 free0 newest (p + 1) own free changed r ink across k drawing
+    (painting_missed cells own0 free0 newest p own free changed r ink across drawing so_far (omega arith) (none p (omega arith) (omega arith)))
+    (omega arith) (λ q low high. none q (omega arith) (omega arith)))
+
+-- nor is a position before the first row that it reaches drawn on
+pub painting_from_first : (cells : Cells) (own0 : List (Option ℕ)) (free0 : List ℕ) (newest : List Piece) (own : List (Option Tile)) (free : List ℕ) (r : Rect) (ink : Ink) (across first : ℕ)
+    → IsDrawing cells r across → IsPainting cells (with_ink cells r ink) own0 free0 newest 0 (map piece_if own) free 0 → first ≤ length own → ((q : ℕ) → q < first → IsMissed q across r)
+    → IsPainting cells (with_ink cells r ink) own0 free0 newest first (map piece_if own) free 0
+painting_from_first cells own0 free0 newest own free r ink across first drawing so_far h none =
+    let plain : 0 + first ≡ first = omega arith in
+    subst (λ (p : ℕ). IsPainting cells (with_ink cells r ink) own0 free0 newest p (map piece_if own) free 0) plain
+    (painting_missed_all cells own0 free0 newest 0 own free 0 r ink across first drawing so_far (omega arith) (λ q low high. none q (omega arith)))
 
 -- after the last position the draft is the filled bitmap, and all changes are counted
 pub painting_end : (cells : Cells) (own0 : List (Option ℕ)) (free0 : List ℕ) (newest : List Piece) (p : ℕ) (own : List (Option Piece)) (free : List ℕ) (changed : ℕ) (r : Rect) (ink : Ink)

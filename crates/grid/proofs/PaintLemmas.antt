@@ -1,9 +1,10 @@
 -- Drawing on a rectangle of the draft, position by position.
-use Rattle.std.proofs.Common.{◌≡◌, ℕ, ◌+◌, ◌-◌, ◌*◌, ◌/◌, ◌%◌, ◌<◌, ◌≤◌, ◌&&◌, ◌⊎◌, min, Bool, true, false, not, cond, if◌then◌else◌, List, length, map, get_or, refl, ap, subst, sym, ◌∙◌, arith}
+use Rattle.std.proofs.Common.{zero, suc, ◌≡◌, ℕ, ◌+◌, ◌-◌, ◌*◌, ◌/◌, ◌%◌, ◌<◌, ◌≤◌, ◌&&◌, ◌⊎◌, min, Bool, true, false, not, cond, if◌then◌else◌, List, length, map, get_or, refl, ap, subst, sym, ◌∙◌, arith}
 use Rattle.std.specs.Prelude.{Option, Some, None, is_some}
 use Rattle.std.proofs.lemmas.Bool.Decides.{nat_tests}
 use Rattle.std.proofs.lemmas.List.{get_or-map, length-map, get_or_default}
-use Rattle.std.proofs.lemmas.Nat.{mul-le}
+use Rattle.std.proofs.lemmas.Nat.{mul-le, row-Below, le-div}
+use Rattle.std.proofs.Math.Nat.{mul_comm, mul-le-mul_left}
 use mathlib.Core.Logic.{inl, inr}
 use Rattle.arena.specs.declared.region.Tile.{Tile}
 use Rattle.bits.specs.Cells.{Cells, is_within, IsBitmap}
@@ -13,11 +14,11 @@ use Rattle.bits.specs.TileWords.{tile_words, filled_words, words_differ, laid}
 use Rattle.bits.proofs.TileLemmas.{row_word-same, tile_above}
 use Rattle.bits.proofs.TileDrawLemmas.{filled_tile, has-with_values_all, tile_rows_differ, tile_words_is, tile_words-row, tile_words-length}
 use Rattle.map_core.specs.Drawing.{tile_differs}
-use Rattle.map_core.proofs.TileCounts.{IsCounted, counted_next, tile_differs_none}
+use Rattle.map_core.proofs.TileCounts.{IsCounted, counted_first, counted_next, tile_differs_none}
 use Rattle.metric.specs.declared.rect.Rect.{Rect}
 use Rattle.grid.specs.declared.ink.Ink.{Ink}
 use Rattle.grid.specs.declared.ink.Part.{Part}
-use Rattle.grid.specs.Inks.{value_of, with_ink, inked, IsInTile, IsPart}
+use Rattle.grid.specs.Inks.{value_of, with_ink, inked, IsInTile, IsPart, IsMissed}
 use Rattle.grid.specs.Pieces.{Piece, no_piece, piece_of, piece_if, block_if, words_here, cells_of, draft_of, IsDraft}
 
 pub draft_width : (w h : ℕ) (own : List (Option Piece)) (newest : List Piece) → (draft_of w h own newest).width ≡ w
@@ -47,10 +48,6 @@ in_tile p across r part at low = record {
   rows = (let bottom = at.bottom in omega arith);
   from = (let row = at.from_row in omega arith);
 }
-
--- the rectangle doesn't reach the tile at position p
-abbrev pub IsMissed : ℕ → ℕ → Rect → Type 0
-IsMissed p across r = (min (r.x1 - 64 * (p % across)) 64 ≤ min (r.x0 - 64 * (p % across)) 64) ⊎ (min (r.y1 - 64 * (p / across)) 64 ≤ min (r.y0 - 64 * (p / across)) 64)
 
 -- a cell of a tile that the rectangle doesn't reach
 not_reached : (a b x0 y0 x1 y1 i j : ℕ) (value old : Bool) → i < 64 → j < 64
@@ -177,3 +174,43 @@ few_tiles cells is =
 -- as many positions as own tiles
 pub as_many : (cells : Cells) (own : List (Option Tile)) (newest : List Piece) → IsDraft cells (map piece_if own) newest → length own ≡ tile_count cells
 as_many cells own newest draft = sym (length-map own piece_if) ∙ draft.own_long
+
+-- rows of tiles that the rectangle doesn't reach
+pub missed_above : (p across first : ℕ) (r : Rect) → 1 ≤ across → first ≡ across * (r.y0 / 64) → p < first → IsMissed p across r
+missed_above p across first r some is h =
+    let low : p / across < r.y0 / 64 = (row-Below p across across (r.y0 / 64) (omega arith) (omega arith)).1 in
+    inr (omega arith)
+
+pub missed_below : (p across end : ℕ) (r : Rect) → 1 ≤ across → end ≡ across * ((r.y1 + 63) / 64) → end ≤ p → IsMissed p across r
+missed_below p across end r some is h =
+    let swapped = mul_comm across ((r.y1 + 63) / 64) in
+    let high : (r.y1 + 63) / 64 ≤ p / across = le-div ((r.y1 + 63) / 64) p across some (omega arith) in
+    inr (omega arith)
+
+-- positions that the rectangle doesn't reach are counted together
+pub counted_past_all : (cells : Cells) (own : List (Option Tile)) (newest : List Tile) (r : Rect) (ink : Ink) (p across k needed : ℕ)
+    → IsDrawing cells r across → IsDraft cells (map piece_if own) (map piece_of newest) → p + k ≤ length own → ((q : ℕ) → p ≤ q → q < p + k → IsMissed q across r)
+    → IsCounted cells (with_ink cells r ink) (map block_if (map piece_if own)) p needed
+    → IsCounted cells (with_ink cells r ink) (map block_if (map piece_if own)) (p + k) needed
+counted_past_all cells own newest r ink p across zero needed drawing draft h none so_far =
+    subst (λ (q : ℕ). IsCounted cells (with_ink cells r ink) (map block_if (map piece_if own)) q needed) (let same : p ≡ p + 0 = omega arith in same) so_far
+counted_past_all cells own newest r ink p across (suc k) needed drawing draft h none so_far =
+    subst (λ (q : ℕ). IsCounted cells (with_ink cells r ink) (map block_if (map piece_if own)) q needed) (let same : p + 1 + k ≡ p + suc k = omega arith in same)
+    (counted_past_all cells own newest r ink (p + 1) across k needed drawing draft (omega arith) (λ q low high. none q (omega arith) (omega arith))
+    (counted_past cells own newest r ink p across needed drawing draft (omega arith) (none p (omega arith) (omega arith)) so_far))
+
+-- the first row of tiles that it reaches lies before the end of the last
+pub in_order : (across first end positions a b : ℕ) (r : Rect) → first ≡ across * (r.y0 / 64) → end ≡ across * ((r.y1 + 63) / 64) → a ≡ min first positions → b ≡ min end positions → a ≤ b
+in_order across first end positions a b r first_is end_is a_is b_is =
+    let below : across * (r.y0 / 64) ≤ across * ((r.y1 + 63) / 64) = mul-le-mul_left across (let rows = r.has_cells.rows in omega arith) in
+    omega arith
+
+-- none of the positions before the first row that it reaches is counted
+pub counted_from_first : (cells : Cells) (own : List (Option Tile)) (newest : List Tile) (r : Rect) (ink : Ink) (across first : ℕ)
+    → IsDrawing cells r across → IsDraft cells (map piece_if own) (map piece_of newest) → first ≤ length own → ((q : ℕ) → q < first → IsMissed q across r)
+    → IsCounted cells (with_ink cells r ink) (map block_if (map piece_if own)) first 0
+counted_from_first cells own newest r ink across first drawing draft h none =
+    let plain : 0 + first ≡ first = omega arith in
+    subst (λ (p : ℕ). IsCounted cells (with_ink cells r ink) (map block_if (map piece_if own)) p 0) plain
+    (counted_past_all cells own newest r ink 0 across first 0 drawing draft (omega arith) (λ q low high. none q (omega arith))
+    (counted_first cells (with_ink cells r ink) (map block_if (map piece_if own)) (length-map (map piece_if own) block_if ∙ draft.own_long)))

@@ -7,7 +7,7 @@ ghost use Rattle.bits.specs.Cells.{Cells, IsSide};
 ghost use Rattle.bits.specs.Changes.{changes};
 ghost use Rattle.bits.specs.Words.{words_across};
 ghost use Rattle.bits.specs.TileWords.{words_differ, words_changed};
-ghost use Rattle.grid.specs.Inks.{inked, with_ink, IsInTile, IsPart};
+ghost use Rattle.grid.specs.Inks.{inked, with_ink, IsInTile, IsPart, IsMissed};
 ghost use Rattle.map_core.specs.Drawing.{differing};
 ghost use Rattle.map_core.specs.Story.{trues, new_ones};
 ghost use Rattle.map_core.specs.Blocks.{own_after};
@@ -40,8 +40,7 @@ pub fn part_of(rect: Rect, across: u16, position: u16) -> Option<Part>
     requires within { position / across < 64 }
     requires few { across ≤ 64 }
     ensures part { IfSome result (λ p. IsPart position across rect p) }
-    ensures none { IfNone result ((min (rect.x1 - 64 * (position % across)) 64 ≤ min (rect.x0 - 64 * (position % across)) 64)
-        ⊎ (min (rect.y1 - 64 * (position / across)) 64 ≤ min (rect.y0 - 64 * (position / across)) 64)) }
+    ensures none { IfNone result (IsMissed position across rect) }
 {
     let left = 64 * (position % across);
     let top = 64 * (position / across);
@@ -56,6 +55,19 @@ pub fn part_of(rect: Rect, across: u16, position: u16) -> Option<Part>
         y: top.saturating_sub(rect.y0),
     };
     Some(Part { cells, from })
+}
+
+/// The positions of the rows of tiles that a rectangle reaches, of so many: the first one, and the one behind the last.
+pub fn reached(rect: Rect, across: u16, positions: usize) -> (usize, usize)
+    requires some { 1 ≤ across }
+    requires few { across ≤ 64 }
+    ensures order { result.0 ≤ result.1 }
+    ensures first { (result.0 ≤ positions) × ((p : ℕ) → p < result.0 → IsMissed p across rect) }
+    ensures end { (result.1 ≤ positions) × ((p : ℕ) → result.1 ≤ p → p < positions → IsMissed p across rect) }
+{
+    let first = usize::from(across) * usize::from(rect.y0 / 64);
+    let end = usize::from(across) * usize::from(rect.y1.div_ceil(64));
+    (first.min(positions), end.min(positions))
 }
 
 /// Whether drawing this part changes a tile that the draft has no block of its own for.
@@ -125,8 +137,9 @@ pub fn blocks_needed(
         result ≡ trues (new_ones (differing draft (with_ink draft rect ink.now)) (map is_some (map block_if (map piece_if own.now)))) }
 {
     let across = width.div_ceil(64);
+    let (first, end) = reached(rect, across, own.len());
     let mut needed = 0;
-    'positions: for position in 0..own.len() {
+    'positions: for position in first..end {
         if let Some(part) = part_of(rect, across, position as u16) {
             let is_needed = needs_block(&own[position], &newest[position], part, ink);
             needed += u32::from(is_needed);
@@ -163,8 +176,9 @@ pub fn draw_tiles(
     ensures from { All (IsFrom arena.new.home) own.new }
 {
     let across = width.div_ceil(64);
+    let (first, end) = reached(rect, across, own.len());
     let mut changed = 0;
-    'positions: for position in 0..own.len() {
+    'positions: for position in first..end {
         if let Some(part) = part_of(rect, across, position as u16) {
             changed += draw_tile(&mut own[position], &newest[position], arena, part, ink);
         }

@@ -54,6 +54,9 @@ impl Model for Grid {
 
 impl Grid {
     /// Gives each cell of the rectangle this value in the draft, and answers how many cells became another.
+    ///
+    /// Refused, in this order: `OutOfRange` where the rectangle isn't wholly in the map, `BlocksFull` where more tiles that the draft shares change
+    /// than blocks are free. Then nothing has changed. It takes no memory.
     pub fn paint(&mut self, arena: &mut Arena, rect: Rect, black: bool) -> Result<u32, Refusal>
         requires home { self.old.home ≡ arena.old.home }
         ensures done { IfOk result (λ changed. Draws self.old arena.old.free (Paint rect black) changed self.new arena.new.free) }
@@ -69,6 +72,8 @@ impl Grid {
     }
 
     /// Gives each cell of the rectangle at `(x, y)` of the stamp's size the stamp's value in the draft, and answers how many cells became another.
+    ///
+    /// It is refused as a paint of that rectangle is.
     pub fn stamp(
         &mut self,
         arena: &mut Arena,
@@ -124,7 +129,7 @@ impl Grid {
         ))
     }
 
-    /// Makes the draft the next version, and answers its number.
+    /// Makes the draft the next version, and answers its number. The tiles that it replaces are retired; each older version stays as it is.
     pub fn seal(&mut self) -> u32
         requires room { length self.old.retired + length (own_list (own_blocks self.old)) ≤ self.old.room }
         requires newest { self.old.newest + 1 < 2 ^ 32 }
@@ -144,7 +149,7 @@ impl Grid {
         *newest
     }
 
-    /// Makes the draft the newest version again.
+    /// Makes the draft the newest version again. Its own blocks go back to the arena, by position.
     pub fn revert(&mut self, arena: &mut Arena)
         requires home { self.old.home ≡ arena.old.home }
         ensures reverted { Reverts self.old arena.old.free self.new arena.new.free }
@@ -153,7 +158,7 @@ impl Grid {
         give_own(self.own.as_mut_slice(), arena);
     }
 
-    /// Gives back each retired tile whose last version lies below the floor, in the list's order, and answers how many.
+    /// Gives back each retired tile whose last version lies below the floor, in the list's order, and answers how many. Each version from the floor on stays as it is.
     pub fn sweep(&mut self, arena: &mut Arena, floor: u32) -> u32
         requires home { self.old.home ≡ arena.old.home }
         requires floor { floor ≤ self.old.newest }
@@ -224,7 +229,7 @@ impl Grid {
         self.retired.as_slice()
     }
 
-    /// Gives all tiles back.
+    /// Gives all tiles back. A grid can't be let go otherwise.
     pub fn end(self, arena: &mut Arena)
         requires home { self.home ≡ arena.old.home }
         ensures free { length arena.new.free ≡ length arena.old.free + (length (own_list (own_blocks self)) + (length self.pieces + length self.retired)) }

@@ -1,8 +1,9 @@
-//! Parts of a tile, filled on its words.
+//! Parts of a tile, filled or laid on its words, and a tile put into a bitmap.
 
-use crate::TileBits;
-use metric::Rect;
+use crate::{Bitmap, TileBits};
+use metric::{Cell, Rect};
 use std::process::Abort;
+use std::test::Fail;
 
 /// Rectangles of a tile, and how many cells they have.
 const PARTS: [([u16; 4], u32); 6] = [
@@ -33,4 +34,51 @@ fn parts_of_a_tile_are_filled(rt: HostRuntime) {
         let whole = [0, 0, 64, 64];
         assert_eq!(rt; fill(&rt, &mut words, whole, false), (true, cells));
     }
+}
+
+/// Parts of a tile, the cell of a bitmap of 130 by 70 obstacles that comes upon their first, and how many cells of a tile without obstacles change.
+const LAID: [([u16; 4], (u16, u16), u32); 6] = [
+    ([0, 0, 64, 64], (0, 0), 4096),
+    ([3, 5, 64, 64], (0, 0), 61 * 59),
+    ([0, 0, 64, 64], (100, 60), 300),
+    ([10, 0, 64, 64], (120, 0), 640),
+    ([63, 63, 64, 64], (63, 63), 1),
+    ([0, 0, 64, 64], (130, 0), 0),
+];
+
+#[test]
+fn parts_of_a_bitmap_are_laid(rt: HostRuntime) -> Result<(), Fail> {
+    let mut stamp = Bitmap::blank(rt.alloc(), 130, 70)?;
+    let all = Rect::new(0, 0, 130, 70).ok_or("a rectangle without cells")?;
+    assert!(rt; stamp.holds_rect(all));
+    stamp.fill(all, true);
+    for ([x0, y0, x1, y1], (x, y), cells) in LAID {
+        let part = Rect::new(x0, y0, x1, y1).ok_or("a rectangle without cells")?;
+        assert!(rt; part.x1 <= 64 && part.y1 <= 64 && y <= 4096);
+        let from = Cell { x, y };
+        let mut words = [0u64; 64];
+        assert_eq!(rt; TileBits::would_lay(&words, part, &stamp, from), 0 < cells);
+        assert_eq!(rt;
+            TileBits::lay(&mut words, part, &stamp, from),
+            cells,
+            "from ({x}, {y})"
+        );
+        assert_eq!(rt;
+            TileBits::lay(&mut words, part, &stamp, from),
+            0,
+            "the same again"
+        );
+    }
+    Ok(())
+}
+
+#[test]
+fn the_last_tile_is_put(rt: HostRuntime) -> Result<(), Fail> {
+    let mut bitmap = Bitmap::blank(rt.alloc(), 70, 66)?;
+    assert!(rt; 3 < bitmap.tiles());
+    bitmap.put_tile(3, &[u64::MAX; 64]);
+    assert!(rt; 3 < bitmap.tiles());
+    assert_eq!(rt; (bitmap.tile_row(3, 1), bitmap.tile_row(3, 2)), (63, 0));
+    assert_eq!(rt; (bitmap.tile_row(1, 1), bitmap.tile_row(2, 1)), (0, 0));
+    Ok(())
 }

@@ -1,7 +1,7 @@
 -- Each position is counted where it needs a block.
-use Rattle.std.proofs.Common.{arith, ◌∙◌}
+use Rattle.std.proofs.Common.{arith, ◌∙◌, ◌+◌, ◌-◌, length}
 use Rattle.map_core.proofs.TileCounts.{counted_all, counted_few, as_count, as_count-le}
-use Rattle.grid.proofs.PaintLemmas.{as_drawing, in_tile, as_many, counted_part, counted_past, few_rows, few_across, few_tiles}
+use Rattle.grid.proofs.PaintLemmas.{as_drawing, in_tile, as_many, counted_part, counted_past, counted_past_all, counted_from_first, few_rows, few_across, few_tiles}
 use Rattle.grid.proofs.draw.blocks_needed.Goals as goal
 use Rattle.grid.proofs.draw.blocks_needed.Goals.{in-Some, in_default}
 
@@ -35,5 +35,23 @@ positions-preserved c =
       | in_default w ↦ rw w.needed-is (counted_past _ _ _ c.args.rect c.args.ink.now _ _ _ drawing c.requires.draft (omega arith) w.in_default.ensures.none c.positions.invariant)
     ]
 
+pub reached-first-requires-clause-few : goal.reached-first-requires-clause-few
+reached-first-requires-clause-few c =
+    let drawing = as_drawing _ _ _ _ c.args.rect c.div_ceil-across.result c.requires.draft c.requires.columns c.requires.rows (omega arith) in
+    few_across _ _ drawing.bitmap drawing.across_is
+
+pub positions-init : goal.positions-init
+positions-init c =
+    let drawing = as_drawing _ _ _ _ c.args.rect c.div_ceil-across.result c.requires.draft c.requires.columns c.requires.rows (omega arith) in
+    let within = c.reached-first.ensures.first.0 in
+    counted_from_first _ c.args.own.now c.args.newest.now c.args.rect c.args.ink.now _ c.reached-first.result.0 drawing c.requires.draft (omega arith) c.reached-first.ensures.first.1
+
 pub returns : goal.returns
-returns c = counted_all _ _ _ c.positions.position _ c.positions.invariant (omega (arith, as_many _ _ _ c.requires.draft))
+returns c =
+    let drawing = as_drawing _ _ _ _ c.args.rect c.div_ceil-across.result c.requires.draft c.requires.columns c.requires.rows (omega arith) in
+    let rest = length c.args.own.now - c.positions.position in
+    counted_all _ _ _ (c.positions.position + rest) _
+    (counted_past_all _ c.args.own.now c.args.newest.now c.args.rect c.args.ink.now c.positions.position _ rest _ drawing c.requires.draft
+    (let within = c.reached-first.ensures.end.0 in omega arith)
+    (λ q low high. c.reached-first.ensures.end.1 q (omega arith) (let within = c.reached-first.ensures.end.0 in omega arith)) c.positions.invariant)
+    (let within = c.reached-first.ensures.end.0 in omega (arith, as_many _ _ _ c.requires.draft))

@@ -1,17 +1,29 @@
 -- Each step of a drawing, by the lemma of that step.
-use Rattle.std.proofs.Common.{arith, refl, subst, sym, ◌∙◌}
+use Rattle.std.proofs.Common.{arith, refl, subst, sym, ◌∙◌, ◌-◌, length}
 use Rattle.std.specs.List.{All}
 use Rattle.std.proofs.lemmas.List.{length-map}
 use Rattle.std.proofs.lemmas.List.Elements.{All-set}
 use Rattle.arena.specs.Blocks.{Home}
 use Rattle.grid.specs.Pieces.{piece_if, IsFrom}
+use Rattle.map_core.proofs.TakeBlocks.{taken_own, taken_free}
 use Rattle.grid.proofs.PaintLemmas.{as_drawing, in_tile, few_rows, few_across, few_tiles}
-use Rattle.grid.proofs.FillTiles.{painting_first, painting_part, painting_missed, painting_long, painting_free, painting_fits, painting_end, painting_counted}
+use Rattle.grid.proofs.FillTiles.{painting_first, painting_part, painting_missed, painting_missed_all, painting_from_first, painting_long, painting_free, painting_fits, painting_end, painting_counted}
 use Rattle.grid.proofs.draw.draw_tiles.Goals as goal
 use Rattle.grid.proofs.draw.draw_tiles.Goals.{in-Some, in_default}
 
+pub reached-first-requires-clause-few : goal.reached-first-requires-clause-few
+reached-first-requires-clause-few c =
+    let drawing = as_drawing _ _ _ _ c.args.rect c.div_ceil-across.result c.requires.draft c.requires.columns c.requires.rows (omega arith) in
+    few_across _ _ drawing.bitmap drawing.across_is
+
 pub positions-init : goal.positions-init
-positions-init c = (painting_first _ _ _ _ _ c.requires.draft c.requires.room, refl, c.requires.home)
+positions-init c =
+    let drawing = as_drawing _ _ _ _ c.args.rect c.div_ceil-across.result c.requires.draft c.requires.columns c.requires.rows (omega arith) in
+    let within = c.reached-first.ensures.first.0 in (
+      painting_from_first _ _ _ _ c.args.own.now _ c.args.rect c.args.ink.now _ c.reached-first.result.0 drawing (painting_first _ _ _ _ _ c.requires.draft c.requires.room) (omega arith) c.reached-first.ensures.first.1,
+      refl,
+      c.requires.home,
+    )
 
 pub part_of-requires-clause-within : goal.part_of-requires-clause-within
 part_of-requires-clause-within c =
@@ -60,7 +72,43 @@ positions-preserved c =
     ]
 
 pub returns-clause-draft : goal.returns-clause-draft
-returns-clause-draft c = painting_end _ _ _ _ _ _ _ _ c.args.rect c.args.ink.now c.positions.invariant.0 c.requires.draft.shown.bitmap (let long = c.positions.invariant.0.own_long in omega (arith, length-map c.positions.own piece_if))
+returns-clause-draft c =
+    let drawing = as_drawing _ _ _ _ c.args.rect c.div_ceil-across.result c.requires.draft c.requires.columns c.requires.rows (omega arith) in
+    let within = c.reached-first.ensures.end.0 in
+    let long = c.positions.invariant.0.own_long in
+    let rest = length c.positions.own - c.positions.position in
+    painting_end _ _ _ _ _ _ _ _ c.args.rect c.args.ink.now
+    (painting_missed_all _ _ _ _ c.positions.position c.positions.own _ _ c.args.rect c.args.ink.now _ rest drawing c.positions.invariant.0 (omega (arith, length-map c.positions.own piece_if))
+    (λ q low high. c.reached-first.ensures.end.1 q (omega arith) (omega (arith, length-map c.positions.own piece_if))))
+    c.requires.draft.shown.bitmap (omega (arith, length-map c.positions.own piece_if))
 
 pub returns-clause-changed : goal.returns-clause-changed
-returns-clause-changed c = painting_counted _ _ _ _ _ _ _ _ c.args.rect c.args.ink.now c.positions.invariant.0 c.requires.draft.shown.bitmap (let long = c.positions.invariant.0.own_long in omega (arith, length-map c.positions.own piece_if))
+returns-clause-changed c =
+    let drawing = as_drawing _ _ _ _ c.args.rect c.div_ceil-across.result c.requires.draft c.requires.columns c.requires.rows (omega arith) in
+    let within = c.reached-first.ensures.end.0 in
+    let long = c.positions.invariant.0.own_long in
+    let rest = length c.positions.own - c.positions.position in
+    painting_counted _ _ _ _ _ _ _ _ c.args.rect c.args.ink.now
+    (painting_missed_all _ _ _ _ c.positions.position c.positions.own _ _ c.args.rect c.args.ink.now _ rest drawing c.positions.invariant.0 (omega (arith, length-map c.positions.own piece_if))
+    (λ q low high. c.reached-first.ensures.end.1 q (omega arith) (omega (arith, length-map c.positions.own piece_if))))
+    c.requires.draft.shown.bitmap (omega (arith, length-map c.positions.own piece_if))
+
+pub returns-clause-own : goal.returns-clause-own
+returns-clause-own c =
+    let drawing = as_drawing _ _ _ _ c.args.rect c.div_ceil-across.result c.requires.draft c.requires.columns c.requires.rows (omega arith) in
+    let within = c.reached-first.ensures.end.0 in
+    let long = c.positions.invariant.0.own_long in
+    let rest = length c.positions.own - c.positions.position in
+    let all = painting_missed_all _ _ _ _ c.positions.position c.positions.own _ _ c.args.rect c.args.ink.now _ rest drawing c.positions.invariant.0 (omega (arith, length-map c.positions.own piece_if))
+    (λ q low high. c.reached-first.ensures.end.1 q (omega arith) (omega (arith, length-map c.positions.own piece_if))) in
+    taken_own _ _ _ _ _ _ _ all.taken_is (omega (arith, length-map c.positions.own piece_if))
+
+pub returns-clause-free : goal.returns-clause-free
+returns-clause-free c =
+    let drawing = as_drawing _ _ _ _ c.args.rect c.div_ceil-across.result c.requires.draft c.requires.columns c.requires.rows (omega arith) in
+    let within = c.reached-first.ensures.end.0 in
+    let long = c.positions.invariant.0.own_long in
+    let rest = length c.positions.own - c.positions.position in
+    let all = painting_missed_all _ _ _ _ c.positions.position c.positions.own _ _ c.args.rect c.args.ink.now _ rest drawing c.positions.invariant.0 (omega (arith, length-map c.positions.own piece_if))
+    (λ q low high. c.reached-first.ensures.end.1 q (omega arith) (omega (arith, length-map c.positions.own piece_if))) in
+    taken_free _ _ _ _ _ _ _ all.taken_is (omega (arith, length-map c.positions.own piece_if))
