@@ -84,9 +84,13 @@ pub judged_other : (k : Base) (log : List Entry) (h : Holding) (c : Command) →
 judged_other k log h c tells other by =
     sym (refused_next k (story k log) h.ledger tells.holds.summary.ledger_is (tidy_told k log h tells).draft c by ∙ refused_for_none k.setting (story k log) c other)
 
+-- why the ledger refuses a command
+pub judged_why : (h : Holding) (c : Command) (refusal : Refusal) → refused_by_ledger h.ledger c ≡ Some refusal → Judges h c (Some refusal)
+judged_why h c refusal by = λ k log tells. sym (refused_first k (story k log) h.ledger tells.holds.summary.ledger_is (tidy_told k log h tells).draft c refusal by)
+
 -- a command that the ledger refuses
 pub judged_first : (h : Holding) (c : Command) (refusal : Refusal) → refused_by_ledger h.ledger c ≡ Some refusal → Refuses h c refusal
-judged_first h c refusal by = inl (λ k log tells. sym (refused_first k (story k log) h.ledger tells.holds.summary.ledger_is (tidy_told k log h tells).draft c refusal by))
+judged_first h c refusal by = inl (judged_why h c refusal by)
 
 -- a command that finds no memory for its entry
 pub judged_starved : (h : Holding) (c : Command) (found : Option Refusal) (refusal : Refusal) → Judges h c found → refusal ≡ unwrap_or found Memory → Refuses h c refusal

@@ -1,8 +1,9 @@
 //! The commands of a desk. Each lends a session's seat, which has seen a beginning of the log before its command's place, and the whole log at its end.
 
-ghost use Rattle.std.specs.Prelude.{◌≡◌, IfOk, IfErr};
+ghost use Rattle.std.specs.Prelude.{◌≡◌, ◌<◌, true, vec_len, vec_capacity, IfOk, IfErr};
 ghost use mathlib.Core.List.{IsPrefix};
 ghost use Rattle.map_core.specs.declared.command.Command.TheVariants.{Paint, Stamp, Publish, Revert, Collect};
+ghost use Rattle.map_core.specs.Ledger.{IsBalanced};
 ghost use Rattle.map_core.specs.Legal.{IsLegal};
 ghost use Rattle.shelf.specs.Roles.{entries};
 ghost use Rattle.desk.specs.Desks.{IsAccepted, IsRefused};
@@ -10,9 +11,18 @@ ghost use Rattle.desk.specs.Desks.{IsAccepted, IsRefused};
 use crate::desk::Desk;
 use bits::Bitmap;
 use epoch::floor_after;
-use map_core::{Command, Entry, Reply};
+use map_core::{Command, Entry, Ledger, Reply};
 use metric::{Rect, Refusal};
 use shelf::{ReaderSeat, Signed, StoreName, meet};
+
+/// Whether there is room for a command's entry. None is asked for where the ledger refuses the command.
+fn finds_room(ledger: &Ledger, command: &Command, log: &mut Vec<Signed>) -> bool
+    requires { IsBalanced ledger.now }
+    ensures items { log.new.items ≡ log.old.items }
+    ensures room { result ≡ true → vec_len log.new < vec_capacity log.new }
+{
+    ledger.judge(command).is_none() && log.reserve(1).is_ok()
+}
 
 impl<Id: StoreName> Desk<Id> {
     /// Does a command, or hands it back with why it is refused.
@@ -34,7 +44,7 @@ impl<Id: StoreName> Desk<Id> {
             self.holding.ledger.newest,
             self.pins.as_slice(),
         );
-        let has_room = self.log.reserve(1).is_ok();
+        let has_room = finds_room(&self.holding.ledger, &command, &mut self.log);
         let reply = match self.holding.answer(&command, floor, has_room) {
             Ok(reply) => reply,
             Err(refusal) => return Err((command, refusal)),

@@ -126,6 +126,7 @@ impl Holding {
         ensures floor { IfOk result (λ reply. command.now ≡ Collect → self.new.ledger.floor ≡ floor) }
         ensures room { IfOk result (λ reply. has_room ≡ true) }
         ensures refused { IfErr result (λ refusal. Refuses self.old command.now refusal) }
+        ensures found { IfErr result (λ refusal. has_room ≡ true → Judges self.old command.now (Some refusal)) }
         ensures as_before { OnErr result (self.new ≡ self.old) }
     {
         if let Some(refusal) = self.ledger.judge(command) {

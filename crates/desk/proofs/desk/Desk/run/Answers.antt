@@ -15,9 +15,12 @@ answer-requires-clause-able g c = can_answer _ _ _ c.self.invariant.told
 pub answer-requires-clause-newest : goal.answer-requires-clause-newest
 answer-requires-clause-newest g c = c.floor_after-floor.ensures.newest (can_answer _ _ _ c.self.invariant.told).balanced.floor_in
 
+pub finds_room-has_room-requires : goal.finds_room-has_room-requires
+finds_room-has_room-requires g c = (can_answer _ _ _ c.self.invariant.told).balanced
+
 pub returns-in-Err-clause-refused : goal.returns-in-Err-clause-refused
 returns-in-Err-clause-refused g c =
-    rw (← c.self.view_is) (refl, refused_is g.Id.StoreName.store _ _ _ _ _ _ _ _ c.self.invariant c.in-Err.ensures.refused (ap (λ (l : List Signed). record { log = l; pins = c.self.inside.pins.items }) c.reserve.ensures.items) c.meet.ensures.reader)
+    rw (← c.self.view_is) (refl, refused_is g.Id.StoreName.store _ _ _ _ _ _ _ _ c.self.invariant c.in-Err.ensures.refused (ap (λ (l : List Signed). record { log = l; pins = c.self.inside.pins.items }) c.finds_room-has_room.ensures.items) c.meet.ensures.reader)
 
 pub commit-requires : goal.commit-requires
 commit-requires g c =
@@ -41,7 +44,7 @@ invariant_of-self-2 g c =
       floor_is = floor_computed _ _ _ c.self.inside.holding c.floor_after-floor.ensures.floor c.as_slice.ensures.value;
       below_pins = λ version there low. c.floor_after-floor.ensures.announced version (subst (λ (ps : List (Option ℕ)). Contains ps (Some version)) (sym c.as_slice.ensures.value) there) low;
     } in
-    let log = c.push_reserved.ensures.items ∙ ap (λ (l : List Signed). l ++ e ∷ []) c.reserve.ensures.items in
+    let log = c.push_reserved.ensures.items ∙ ap (λ (l : List Signed). l ++ e ∷ []) c.finds_room-has_room.ensures.items in
     let keeper = c.commit.ensures.committed e (ap (λ (u : KeeperView). u.hand) c.order.ensures) ∙ ap (λ (u : KeeperView). committed u e) c.order.ensures in
     desk_after z d _ _ _ e _ _ _ done log (c.meet-2.ensures.keeper ∙ ap met keeper)
 
@@ -59,7 +62,7 @@ returns-clause-accepted g c =
       floor_is = floor_computed _ _ _ c.self.inside.holding c.floor_after-floor.ensures.floor c.as_slice.ensures.value;
       below_pins = λ version there low. c.floor_after-floor.ensures.announced version (subst (λ (ps : List (Option ℕ)). Contains ps (Some version)) (sym c.as_slice.ensures.value) there) low;
     } in
-    let log = c.push_reserved.ensures.items ∙ ap (λ (l : List Signed). l ++ e ∷ []) c.reserve.ensures.items in
+    let log = c.push_reserved.ensures.items ∙ ap (λ (l : List Signed). l ++ e ∷ []) c.finds_room-has_room.ensures.items in
     let keeper = c.commit.ensures.committed e (ap (λ (u : KeeperView). u.hand) c.order.ensures) ∙ ap (λ (u : KeeperView). committed u e) c.order.ensures in
     let seen : c.meet.new.reader ≡ record c.args.seat.now { seen = d.log } = reader_met z d _ c.self.inside.holding c.args.seat.now _ c.self.invariant c.meet.ensures.reader in
     let last : KeeperView = committed (ordered c.meet.new.keeper e) e in
