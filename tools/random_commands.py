@@ -4,7 +4,8 @@
 The model (`steps_model.py`) has sets of cells, and lists of blocks by their numbers: it says how many cells change, how many blocks a command needs and
 how many are free, which version may be published, what a collect frees, and what a pin is held back by. A pinned version is dumped now and then and
 compared cell by cell. The maps are small, with sides at the edges of tiles, and mostly there is hardly a block to spare. At the end of each map both
-pins are left, the draft is reverted, and after a publish and a collect the map's own tiles are all that is in use.
+pins are left, the draft is reverted, and after a publish and a collect the map's own tiles are all that is in use: a paint of the whole map then tells how many
+blocks it needs and how many are free.
 
     tools/random_commands.py [COMMANDS [SEED]]
 """
@@ -166,6 +167,8 @@ def a_map(rng, count):
     if world.place < world.limit and len(world.free) != world.blocks - world.tiles:
         wrong += 1
         print(f"{width} by {height}, {setting}: {len(world.free)} blocks are free at the end")
+    for words in (["CLEAR", "0", "0", str(width), str(height)], ["PAINT", "0", "0", str(width), str(height)]):
+        compare(words, connections[0].ask(" ".join(words).encode() + b"\n"), world.command(world.order, words))
     for connection in connections:
         compare("QUIT", connection.ask(b"QUIT\n"), "BYE")
     if server.wait(timeout=30) != 0:

@@ -56,5 +56,6 @@ changes_by_tile old new = sum_by (tile_changes old new) (range_with_len 0 (tile_
 abbrev pub within_column : Cells → ℕ → ℕ → ℕ
 within_column cells k x = min (x - 64 * (k % words_across cells.width)) 64
 
+-- the same of a row
 abbrev pub within_row : Cells → ℕ → ℕ → ℕ
 within_row cells k y = min (y - 64 * (k / words_across cells.width)) 64

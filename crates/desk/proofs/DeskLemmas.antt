@@ -68,7 +68,7 @@ pub record IsDone (z : StoreId) (d : DeskView) (k : KeeperView) (h : Holding) (e
   pub floor_is : floor ≡ new_floor h.ledger.floor h.ledger.newest d.pins
   pub below_pins : (version : ℕ) → Contains d.pins (Some version) → h.ledger.floor ≤ version → floor ≤ version
 
--- the floor that is computed from what the sheets hold
+-- the floor that is computed from what is held
 pub floor_computed : (floor : ℕ) (announced pins : List (Option ℕ)) (h : Holding) → floor ≡ new_floor h.ledger.floor h.ledger.newest announced → announced ≡ pins
     → floor ≡ new_floor h.ledger.floor h.ledger.newest pins
 floor_computed floor announced pins h is pins_are = is ∙ ap (new_floor h.ledger.floor h.ledger.newest) pins_are
@@ -82,7 +82,7 @@ floor_after_entry s Publish reply v low risen = low
 floor_after_entry s Revert reply v low risen = low
 floor_after_entry s Collect reply v low risen = risen refl
 
--- what the sheets hold then is told by the log with the entry
+-- what is held then is told by the log with the entry
 told_after : (z : StoreId) (d : DeskView) (k : KeeperView) (h : Holding) (e : Signed) (new : Holding) (floor : ℕ) → IsDone z d k h e new floor → IsTold z.base (entries (d.log ++ e ∷ [])) new
 told_after z d k h e new floor done =
     subst (λ (log : List Entry). IsTold z.base log new) (sym (entries-push d.log e)) (done.does z.base (entries d.log) done.desk.told).1
@@ -91,7 +91,7 @@ told_after z d k h e new floor done =
 story_after : (z : StoreId) (log : List Signed) (e : Signed) → story_told z (log ++ e ∷ []) ≡ told (story_told z log) e.entry.command e.entry.reply
 story_after z log e = ap (story z.base) (entries-push log e) ∙ story-push z.base (entries log) e.entry
 
--- the floor that the sheets hold then is that of the log with the entry
+-- the floor that is held then is that of the log with the entry
 floor_told : (z : StoreId) (d : DeskView) (k : KeeperView) (h : Holding) (e : Signed) (new : Holding) (floor : ℕ) → IsDone z d k h e new floor
     → (told (story_told z d.log) e.entry.command e.entry.reply).floor ≡ new.ledger.floor
 floor_told z d k h e new floor done =

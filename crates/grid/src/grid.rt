@@ -26,6 +26,8 @@ use std::alloc::Global;
 use std::marker::Model;
 
 /// The draft of a map and its versions. A tile that no command has changed since a publish is shared.
+///
+/// Each call that is lent an arena wants the one that the grid was opened on.
 pub struct Grid {
     width: u16,
     height: u16,
@@ -130,6 +132,8 @@ impl Grid {
     }
 
     /// Makes the draft the next version, and answers its number. The tiles that it replaces are retired; each older version stays as it is.
+    ///
+    /// There has to be room for them, and always is where every block of the arena is free or the grid's; and newest has to be below 2^32 - 1.
     pub fn seal(&mut self) -> u32
         requires room { length self.old.retired + length (own_list (own_blocks self.old)) ≤ self.old.room }
         requires newest { self.old.newest + 1 < 2 ^ 32 }
@@ -159,6 +163,7 @@ impl Grid {
     }
 
     /// Gives back each retired tile whose last version lies below the floor, in the list's order, and answers how many. Each version from the floor on stays as it is.
+    /// The floor is at most newest.
     pub fn sweep(&mut self, arena: &mut Arena, floor: u32) -> u32
         requires home { self.old.home ≡ arena.old.home }
         requires floor { floor ≤ self.old.newest }
@@ -168,7 +173,7 @@ impl Grid {
         give_retired(floor, &mut self.retired, &mut self.spare, arena)
     }
 
-    /// Makes a bitmap of the map's size that of a version. It takes no memory.
+    /// Makes a bitmap of the map's size that of a version, one from the floor of the last sweep up to newest. It takes no memory.
     pub fn copy_into(&self, version: u32, bitmap: &mut Bitmap)
         requires width { bitmap.old.width ≡ self.now.width }
         requires height { bitmap.old.height ≡ self.now.height }
@@ -178,7 +183,7 @@ impl Grid {
         put_old_tiles(self.retired.as_slice(), version, bitmap);
     }
 
-    /// The grid of a map that is opened on this bitmap, which is its version 0: a tile is taken for each position.
+    /// The grid of a map that is opened on this bitmap, which is its version 0: a tile is taken for each position, so as many blocks have to be free.
     ///
     /// Refused for want of memory alone, and then no tile is out. No later call asks for memory.
     pub fn open(alloc: Global, map: &Bitmap, arena: &mut Arena) -> Result<Grid, Refusal>
