@@ -2,8 +2,9 @@
 use Rattle.std.proofs.Common.{zero, suc, ◌≡◌, ℕ, ◌+◌, ◌-◌, ◌*◌, ◌/◌, ◌%◌, ◌<◌, ◌≤◌, ◌&&◌, ◌⊎◌, min, Bool, true, false, not, cond, if◌then◌else◌, List, length, map, get_or, refl, ap, subst, sym, ◌∙◌, arith}
 use Rattle.std.specs.Prelude.{Option, Some, None, is_some}
 use Rattle.std.proofs.lemmas.Bool.Decides.{nat_tests}
+use Rattle.std.proofs.lemmas.Bool.{cases_lt}
 use Rattle.std.proofs.lemmas.List.{get_or-map, length-map, get_or_default}
-use Rattle.std.proofs.lemmas.Nat.{mul-le, row-Below, le-div}
+use Rattle.std.proofs.lemmas.Nat.{mul-le, row-Below, le-div, div-add-mod', mod-mul-add}
 use Rattle.std.proofs.Math.Nat.{mul_comm, mul-le-mul_left}
 use mathlib.Core.Logic.{inl, inr}
 use Rattle.arena.specs.declared.region.Tile.{Tile}
@@ -14,7 +15,7 @@ use Rattle.bits.specs.TileWords.{tile_words, filled_words, words_differ, laid}
 use Rattle.bits.proofs.TileLemmas.{row_word-same, tile_above}
 use Rattle.bits.proofs.TileDrawLemmas.{filled_tile, has-with_values_all, tile_rows_differ, tile_words_is, tile_words-row, tile_words-length}
 use Rattle.map_core.specs.Drawing.{tile_differs}
-use Rattle.map_core.proofs.TileCounts.{IsCounted, counted_first, counted_next, tile_differs_none}
+use Rattle.map_core.proofs.TileCounts.{IsCounted, counted_next, tile_differs_none}
 use Rattle.metric.specs.declared.rect.Rect.{Rect}
 use Rattle.grid.specs.declared.ink.Ink.{Ink}
 use Rattle.grid.specs.declared.ink.Part.{Part}
@@ -187,8 +188,43 @@ missed_below p across end r some is h =
     let high : (r.y1 + 63) / 64 ≤ p / across = le-div ((r.y1 + 63) / 64) p across some (omega arith) in
     inr (omega arith)
 
+-- a column of tiles that the rectangle doesn't reach
+missed_column : (q across column : ℕ) (r : Rect) → q % across ≡ column → (64 * column + 64 ≤ r.x0) ⊎ (r.x1 ≤ 64 * column) → IsMissed q across r
+missed_column q across column r at (inl before) = inl (omega arith)
+missed_column q across column r at (inr behind) = inl (omega arith)
+
+-- the column of a position so many steps on, in the same row of tiles
+column_on : (p d across : ℕ) → p % across + d < across → (p + d) % across ≡ p % across + d
+column_on p d across h =
+    let sum : p + d ≡ p / across * across + (p % across + d) = (let split = div-add-mod' p across in omega arith) in
+    ap (λ (n : ℕ). n % across) sum ∙ mod-mul-add (p / across) across (p % across + d) h
+
+-- and in the next row
+column_next : (p d across : ℕ) → across ≤ p % across + d → p % across + d - across < across → (p + d) % across ≡ p % across + d - across
+column_next p d across h below =
+    let sum : p + d ≡ (p / across + 1) * across + (p % across + d - across) = (let split = div-add-mod' p across in let more : (p / across + 1) * across ≡ p / across * across + across = grind arith in omega arith) in
+    ap (λ (n : ℕ). n % across) sum ∙ mod-mul-add (p / across + 1) across (p % across + d - across) below
+
+-- the positions of a row of tiles before the first column that the rectangle reaches
+pub missed_before : (p q across left : ℕ) (r : Rect) → left ≡ min (r.x0 / 64) across → p ≤ q → q < p + (left - p % across) → IsMissed q across r
+missed_before p q across left r left_is from h =
+    let d = q - p in
+    missed_column q across (p % across + d) r (subst (λ (n : ℕ). n % across ≡ p % across + d) (let same : p + d ≡ q = omega arith in same) (column_on p d across (omega arith))) (inl (omega arith))
+
+-- the positions behind the last column that it reaches, and those of the next row before the first
+pub missed_behind : (p q across left : ℕ) (r : Rect) → left ≡ min (r.x0 / 64) across → (r.x1 + 63) / 64 ≤ p % across → p % across < across → p ≤ q → q < p + (across - p % across + left) → IsMissed q across r
+missed_behind p q across left r left_is behind column from h = by_row (cases_lt (p % across + (q - p)) across)
+  where
+    same : p + (q - p) ≡ q
+    same = omega arith
+    by_row : (p % across + (q - p) < across) ⊎ (across ≤ p % across + (q - p)) → IsMissed q across r
+    by_row (inl here) =
+        missed_column q across (p % across + (q - p)) r (subst (λ (n : ℕ). n % across ≡ p % across + (q - p)) same (column_on p (q - p) across here)) (inr (omega arith))
+    by_row (inr on) =
+        missed_column q across (p % across + (q - p) - across) r (subst (λ (n : ℕ). n % across ≡ p % across + (q - p) - across) same (column_next p (q - p) across on (omega arith))) (inl (omega arith))
+
 -- positions that the rectangle doesn't reach are counted together
-pub counted_past_all : (cells : Cells) (own : List (Option Tile)) (newest : List Tile) (r : Rect) (ink : Ink) (p across k needed : ℕ)
+counted_past_all : (cells : Cells) (own : List (Option Tile)) (newest : List Tile) (r : Rect) (ink : Ink) (p across k needed : ℕ)
     → IsDrawing cells r across → IsDraft cells (map piece_if own) (map piece_of newest) → p + k ≤ length own → ((q : ℕ) → p ≤ q → q < p + k → IsMissed q across r)
     → IsCounted cells (with_ink cells r ink) (map block_if (map piece_if own)) p needed
     → IsCounted cells (with_ink cells r ink) (map block_if (map piece_if own)) (p + k) needed
@@ -205,12 +241,12 @@ in_order across first end positions a b r first_is end_is a_is b_is =
     let below : across * (r.y0 / 64) ≤ across * ((r.y1 + 63) / 64) = mul-le-mul_left across (let rows = r.has_cells.rows in omega arith) in
     omega arith
 
--- none of the positions before the first row that it reaches is counted
-pub counted_from_first : (cells : Cells) (own : List (Option Tile)) (newest : List Tile) (r : Rect) (ink : Ink) (across first : ℕ)
-    → IsDrawing cells r across → IsDraft cells (map piece_if own) (map piece_of newest) → first ≤ length own → ((q : ℕ) → q < first → IsMissed q across r)
-    → IsCounted cells (with_ink cells r ink) (map block_if (map piece_if own)) first 0
-counted_from_first cells own newest r ink across first drawing draft h none =
-    let plain : 0 + first ≡ first = omega arith in
-    subst (λ (p : ℕ). IsCounted cells (with_ink cells r ink) (map block_if (map piece_if own)) p 0) plain
-    (counted_past_all cells own newest r ink 0 across first 0 drawing draft (omega arith) (λ q low high. none q (omega arith))
-    (counted_first cells (with_ink cells r ink) (map block_if (map piece_if own)) (length-map (map piece_if own) block_if ∙ draft.own_long)))
+-- the positions up to a later one, none of which the rectangle reaches
+pub counted_until : (cells : Cells) (own : List (Option Tile)) (newest : List Tile) (r : Rect) (ink : Ink) (across p q needed : ℕ)
+    → IsDrawing cells r across → IsDraft cells (map piece_if own) (map piece_of newest) → p ≤ q → q ≤ length own → ((n : ℕ) → p ≤ n → n < q → IsMissed n across r)
+    → IsCounted cells (with_ink cells r ink) (map block_if (map piece_if own)) p needed
+    → IsCounted cells (with_ink cells r ink) (map block_if (map piece_if own)) q needed
+counted_until cells own newest r ink across p q needed drawing draft order h none so_far =
+    let sum : p + (q - p) ≡ q = omega arith in
+    subst (λ (n : ℕ). IsCounted cells (with_ink cells r ink) (map block_if (map piece_if own)) n needed) sum
+    (counted_past_all cells own newest r ink p across (q - p) needed drawing draft (omega arith) (λ n low high. none n low (omega arith)) so_far)
