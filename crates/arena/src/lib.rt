@@ -3,8 +3,6 @@
 
 mod arena;
 mod region;
-#[cfg(test)]
-mod tests;
 
 pub use arena::Arena;
 pub use region::Tile;

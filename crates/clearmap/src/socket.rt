@@ -5,7 +5,7 @@ ghost use Rattle.std.specs.Prelude.{◌≡◌, IfSome, None};
 use metric::{ReadFault, Sink, Source, Stream, WriteFault};
 use std::alloc::Global;
 use std::io;
-use std::io::{BufRead, BufReader, Write};
+use std::io::{BufRead, BufReader, ErrorKind, Write};
 use std::marker::Model;
 use std::net::{Shutdown, TcpStream};
 use std::time::Duration;
@@ -65,14 +65,29 @@ impl Socket {
         sent
     }
 
+    /// Reads ahead where nothing is left to take. A read that a signal interrupts is made again.
+    fn fill(&mut self) -> io::Result<()>
+        ensures { self.new ≡ self.old }
+    {
+        'reads: for _ in 0..u64::MAX {
+            match self.reader.fill_buf() {
+                Ok(_) => return Ok(()),
+                Err(fault) if fault.kind() == ErrorKind::Interrupted => {}
+                Err(fault) => return Err(fault),
+            }
+        }
+        Err(io::Error::from(ErrorKind::Interrupted))
+    }
+
     /// The next byte, before which the replies are sent where the read could wait.
     fn take(&mut self) -> io::Result<Option<u8>>
         ensures { self.new ≡ self.old }
     {
         if self.reader.buffer().is_empty() {
             self.send()?;
+            self.fill()?;
         }
-        let byte = self.reader.fill_buf()?.first().copied();
+        let byte = self.reader.buffer().first().copied();
         self.reader.consume(1);
         Ok(byte)
     }

@@ -3,8 +3,6 @@
 
 mod floor;
 mod giving;
-#[cfg(test)]
-mod tests;
 
 pub use floor::floor_after;
 pub use giving::collect;

@@ -10,4 +10,3 @@ pub mod OpenLemmas
 pub mod PaintLemmas
 pub mod SealLemmas
 pub mod SweepLemmas
-pub mod TestLemmas

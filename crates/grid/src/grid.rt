@@ -14,7 +14,7 @@ ghost use Rattle.grid.specs.Grids.{Tiled, Draws, DrawsTo, full_by, Seals, Revert
 
 use crate::blocks::{give_own, give_retired, seal_tiles};
 use crate::copy::{put_newest_tiles, put_old_tiles};
-use crate::draw::{area_of, blocks_needed, draw_tiles};
+use crate::draw::{area_of, draw_tiles};
 use crate::ink::Ink;
 use crate::opening::{Rooms, leave_empty, take_tiles};
 use crate::retired::Retired;
@@ -107,25 +107,15 @@ impl Grid {
         ensures as_before { OnErr result ((self.new ≡ self.old) × (arena.new ≡ arena.old)) }
         ensures home { arena.new.home ≡ arena.old.home }
     {
-        let (width, height) = (self.width, self.height);
-        let needed = blocks_needed(
-            self.own.as_slice(),
-            self.tiles.as_slice(),
-            width,
-            height,
-            rect,
-            ink,
-        );
-        let free = arena.free_len();
-        if free < needed {
-            return Err(Refusal::BlocksFull { needed, free });
+        if let Some(refusal) = self.judge(arena, rect, ink) {
+            return Err(refusal);
         }
         Ok(draw_tiles(
             self.own.as_mut_slice(),
             self.tiles.as_slice(),
             arena,
-            width,
-            height,
+            self.width,
+            self.height,
             rect,
             ink,
         ))

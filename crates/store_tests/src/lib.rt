@@ -1,6 +1,8 @@
-//! Tests of the crates that keep a store and speak its protocol: what no clause says of events, lines and served streams.
+//! Tests of the crates that keep a store and speak its protocol: what no clause says of blocks, tiles, events, lines and served streams.
 #![tactic(auto)]
 
+#[cfg(test)]
+mod blocks;
 #[cfg(test)]
 mod command_lines;
 #[cfg(test)]
@@ -10,6 +12,8 @@ mod event_limits;
 #[cfg(test)]
 mod events;
 #[cfg(test)]
+mod floors;
+#[cfg(test)]
 mod lines;
 #[cfg(test)]
 mod opened_worlds;
@@ -17,3 +21,5 @@ mod opened_worlds;
 mod script;
 #[cfg(test)]
 mod served;
+#[cfg(test)]
+mod tiles;

@@ -2,7 +2,7 @@
 use Rattle.std.proofs.Common.{ap, ◌∙◌}
 use Rattle.bits.specs.Cells.{Cells}
 use Rattle.grid.proofs.GridRevert.{bitmap_width, bitmap_height}
-use Rattle.grid.proofs.tests.has.Goals as goal
+use Rattle.store_tests.proofs.tiles.has.Goals as goal
 
 pub returns-clause-width : goal.returns-clause-width
 returns-clause-width g c = ap (λ (b : Cells). b.width) c.copy_into.ensures ∙ bitmap_width c.args.grid.now c.args.version

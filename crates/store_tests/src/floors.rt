@@ -1,6 +1,7 @@
-//! What no clause says: values from outside.
+//! The floor of a collect, at values from outside.
 
-use super::floor_after;
+use crate::compare::same;
+use epoch::floor_after;
 
 /// The old floor, the newest version, what three readers have announced, and the new floor.
 const FLOORS: [(u32, u32, [Option<u32>; 3], u32); 8] = [
@@ -17,15 +18,11 @@ const FLOORS: [(u32, u32, [Option<u32>; 3], u32); 8] = [
 #[test]
 fn the_floor_is_the_least_announced(rt: HostRuntime) {
     for (old, newest, announced, floor) in FLOORS {
-        assert_eq!(rt;
-            floor_after(old, newest, &announced),
-            floor,
-            "from {old} to {newest}"
-        );
+        same(&rt, floor_after(old, newest, &announced), floor, (old, newest));
     }
 }
 
 #[test]
 fn no_reader_holds_the_floor_back(rt: HostRuntime) {
-    assert_eq!(rt; floor_after(1, 3, &[]), 3);
+    same(&rt, floor_after(1, 3, &[]), 3, "no reader");
 }

@@ -1,8 +1,8 @@
 -- There is room for what is replaced.
 use Rattle.std.proofs.Common.{arith, ap, length, List}
 use Rattle.grid.specs.Grids.{OldPiece, own_blocks}
-use Rattle.grid.proofs.TestLemmas.{own_few}
-use Rattle.grid.proofs.tests.publish.Goals as goal
+use Rattle.store_tests.proofs.TileLemmas.{own_few}
+use Rattle.store_tests.proofs.tiles.publish.Goals as goal
 
 pub seal-requires-clause-room : goal.seal-requires-clause-room
 seal-requires-clause-room c =

@@ -1,8 +1,9 @@
-//! What no clause says: that memory is found, and a worked run of one arena.
+//! A worked run of one arena: which block is handed out next.
 
 ghost use Rattle.std.specs.Prelude.{◌≡◌, ◌∷◌};
 
-use crate::{Arena, Tile};
+use crate::compare::{holds, same};
+use arena::{Arena, Tile};
 use std::process::Abort;
 use std::test::Fail;
 
@@ -13,7 +14,7 @@ fn take(rt: &impl Abort, arena: &mut Arena, number: u32) -> Tile
 {
     match arena.take() {
         Some(tile) => {
-            assert_eq!(rt; tile.number(), number);
+            same(rt, tile.number(), number, "the front");
             tile
         }
         None => panic!(rt; "no free block"),
@@ -21,7 +22,7 @@ fn take(rt: &impl Abort, arena: &mut Arena, number: u32) -> Tile
 }
 
 #[test]
-fn blocks_come_and_go(rt: HostRuntime) -> Result<(), Fail> {
+fn the_block_given_back_last_comes_first(rt: HostRuntime) -> Result<(), Fail> {
     let mut arena = Arena::new(rt.alloc(), 3)?;
     let zero = take(&rt, &mut arena, 0);
     let one = take(&rt, &mut arena, 1);
@@ -35,7 +36,13 @@ fn blocks_come_and_go(rt: HostRuntime) -> Result<(), Fail> {
     arena.give(one);
     arena.give(zero);
     arena.give(two);
-    assert_eq!(rt; arena.free_len(), 3);
+    let two = take(&rt, &mut arena, 2);
+    let zero = take(&rt, &mut arena, 0);
+    let one = take(&rt, &mut arena, 1);
+    arena.give(two);
+    arena.give(zero);
+    arena.give(one);
+    holds(&rt, arena.free_len() == 3, "all are back");
     arena.end();
     Ok(())
 }
