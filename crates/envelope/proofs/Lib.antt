@@ -1,5 +1,7 @@
+mod BesideLemmas
 pub mod Entries
 pub mod Envelopes
 pub mod Putting
+mod Crossings
 pub mod Nears
 pub mod Filling

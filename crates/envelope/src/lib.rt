@@ -1,9 +1,11 @@
 //! The row phase: for each cell of a row the nearest obstacle, found from the nearest obstacle of each column.
 #![tactic(auto)]
 
+mod beside;
 mod columns;
 mod cover;
 mod fill;
+mod lanes;
 mod stack;
 
 pub use metric::Near;

@@ -6,6 +6,7 @@ ghost use Rattle.envelope.specs.Columns.{AreEntries, AreNearColumns};
 ghost use Rattle.envelope.specs.Rows.{AreRowNears};
 ghost use Rattle.metric.specs.declared.refusal.Refusal.TheVariants.{Memory};
 
+use crate::beside::{SPARE, fill_beside};
 use crate::cover::{Span, cover};
 use crate::fill::fill;
 use bits::Bitmap;
@@ -21,18 +22,21 @@ const UNUSED: Span = Span {
     gap: 0,
 };
 
-/// The room for the spans of one row. Contracts see it as the width of the rows that it was made for.
+/// The room for the spans of one row, and for the parts of its columns. Contracts see it as the width of the rows that it was made for.
 #[derive(Debug, Drop)]
 pub struct Stack {
     spans: Vec<Span>,
+    parts: Vec<u16>,
 }
 
 impl Model for Stack {
-    ghost use Rattle.std.specs.Prelude.{ℕ, length};
+    ghost use Rattle.std.specs.Prelude.{◌≡◌, ℕ, ◌+◌, length};
 
     ghost Value = { ℕ };
 
     ghost view = { λ stack. length stack.spans.items };
+
+    ghost invariant = { λ stack. length stack.parts.items ≡ length stack.spans.items + 272 };
 }
 
 impl Stack {
@@ -41,8 +45,11 @@ impl Stack {
         ensures stack { IfOk result (λ stack. stack ≡ width) }
         ensures memory { IfErr result (λ refusal. refusal ≡ Memory) }
     {
-        match vec![in alloc; UNUSED; usize::from(width)] {
-            Ok(spans) => Ok(Stack { spans }),
+        let Ok(spans) = vec![in alloc; UNUSED; usize::from(width)] else {
+            return Err(Refusal::Memory);
+        };
+        match vec![in alloc; 0; usize::from(width) + SPARE] {
+            Ok(parts) => Ok(Stack { spans, parts }),
             Err(_) => Err(Refusal::Memory),
         }
     }
@@ -83,7 +90,7 @@ pub fn row_alone<M: Metric>(
     fill_row::<M>(entries, y, stack, nears);
 }
 
-/// Fills a row with the obstacle of the column that is the nearest to each cell.
+/// Fills a row with the obstacle of the column that is the nearest to each cell: by looking around each cell where the nearest are near by, and otherwise by the stack.
 fn fill_row<M: Metric>(entries: &[u16], y: u16, stack: &mut Stack, nears: &mut [Option<Near>])
     requires entries { AreEntries entries.now y }
     requires stack { length entries.now ≤ stack.old }
@@ -91,6 +98,10 @@ fn fill_row<M: Metric>(entries: &[u16], y: u16, stack: &mut Stack, nears: &mut [
     ensures nears { AreNearColumns M.distance entries.now y nears.new }
     ensures stack { stack.new ≡ stack.old }
 {
+    let parts = &mut stack.parts[..entries.len() + SPARE];
+    if fill_beside::<M>(entries, y, parts, nears) {
+        return;
+    }
     let spans = &mut stack.spans[..entries.len()];
     let count = cover::<M>(entries, y, spans);
     fill::<M>(entries, y, &spans[..count], nears);

@@ -1,1 +1,2 @@
+mod BandLemmas
 mod RowLemmas

@@ -1,6 +1,11 @@
 //! The nearest obstacle of every cell of a bitmap's rows.
 #![tactic(auto)]
 
+mod bands;
+mod columns;
 mod table;
+mod workers;
 
+pub use bands::rows_with;
 pub use table::rows;
+pub use workers::Workers;

@@ -5,14 +5,12 @@ ghost use Rattle.bits.specs.Cells.{IsBitmap};
 ghost use Rattle.field.specs.Rows.{AreNears};
 ghost use Rattle.metric.specs.declared.refusal.Refusal.TheVariants.{Memory};
 
+use crate::columns::Columns;
 use bits::Bitmap;
-use column::{ColumnTable, NONE};
-use envelope::{Stack, row, row_alone};
+use column::NONE;
+use envelope::Stack;
 use metric::{Metric, Near, Refusal};
 use std::alloc::Global;
-
-/// Up to so many rows are worked one by one; for more a table of the whole bitmap is made.
-const FEW_ROWS: u16 = 32;
 
 /// The nearest obstacles of the cells of rows `y0` to `y1 - 1`, row by row, each row from the left.
 ///
@@ -29,36 +27,32 @@ pub fn rows<M: Metric>(
     ensures memory { IfErr result (λ refusal. refusal ≡ Memory) }
 {
     let width = usize::from(bitmap.width());
+    let columns = Columns::of(alloc, bitmap, y1 - y0)?;
     let mut stack = Stack::new(alloc, bitmap.width())?;
+    let Ok(mut entries) = vec![in alloc; NONE; width] else {
+        return Err(Refusal::Memory);
+    };
     let Ok(mut line) = vec![in alloc; None; width] else {
         return Err(Refusal::Memory);
     };
     let Ok(mut nears) = Vec::with_capacity(alloc, usize::from(y1 - y0) * width) else {
         return Err(Refusal::Memory);
     };
-    if y1 - y0 <= FEW_ROWS {
-        let Ok(mut entries) = vec![in alloc; NONE; width] else {
-            return Err(Refusal::Memory);
-        };
-        push_few_rows::<M>(
-            bitmap,
-            y0,
-            y1,
-            &mut entries,
-            &mut stack,
-            &mut line,
-            &mut nears,
-        )?;
-    } else {
-        let table = ColumnTable::of(alloc, bitmap)?;
-        push_rows::<M>(&table, y0, y1, &mut stack, &mut line, &mut nears)?;
-    }
+    push_rows::<M>(
+        &columns,
+        y0,
+        y1,
+        &mut entries,
+        &mut stack,
+        &mut line,
+        &mut nears,
+    )?;
     Ok(nears)
 }
 
-/// Adds the rows `y0` to `y1 - 1`, without a table. `entries` and `line` have room for a row; `nears` has room for all.
-fn push_few_rows<M: Metric>(
-    bitmap: &Bitmap,
+/// Adds the rows `y0` to `y1 - 1`. `entries` and `line` have room for a row; `nears` has room for all.
+fn push_rows<M: Metric>(
+    columns: &Columns<'_>,
     y0: u16,
     y1: u16,
     entries: &mut [u16],
@@ -67,41 +61,17 @@ fn push_few_rows<M: Metric>(
     nears: &mut Vec<Option<Near>>,
 ) -> Result<(), Refusal>
     requires order { y0 ≤ y1 }
-    requires bitmap { IsBitmap bitmap.now }
-    requires within { y1 ≤ bitmap.now.height }
-    requires entries { length entries.old ≡ bitmap.now.width }
-    requires stack { bitmap.now.width ≤ stack.old }
-    requires line { length line.old ≡ bitmap.now.width }
+    requires bitmap { IsBitmap columns.now.bitmap.now }
+    requires within { y1 ≤ columns.now.bitmap.now.height }
+    requires entries { length entries.old ≡ columns.now.bitmap.now.width }
+    requires stack { columns.now.bitmap.now.width ≤ stack.old }
+    requires line { length line.old ≡ columns.now.bitmap.now.width }
     requires empty { nears.old.items ≡ [] }
-    ensures rows { OnOk result (AreNears M.distance bitmap.now y0 y1 nears.new.items) }
-    ensures memory { IfErr result (λ refusal. refusal ≡ Memory) }
-{
-    'few: for y in y0..y1 {
-        row_alone::<M>(bitmap, y, entries, stack, line);
-        push_line(line, nears)?;
-    }
-    Ok(())
-}
-
-/// Adds the rows `y0` to `y1 - 1` of the table's map. `line` has room for a row; `nears` has room for all.
-fn push_rows<M: Metric>(
-    table: &ColumnTable,
-    y0: u16,
-    y1: u16,
-    stack: &mut Stack,
-    line: &mut [Option<Near>],
-    nears: &mut Vec<Option<Near>>,
-) -> Result<(), Refusal>
-    requires order { y0 ≤ y1 }
-    requires within { y1 ≤ table.now.height }
-    requires stack { table.now.width ≤ stack.old }
-    requires line { length line.old ≡ table.now.width }
-    requires empty { nears.old.items ≡ [] }
-    ensures rows { OnOk result (AreNears M.distance table.now y0 y1 nears.new.items) }
+    ensures rows { OnOk result (AreNears M.distance columns.now.bitmap.now y0 y1 nears.new.items) }
     ensures memory { IfErr result (λ refusal. refusal ≡ Memory) }
 {
     'rows: for y in y0..y1 {
-        row::<M>(table, y, stack, line);
+        columns.fill_row::<M>(y, entries, stack, line);
         push_line(line, nears)?;
     }
     Ok(())

@@ -2,6 +2,8 @@
 #![tactic(auto)]
 
 #[cfg(test)]
+mod bands;
+#[cfg(test)]
 mod bitmap_limits;
 #[cfg(test)]
 mod bitmaps;
@@ -17,6 +19,8 @@ mod image_limits;
 mod images;
 #[cfg(test)]
 mod nearest;
+#[cfg(test)]
+mod phases;
 #[cfg(test)]
 mod queries;
 #[cfg(test)]

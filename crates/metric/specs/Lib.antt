@@ -2,9 +2,10 @@ pub mod Crossing
 pub mod Digits
 pub mod Distance
 pub mod Fault
+pub mod Kind
+pub mod Lanes
 pub mod Nearest
 pub mod Rect
 pub mod Refusal
 pub mod Stream
 pub mod Told
-pub mod Kind

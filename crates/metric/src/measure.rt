@@ -1,8 +1,14 @@
 //! Distances between cells, as whole numbers.
 
-ghost use Rattle.std.specs.Prelude.{◌≡◌, ℕ, ◌*◌, ◌/◌, ◌<◌, ◌≤◌};
+ghost use Rattle.std.specs.Prelude.{◌≡◌, ℕ, ◌*◌, ◌/◌, ◌<◌, ◌≤◌, slice_index};
 ghost use Rattle.metric.specs.Distance.{Grows, chess, chess_grows, city, city_grows, euclid2, euclid2_grows};
+ghost use Rattle.metric.specs.Lanes.{AreUpTo, IsSmall, added, chess_small, city_small, euclid2_small, larger, plain_part, square_part};
 ghost use Rattle.metric.specs.Crossing.{AreColumns, IsLastNotWorse, StaysNearer, chess_stays_nearer, city_stays_nearer, euclid2_stays_nearer};
+
+use std::simd::prelude::*;
+
+/// What is added up of a row difference in a distance of 16 bits is at most this, and this stands for no obstacle too.
+const MOST_PART: u16 = 32400;
 
 /// A distance between two cells, which depends on how many columns and how many rows they are apart.
 pub trait Metric {
@@ -21,6 +27,31 @@ pub trait Metric {
     fn last_not_worse(i: u16, gi: u16, u: u16, gu: u16) -> i64
         requires { AreColumns i gi u gu }
         ensures { IsLastNotWorse distance i gi u gu result };
+
+    /// The part that a row difference has in a distance of 16 bits.
+    ghost part_of: { ℕ → ℕ };
+
+    /// A part and a reach put together.
+    ghost joined: { ℕ → ℕ → ℕ };
+
+    /// The part that a row difference has in a distance of 16 bits: at most 32,400, which it is for all from 61,440 on.
+    fn part(g: u16) -> u16
+        ensures { result ≡ part_of g };
+
+    /// The reach of cells that lie so many columns apart, 97 at most: the distance of two such cells of one row, at most 9409.
+    fn reach(dx: u16) -> u16
+        requires { dx ≤ 97 }
+        ensures reach { result ≡ distance dx 0 }
+        ensures few { result ≤ 9409 };
+
+    /// Eight distances in 16 bits, of their parts and their reach. Those below 32,400 are exact.
+    fn join(parts: u16x8, reach: u16x8) -> u16x8
+        requires parts { AreUpTo 32400 parts }
+        requires reach { AreUpTo 9409 reach }
+        ensures { (i : ℕ) → i < 8 → slice_index result i ≡ joined (slice_index parts i) (slice_index reach i) };
+
+    /// Parts and reach tell small distances.
+    ghost small: { IsSmall distance part_of joined };
 
     /// The distance doesn't fall as the row difference grows.
     ghost grows: { Grows distance };
@@ -50,6 +81,26 @@ impl Metric for Euclid2 {
         let last = half_quotient(right - left, u - i);
         i64::from(last.min(4095))
     }
+
+    ghost part_of = { square_part };
+
+    ghost joined = { added };
+
+    fn part(g: u16) -> u16 {
+        let cut = g.min(180);
+        cut * cut
+    }
+
+    fn reach(dx: u16) -> u16 {
+        dx * dx
+    }
+
+    #[inline(always)]
+    fn join(parts: u16x8, reach: u16x8) -> u16x8 {
+        parts + reach
+    }
+
+    ghost small = { euclid2_small };
 
     ghost grows = { euclid2_grows };
 
@@ -90,6 +141,25 @@ impl Metric for City {
         }
     }
 
+    ghost part_of = { plain_part };
+
+    ghost joined = { added };
+
+    fn part(g: u16) -> u16 {
+        g.min(MOST_PART)
+    }
+
+    fn reach(dx: u16) -> u16 {
+        dx
+    }
+
+    #[inline(always)]
+    fn join(parts: u16x8, reach: u16x8) -> u16x8 {
+        parts + reach
+    }
+
+    ghost small = { city_small };
+
     ghost grows = { city_grows };
 
     ghost stays_nearer = { city_stays_nearer };
@@ -116,6 +186,25 @@ impl Metric for Chess {
             -1
         }
     }
+
+    ghost part_of = { plain_part };
+
+    ghost joined = { larger };
+
+    fn part(g: u16) -> u16 {
+        g.min(MOST_PART)
+    }
+
+    fn reach(dx: u16) -> u16 {
+        dx
+    }
+
+    #[inline(always)]
+    fn join(parts: u16x8, reach: u16x8) -> u16x8 {
+        parts.simd_max(reach)
+    }
+
+    ghost small = { chess_small };
 
     ghost grows = { chess_grows };
 

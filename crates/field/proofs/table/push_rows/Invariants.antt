@@ -5,7 +5,8 @@ use Rattle.field.proofs.table.push_rows.Given as goal
 
 abbrev pub invariant-rows : goal.invariant-rows
 invariant-rows g l = record {
-  nears : AreNears g.M.Metric.distance l.table l.y0 l.y l.nears.items;
-  stack : l.table.width ≤ l.stack;
-  line : length l.line ≡ l.table.width;
+  nears : AreNears g.M.Metric.distance l.columns.bitmap.now l.y0 l.y l.nears.items;
+  stack : l.columns.bitmap.now.width ≤ l.stack;
+  entries : length l.entries ≡ l.columns.bitmap.now.width;
+  line : length l.line ≡ l.columns.bitmap.now.width;
 }

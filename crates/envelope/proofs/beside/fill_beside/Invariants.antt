@@ -1,0 +1,14 @@
+-- The cells so far are filled.
+use Rattle.std.proofs.Common.{◌≡◌, ℕ, ◌-◌, ◌+◌, ◌<◌, ◌≤◌, length, slice_index_or, None}
+use Rattle.envelope.specs.Columns.{IsNearColumn}
+use Rattle.envelope.proofs.beside.fill_beside.Given as goal
+
+abbrev pub invariant-cells : goal.invariant-cells
+invariant-cells g l = record {
+  width : length l.nears ≡ length l.entries;
+  within : l.start ≤ length l.entries + 15;
+  filled : (x : ℕ) → x < l.start → x < length l.entries → IsNearColumn g.M.Metric.distance l.entries l.y x (slice_index_or l.nears x None);
+}
+
+abbrev pub decreases-cells : goal.decreases-cells
+decreases-cells g l = length l.entries + 16 - l.start

@@ -1,0 +1,56 @@
+-- What is known of cells whose columns are looked at side by side, from the nearest outwards: this project's own rule. Each column has a place, 128 behind its number, so that there are places on both sides of all columns.
+use Rattle.std.specs.Prelude.{◌≡◌, ℕ, ◌+◌, ◌-◌, ◌<◌, ◌≤◌, List, length, slice_index, Some}
+use Rattle.std.specs.Int.{abs_diff}
+use Rattle.envelope.specs.Columns.{IsNearColumn}
+
+-- no part is larger than that which stands for no obstacle
+abbrev pub AreSmall : List ℕ → Type 0
+AreSmall parts = (p : ℕ) → p < length parts → slice_index parts p ≤ 32400
+
+-- the parts of a row's columns, each at its place; those of the other places stand for no obstacle
+pub record AreParts (part : ℕ → ℕ) (entries : List ℕ) (y : ℕ) (parts : List ℕ) : Type 0 where
+  pub as_many : length parts ≡ length entries + 272
+  pub small : AreSmall parts
+  pub each : (column : ℕ) → column < length entries → slice_index parts (column + 128) ≡ part (abs_diff y (slice_index entries column))
+  pub before : (p : ℕ) → p < 128 → slice_index parts p ≡ 32400
+  pub behind : (p : ℕ) → length entries + 128 ≤ p → p < length entries + 272 → slice_index parts p ≡ 32400
+
+-- the distance in 16 bits from the cell of one place to the obstacle of another
+abbrev pub small_distance : (ℕ → ℕ → ℕ) → (ℕ → ℕ → ℕ) → List ℕ → ℕ → ℕ → ℕ
+small_distance distance joined parts place other = joined (slice_index parts other) (distance (abs_diff place other) 0)
+
+-- of the places from one to before another the nearest, the first of those as near; it lies 128 less than `away` to the right
+pub record IsBestIn (far : ℕ → ℕ) (place from to best away : ℕ) : Type 0 where
+  pub other : ℕ
+  pub where_is : other + 128 ≡ place + away
+  pub low : from ≤ other
+  pub high : other < to
+  pub best_is : far other ≡ best
+  pub least : (p : ℕ) → from ≤ p → p < to → best ≤ far p
+  pub first : (p : ℕ) → from ≤ p → p < other → best < far p
+
+-- each of eight cells, from a place on, knows the best of the places less than so many columns away
+abbrev pub AreBestNear : (ℕ → ℕ → ℕ) → (ℕ → ℕ → ℕ) → List ℕ → ℕ → ℕ → List ℕ → List ℕ → Type 0
+AreBestNear distance joined parts at k best away =
+    (i : ℕ) → i < 8 → IsBestIn (small_distance distance joined parts (at + i)) (at + i) (at + i + 1 - k) (at + i + k) (slice_index best i) (slice_index away i)
+
+-- the best of the places less than some columns away, nearer than any column farther off can be
+pub record IsDecided (distance joined : ℕ → ℕ → ℕ) (parts : List ℕ) (place best away : ℕ) : Type 0 where
+  pub k : ℕ
+  pub few : k ≤ 97
+  pub found : IsBestIn (small_distance distance joined parts place) place (place + 1 - k) (place + k) best away
+  pub less : best < distance k 0
+
+-- each of eight cells, from a place on, has its nearest
+abbrev pub AreDecided : (ℕ → ℕ → ℕ) → (ℕ → ℕ → ℕ) → List ℕ → ℕ → List ℕ → List ℕ → Type 0
+AreDecided distance joined parts at best away = (i : ℕ) → i < 8 → IsDecided distance joined parts (at + i) (slice_index best i) (slice_index away i)
+
+-- what a cell's best and how far right of 128 columns to its left it lies tell: the obstacle of the column that is the nearest to it
+pub record IsTold (distance : ℕ → ℕ → ℕ) (entries : List ℕ) (y x best away : ℕ) : Type 0 where
+  pub right : 128 ≤ x + away
+  pub inside : x + away - 128 < length entries
+  pub near : IsNearColumn distance entries y x (Some (record { dist = best; cell = record { x = x + away - 128; y = slice_index entries (x + away - 128) } }))
+
+-- the same of eight cells, as far as the row has them
+abbrev pub AreTold : (ℕ → ℕ → ℕ) → List ℕ → ℕ → ℕ → List ℕ → List ℕ → Type 0
+AreTold distance entries y start best away = (i : ℕ) → i < 8 → start + i < length entries → IsTold distance entries y (start + i) (slice_index best i) (slice_index away i)

@@ -1,0 +1,188 @@
+//! The row phase without branches: for eight cells side by side the columns are looked at from the nearest outwards.
+//!
+//! Each column has a place, 128 behind its number, and a part at this place: what its gap has in a distance of 16 bits. The places before the first column and behind the last one, and those of columns without an obstacle, have the part that stands for no obstacle. A column is named by how far right it lies of 128 columns to the left of the cell.
+
+ghost use Rattle.std.specs.Prelude.{◌≡◌, ℕ, ◌+◌, ◌-◌, ◌<◌, ◌≤◌, ◌⊎◌, length, slice_index, slice_index_or, true, None, Some, IfSome};
+ghost use Rattle.metric.specs.declared.near.Near.{Near};
+ghost use Rattle.envelope.specs.Beside.{AreBestNear, AreDecided, AreParts, AreSmall, AreTold};
+ghost use Rattle.envelope.specs.Columns.{AreEntries, AreNearColumns, IsNearColumn};
+
+use crate::lanes::{all_of, are_below, chosen, least, load};
+use metric::{Cell, Metric, Near};
+use std::simd::prelude::*;
+
+/// The place of the first column.
+const FIRST: usize = 128;
+
+/// How many places there are more than columns.
+pub const SPARE: usize = 272;
+
+/// The part that stands for no obstacle.
+const NO_PART: u16 = 32400;
+
+/// So many columns to each side are looked at before a row is given up.
+const FARTHEST: u16 = 96;
+
+/// Of eight cells the distance of the nearest column so far, and which column it is.
+#[derive(Clone, Copy)]
+struct Eight {
+    best: u16x8,
+    away: u16x8,
+}
+
+/// Fills the row with the obstacle of the column that is the nearest to each cell, where these are found near by. Answers whether they were. `parts` has a place for each column, and 272 more.
+// Not inlined: the two phases would compete for registers.
+#[inline(never)]
+pub fn fill_beside<M: Metric>(
+    entries: &[u16],
+    y: u16,
+    parts: &mut [u16],
+    nears: &mut [Option<Near>],
+) -> bool
+    requires entries { AreEntries entries.now y }
+    requires room { length parts.old ≡ length entries.now + 272 }
+    requires width { length nears.old ≡ length entries.now }
+    ensures { result ≡ true → AreNearColumns M.distance entries.now y nears.new }
+{
+    set_parts::<M>(entries, y, parts);
+    let mut start = 0;
+    'cells: while start < entries.len() {
+        let Some((low, high)) = search::<M>(parts, start + FIRST) else {
+            return false;
+        };
+        fill_eight::<M>(entries, y, start, low, nears);
+        fill_eight::<M>(entries, y, start + 8, high, nears);
+        start += 16;
+    }
+    true
+}
+
+/// Sets the parts of the row's columns.
+#[inline(never)]
+fn set_parts<M: Metric>(entries: &[u16], y: u16, parts: &mut [u16])
+    requires entries { AreEntries entries.now y }
+    requires room { length parts.old ≡ length entries.now + 272 }
+    ensures { AreParts M.part_of entries.now y parts.new }
+{
+    parts.fill(NO_PART);
+    'columns: for column in 0..entries.len() {
+        parts[column + FIRST] = M::part(y.abs_diff(entries[column]));
+    }
+}
+
+/// The nearest columns of sixteen cells, from the one of a place on; `None` where one of them has none near by.
+#[inline(always)]
+fn search<M: Metric>(parts: &[u16], at: usize) -> Option<(Eight, Eight)>
+    requires small { AreSmall parts.now }
+    requires left { 128 ≤ at }
+    requires right { at + 144 ≤ length parts.now }
+    ensures low { IfSome result (λ both. AreDecided M.distance M.joined parts.now at both.0.best both.0.away) }
+    ensures high { IfSome result (λ both. AreDecided M.distance M.joined parts.now (at + 8) both.1.best both.1.away) }
+{
+    let mut low = look_here::<M>(parts, at);
+    let mut high = look_here::<M>(parts, at + 8);
+    let mut k = 1u16;
+    'columns: while k < FARTHEST {
+        let reach = M::reach(k);
+        if are_below(low.best, reach) && are_below(high.best, reach) {
+            return Some((low, high));
+        }
+        low = look_twice::<M>(parts, at, k, low);
+        high = look_twice::<M>(parts, at + 8, k, high);
+        k += 2;
+    }
+    None
+}
+
+/// The columns of eight cells themselves.
+#[inline(always)]
+fn look_here<M: Metric>(parts: &[u16], at: usize) -> Eight
+    requires small { AreSmall parts.now }
+    requires right { at + 8 ≤ length parts.now }
+    ensures { AreBestNear M.distance M.joined parts.now at 1 result.best result.away }
+{
+    Eight {
+        best: M::join(load(parts, at), all_of(M::reach(0))),
+        away: all_of(128),
+    }
+}
+
+/// The columns `k` and `k + 1` columns to both sides of eight cells too.
+#[inline(always)]
+fn look_twice<M: Metric>(parts: &[u16], at: usize, k: u16, eight: Eight) -> Eight
+    requires small { AreSmall parts.now }
+    requires left { 128 ≤ at }
+    requires right { at + 136 ≤ length parts.now }
+    requires some { 1 ≤ k }
+    requires few { k ≤ 96 }
+    requires found { AreBestNear M.distance M.joined parts.now at k eight.best eight.away }
+    ensures { AreBestNear M.distance M.joined parts.now at (k + 2) result.best result.away }
+{
+    let next = look_aside::<M>(parts, at, k, eight.best, eight.away);
+    look_aside::<M>(parts, at, k + 1, next.best, next.away)
+}
+
+/// The columns `k` columns to both sides of eight cells too. On the left a column wins that isn't worse, and on the right one that is better.
+#[inline(always)]
+fn look_aside<M: Metric>(parts: &[u16], at: usize, k: u16, best: u16x8, away: u16x8) -> Eight
+    requires small { AreSmall parts.now }
+    requires left { 128 ≤ at }
+    requires right { at + 136 ≤ length parts.now }
+    requires some { 1 ≤ k }
+    requires few { k ≤ 97 }
+    requires found { AreBestNear M.distance M.joined parts.now at k best away }
+    ensures { AreBestNear M.distance M.joined parts.now at (k + 1) result.best result.away }
+{
+    let reach = all_of(M::reach(k));
+    let left = M::join(load(parts, at - usize::from(k)), reach);
+    let better = least(best, left);
+    let to_left = chosen(better, left, all_of(128 - k), away);
+    let right = M::join(load(parts, at + usize::from(k)), reach);
+    let best = least(better, right);
+    Eight {
+        best,
+        away: chosen(best, better, to_left, all_of(128 + k)),
+    }
+}
+
+/// Fills up to eight cells, as far as the row has them.
+#[inline(always)]
+fn fill_eight<M: Metric>(
+    entries: &[u16],
+    y: u16,
+    start: usize,
+    eight: Eight,
+    nears: &mut [Option<Near>],
+)
+    requires entries { AreEntries entries.now y }
+    requires width { length nears.old ≡ length entries.now }
+    requires start { start ≤ 4111 }
+    requires told { AreTold M.distance entries.now y start eight.best eight.away }
+    ensures filled { (x : ℕ) → start ≤ x → x < start + 8 → x < length entries.now → IsNearColumn M.distance entries.now y x (slice_index_or nears.new x None) }
+    ensures others { (x : ℕ) → (x < start) ⊎ (start + 8 ≤ x) → slice_index_or nears.new x None ≡ slice_index_or nears.old x None }
+{
+    let (best, away) = (eight.best.to_array(), eight.away.to_array());
+    let count = (entries.len().max(start) - start).min(8);
+    'cells: for lane in 0..count {
+        nears[start + lane] = Some(near(entries, start + lane, best[lane], away[lane]));
+    }
+}
+
+/// The obstacle of the column so far right of 128 columns to the left of the cell in column `x`.
+#[inline(always)]
+fn near(entries: &[u16], x: usize, best: u16, away: u16) -> Near
+    requires few { length entries.now ≤ 4096 }
+    requires right { 128 ≤ x + away }
+    requires cell { x ≤ 4095 }
+    requires inside { x + away - 128 < length entries.now }
+    ensures { result ≡ record { dist = best; cell = record { x = x + away - 128; y = slice_index entries.now (x + away - 128) } } }
+{
+    let column = x + usize::from(away) - 128;
+    Near {
+        dist: u32::from(best),
+        cell: Cell {
+            x: column as u16,
+            y: entries[column],
+        },
+    }
+}

@@ -1,0 +1,46 @@
+//! Eight numbers of 16 bits side by side.
+
+ghost use Rattle.std.specs.Prelude.{◌≡◌, ℕ, ◌+◌, ◌<◌, ◌≤◌, ◌==◌, min, length, slice_index, true, if◌then◌else◌};
+
+use std::simd::prelude::*;
+
+/// Eight numbers of a list, from a place on.
+#[inline(always)]
+pub fn load(numbers: &[u16], at: usize) -> u16x8
+    requires { at + 8 ≤ length numbers.now }
+    ensures { (i : ℕ) → i < 8 → slice_index result i ≡ slice_index numbers.now (at + i) }
+{
+    u16x8::from_slice(&numbers[at..])
+}
+
+/// One number eight times.
+#[inline(always)]
+pub fn all_of(number: u16) -> u16x8
+    ensures { (i : ℕ) → i < 8 → slice_index result i ≡ number }
+{
+    u16x8::splat(number)
+}
+
+/// The lesser of two numbers, at each of eight places.
+#[inline(always)]
+pub fn least(a: u16x8, b: u16x8) -> u16x8
+    ensures { (i : ℕ) → i < 8 → slice_index result i ≡ min (slice_index a i) (slice_index b i) }
+{
+    a.simd_min(b)
+}
+
+/// At each of eight places the first number where two are equal, and otherwise the second.
+#[inline(always)]
+pub fn chosen(a: u16x8, b: u16x8, equal: u16x8, other: u16x8) -> u16x8
+    ensures { (i : ℕ) → i < 8 → slice_index result i ≡ (if slice_index a i == slice_index b i then slice_index equal i else slice_index other i) }
+{
+    a.simd_eq(b).select(equal, other)
+}
+
+/// Whether all of eight numbers are below this one.
+#[inline(always)]
+pub fn are_below(numbers: u16x8, limit: u16) -> bool
+    ensures { result ≡ true → (i : ℕ) → i < 8 → slice_index numbers i < limit }
+{
+    !numbers.simd_ge(u16x8::splat(limit)).any()
+}

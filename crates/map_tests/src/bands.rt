@@ -1,0 +1,159 @@
+//! Rows worked in bands: that each band enters the gate once and beside the others, and that each number of workers answers what one does.
+
+use crate::compare::{holds, same};
+use crate::draws::Draws;
+use bits::Bitmap;
+use field::{Workers, rows, rows_with};
+use metric::{Chess, City, Euclid2, Gate, Metric};
+use std::alloc::Global;
+use std::process::Abort;
+use std::sync::atomic::{AtomicBool, AtomicU64, Ordering};
+use std::test::Fail;
+use std::thread;
+use std::thread::Threads;
+
+/// How often a band looks whether the other one has entered.
+const MOST_TURNS: u32 = 50_000_000;
+
+/// Counts for each band how often it entered.
+#[derive(Drop)]
+struct Counts {
+    bands: [AtomicU64; 17],
+}
+
+impl Counts {
+    fn new() -> Self {
+        Counts {
+            bands: std::array::from_fn(|_| AtomicU64::new(0)),
+        }
+    }
+
+    /// How often this band entered.
+    fn of(&self, band: usize) -> u64 {
+        self.bands
+            .get(band)
+            .map_or(0, |count| count.load(Ordering::SeqCst))
+    }
+}
+
+impl Gate for Counts {
+    fn enter(&self, band: u8) {
+        if let Some(count) = self.bands.get(usize::from(band)) {
+            count.fetch_add(1, Ordering::SeqCst);
+        }
+    }
+}
+
+/// In which each of two bands waits until the other has entered.
+#[derive(Drop)]
+struct Meeting {
+    entered: [AtomicBool; 2],
+    alone: AtomicBool,
+}
+
+impl Gate for Meeting {
+    fn enter(&self, band: u8) {
+        let (own, other) = if band == 1 { (0, 1) } else { (1, 0) };
+        self.entered[own].store(true, Ordering::SeqCst);
+        if !is_seen(&self.entered[other]) {
+            self.alone.store(true, Ordering::SeqCst);
+        }
+    }
+}
+
+/// Waits for this, but not forever.
+fn is_seen(signal: &AtomicBool) -> bool {
+    for _ in 0..MOST_TURNS {
+        if signal.load(Ordering::SeqCst) {
+            return true;
+        }
+        thread::yield_now();
+    }
+    false
+}
+
+#[test]
+fn bands_meet(rt: HostRuntime) -> Result<(), Fail> {
+    let bitmap = Bitmap::blank(rt.alloc(), 8, 4)?;
+    let workers = Workers::new(2).ok_or("no workers")?;
+    let gate = Meeting {
+        entered: [AtomicBool::new(false), AtomicBool::new(false)],
+        alone: AtomicBool::new(false),
+    };
+    assert!(rt; bitmap.height() == 4);
+    let nears = rows_with::<City, _, _>(&rt, rt.alloc(), &bitmap, 0, 4, workers, &gate)?;
+    same(&rt, nears.len(), 32, "answers");
+    same(
+        &rt,
+        gate.alone.load(Ordering::SeqCst),
+        false,
+        "a band is alone",
+    );
+    Ok(())
+}
+
+#[test]
+fn three_rows_over_four_workers(rt: HostRuntime) -> Result<(), Fail> {
+    let workers = Workers::new(4).ok_or("no workers")?;
+    assert!(rt; workers.count == 4);
+    same(&rt, workers.band_rows(0, 3, 1), (0, 0), "band 1");
+    same(&rt, workers.band_rows(0, 3, 2), (0, 1), "band 2");
+    same(&rt, workers.band_rows(0, 3, 3), (1, 2), "band 3");
+    same(&rt, workers.band_rows(0, 3, 4), (2, 3), "band 4");
+    let bitmap = Bitmap::blank(rt.alloc(), 5, 3)?;
+    assert!(rt; bitmap.height() == 3);
+    let gate = Counts::new();
+    let nears = rows_with::<Chess, _, _>(&rt, rt.alloc(), &bitmap, 0, 3, workers, &gate)?;
+    same(&rt, nears.len(), 15, "answers");
+    for band in 0..17 {
+        let once = u64::from(1 <= band && band <= 4);
+        same(&rt, gate.of(band), once, ("how often band entered", band));
+    }
+    Ok(())
+}
+
+#[test]
+fn so_many_workers(rt: HostRuntime) -> Result<(), Fail> {
+    for count in [1, 2, 16] {
+        let workers = Workers::new(count).ok_or("no workers")?;
+        same(&rt, workers.count, count, "workers");
+    }
+    holds(&rt, Workers::new(0).is_none(), "no workers");
+    holds(&rt, Workers::new(17).is_none(), "17 workers");
+    Ok(())
+}
+
+/// Compares the rows from one to before another, worked by so many workers, with those that one thread works.
+fn compare<M: Metric + Sync>(
+    rt: &(impl Abort + Threads + Sync),
+    alloc: Global,
+    bitmap: &Bitmap,
+    count: u8,
+    y0: u16,
+) -> Result<(), Fail> {
+    let workers = Workers::new(count).ok_or("no workers")?;
+    let gate = Counts::new();
+    let y1 = bitmap.height();
+    assert!(rt; y0 <= y1);
+    let many = rows_with::<M, _, _>(rt, alloc, bitmap, y0, y1, workers, &gate)?;
+    let one = rows::<M>(alloc, bitmap, y0, y1)?;
+    same(rt, many.as_slice(), one.as_slice(), (count, y0, y1));
+    Ok(())
+}
+
+#[test]
+fn as_one_thread(rt: HostRuntime) -> Result<(), Fail> {
+    let mut draws = Draws::new(20261123);
+    for (width, height) in [(12, 12), (130, 3), (40, 90)] {
+        for count in [1, 2, 3, 4, 16] {
+            for rare in [2, 20, 200] {
+                let (width, height) = (draws.side(width), draws.side(height));
+                let bitmap = draws.map(rt.alloc(), width, height, rare)?;
+                compare::<Euclid2>(&rt, rt.alloc(), &bitmap, count, 0)?;
+                compare::<City>(&rt, rt.alloc(), &bitmap, count, height / 3)?;
+                compare::<Chess>(&rt, rt.alloc(), &bitmap, count, height / 2)?;
+            }
+        }
+    }
+    Ok(())
+}

@@ -1,0 +1,74 @@
+-- Small distances in 16 bits, as they are looked at side by side: this project's own rule.
+use Rattle.std.specs.Prelude.{◌≡◌, ℕ, ◌+◌, ◌*◌, ◌<◌, ◌≤◌, min, max, List, slice_index}
+use Rattle.std.proofs.Common.{arith, inl, inr}
+use Rattle.std.proofs.Math.Nat.{mul-le-mul}
+use Rattle.std.proofs.lemmas.Bool.{cases_lt}
+use Rattle.metric.specs.Distance.{euclid2, city, chess}
+
+-- a distance in 16 bits is put together of the part of its row difference and its reach, which is the distance of the columns alone; it is exact below 32400, and no less where the distance is no less
+pub record IsSmall (distance : ℕ → ℕ → ℕ) (part : ℕ → ℕ) (joined : ℕ → ℕ → ℕ) : Type 0 where
+  pub few : (g : ℕ) → part g ≤ 32400
+  pub far : (g : ℕ) → 61440 ≤ g → part g ≡ 32400
+  pub told : (dx g : ℕ) → dx ≤ 97 → g ≤ 4095 → min 32400 (joined (part g) (distance dx 0)) ≡ min 32400 (distance dx g)
+  pub at_least : (p r : ℕ) → p ≤ joined p r
+  pub fits : (p r : ℕ) → p ≤ 32400 → r ≤ 9409 → joined p r < 65536
+  pub reach : (dx : ℕ) → dx ≤ 97 → distance dx 0 ≤ 9409
+
+-- each of eight numbers is at most so large
+abbrev pub AreUpTo : ℕ → List ℕ → Type 0
+AreUpTo most lanes = (i : ℕ) → i < 8 → slice_index lanes i ≤ most
+
+-- the part of a row difference in the square of the straight distance
+abbrev pub square_part : ℕ → ℕ
+square_part g = min g 180 * min g 180
+
+-- the part of a row difference where it is added, or where the larger difference counts
+abbrev pub plain_part : ℕ → ℕ
+plain_part g = min g 32400
+
+-- a part and a reach are added
+abbrev pub added : ℕ → ℕ → ℕ
+added p r = p + r
+
+-- the larger of a part and a reach counts
+abbrev pub larger : ℕ → ℕ → ℕ
+larger p r = max p r
+
+-- the square of the straight distance is put together so
+pub euclid2_small : IsSmall euclid2 square_part added
+euclid2_small = record {
+  few = λ g. let cut : min g 180 ≤ 180 = omega arith in let squares : min g 180 * min g 180 ≤ 180 * 180 = mul-le-mul cut cut in omega arith;
+  far = λ g large. let cut : min g 180 ≡ 180 = omega arith in rw cut (omega arith);
+  told = λ dx g near row. elim (cases_lt g 180) [
+    | inl less ↦ let cut : min g 180 ≡ g = omega arith in rw cut (omega arith)
+    | inr more ↦
+        let cut : min g 180 ≡ 180 = omega arith in
+        let squares : 180 * 180 ≤ g * g = mul-le-mul more more in
+        rw cut (omega arith)
+  ];
+  at_least = λ p r. omega arith;
+  fits = λ p r small near. omega arith;
+  reach = λ dx near. let squares : dx * dx ≤ 97 * 97 = mul-le-mul near near in omega arith;
+}
+
+-- the steps to the four cells beside are put together so
+pub city_small : IsSmall city plain_part added
+city_small = record {
+  few = λ g. omega arith;
+  far = λ g large. omega arith;
+  told = λ dx g near row. omega arith;
+  at_least = λ p r. omega arith;
+  fits = λ p r small near. omega arith;
+  reach = λ dx near. omega arith;
+}
+
+-- the steps to the eight cells round are put together so
+pub chess_small : IsSmall chess plain_part larger
+chess_small = record {
+  few = λ g. omega arith;
+  far = λ g large. omega arith;
+  told = λ dx g near row. omega arith;
+  at_least = λ p r. omega arith;
+  fits = λ p r small near. omega arith;
+  reach = λ dx near. omega arith;
+}
