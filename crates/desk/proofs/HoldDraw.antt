@@ -85,17 +85,17 @@ judged_other k log h c tells other by =
     sym (refused_next k (story k log) h.ledger tells.holds.summary.ledger_is (tidy_told k log h tells).draft c by ∙ refused_for_none k.setting (story k log) c other)
 
 -- why the ledger refuses a command
-pub judged_why : (h : Holding) (c : Command) (refusal : Refusal) → refused_by_ledger h.ledger c ≡ Some refusal → Judges h c (Some refusal)
+judged_why : (h : Holding) (c : Command) (refusal : Refusal) → refused_by_ledger h.ledger c ≡ Some refusal → Judges h c (Some refusal)
 judged_why h c refusal by = λ k log tells. sym (refused_first k (story k log) h.ledger tells.holds.summary.ledger_is (tidy_told k log h tells).draft c refusal by)
 
 -- a command that the ledger refuses
-pub judged_first : (h : Holding) (c : Command) (refusal : Refusal) → refused_by_ledger h.ledger c ≡ Some refusal → Refuses h c refusal
-judged_first h c refusal by = inl (judged_why h c refusal by)
+pub judged_first : (h : Holding) (c : Command) (has_room : Bool) (refusal : Refusal) → refused_by_ledger h.ledger c ≡ Some refusal → Refuses h c has_room refusal
+judged_first h c has_room refusal by = inl (judged_why h c refusal by)
 
 -- a command that finds no memory for its entry
-pub judged_starved : (h : Holding) (c : Command) (found : Option Refusal) (refusal : Refusal) → Judges h c found → refusal ≡ unwrap_or found Memory → Refuses h c refusal
-judged_starved h c (Some why) refusal judged is = inl (subst (λ (r : Refusal). Judges h c (Some r)) (sym is) judged)
-judged_starved h c None refusal judged is = inr (judged, is)
+pub judged_starved : (h : Holding) (c : Command) (has_room : Bool) (found : Option Refusal) (refusal : Refusal) → has_room ≡ false → Judges h c found → refusal ≡ unwrap_or found Memory → Refuses h c has_room refusal
+judged_starved h c has_room (Some why) refusal none judged is = inl (subst (λ (r : Refusal). Judges h c (Some r)) (sym is) judged)
+judged_starved h c has_room None refusal none judged is = inr (judged, is, none)
 
 -- a paint or a stamp is done
 pub draw_done : (old new : Holding) (c : Command) (changed : ℕ) (reply : Reply) → IsDraw c → refused_by_ledger old.ledger c ≡ None → refused_by old.grid old.arena.free c ≡ None

@@ -1,3 +1,4 @@
+pub mod CarryLemmas
 pub mod DeskLemmas
 pub mod HoldCollect
 pub mod HoldDraw
@@ -6,4 +7,5 @@ pub mod HoldOpen
 pub mod HoldPublish
 pub mod NamingLemmas
 pub mod OpenedLemmas
-pub mod PinLemmas
+pub mod PublishSteps
+pub mod ScanSteps

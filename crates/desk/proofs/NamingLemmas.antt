@@ -6,7 +6,6 @@ use Rattle.std.proofs.lemmas.List.{length-map}
 use Rattle.std.proofs.lemmas.List.FromFn.{length-range_with_len}
 use Rattle.std.proofs.Math.Seq.{get_or-append_seam}
 use Rattle.shelf.specs.Open.{Newcomer, all_newcomers}
-use Rattle.shelf.specs.Roles.{ReaderView, fresh_reader}
 use Rattle.shelf.specs.Store.{StoreId, readers_of}
 
 -- each of these readers is the store's
@@ -28,7 +27,6 @@ newcomer_of z all front rest x all_is parts =
     ∙ stores z (range_with_len 0 (readers_of z)) (length front) x within
 
 -- there is room for the seat of one reader more
-pub room_left : (z : StoreId) (all front rest : List Newcomer) (x : Newcomer) (seats : List ReaderView) (room : ℕ) → all ≡ all_newcomers z → front ++ x ∷ rest ≡ all
-    → seats ≡ map (λ (n : Newcomer). fresh_reader n.number) front → readers_of z ≤ room → length seats < room
+pub room_left : (z : StoreId) (all front rest : List Newcomer) (x : Newcomer) (seats room : ℕ) → all ≡ all_newcomers z → front ++ x ∷ rest ≡ all → seats ≡ length front → readers_of z ≤ room → seats < room
 room_left z all front rest x seats room all_is parts seats_are enough =
-    omega (arith, ap length (parts ∙ all_is), length-append front (x ∷ rest), newcomers_counted z, ap length seats_are, length-map front (λ (n : Newcomer). fresh_reader n.number))
+    omega (arith, ap length (parts ∙ all_is), length-append front (x ∷ rest), newcomers_counted z)

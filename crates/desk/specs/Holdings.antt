@@ -1,8 +1,9 @@
 -- What a desk holds of a map, and what that says of its log: this project's own rule.
-use Rattle.std.specs.Prelude.{◌≡◌, ℕ, ◌+◌, ◌≤◌, ◌⊎◌, List, [], ◌∷◌, ◌++◌, length, Option, Some, None}
+use Rattle.std.specs.Prelude.{◌≡◌, ℕ, ◌+◌, ◌≤◌, ◌⊎◌, Bool, false, List, [], ◌∷◌, ◌++◌, length, Option, Some, None}
 use Rattle.metric.specs.declared.refusal.Refusal.{Refusal}
 use Rattle.metric.specs.declared.refusal.Refusal.TheVariants.{Memory}
 use Rattle.map_core.specs.declared.command.Command.{Command}
+use Rattle.map_core.specs.declared.command.Command.TheVariants.{Publish, Collect}
 use Rattle.map_core.specs.declared.command.Reply.{Reply}
 use Rattle.map_core.specs.declared.command.Entry.{Entry}
 use Rattle.map_core.specs.Story.{Story, newest, bitmap_of, IsKept}
@@ -49,9 +50,15 @@ pub record CanAnswer (h : Holding) : Type 0 where
 abbrev pub Judges : Holding → Command → Option Refusal → Type 0
 Judges h c refusal = (k : Base) (log : List Entry) → IsTold k log h → refusal ≡ refused k.setting (story k log) c
 
--- a command is refused: for this reason by the log, or for want of memory, where the log has no reason
-abbrev pub Refuses : Holding → Command → Refusal → Type 0
-Refuses h c refusal = Judges h c (Some refusal) ⊎ (Judges h c None × (refusal ≡ Memory))
+-- a command is refused: for this reason by the log, or for want of memory, where the log has no reason and no room was found
+abbrev pub Refuses : Holding → Command → Bool → Refusal → Type 0
+Refuses h c has_room refusal = Judges h c (Some refusal) ⊎ (Judges h c None × (refusal ≡ Memory) × (has_room ≡ false))
+
+-- a paint, a stamp or a revert: its only step is its last
+abbrev pub IsOneStep : Command → Type 0
+IsOneStep Publish = ⊥
+IsOneStep Collect = ⊥
+IsOneStep c = Unit {0}
 
 -- a command is answered after whatever log tells what is held, and then the log with that entry tells it
 abbrev pub Does : Holding → Command → Reply → Holding → Type 0

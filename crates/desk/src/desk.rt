@@ -3,24 +3,24 @@
 mod close;
 mod commands;
 mod fresh;
-mod pins;
 
 use crate::holding::Holding;
 pub use fresh::FreshDesk;
 use shelf::{KeeperSeat, Signed, StoreName};
 use std::marker::Model;
 
-/// The value behind the writers' lock of a store. Contracts see it as its log, and for each session the version that it has pinned.
+/// The value behind the writers' lock of a store. Contracts see it as its log.
 ///
-/// The type keeps that the log is legal, that ledger, draft, kept versions and blocks are what the log tells, that each pinned version is
-/// kept, and that the keeper's seat rests at the log.
+/// The type keeps that the log is legal, that ledger, draft, kept versions and blocks are what the log tells, and that the keeper's seat
+/// rests at the log.
 ///
 /// It can't be let go: it is closed.
 pub struct Desk<Id: StoreName> {
     keeper: KeeperSeat<Id>,
     holding: Holding,
     log: Vec<Signed>,
-    pins: Vec<Option<u32>>,
+    // What the last collect's scan saw of each reader.
+    announced: Vec<Option<u32>>,
 }
 
 impl<Id: StoreName> Model for Desk<Id> {
@@ -28,15 +28,25 @@ impl<Id: StoreName> Model for Desk<Id> {
 
     ghost Value = { DeskView };
 
-    ghost view = { λ d. record { log = d.log.items; pins = d.pins.items } };
+    ghost view = { λ d. record { log = d.log.items } };
 
-    ghost invariant = { λ d. IsDesk Id.store record { log = d.log.items; pins = d.pins.items } d.keeper d.holding };
+    ghost invariant = { λ d. IsDesk Id.store record { log = d.log.items } d.keeper d.holding d.announced.items };
 }
 
 #[cfg(test)]
 impl<Id: StoreName> Desk<Id> {
+    ghost use Rattle.std.specs.Prelude.{◌≡◌};
+    ghost use Rattle.map_core.specs.Words.{tiles};
+
     /// How many blocks are free.
     pub fn free_blocks(&self) -> u32 {
         self.holding.arena.free_len()
+    }
+
+    /// How many positions the map has.
+    pub fn tiles(&self) -> u16
+        ensures { result ≡ tiles Id.store.base }
+    {
+        self.keeper.plan().tiles
     }
 }

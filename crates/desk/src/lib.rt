@@ -1,6 +1,7 @@
 //! The desk of a store: its log, its draft and its kept versions behind the writers' lock, and what each command does to them.
 #![tactic(auto)]
 
+mod carry;
 mod desk;
 mod holding;
 #[cfg(test)]

@@ -6,10 +6,11 @@ ghost use Rattle.bits.specs.Cells.{IsSide};
 mod answers;
 mod opened;
 mod rows;
+mod seats;
 mod worked;
 
 use crate::tests::answers::{collected, full, painted, published, reverted};
-use crate::tests::rows::{Row, Step, check};
+use crate::tests::rows::{Row, Step, check, check_beside_a_pin};
 use map_core::Setting;
 use metric::Refusal;
 use std::test::Fail;
@@ -106,19 +107,22 @@ fn a_collect_frees_what_its_versions_took(rt: HostRuntime) -> Result<(), Fail> {
         versions: 3,
         ..SMALL
     };
-    let rows: [Row; 12] = [
+    let before: [Row; 2] = [
         (Step::Paint([0, 0, 2, 1], true), painted(1, 2), 2),
         (Step::Publish, published(2, 1), 2),
-        (Step::Pin, published(2, 1), 2),
+    ];
+    let beside: [Row; 6] = [
         (Step::Paint([100, 0, 130, 1], true), painted(3, 30), 0),
         (Step::Publish, published(4, 2), 0),
         (Step::Paint([191, 0, 192, 1], true), full(1, 0), 0),
         (Step::Publish, Err(Refusal::VersionsFull), 0),
         (Step::Collect, collected(5, 1, 1), 1),
         (Step::Paint([191, 0, 192, 1], true), painted(6, 1), 0),
-        (Step::Unpin, painted(6, 1), 0),
+    ];
+    let after: [Row; 2] = [
         (Step::Collect, collected(7, 2, 2), 2),
         (Step::Revert, reverted(8), 3),
     ];
-    check(&rt, rt.alloc(), setting, [192, 1], &rows)
+    let parts: [&[Row]; 3] = [&before, &beside, &after];
+    check_beside_a_pin(&rt, rt.alloc(), setting, [192, 1], parts)
 }

@@ -1,6 +1,7 @@
 //! The draft and the versions of a map as tiles.
 
 mod judge;
+mod shown;
 
 ghost use Rattle.std.specs.Prelude.{◌≡◌, ◌≤◌, ◌<◌, ◌+◌, ◌-◌, ◌*◌, ◌/◌, ◌%◌, ◌^◌, ◌++◌, ℕ, length, map, replicate, drop, Some, None, IfSome, IfNone, IfOk, IfErr, OnErr, MatchResult, is_some, true, false, List, [], ◌∷◌};
 ghost use Rattle.std.specs.List.{range_with_len};

@@ -5,6 +5,7 @@ pub mod CountLemmas
 pub mod DoesLemmas
 pub mod DrawLemmas
 pub mod DrawWorld
+pub mod Events
 pub mod FreedLemmas
 pub mod GiveBack
 pub mod JudgeLemmas
@@ -17,10 +18,13 @@ pub mod OrderWorld
 pub mod PlaceLemmas
 pub mod PublishOwn
 pub mod PublishWorld
+pub mod PublishWords
+pub mod Replies
 pub mod ReaderWorld
 pub mod RetiredLemmas
 pub mod RunLemmas
 pub mod SafeLemmas
+pub mod SeenBlocks
 pub mod SeenLemmas
 pub mod SoundBlocks
 pub mod SoundCommit

@@ -101,7 +101,7 @@ abbrev pub opened_state : Base → List ℕ → State
 opened_state k words = record { base = k; words = words; keeper = record { log = []; hand = None }; readers = replicate k.setting.sessions fresh_reader }
 
 -- it is whole
-IsWhole-opening : (k : Base) (words : List ℕ) → IsReady k → AreOpeningWords k words → IsWhole (opened_state k words)
+pub IsWhole-opening : (k : Base) (words : List ℕ) → IsReady k → AreOpeningWords k words → IsWhole (opened_state k words)
 IsWhole-opening k words ready opening = record {
   ready = ready;
   keeper = KeeperSound-opening k words opening;

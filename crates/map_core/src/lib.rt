@@ -22,4 +22,4 @@ pub use ledger::Ledger;
 pub use now::Now;
 pub use setting::Setting;
 pub use tiles::tile_differs;
-pub use world::World;
+pub use world::{World, opening_words};

@@ -15,6 +15,7 @@ use crate::event::{Event, NotEnabled, StepReply};
 use crate::ledger::Ledger;
 use crate::reader::Standing;
 use bits::Bitmap;
+pub use open::opening_words;
 use std::alloc::Global;
 use std::collections::VecDeque;
 use std::marker::Model;

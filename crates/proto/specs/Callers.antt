@@ -9,13 +9,13 @@ use Rattle.map_core.specs.declared.command.Reply.{Reply}
 use Rattle.map_core.specs.Story.{newest, bitmap_of, no_bitmap}
 use Rattle.map_core.specs.Legal.{refused, IsAnswer, IsLegal}
 use Rattle.shelf.specs.declared.signed.Signed.{Signed}
-use Rattle.shelf.specs.Roles.{ReaderView, entries}
 use Rattle.shelf.specs.Store.{StoreId}
+use Rattle.shelf.specs.Roles.{ReaderView, entries}
 use Rattle.desk.specs.Desks.{story_told}
 use Rattle.proto.specs.declared.answer.Answer.{Answer}
 use Rattle.proto.specs.declared.answer.Answer.TheVariants as answers
 
--- a caller: its session's seat, and the version that it has pinned, if it has
+-- a caller: its session's seat, as it is once a pin is left, and the version that it has pinned, if it has
 pub record CallerValue : Type 0 where
   pub seat : ReaderView
   pub pin : Option ℕ

@@ -55,7 +55,7 @@ pub fn serve_stream<Id: StoreName, R: Wait, S: Stream>(
         let (next, end) = serve_line(rt, alloc, store, caller, stream, &mut line, &mut text);
         caller = next;
         if let Some(end) = end {
-            return (caller.into_session(rt, store), end);
+            return (caller.into_session(), end);
         }
     }
     unreachable!()

@@ -1,3 +1,5 @@
+pub mod CommandLemmas
 pub mod PinLemmas
+pub mod ReadingLemmas
 pub mod OpeningLemmas
 pub mod ClosingLemmas

@@ -1,20 +1,95 @@
--- A pin whose session sees more of the log.
-use Rattle.std.proofs.Common.{sym, ◌∙◌, arith}
+-- What a session's seat is once it has pinned or learned, and that a pin stays.
+use Rattle.std.proofs.Common.{◌≡◌, ℕ, ◌≤◌, List, false, refl, ap, sym, subst, ◌∙◌, arith}
+use Rattle.std.specs.Prelude.{Bool, Option, Some, None, is_some, ◌⊎◌}
+use mathlib.Core.Logic.{inl}
 use mathlib.Core.List.{IsPrefix}
 use Rattle.bits.specs.Cells.{Cells}
+use Rattle.map_core.specs.declared.command.Entry.{Entry}
+use Rattle.map_core.specs.Story.{newest, bitmap_of}
+use Rattle.map_core.specs.Words.{Base}
+use Rattle.map_core.specs.Views.{Reader, story}
+use Rattle.map_core.specs.Views as core
+use Rattle.map_core.specs.Steps.{next_hold}
+use Rattle.map_core.specs.Legal.{IsLegal}
+use Rattle.map_core.specs.Tidy.{IsReady, IsOfMap}
 use Rattle.map_core.proofs.LogLemmas.{newest-beginning, bitmap-beginning}
-use Rattle.shelf.specs.Roles.{ReaderView, entries}
+use Rattle.map_core.proofs.TidyLog.{IsTidy-legal}
 use Rattle.shelf.specs.Store.{StoreId}
 use Rattle.shelf.proofs.LogParts.{prefix-entries}
-use Rattle.session.specs.Sessions.{PinView, IsPin}
+use Rattle.shelf.specs.Roles.{ReaderView, entries, as_reader}
+use Rattle.shelf.specs.Steps.{announcing, loaded}
+use Rattle.shelf.proofs.ReaderSeats.{hold_stays}
+use Rattle.session.specs.Sessions.{PinView, IsSession, IsPin}
 
--- it holds the same version, which has the same bitmap
-pub pin_stays : (z : StoreId) (p : PinView) (y : ReaderView) (bitmap : Cells) → IsPin z p bitmap → IsPrefix p.seat.seen y.seen → IsPin z record { seat = y; version = p.version } bitmap
-pin_stays z p y bitmap pin began =
+-- a load by a seat that holds, or has announced nothing, changes what it has seen alone
+pub seen_alone : (z : Base) (x y : ReaderView) → (x.announced ≡ None) ⊎ ((v : ℕ) × (x.holds ≡ Some v)) → y ≡ loaded z y.seen x → y ≡ record x { seen = y.seen }
+seen_alone z x y steady is = is ∙ ap (λ (h : Option ℕ). record x { seen = y.seen; holds = h }) (hold_stays x (newest (story z (entries y.seen))) steady)
+
+-- a load by a reader that has announced and holds nothing gives it the hold
+takes_hold : (announced holds : Option ℕ) (seen : List Entry) (n v : ℕ) → announced ≡ Some v → holds ≡ None → next_hold record { seen = seen; announced = announced; holds = holds } n ≡ Some n
+takes_hold announced holds seen n v some none = rw (some, none) refl
+
+-- a load, an announcement and a load: the seat holds the newest version that it then has seen
+pub pinned_seat : (z : Base) (x a b y : ReaderView) → x.announced ≡ None → x.holds ≡ None → a ≡ loaded z a.seen x → b ≡ announcing z a → y ≡ loaded z y.seen b
+    → y ≡ record x { seen = y.seen; announced = Some (core.newest_seen z (as_reader a)); holds = Some (newest (story z (entries y.seen))) }
+pinned_seat z x a b y quiet free first told last =
+    let n = newest (story z (entries y.seen)) in
+    let v = core.newest_seen z (as_reader a) in
+    let a_is = seen_alone z x a (inl quiet) first in
+    let none : a.holds ≡ None = ap (λ (q : ReaderView). q.holds) a_is ∙ free in
+    last
+    ∙ (ap (loaded z y.seen) told
+    ∙ (ap (λ (h : Option ℕ). record a { seen = y.seen; announced = Some v; holds = h }) (takes_hold (Some v) a.holds (entries a.seen) n v refl none)
+    ∙ ap (λ (q : ℕ × ℕ). record { number = q.0; seen = y.seen; made = q.1; announced = Some v; holds = Some n }) (λ i. (ap (λ (q : ReaderView). q.number) a_is i, ap (λ (q : ReaderView). q.made) a_is i))))
+
+-- a session is one still where its seat has seen more
+pub session_stays : (store : StoreId) (x y : ReaderView) (width height : ℕ) → IsSession store x width height → y ≡ record x { seen = y.seen } → IsSession store y width height
+session_stays store x y width height session is = record {
+  quiet = ap (λ (q : ReaderView). q.announced) is ∙ session.quiet;
+  free = ap (λ (q : ReaderView). q.holds) is ∙ session.free;
+  ready = session.ready;
+  width_is = session.width_is;
+  height_is = session.height_is;
+}
+
+-- a bitmap that was published is of the map's size
+pub published_size : (z : Base) (x : ReaderView) (v : ℕ) → IsReady z → IsLegal z.setting z.opening (entries x.seen) → v ≤ newest (story z (entries x.seen)) → IsOfMap z (bitmap_of (story z (entries x.seen)) v)
+published_size z x v ready legal within = (IsTidy-legal z (entries x.seen) ready legal).published v within
+
+-- a pin stays where its session sees more of the log: it holds the same version, which has the same bitmap
+pub pin_stays : (store : StoreId) (p : PinView) (y : ReaderView) (bitmap : Cells) (is_read : Bool) → IsPin store p bitmap is_read → IsPrefix p.seat.seen y.seen → y.announced ≡ p.seat.announced → y.holds ≡ p.seat.holds
+    → IsPin store record { seat = y; version = p.version } bitmap is_read
+pin_stays store p y bitmap is_read pin began announced holds =
+    let z = store.base in
     let begins = prefix-entries p.seat.seen y.seen began in
-    let grown = newest-beginning z.base (entries p.seat.seen) (entries y.seen) begins in
+    let grown = newest-beginning z (entries p.seat.seen) (entries y.seen) begins in
     let published = pin.published in
+    let same = sym (bitmap-beginning z (entries p.seat.seen) (entries y.seen) begins p.version published) in
     record {
+      announced = ap (λ (a : Option ℕ). is_some a) announced ∙ pin.announced;
+      held = holds ∙ pin.held;
       published = omega arith;
-      bitmap_is = pin.bitmap_is ∙ sym (bitmap-beginning z.base (entries p.seat.seen) (entries y.seen) begins p.version published);
+      ready = pin.ready;
+      of_map = subst (IsOfMap z) same pin.of_map;
+      width_is = pin.width_is;
+      height_is = pin.height_is;
+      bitmap_is = λ read. pin.bitmap_is read ∙ same;
+    }
+
+-- a session that has loaded, announced and loaded again is a pin of the newest version, with room for its bitmap
+pub pin_made : (store : StoreId) (x a b y : ReaderView) (version : ℕ) (bitmap : Cells) → IsReady store.base → x.announced ≡ None → x.holds ≡ None → a ≡ loaded store.base a.seen x → b ≡ announcing store.base a
+    → y ≡ loaded store.base y.seen b → version ≡ newest (story store.base (entries y.seen)) → IsLegal store.base.setting store.base.opening (entries y.seen) → bitmap.width ≡ store.base.opening.width
+    → bitmap.height ≡ store.base.opening.height → IsPin store record { seat = y; version = version } bitmap false
+pin_made store x a b y version bitmap ready quiet free first told last is legal width height =
+    let z = store.base in
+    let y_is = pinned_seat z x a b y quiet free first told last in
+    record {
+      announced = ap (λ (q : ReaderView). is_some q.announced) y_is;
+      held = ap (λ (q : ReaderView). q.holds) y_is ∙ ap (λ (v : ℕ). Some v) (sym is);
+      published = omega arith;
+      ready = ready;
+      of_map = published_size z y version ready legal (omega arith);
+      width_is = width;
+      height_is = height;
+      bitmap_is = λ read. absurd (cc);
     }

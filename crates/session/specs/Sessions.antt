@@ -1,13 +1,14 @@
 -- What contracts see of pins and of sessions: this project's own rule.
-use Rattle.std.specs.Prelude.{◌≡◌, ◌≤◌, ℕ, List, map}
-use mathlib.Core.List.{IsPrefix}
+use Rattle.std.specs.Prelude.{◌≡◌, ◌≤◌, ℕ, Bool, true, List, map, Some, None, is_some}
 use Rattle.std.specs.List.{range_with_len}
+use mathlib.Core.List.{IsPrefix}
 use Rattle.bits.specs.Cells.{Cells}
 use Rattle.map_core.specs.Story.{newest, bitmap_of}
+use Rattle.map_core.specs.Views.{story}
+use Rattle.map_core.specs.Tidy.{IsReady, IsOfMap}
 use Rattle.shelf.specs.declared.signed.Signed.{Signed}
-use Rattle.shelf.specs.Roles.{ReaderView, fresh_reader, made_by}
 use Rattle.shelf.specs.Store.{StoreId, readers_of}
-use Rattle.desk.specs.Desks.{story_told}
+use Rattle.shelf.specs.Roles.{ReaderView, entries, fresh_reader, made_by}
 
 -- a pin: its session's seat, and the version that it holds
 pub record PinView : Type 0 where
@@ -16,16 +17,15 @@ pub record PinView : Type 0 where
 
 -- the newest version of what a session has seen
 abbrev pub newest_seen : StoreId → ReaderView → ℕ
-newest_seen store seat = newest (story_told store seat.seen)
+newest_seen store seat = newest (story store.base (entries seat.seen))
+
+-- the bitmap that was published as this version, by what a session has seen
+abbrev pub bitmap_seen : StoreId → ReaderView → ℕ → Cells
+bitmap_seen store seat version = bitmap_of (story store.base (entries seat.seen)) version
 
 -- the bitmap that was published as the version that a pin holds, by what it has seen
 abbrev pub bitmap_pinned : StoreId → PinView → Cells
-bitmap_pinned store p = bitmap_of (story_told store p.seat.seen) p.version
-
--- a pin holds a version that was published in what it has seen, and has its bitmap
-pub record IsPin (store : StoreId) (p : PinView) (bitmap : Cells) : Type 0 where
-  pub published : p.version ≤ newest_seen store p.seat
-  pub bitmap_is : bitmap ≡ bitmap_pinned store p
+bitmap_pinned store p = bitmap_seen store p.seat p.version
 
 -- the sessions of a store that was just opened, by number
 abbrev pub all_fresh : StoreId → List ReaderView
@@ -34,3 +34,23 @@ all_fresh store = map fresh_reader (range_with_len 0 (readers_of store))
 -- a log begins with what a session has seen, and has as many entries by it as it counts
 abbrev pub IsIn : List Signed → ReaderView → Type 0
 IsIn log s = IsPrefix s.seen log × (made_by s.number log ≡ s.made)
+
+-- a session has announced nothing and holds nothing, and has the size of its store's map, which fits the store's setting
+pub record IsSession (store : StoreId) (x : ReaderView) (width height : ℕ) : Type 0 where
+  pub quiet : x.announced ≡ None
+  pub free : x.holds ≡ None
+  pub ready : IsReady store.base
+  pub width_is : width ≡ store.base.opening.width
+  pub height_is : height ≡ store.base.opening.height
+
+-- a pin has announced a version and holds one that was published in what it has seen; it has that version's bitmap once it is read, and until then
+-- a bitmap of the same size
+pub record IsPin (store : StoreId) (p : PinView) (bitmap : Cells) (is_read : Bool) : Type 0 where
+  pub announced : is_some p.seat.announced ≡ true
+  pub held : p.seat.holds ≡ Some p.version
+  pub published : p.version ≤ newest_seen store p.seat
+  pub ready : IsReady store.base
+  pub of_map : IsOfMap store.base (bitmap_pinned store p)
+  pub width_is : bitmap.width ≡ store.base.opening.width
+  pub height_is : bitmap.height ≡ store.base.opening.height
+  pub bitmap_is : is_read ≡ true → bitmap ≡ bitmap_pinned store p

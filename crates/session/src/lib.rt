@@ -1,11 +1,16 @@
 //! A store of one map and its sessions: painters change a draft and publish it, and planners pin a version and ask.
 //!
+//! Painters take turns at the lock of the desk. A planner pins by three steps on the shared words, reads its version by looking at them, and
+//! unpins by one: it takes no lock, and waits for nobody. What one session has seen reaches another by a ticket.
+//!
 //! A store is opened in a function that is generic in its name, which is called with `std::marker::Brand`.
 #![tactic(auto)]
 
 mod blank;
 mod pinned;
+mod reading;
 mod session;
+mod sessions;
 mod store;
 #[cfg(test)]
 mod tests;
@@ -13,4 +18,5 @@ mod tests;
 pub use blank::Blank;
 pub use pinned::Pinned;
 pub use session::Session;
+pub use shelf::Ticket;
 pub use store::Store;

@@ -1,28 +1,32 @@
 //! A pin: a session that holds a version, and asks it.
 
-ghost use Rattle.std.specs.Prelude.{◌≡◌, None, IfOk, IfErr};
+ghost use Rattle.std.specs.Prelude.{◌≡◌, true, Some, None, is_some};
 ghost use mathlib.Core.List.{IsPrefix};
-ghost use Rattle.metric.specs.Nearest.{IsNear};
-ghost use Rattle.bits.specs.Cells.{IsInside, IsObstacle};
-ghost use Rattle.clearance.specs.Answers.{IsClearOf, IsLeastOf, IsRefusalFor, LiesIn, cells_of_rect};
-ghost use Rattle.clearance.specs.Paths.{IsPathRefusal, cells_of_path, path_refusal};
+ghost use Rattle.map_core.specs.Legal.{IsLegal};
+ghost use Rattle.shelf.specs.Roles.{entries};
+ghost use Rattle.shelf.specs.Steps.{leaving};
+ghost use Rattle.std.specs.Borrow.{sem};
 ghost use Rattle.session.specs.Sessions.{bitmap_pinned};
 
 mod commands;
+mod queries;
 
+use crate::reading::read_once;
+use crate::session::Session;
 use bits::Bitmap;
-use metric::{Cell, Metric, Near, Rect, Refusal};
-use shelf::{ReaderSeat, StoreName};
-use std::alloc::Global;
+use shelf::{ReaderSeat, StoreName, Ticket};
 use std::marker::Model;
 
-/// A session that holds a version, whatever others publish and collect. Contracts see it as the session's seat and the version.
+/// A session that holds a version, whatever others publish and collect. Contracts see it as the session's seat and the version. It has
+/// announced a version, and holds this one.
 ///
 /// It can't be let go: it is unpinned.
 pub struct Pinned<Id: StoreName> {
     pub(crate) seat: ReaderSeat<Id>,
     pub(crate) version: u32,
+    // The version's bitmap once it is read, and until then room for it.
     pub(crate) bitmap: Bitmap,
+    pub(crate) read: bool,
 }
 
 impl<Id: StoreName> Model for Pinned<Id> {
@@ -32,13 +36,16 @@ impl<Id: StoreName> Model for Pinned<Id> {
 
     ghost view = { λ p. record { seat = p.seat; version = p.version } };
 
-    ghost invariant = { λ p. IsPin Id.store record { seat = p.seat; version = p.version } p.bitmap };
+    ghost invariant = { λ p. IsPin Id.store record { seat = p.seat; version = p.version } p.bitmap p.read };
 }
 
 impl<Id: StoreName> Pinned<Id> {
+    ghost use Rattle.session.specs.Lending.{KeepsPin};
+
     /// The version that it holds.
     pub fn version(&self) -> u32
-        ensures { result ≡ self.now.version }
+        ensures version { result ≡ self.now.version }
+        ensures holds { (self.now.seat.holds ≡ Some result) × (is_some self.now.seat.announced ≡ true) }
     {
         self.version
     }
@@ -50,67 +57,46 @@ impl<Id: StoreName> Pinned<Id> {
         self.seat.made()
     }
 
-    /// The bitmap that was published as the version that it holds.
-    pub fn bitmap(&self) -> &Bitmap
-        ensures { result.now ≡ bitmap_pinned Id.store self.now }
+    /// The bitmap that was published as the version that it holds. It is read from the shared words when it is first asked for: 65 loads for
+    /// each tile. It waits for nobody.
+    pub fn bitmap(&mut self) -> &Bitmap
+        ensures bitmap { result.now ≡ bitmap_pinned Id.store self.old }
+        ensures* pin { sem 𝓛 (KeepsPin Id.row Id.StoreName self.entry) }
     {
+        read_once(&mut self.seat, self.version, self.read, &mut self.bitmap);
+        self.read = true;
         &self.bitmap
     }
 
-    /// The nearest obstacle of a cell in the version that it holds, as `clearance::at` answers.
-    ///
-    /// Refused, in this order, for a cell outside the map (`OutOfRange`) and for want of memory.
-    pub fn at<M: Metric>(&self, alloc: Global, cell: Cell) -> Result<Option<Near>, Refusal>
-        ensures inside { IfOk result (λ _. IsInside (bitmap_pinned Id.store self.now) cell.x cell.y) }
-        ensures near { IfOk result (λ near. IsNear M.distance (IsObstacle (bitmap_pinned Id.store self.now)) cell.x cell.y near) }
-        ensures refused { IfErr result (IsRefusalFor (IsInside (bitmap_pinned Id.store self.now) cell.x cell.y)) }
+    /// Learns a ticket: loads NOW, and has then seen all that it and the ticket had. The version that it holds stays. It waits for nobody.
+    pub fn learn(&mut self, ticket: Ticket<Id>)
+        ensures seat { self.new.seat ≡ record self.old.seat { seen = self.new.seat.seen } }
+        ensures version { self.new.version ≡ self.old.version }
+        ensures began { IsPrefix self.old.seat.seen self.new.seat.seen }
+        ensures learned { IsPrefix ticket self.new.seat.seen }
+        ensures legal { IsLegal Id.store.base.setting Id.store.base.opening (entries self.new.seat.seen) }
     {
-        clearance::at::<M>(alloc, self.bitmap(), cell)
+        self.seat.learn(ticket);
     }
 
-    /// The least distance over a rectangle in the version that it holds, as `clearance::least_in` answers.
-    ///
-    /// Refused, in this order, for a rectangle that isn't wholly in the map (`OutOfRange`) and for want of memory.
-    pub fn least_in<M: Metric>(
-        &self,
-        alloc: Global,
-        rect: Rect,
-    ) -> Result<Option<(Cell, Near)>, Refusal>
-        ensures inside { IfOk result (λ _. LiesIn (bitmap_pinned Id.store self.now) rect) }
-        ensures least { IfOk result (IsLeastOf M.distance (IsObstacle (bitmap_pinned Id.store self.now)) (cells_of_rect rect.x0 rect.y0 rect.x1 rect.y1)) }
-        ensures refused { IfErr result (IsRefusalFor (LiesIn (bitmap_pinned Id.store self.now) rect)) }
+    /// Lets the version go: takes the announcement back. The session has seen what the pin had. It waits for nobody.
+    pub fn unpin(self) -> Session<Id>
+        ensures seat { result ≡ leaving self.seat }
+        ensures left { (result.announced ≡ None) × (result.holds ≡ None) }
     {
-        clearance::least_in::<M>(alloc, self.bitmap(), rect)
-    }
-
-    /// The least distance along a path in the version that it holds, as `clearance::along` answers.
-    ///
-    /// Refused, in this order, for no point or over 1000 (`BadPath`), a point outside the map (`OutOfRange`), the first point that is in
-    /// neither the row nor the column of the one before it (`Crooked`), and want of memory.
-    pub fn along<M: Metric>(
-        &self,
-        alloc: Global,
-        points: &[Cell],
-    ) -> Result<Option<(Cell, Near)>, Refusal>
-        ensures accepted { IfOk result (λ _. path_refusal (bitmap_pinned Id.store self.now) points.now ≡ None) }
-        ensures least { IfOk result (IsLeastOf M.distance (IsObstacle (bitmap_pinned Id.store self.now)) (cells_of_path points.now)) }
-        ensures refused { IfErr result (IsPathRefusal (bitmap_pinned Id.store self.now) points.now) }
-    {
-        clearance::along::<M>(alloc, self.bitmap(), points)
-    }
-
-    /// Whether each cell of a path is at least `d` away from the obstacles of the version that it holds, in the metric's unit, as
-    /// `clearance::clear_of` answers. Refused as `along` is.
-    pub fn clear_of<M: Metric>(
-        &self,
-        alloc: Global,
-        points: &[Cell],
-        d: u32,
-    ) -> Result<Option<(Cell, Near)>, Refusal>
-        ensures accepted { IfOk result (λ _. path_refusal (bitmap_pinned Id.store self.now) points.now ≡ None) }
-        ensures clear { IfOk result (IsClearOf M.distance (IsObstacle (bitmap_pinned Id.store self.now)) (cells_of_path points.now) d) }
-        ensures refused { IfErr result (IsPathRefusal (bitmap_pinned Id.store self.now) points.now) }
-    {
-        clearance::clear_of::<M>(alloc, self.bitmap(), points, d)
+        let Pinned {
+            mut seat,
+            version: _,
+            bitmap,
+            read: _,
+        } = self;
+        let width = bitmap.width();
+        let height = bitmap.height();
+        seat.leave();
+        Session {
+            seat,
+            width,
+            height,
+        }
     }
 }

@@ -1,41 +1,54 @@
-//! A session, and its commands.
+//! A session, and how it pins.
 
-ghost use Rattle.std.specs.Prelude.{◌≡◌, IfOk, IfErr};
+ghost use Rattle.std.specs.Prelude.{◌≡◌, true, Some, None, is_some, IfOk, IfErr};
 ghost use mathlib.Core.List.{IsPrefix};
-ghost use Rattle.map_core.specs.declared.command.Command.TheVariants.{Paint, Stamp, Publish, Revert, Collect};
+ghost use Rattle.metric.specs.declared.refusal.Refusal.TheVariants.{Memory};
 ghost use Rattle.map_core.specs.Legal.{IsLegal};
 ghost use Rattle.shelf.specs.Roles.{entries};
-ghost use Rattle.desk.specs.Desks.{IsAccepted, IsRefused};
+ghost use Rattle.session.specs.Sessions.{newest_seen};
 
+mod commands;
+
+use crate::pinned::Pinned;
 use bits::Bitmap;
-use desk::Desk;
-use map_core::Reply;
-use metric::{Rect, Refusal};
-use shelf::{ReaderSeat, StoreName};
+use metric::Refusal;
+use shelf::{ReaderSeat, StoreName, Ticket};
+use std::alloc::Global;
 use std::marker::Model;
 
 /// A session of a store: it makes commands, and pins versions. Contracts see it as its number, what it has seen of the log, and how many
-/// entries of it are its own.
+/// entries of it are its own. It has announced nothing and holds nothing.
 ///
 /// It can't be let go: a store that is closed takes it back.
 pub struct Session<Id: StoreName> {
     pub(crate) seat: ReaderSeat<Id>,
+    // The map's size.
+    pub(crate) width: u16,
+    pub(crate) height: u16,
 }
 
 impl<Id: StoreName> Model for Session<Id> {
     ghost use Rattle.shelf.specs.Roles.{ReaderView};
+    ghost use Rattle.session.specs.Sessions.{IsSession};
 
     ghost Value = { ReaderView };
 
     ghost view = { λ s. s.seat };
+
+    ghost invariant = { λ s. IsSession Id.store s.seat s.width s.height };
 }
 
 impl<Id: StoreName> Session<Id> {
-    /// Its seat.
+    /// Its seat, which has announced nothing.
     pub(crate) fn into_seat(self) -> ReaderSeat<Id>
-        ensures { result ≡ self }
+        ensures seat { result ≡ self }
+        ensures free { (result.announced ≡ None) × (result.holds ≡ None) }
     {
-        let Session { seat } = self;
+        let Session {
+            seat,
+            width: _,
+            height: _,
+        } = self;
         seat
     }
 
@@ -46,64 +59,41 @@ impl<Id: StoreName> Session<Id> {
         self.seat.made()
     }
 
-    /// Gives the cells of a rectangle of the draft one value, as `Desk::paint` does with its seat.
-    pub fn paint(&mut self, desk: &mut Desk<Id>, rect: Rect, black: bool) -> Result<Reply, Refusal>
-        ensures accepted { IfOk result (λ reply. IsAccepted Id.store desk.old self.old (Paint rect black) reply desk.new self.new) }
-        ensures refused { IfErr result (λ refusal. IsRefused Id.store desk.old self.old (Paint rect black) refusal desk.new self.new) }
-        ensures began { IsPrefix self.old.seen desk.old.log }
-        ensures grows { IsPrefix self.old.seen self.new.seen }
-        ensures legal { IsLegal Id.store.base.setting Id.store.base.opening (entries desk.new.log) }
+    /// Pins the newest version: makes room for one bitmap, then loads what is newest, announces it, loads again and holds that. It waits for
+    /// nobody, whatever others publish and collect meanwhile, and the version is at least the newest that the session had seen.
+    ///
+    /// Refused for want of memory alone; the session is handed back, and nothing was announced.
+    pub fn pin(self, alloc: Global) -> Result<Pinned<Id>, (Session<Id>, Refusal)>
+        ensures free { (self.announced ≡ None) × (self.holds ≡ None) }
+        ensures seat { IfOk result (λ pinned. pinned.seat ≡ record self { seen = pinned.seat.seen; announced = pinned.seat.announced; holds = Some pinned.version }) }
+        ensures announced { IfOk result (λ pinned. is_some pinned.seat.announced ≡ true) }
+        ensures began { IfOk result (λ pinned. IsPrefix self.seen pinned.seat.seen) }
+        ensures version { IfOk result (λ pinned. pinned.version ≡ newest_seen Id.store pinned.seat) }
+        ensures legal { IfOk result (λ pinned. IsLegal Id.store.base.setting Id.store.base.opening (entries pinned.seat.seen)) }
+        ensures refused { IfErr result (λ back. (back.0 ≡ self) × (back.1 ≡ Memory)) }
     {
-        desk.paint(&mut self.seat, rect, black)
+        let Ok(bitmap) = Bitmap::blank(alloc, self.width, self.height) else {
+            return Err((self, Refusal::Memory));
+        };
+        let mut seat = self.into_seat();
+        seat.take();
+        seat.announce();
+        let now = seat.take();
+        Ok(Pinned {
+            seat,
+            version: now.version,
+            bitmap,
+            read: false,
+        })
     }
 
-    /// Stamps a bitmap on the draft, as `Desk::stamp` does with its seat.
-    pub fn stamp(
-        &mut self,
-        desk: &mut Desk<Id>,
-        x: u16,
-        y: u16,
-        bitmap: Bitmap,
-    ) -> Result<Reply, (Bitmap, Refusal)>
-        ensures accepted { IfOk result (λ reply. IsAccepted Id.store desk.old self.old (Stamp x y bitmap) reply desk.new self.new) }
-        ensures refused { IfErr result (λ back. (back.0 ≡ bitmap) × IsRefused Id.store desk.old self.old (Stamp x y bitmap) back.1 desk.new self.new) }
-        ensures began { IsPrefix self.old.seen desk.old.log }
-        ensures grows { IsPrefix self.old.seen self.new.seen }
-        ensures legal { IsLegal Id.store.base.setting Id.store.base.opening (entries desk.new.log) }
+    /// Learns a ticket: loads NOW, and has then seen all that it and the ticket had. It waits for nobody.
+    pub fn learn(&mut self, ticket: Ticket<Id>)
+        ensures seat { self.new ≡ record self.old { seen = self.new.seen } }
+        ensures began { IsPrefix self.old.seen self.new.seen }
+        ensures learned { IsPrefix ticket self.new.seen }
+        ensures legal { IsLegal Id.store.base.setting Id.store.base.opening (entries self.new.seen) }
     {
-        desk.stamp(&mut self.seat, x, y, bitmap)
-    }
-
-    /// Appends the draft as the next version, as `Desk::publish` does with its seat.
-    pub fn publish(&mut self, desk: &mut Desk<Id>) -> Result<Reply, Refusal>
-        ensures accepted { IfOk result (λ reply. IsAccepted Id.store desk.old self.old Publish reply desk.new self.new) }
-        ensures refused { IfErr result (λ refusal. IsRefused Id.store desk.old self.old Publish refusal desk.new self.new) }
-        ensures began { IsPrefix self.old.seen desk.old.log }
-        ensures grows { IsPrefix self.old.seen self.new.seen }
-        ensures legal { IsLegal Id.store.base.setting Id.store.base.opening (entries desk.new.log) }
-    {
-        desk.publish(&mut self.seat)
-    }
-
-    /// Makes the draft the newest version, as `Desk::revert` does with its seat.
-    pub fn revert(&mut self, desk: &mut Desk<Id>) -> Result<Reply, Refusal>
-        ensures accepted { IfOk result (λ reply. IsAccepted Id.store desk.old self.old Revert reply desk.new self.new) }
-        ensures refused { IfErr result (λ refusal. IsRefused Id.store desk.old self.old Revert refusal desk.new self.new) }
-        ensures began { IsPrefix self.old.seen desk.old.log }
-        ensures grows { IsPrefix self.old.seen self.new.seen }
-        ensures legal { IsLegal Id.store.base.setting Id.store.base.opening (entries desk.new.log) }
-    {
-        desk.revert(&mut self.seat)
-    }
-
-    /// Raises the floor, as `Desk::collect` does with its seat.
-    pub fn collect(&mut self, desk: &mut Desk<Id>) -> Result<Reply, Refusal>
-        ensures accepted { IfOk result (λ reply. IsAccepted Id.store desk.old self.old Collect reply desk.new self.new) }
-        ensures refused { IfErr result (λ refusal. IsRefused Id.store desk.old self.old Collect refusal desk.new self.new) }
-        ensures began { IsPrefix self.old.seen desk.old.log }
-        ensures grows { IsPrefix self.old.seen self.new.seen }
-        ensures legal { IsLegal Id.store.base.setting Id.store.base.opening (entries desk.new.log) }
-    {
-        desk.collect(&mut self.seat)
+        self.seat.learn(ticket);
     }
 }

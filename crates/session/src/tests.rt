@@ -2,6 +2,8 @@
 
 ghost use Rattle.std.specs.Prelude.{◌≡◌};
 
+mod beside;
+mod busy;
 mod closing;
 mod limits;
 mod pins;
@@ -89,13 +91,8 @@ fn paint<Id: StoreName, R: Wait + Abort>(
 }
 
 /// Pins the newest version.
-fn pin<Id: StoreName, R: Wait + Abort>(
-    rt: &R,
-    alloc: Global,
-    store: &Store<Id>,
-    session: Session<Id>,
-) -> Pinned<Id> {
-    match store.pin(rt, alloc, session) {
+fn pin<Id: StoreName>(rt: &impl Abort, alloc: Global, session: Session<Id>) -> Pinned<Id> {
+    match session.pin(alloc) {
         Ok(pinned) => pinned,
         Err(_) => panic!(rt; "no memory for a pin"),
     }
@@ -104,6 +101,14 @@ fn pin<Id: StoreName, R: Wait + Abort>(
 /// The next session.
 fn next<Id: StoreName>(rt: &impl Abort, sessions: &mut Vec<Session<Id>>) -> Session<Id> {
     sessions.pop().expect(rt, "a session")
+}
+
+/// Puts a session back into its empty slot.
+fn refill<Id: StoreName>(rt: &impl Abort, slot: &mut Option<Session<Id>>, session: Session<Id>) {
+    match slot.replace(session) {
+        None => {}
+        Some(_) => panic!(rt; "two sessions"),
+    }
 }
 
 /// Puts a session back among the others.
@@ -148,12 +153,12 @@ fn pins_beside_publishes<Id: StoreName, R: Wait + Abort>(
         cell: Cell { x: 0, y: 0 },
     };
 
-    let a = pin(rt, alloc, &store, a);
+    let mut a = pin(rt, alloc, a);
     assert_eq!(rt; a.version(), 0);
     assert_eq!(rt; paint(rt, &store, &mut b, [0, 0, 1, 1]), painted(1, 1));
     assert_eq!(rt; b.publish(&mut store.lock(rt)), published(2, 1));
     assert_eq!(rt; a.at::<Euclid2>(alloc, cell), Ok(None));
-    let c = pin(rt, alloc, &store, c);
+    let mut c = pin(rt, alloc, c);
     assert_eq!(rt; c.version(), 1);
     assert_eq!(rt; c.at::<Euclid2>(alloc, cell), Ok(Some(obstacle)));
 
@@ -161,11 +166,11 @@ fn pins_beside_publishes<Id: StoreName, R: Wait + Abort>(
     assert_eq!(rt; b.publish(&mut store.lock(rt)), Err(Refusal::VersionsFull));
     assert_eq!(rt; store.lock(rt).log().len(), 3);
 
-    let a = store.unpin(rt, a);
+    let a = a.unpin();
     assert_eq!(rt; b.collect(&mut store.lock(rt)), collected(4, 1, 1));
     assert_eq!(rt; b.publish(&mut store.lock(rt)), published(5, 2));
     assert_eq!(rt; c.at::<Euclid2>(alloc, cell), Ok(Some(obstacle)));
-    let c = store.unpin(rt, c);
+    let c = c.unpin();
     assert_eq!(rt; (a.made(), b.made(), c.made()), (0, 5, 0));
     hand_back(rt, &mut sessions, a);
     hand_back(rt, &mut sessions, b);
@@ -219,7 +224,7 @@ fn a_full_log_refuses_all(rt: HostRuntime) -> Result<(), Fail> {
     fills_the_log::<Brand, _>(&rt, rt.alloc(), blank)
 }
 
-/// The log has room for two entries, and a pin sees the version that the second one published.
+/// The log has room for two entries. A ticket tells of both, and a pin sees the version that the second one published.
 fn fills_the_log<Id: StoreName, R: Wait + Abort>(
     rt: &R,
     alloc: Global,
@@ -228,18 +233,20 @@ fn fills_the_log<Id: StoreName, R: Wait + Abort>(
     requires { blank ≡ Id.store }
 {
     let (store, mut sessions) = open::<Id>(alloc, blank)?;
-    let b = next(rt, &mut sessions);
+    let mut b = next(rt, &mut sessions);
     let mut a = next(rt, &mut sessions);
     assert_eq!(rt; paint(rt, &store, &mut a, [0, 0, 1, 1]), painted(1, 1));
     assert_eq!(rt; a.publish(&mut store.lock(rt)), published(2, 1));
+    let ticket = store.lock(rt).ticket().expect(rt, "a ticket");
     assert_eq!(rt;
         paint(rt, &store, &mut a, [1, 0, 2, 1]),
         Err(Refusal::LogFull)
     );
     assert_eq!(rt; a.revert(&mut store.lock(rt)), Err(Refusal::LogFull));
-    let b = pin(rt, alloc, &store, b);
+    b.learn(ticket);
+    let b = pin(rt, alloc, b);
     assert_eq!(rt; b.version(), 1);
-    let b = store.unpin(rt, b);
+    let b = b.unpin();
     hand_back(rt, &mut sessions, a);
     hand_back(rt, &mut sessions, b);
     assert_eq!(rt; store.close(sessions).len(), 2);

@@ -1,118 +1,195 @@
--- A step of the keeper's keeps the rule.
-use Rattle.std.proofs.Common.{◌≡◌, ◌≢◌, ◌==◌, ℕ, ◌+◌, ◌<◌, ◌≤◌, [], ◌∷◌, set, get_or, refl, ap, sym, ◌∙◌, subst, arith, length-set, get_or-set_same, Some, None}
-use Rattle.std.specs.Prelude.{All}
+-- Each step of the keeper keeps the rule.
+use Rattle.std.proofs.Common.{◌≡◌, ◌==◌, ℕ, zero, suc, ◌+◌, ◌<◌, ◌≤◌, List, [], ◌∷◌, ◌++◌, length, set, get_or, refl, ap, sym, ◌∙◌, subst, arith}
+use Rattle.std.specs.Prelude.{Option, Some, None, slice_get, option_map}
 use mathlib.Core.Option.{some, none, some-injective}
 use prog.Atomic.{either}
 use lib.ListN.{get_elem?}
 use Rattle.atomic_table.specs.Table.{State, Me, step, keeps, Allows}
 use Rattle.atomic_table.proofs.Lists.{exchanged}
-use Rattle.map_core.specs.Legal.{IsLegal}
-use Rattle.map_core.specs.Story.{opened}
-use Rattle.map_core.specs.Words.{Base, now_at, now_of}
-use Rattle.map_core.specs.Views.{story}
-use Rattle.map_core.proofs.TidyLog.{IsLegal-push}
-use Rattle.shelf.specs.declared.signed.Signed.{Signed}
-use Rattle.shelf.specs.Roles.{KeeperView, ReaderView, Role, keeping, entries, made_by, unmet_by, keeper_in}
-use Rattle.shelf.specs.Rule.{Fits, Knows, Agrees}
-use Rattle.shelf.specs.Steps.{ordered, MayCommit, committed, puts_in_hand, commits, Ends, ends}
+use Rattle.map_core.specs.declared.command.Command.TheVariants.{Publish, Collect}
+use Rattle.map_core.specs.declared.command.Entry.{Entry}
+use Rattle.map_core.specs.Legal.{refused, IsLegal}
+use Rattle.map_core.specs.Story.{newest}
+use Rattle.map_core.specs.Words.{Base, now_at, pin_at, pin_word, now_of}
+use Rattle.map_core.specs.Views.{Reader, story, blocks}
+use Rattle.map_core.specs.Steps.{steps_before, write_of, entry_of}
+use Rattle.map_core.specs.Sound.{IsWhole}
+use Rattle.map_core.proofs.StepLemmas.{in_hand, story-push, keeps-order, keeps-write, keeps-scan, keeps-commit}
 use Rattle.shelf.proofs.LogParts.{prefix-push, entries-push, made_by-append, callers-push}
-use Rattle.shelf.proofs.SeatsStay.{one_seat, others_fit}
-
--- the keeper's view becomes another, which the readers in other seats fit, and NOW is that of its log
-pub keeper_moves : (z : Base) (s : State Signed Role) (r : Agrees z s) (id word : ℕ) (w : Role) (u : KeeperView) → id ≡ r.keeper
-    → word ≡ now_of (story z (entries u.log)) → u.dealt ≤ z.setting.sessions → IsLegal z.setting z.opening (entries u.log) → All (λ e. e.by < u.dealt) u.log
-    → Knows u r.keeper r.owner id w → ((x : ReaderView) → r.owner x.number ≢ id → Fits r.k x → Fits u x)
-    → Agrees z record { words = set s.words now_at word; homes = s.homes; views = set s.views id w }
-keeper_moves z s r id word w u here is few legal callers mine fit =
-    let sized = r.sized in
-    record {
-      k = u;
-      keeper = r.keeper;
-      owner = r.owner;
-      ready = r.ready;
-      sized = length-set s.words now_at word ∙ sized;
-      now = get_or-set_same s.words now_at word 0 (omega arith) ∙ is;
-      few = few;
-      legal = legal;
-      callers = callers;
-      each_seat = one_seat (Knows u r.keeper r.owner) s.views id w mine (λ j v else there.
-          others_fit r.k u r.keeper r.owner r.owner j v (λ (e : j ≡ r.keeper). else (e ∙ sym here))
-          (λ x own fits. (own, fit x (λ (e : r.owner x.number ≡ id). else (sym own ∙ e)) fits)) (r.each_seat j v there));
-    }
+use Rattle.shelf.specs.declared.asked.Asked.{Asked}
+use Rattle.shelf.specs.Roles.{Task, KeeperView, ReaderView, Role, keeping, entries, made_by, unmet_by, keeper_in, core_of}
+use Rattle.shelf.specs.Rule.{Fits, Knows, Agrees}
+use Rattle.shelf.specs.Steps.{ordered, wrote, scanned, signed_of, committed, orders, writes, scans, MayCommit, commits}
+use Rattle.shelf.proofs.Bridge.{set_get, seated_set, seats_keeper}
 
 -- what the keeper's seat knows
-pub keeper_knows : (z : Base) (s : State Signed Role) (r : Agrees z s) (id : ℕ) (v : Role) (k : KeeperView) → get_elem? s.views id ≡ some v → v ≡ keeping k
-    → (id ≡ r.keeper) × (k ≡ r.k)
-keeper_knows z s r id v k at role = subst (Knows r.k r.keeper r.owner id) role (r.each_seat id v at)
+pub keeper_knows : (z : Base) (s : State Asked Role) (r : Agrees z s) (id : ℕ) (v : Role) (k : KeeperView) → get_elem? s.views id ≡ some v → v ≡ keeping k
+    → (id ≡ r.seats.keeper) × (k ≡ r.k)
+keeper_knows z s r id v k at role = subst (Knows z r.k r.readers r.seats.keeper r.seats.owner id) role (r.seats.each_seat id v at)
 
--- the keeper takes an entry in hand: an exchange of NOW by its own value
-pub orders : (z : Base) (slots id word : ℕ) (me : Me Signed Role) (k : KeeperView) (e : Signed) → me.0 ≡ keeping k
-    → Allows (Agrees z) slots id me now_at (λ n. either (n == word) word n) (puts_in_hand (step slots now_at word word (some e)) me)
-orders z slots id word me k e role s r homes at fits =
+-- a reader fits the keeper whatever command this has in hand
+pub fits-task : (z : Base) (k : KeeperView) (readers : List Reader) (task : Option Task) (x : ReaderView) → Fits z k readers x → Fits z record k { task = task } readers x
+fits-task z k readers task x f = record { dealt = f.dealt; here = f.here; there = f.there; began = f.began; held = f.held; all_seen = f.all_seen; counted = f.counted }
+
+-- the command in hand becomes another, or more of it is done
+pub task_moves : (z : Base) (s : State Asked Role) (r : Agrees z s) (id : ℕ) (words : List ℕ) (l : KeeperView) (task : Option Task) → get_elem? s.views id ≡ some (keeping l) → id ≡ r.seats.keeper
+    → IsWhole (core_of z words record r.k { task = task } r.readers)
+    → Agrees z record { words = words; homes = s.homes; views = set s.views id (keeping record r.k { task = task }) }
+task_moves z s r id words l task at here whole = record {
+  k = record r.k { task = task };
+  readers = r.readers;
+  whole = whole;
+  seats = seats_keeper z r.k record r.k { task = task } r.readers r.readers s.views r.seats id (keeping record r.k { task = task }) here r.seats.few r.seats.callers
+      r.seats.fresh r.seats.left (λ q below none. seated_set s.views id (keeping l) (keeping record r.k { task = task }) (r.seats.owner q) q at (λ e. absurd e) (r.seats.seated q below none))
+      (here, refl) (λ x else f. fits-task z r.k r.readers task x f) (λ seen p. p);
+}
+
+-- the core with the keeper's command in hand
+pub whole_in_hand : (z : Base) (words : List ℕ) (k : KeeperView) (readers : List Reader) (t : Task) → k.task ≡ Some t → IsWhole (core_of z words k readers)
+    → IsWhole (in_hand (core_of z words k readers) (Some t.hand))
+whole_in_hand z words k readers t is whole = subst (λ (o : Option Task). IsWhole (in_hand (core_of z words k readers) (option_map (λ u. u.hand) o))) is whole
+
+-- a word written over by itself
+pub whole_same : (z : Base) (words : List ℕ) (k : KeeperView) (readers : List Reader) (i n : ℕ) → n ≡ get_or words i 0 → IsWhole (core_of z words k readers)
+    → IsWhole (core_of z (set words i n) k readers)
+whole_same z words k readers i n is whole = subst (λ (ws : List ℕ). IsWhole (core_of z ws k readers)) (sym (ap (set words i) is ∙ set_get words i)) whole
+
+-- the keeper takes a command in hand: an exchange of NOW by its own value
+pub orders_it : (z : Base) (slots id word : ℕ) (me : Me Asked Role) (k : KeeperView) (a : Asked) → me.0 ≡ keeping k → refused z.setting (story z (entries k.log)) a.command ≡ None
+    → Allows (Agrees z) slots id me now_at (λ n. either (n == word) word n) (orders (step slots now_at word word (some a)) me)
+orders_it z slots id word me k a role accepted s r homes at small =
     let mine = keeper_knows z s r id me.0 k at role in
     let n = get_or s.words now_at 0 in
-    let stays : either (n == word) word n ≡ n = exchanged n word word (λ m. m ≡ n) (λ h. sym h) (λ h. refl) in (
-      keeping (ordered r.k e),
+    let stays : either (n == word) word n ≡ n = exchanged n word word (λ m. m ≡ n) (λ h. sym h) (λ h. refl) in
+    let accepted' : refused z.setting (story z (entries r.k.log)) a.command ≡ None = subst (λ (l : KeeperView). refused z.setting (story z (entries l.log)) a.command ≡ None) mine.1 accepted in (
+      keeping (ordered r.k a.by a.command),
       keeps,
       tt,
-      keeper_moves z s r id (either (n == word) word n) (keeping (ordered r.k e)) (ordered r.k e) mine.0 (stays ∙ r.now) r.few r.legal r.callers (mine.0, refl)
-          (λ x else f. record { dealt = f.dealt; here = f.here; began = f.began; all_seen = f.all_seen; counted = f.counted }),
-      λ l f is said.
+      task_moves z s r id (set s.words now_at (either (n == word) word n)) k (ordered r.k a.by a.command).task (at ∙ ap (λ (v : Role). some v) role) mine.0
+          (whole_same z s.words (ordered r.k a.by a.command) r.readers now_at (either (n == word) word n) stays (keeps-order (core_of z s.words r.k r.readers) a.command r.whole accepted')),
+      λ l b is said.
           let same : r.k ≡ l = sym mine.1 ∙ ap keeper_in (sym role ∙ is) in
-          let one : e ≡ f = some-injective e f said in
-          ap (λ (q : KeeperView × Signed). (keeping (ordered q.0 q.1), me.1)) (λ i. (same i, one i)),
+          let one : a ≡ b = some-injective a b said in
+          ap (λ (q : KeeperView × Asked). (keeping (ordered q.0 q.1.by q.1.command), me.1)) (λ i. (same i, one i)),
+    )
+
+-- the command in hand is one
+the_same : {a b : Task} → Some a ≡ Some b → a ≡ b
+the_same e = cc
+
+-- the keeper stores the next word of a publish
+pub writes_it : (z : Base) (slots id i word : ℕ) (me : Me Asked Role) (k : KeeperView) (t : Task) → me.0 ≡ keeping k → k.task ≡ Some t → t.hand.command ≡ Publish
+    → t.hand.done < steps_before z (blocks z (entries k.log)) Publish
+    → i ≡ (write_of z (story z (entries k.log)) (blocks z (entries k.log)) t.hand.done).at → word ≡ (write_of z (story z (entries k.log)) (blocks z (entries k.log)) t.hand.done).word
+    → Allows (Agrees z) slots id me i (λ _. word) (λ _. writes (step slots i word 0 none) me word)
+writes_it z slots id i word me k t role task publish more place value s r homes at small =
+    let mine = keeper_knows z s r id me.0 k at role in
+    let task' : r.k.task ≡ Some t = sym (ap (λ (l : KeeperView). l.task) mine.1) ∙ task in
+    let more' : t.hand.done < steps_before z (blocks z (entries r.k.log)) Publish = subst (λ (l : KeeperView). t.hand.done < steps_before z (blocks z (entries l.log)) Publish) mine.1 more in
+    let place' = place ∙ ap (λ (l : KeeperView). (write_of z (story z (entries l.log)) (blocks z (entries l.log)) t.hand.done).at) mine.1 in
+    let value' = value ∙ ap (λ (l : KeeperView). (write_of z (story z (entries l.log)) (blocks z (entries l.log)) t.hand.done).word) mine.1 in (
+      keeping (wrote r.k t),
+      keeps,
+      tt,
+      task_moves z s r id (set s.words i word) k (wrote r.k t).task (at ∙ ap (λ (v : Role). some v) role) mine.0
+          (subst (λ (q : ℕ × ℕ). IsWhole (core_of z (set s.words q.0 q.1) (wrote r.k t) r.readers)) (λ j. (sym place' j, sym value' j))
+          (keeps-write (core_of z s.words r.k r.readers) t.hand (whole_in_hand z s.words r.k r.readers t task' r.whole) publish more').whole),
+      λ l u is said.
+          let same : r.k ≡ l = sym mine.1 ∙ ap keeper_in (sym role ∙ is) in
+          let one : t ≡ u = the_same (sym task' ∙ (ap (λ (q : KeeperView). q.task) same ∙ said)) in
+          ap (λ (q : KeeperView × Task). (keeping (wrote q.0 q.1), me.1)) (λ j. (same j, one j)),
+    )
+
+-- a reader of the core there is for each number
+pub some_reader : (xs : List Reader) (i : ℕ) → i < length xs → (y : Reader) × (slice_get xs i ≡ Some y)
+some_reader [] i h = absurd (omega arith)
+some_reader (x ∷ xs) zero h = (x, refl)
+some_reader (x ∷ xs) (suc i) h = some_reader xs i (omega arith)
+
+-- what a reader's word announces is a version that there is
+pub announced_bounded : (z : Base) (words : List ℕ) (k : KeeperView) (readers : List Reader) (i : ℕ) → IsWhole (core_of z words k readers) → i < z.setting.sessions
+    → get_or words (pin_at i) 0 ≤ newest (story z (entries k.log)) + 1
+unfolding pin_word
+announced_bounded z words k readers i whole inside =
+    let count = whole.readers in
+    let there = some_reader readers i (omega arith) in
+    let sound = whole.reader i there.0 there.1 in
+    bounded there.0.announced (get_or words (pin_at i) 0) sound.word sound.announced
+  where
+    bounded : (announced : Option ℕ) (word : ℕ) → word ≡ pin_word announced → ((a : ℕ) → announced ≡ Some a → a ≤ newest (story z (entries k.log))) → word ≤ newest (story z (entries k.log)) + 1
+    bounded None word is most = omega arith
+    bounded (Some a) word is most = let below = most a refl in omega arith
+
+-- the keeper loads the next reader's word
+pub scans_it : (z : Base) (slots id : ℕ) (me : Me Asked Role) (k : KeeperView) (t : Task) → me.0 ≡ keeping k → k.task ≡ Some t → t.hand.command ≡ Collect
+    → t.hand.done < z.setting.sessions
+    → Allows (Agrees z) slots id me (pin_at t.hand.done) (λ n. n) (scans z (step slots (pin_at t.hand.done) 0 0 none) me)
+unfolding steps_before
+scans_it z slots id me k t role task collect more s r homes at small =
+    let mine = keeper_knows z s r id me.0 k at role in
+    let task' : r.k.task ≡ Some t = sym (ap (λ (l : KeeperView). l.task) mine.1) ∙ task in
+    let n = get_or s.words (pin_at t.hand.done) 0 in (
+      keeping (scanned r.k t n),
+      keeps,
+      tt,
+      task_moves z s r id (set s.words (pin_at t.hand.done) n) k (scanned r.k t n).task (at ∙ ap (λ (v : Role). some v) role) mine.0
+          (whole_same z s.words (scanned r.k t n) r.readers (pin_at t.hand.done) n refl
+          (keeps-scan (core_of z s.words r.k r.readers) t.hand (whole_in_hand z s.words r.k r.readers t task' r.whole) collect more).whole),
+      λ l u is said.
+          let same : r.k ≡ l = sym mine.1 ∙ ap keeper_in (sym role ∙ is) in
+          let one : t ≡ u = the_same (sym task' ∙ (ap (λ (q : KeeperView). q.task) same ∙ said)) in (
+            ap (λ (q : KeeperView × Task). (keeping (scanned q.0 q.1 n), me.1)) (λ j. (same j, one j)),
+            subst (λ (q : KeeperView). n ≤ newest (story z (entries q.log)) + 1) same (announced_bounded z s.words r.k r.readers t.hand.done r.whole more),
+          ),
     )
 
 -- a reader fits the keeper after a commit, where no commit was unmet before
-pub fits-committed : (k : KeeperView) (e : Signed) (x : ReaderView) → k.unmet ≡ None → Fits k x → Fits (committed k e) x
-fits-committed k e x no_unmet f =
-    let grown = made_by-append x.number k.log (e ∷ []) in
+pub fits-committed : (z : Base) (k : KeeperView) (readers : List Reader) (t : Task) (x : ReaderView) → k.unmet ≡ None → Fits z k readers x → Fits z (committed z k t) readers x
+fits-committed z k readers t x no_unmet f =
+    let grown = made_by-append x.number k.log (signed_of z k t ∷ []) in
     let counted : made_by x.number k.log ≡ x.made + unmet_by x.number k.unmet = f.counted in
     let before : unmet_by x.number k.unmet ≡ 0 = ap (unmet_by x.number) no_unmet in
-    record { dealt = f.dealt; here = f.here; began = prefix-push x.seen k.log e f.began; all_seen = f.all_seen; counted = omega arith }
+    record { dealt = f.dealt; here = f.here; there = f.there; began = prefix-push x.seen k.log (signed_of z k t) f.began; held = f.held; all_seen = f.all_seen; counted = omega arith }
 
--- the log is legal after a commit
-pub legal-committed : (z : Base) (k : KeeperView) (may : MayCommit z k) → IsLegal z.setting z.opening (entries k.log)
-    → IsLegal z.setting z.opening (entries (committed k may.signed).log)
-unfolding story
-legal-committed z k may legal =
-    rw (entries-push k.log may.signed) (IsLegal-push z.setting (opened z.opening) (entries k.log) may.signed.entry legal may.answer)
+-- the core after a commit
+pub whole-committed : (z : Base) (words : List ℕ) (k : KeeperView) (readers : List Reader) (t : Task) (word : ℕ) → IsWhole (core_of z words k readers) → k.task ≡ Some t
+    → t.hand.done ≡ steps_before z (blocks z (entries k.log)) t.hand.command → word ≡ now_of (story z (entries (committed z k t).log))
+    → IsWhole (core_of z (set words now_at word) (committed z k t) readers)
+whole-committed z words k readers t word whole task all is =
+    let e : Entry = entry_of (story z (entries k.log)) t.hand in
+    let grown : entries (committed z k t).log ≡ entries k.log ++ e ∷ [] = entries-push k.log (signed_of z k t) in
+    let now : word ≡ now_of _ = is ∙ (ap (λ (l : List Entry). now_of (story z l)) grown ∙ ap now_of (story-push z (entries k.log) e)) in
+    subst (λ (q : ℕ × List Entry). IsWhole record { base = z; words = set words now_at q.0; keeper = record { log = q.1; hand = None }; readers = readers }) (λ j. (sym now j, sym grown j))
+    (keeps-commit (core_of z words k readers) t.hand (whole_in_hand z words k readers t task whole) all).whole
 
 -- the keeper stores NOW
-pub commits_it : (z : Base) (slots id word : ℕ) (me : Me Signed Role) (k : KeeperView) → me.0 ≡ keeping k → (may : MayCommit z k)
-    → word ≡ now_of (story z (entries (committed k may.signed).log))
+pub commits_it : (z : Base) (slots id word : ℕ) (me : Me Asked Role) (k : KeeperView) → me.0 ≡ keeping k → (may : MayCommit z k)
+    → word ≡ now_of (story z (entries (committed z k may.task).log))
     → Allows (Agrees z) slots id me now_at (λ _. word) (λ _. commits z (step slots now_at word 0 none) me word)
-commits_it z slots id word me k role may is s r homes at fits =
+commits_it z slots id word me k role may is s r homes at small =
     let mine = keeper_knows z s r id me.0 k at role in
-    let legal : IsLegal z.setting z.opening (entries (committed k may.signed).log) =
-    legal-committed z k may (subst (λ (l : KeeperView). IsLegal z.setting z.opening (entries l.log)) (sym mine.1) r.legal) in (
-      keeping (committed k may.signed),
+    let t = may.task in
+    let may' : (r.k.task ≡ Some t) × (t.hand.done ≡ steps_before z (blocks z (entries r.k.log)) t.hand.command) × (t.by < r.k.dealt) × (r.k.unmet ≡ None) × (word ≡ now_of (story z (entries (committed z r.k t).log))) =
+    subst (λ (l : KeeperView). (l.task ≡ Some t) × (t.hand.done ≡ steps_before z (blocks z (entries l.log)) t.hand.command) × (t.by < l.dealt) × (l.unmet ≡ None) × (word ≡ now_of (story z (entries (committed z l t).log)))) mine.1
+    (may.in_hand, may.all_done, may.caller, may.met, is) in
+    let u = committed z r.k t in
+    let whole = whole-committed z s.words r.k r.readers t word r.whole may'.0 may'.1 may'.4 in (
+      keeping u,
       keeps,
       tt,
-      keeper_moves z s r id word (keeping (committed k may.signed)) (committed k may.signed) mine.0 is (subst (λ (l : KeeperView). l.dealt ≤ z.setting.sessions) (sym mine.1) r.few) legal
-          (callers-push k.dealt k.log may.signed (subst (λ (l : KeeperView). All (λ e. e.by < l.dealt) l.log) (sym mine.1) r.callers) may.caller) (mine.0, refl)
-          (λ x else f. fits-committed k may.signed x may.met (subst (λ (l : KeeperView). Fits l x) (sym mine.1) f)),
-      λ l e said in_hand.
-          let same : k ≡ l = ap keeper_in (sym role ∙ said) in
-          let one : may.signed ≡ e = the_same (sym may.in_hand ∙ (ap (λ (q : KeeperView). q.hand) same ∙ in_hand)) in (
-            ap (λ (q : KeeperView × Signed). (keeping (committed q.0 q.1), me.1)) (λ i. (same i, one i)),
-            subst (λ (q : KeeperView × Signed). IsLegal z.setting z.opening (entries (committed q.0 q.1).log)) (λ i. (same i, one i)) legal,
+      record {
+        k = u;
+        readers = r.readers;
+        whole = whole;
+        seats = seats_keeper z r.k u r.readers r.readers s.views r.seats id (keeping u) mine.0 r.seats.few
+            (callers-push r.k.dealt r.k.log (signed_of z r.k t) r.seats.callers may'.2) r.seats.fresh r.seats.left
+            (λ q below none. seated_set s.views id (keeping k) (keeping u) (r.seats.owner q) q (at ∙ ap (λ (v : Role). some v) role) (λ e. absurd e) (r.seats.seated q below none)) (mine.0, refl)
+            (λ x else f. fits-committed z r.k r.readers t x may'.3 f) (λ seen p. prefix-push seen r.k.log (signed_of z r.k t) p);
+      },
+      λ l v said task.
+          let same : r.k ≡ l = sym mine.1 ∙ ap keeper_in (sym role ∙ said) in
+          let one : t ≡ v = the_same (sym may'.0 ∙ (ap (λ (q : KeeperView). q.task) same ∙ task)) in (
+            ap (λ (q : KeeperView × Task). (keeping (committed z q.0 q.1), me.1)) (λ j. (same j, one j)),
+            subst (λ (q : KeeperView × Task). IsLegal z.setting z.opening (entries (committed z q.0 q.1).log)) (λ j. (same j, one j)) whole.keeper.legal,
           ),
-    )
-  where
-    the_same : {a b : Signed} → Some a ≡ Some b → a ≡ b
-    the_same e = cc
-
--- the keeper's last load
-pub ends_it : (z : Base) (slots id : ℕ) (me : Me Signed Role) (k : KeeperView) → me.0 ≡ keeping k
-    → Allows (Agrees z) slots id me now_at (λ n. n) (ends z (step slots now_at 0 0 none) me)
-ends_it z slots id me k role s r homes at fits =
-    let mine = keeper_knows z s r id me.0 k at role in (
-      me.0,
-      keeps,
-      tt,
-      keeper_moves z s r id (get_or s.words now_at 0) me.0 r.k mine.0 r.now r.few r.legal r.callers (r.each_seat id me.0 at) (λ x else f. f),
-      λ l is.
-          let same : r.k ≡ l = sym mine.1 ∙ ap keeper_in (sym role ∙ is) in
-          (refl, subst (λ (q : KeeperView). Ends z q) same record { legal = r.legal; callers = r.callers }),
     )

@@ -1,14 +1,21 @@
 pub mod LogParts
-pub mod OwnTable
-pub mod SeatsStay
-pub mod ReaderSteps
-pub mod KeeperSteps
-pub mod KeeperSeats
-pub mod MeetingSteps
-pub mod OpeningSteps
-pub mod Naming
-pub mod ClosingSums
+pub mod NowLemmas
+pub mod Moved
+pub mod Newcomers
+pub mod Bridge
+pub mod Owners
+pub mod OneCore
 pub mod OneLog
-pub mod AtRest
-mod WorkedAnswers
-mod WorkedRows
+pub mod ReaderSteps
+pub mod LookSteps
+pub mod KeeperSteps
+pub mod MeetingSteps
+pub mod OwnTable
+pub mod ReaderSeats
+pub mod KeeperSeats
+pub mod WorkSteps
+pub mod OpeningSteps
+pub mod EndSteps
+pub mod ClosingSums
+pub mod EventSteps
+pub mod WriteSteps

@@ -1,56 +1,76 @@
 -- The rule holds of a table at its opening, and stays as readers are dealt.
-use Rattle.std.proofs.Common.{◌≡◌, ℕ, zero, suc, ◌+◌, ◌<◌, [], ◌∷◌, ◌++◌, length, map, set, refl, ap, sym, ◌∙◌, subst, arith}
-use Rattle.std.specs.Prelude.{All}
-use Rattle.std.specs.List.{range_with_len}
-use Rattle.std.proofs.lemmas.List.{map-append}
-use mathlib.Core.Logic.{inl, inr}
+use Rattle.std.proofs.Common.{◌≡◌, ℕ, zero, suc, ◌+◌, ◌<◌, List, [], ◌∷◌, length, set, refl, ap, sym, ◌∙◌, subst, arith, ◌++◌}
+use Rattle.std.specs.Prelude.{All, slice_get, replicate, Some}
+use mathlib.Core.Logic.{inl, inr, dite}
+use native.Mathlib.Decide.{ℕ_discrete}
+use Rattle.map_core.specs.Safe.{times}
 use mathlib.Core.Option.{some, some-injective, some-ne-none}
 use lib.ListN.{get_elem?}
 use Rattle.atomic_table.specs.Table.{opening, Splits}
-use Rattle.map_core.specs.Story.{opened, newest}
-use Rattle.map_core.specs.Words.{Base, now_of}
-use Rattle.map_core.specs.Views.{story}
+use Rattle.map_core.specs.Words.{Base}
+use Rattle.map_core.specs.Views.{Reader}
+use Rattle.map_core.specs.Runs.{AreOpeningWords}
+use Rattle.map_core.specs.Runs as core
+use Rattle.map_core.specs.Sound.{IsWhole}
 use Rattle.map_core.specs.Tidy.{IsReady}
-use Rattle.map_core.proofs.OpenWords.{range_with_len-push}
+use Rattle.map_core.proofs.OpenWorld.{IsWhole-opening}
 use Rattle.shelf.specs.declared.signed.Signed.{Signed}
-use Rattle.shelf.specs.Roles.{KeeperView, ReaderView, Role, keeping, reading, resting, fresh_reader, entries}
-use Rattle.shelf.specs.Rule.{Fits, Knows, Agrees}
-use Rattle.shelf.specs.Store.{StoreId}
-use Rattle.shelf.specs.Open.{newcomer, newcomers}
-use Rattle.shelf.proofs.SeatsStay.{moved, moved-here, moved-else, one_seat, one_more, others_fit}
+use Rattle.shelf.proofs.Moved.{moved, moved-here, moved-else}
+use Rattle.shelf.specs.Roles.{KeeperView, ReaderView, Role, idle, keeping, reading, meeting, ticket, learning, resting, fresh_reader, core_of}
+use Rattle.shelf.specs.Rule.{Fits, Knows, IsSeated, AreSeats, Agrees}
+use Rattle.shelf.proofs.Bridge.{one_seat, seated_set, seated_longer, seated_last}
 use Rattle.shelf.proofs.KeeperSteps.{keeper_knows}
+use Rattle.shelf.proofs.MeetingSteps.{one_more}
 
 -- no entry, no caller
 no_callers : (d : ℕ) → All (λ (e : Signed). e.by < d) []
 no_callers d k e h = absurd (omega arith)
 
--- NOW of the empty log is 0
-pub now_at_first : (z : Base) → now_of (story z []) ≡ 0
-unfolding now_of story opened newest
-now_at_first z = refl
+-- a list of one thing has it at each place
+get_replicate : (n i : ℕ) (x : Reader) → i < n → slice_get (replicate n x) i ≡ Some x
+get_replicate zero i x h = absurd (omega arith)
+get_replicate (suc n) zero x h = refl
+get_replicate (suc n) (suc i) x h = get_replicate n i x (omega arith)
 
 -- a table at its opening
-pub rule_at_first : (z : Base) → IsReady z → Agrees z (opening (0 ∷ []) [] (keeping (resting 0 [])))
-rule_at_first z ready = record {
+pub rule_at_first : (z : Base) (words : List ℕ) → IsReady z → AreOpeningWords z words → Agrees z (opening words [] (keeping (resting 0 [])))
+rule_at_first z words ready opening = record {
   k = resting 0 [];
-  keeper = 0;
-  owner = λ n. 0;
-  ready = ready;
-  sized = omega arith;
-  now = sym (now_at_first z);
-  few = omega arith;
-  legal = tt;
-  callers = no_callers 0;
-  each_seat = only;
+  readers = replicate z.setting.sessions core.fresh_reader;
+  whole = IsWhole-opening z words ready opening;
+  seats = record {
+    keeper = 0;
+    owner = λ n. 0;
+    few = omega arith;
+    callers = no_callers 0;
+    fresh = λ r above below. get_replicate z.setting.sessions r core.fresh_reader below;
+    left = λ r y gone is. absurd (omega arith);
+    seated = λ q below none. absurd (omega arith);
+    each_seat = only;
+  };
 }
   where
-    only : (j : ℕ) (v : Role) → get_elem? (keeping (resting 0 []) ∷ []) j ≡ some v → Knows (resting 0 []) 0 (λ n. 0) j v
-    only zero v e = subst (Knows (resting 0 []) 0 (λ n. 0) 0) (some-injective (keeping (resting 0 [])) v e) (refl, refl)
+    only : (j : ℕ) (v : Role) → get_elem? (keeping (resting 0 []) ∷ []) j ≡ some v → Knows z (resting 0 []) (replicate z.setting.sessions core.fresh_reader) 0 (λ n. 0) j v
+    only zero v e = subst (Knows z (resting 0 []) (replicate z.setting.sessions core.fresh_reader) 0 (λ n. 0) 0) (some-injective (keeping (resting 0 [])) v e) (refl, refl)
     only (suc j) v e = absurd (some-ne-none v (sym e))
 
 -- a reader fits the keeper once another is dealt
-fits-dealt : (n : ℕ) (x : ReaderView) → Fits (resting n []) x → Fits (resting (n + 1) []) x
-fits-dealt n x f = let dealt = f.dealt in record { dealt = omega arith; here = f.here; began = f.began; all_seen = f.all_seen; counted = f.counted }
+fits-dealt : (z : Base) (n : ℕ) (readers : List Reader) (x : ReaderView) → Fits z (resting n []) readers x → Fits z (resting (n + 1) []) readers x
+fits-dealt z n readers x f =
+    let dealt = f.dealt in
+    record { dealt = omega arith; here = f.here; there = f.there; began = f.began; held = f.held; all_seen = f.all_seen; counted = f.counted }
+
+-- what another seat than the keeper's knows once reader n is dealt
+stays_dealt : (z : Base) (n : ℕ) (readers : List Reader) (keeper : ℕ) (owner : ℕ → ℕ) (to j : ℕ) (v : Role) → (j ≡ keeper → ⊥) → Knows z (resting n []) readers keeper owner j v
+    → Knows z (resting (n + 1) []) readers keeper (moved owner n to) j v
+stays_dealt z n readers keeper owner to j idle else knows = tt
+stays_dealt z n readers keeper owner to j (keeping u) else knows = absurd (else knows.0)
+stays_dealt z n readers keeper owner to j (reading x) else knows =
+    let below = knows.1.dealt in (moved-else owner n to x.number (λ e. absurd (omega arith)) ∙ knows.0, fits-dealt z n readers x knows.1)
+stays_dealt z n readers keeper owner to j (meeting u x) else knows = absurd (else knows.0)
+stays_dealt z n readers keeper owner to j (ticket seen) else knows = knows
+stays_dealt z n readers keeper owner to j (learning x seen) else knows =
+    let below = knows.1.dealt in (moved-else owner n to x.number (λ e. absurd (omega arith)) ∙ knows.0, fits-dealt z n readers x knows.1, knows.2)
 
 -- the next reader is dealt
 pub deals : (z : Base) (id n : ℕ) → n < z.setting.sessions → Splits (Agrees z) id (keeping (resting n [])) (keeping (resting (n + 1) [])) (reading (fresh_reader n))
@@ -58,36 +78,47 @@ deals z id n below s r at =
     let mine = keeper_knows z s r id (keeping (resting n [])) (resting n []) at refl in
     let k = resting (n + 1) [] in
     let new = length (set s.views id (keeping k)) in
-    let owner = moved r.owner n new in
+    let owner = moved r.seats.owner n new in
+    let seats : AreSeats z (resting n []) r.readers s.views = subst (λ (l : KeeperView). AreSeats z l r.readers s.views) (sym mine.1) r.seats in
     record {
       k = k;
-      keeper = r.keeper;
-      owner = owner;
-      ready = r.ready;
-      sized = r.sized;
-      now = r.now ∙ ap (λ (l : KeeperView). now_of (story z (entries l.log))) (sym mine.1);
-      few = omega arith;
-      legal = tt;
-      callers = no_callers (n + 1);
-      each_seat = λ j v there.
-          elim (one_more (set s.views id (keeping k)) (reading (fresh_reader n)) j v there) [
-            | inl before ↦
-                one_seat (Knows k r.keeper owner) s.views id (keeping k) (mine.0, refl)
-                (λ i w not_id at_i.
-                others_fit (resting n []) k r.keeper r.owner owner i w (λ (e : i ≡ r.keeper). not_id (e ∙ sym mine.0))
-                (λ x own f. let below = f.dealt in (moved-else r.owner n new x.number (λ (e : x.number ≡ n). absurd (omega arith)) ∙ own, fits-dealt n x f))
-                (subst (λ (l : KeeperView). Knows l r.keeper r.owner i w) (sym mine.1) (r.each_seat i w at_i))) j v before
-            | inr last ↦
-                subst (λ (q : ℕ × Role). Knows k r.keeper owner q.0 q.1) (λ i. (sym last.0 i, last.1 i))
-                (moved-here r.owner n new, record { dealt = omega arith; here = refl; began = ([], refl); all_seen = omega arith; counted = refl })
-          ];
+      readers = r.readers;
+      whole = subst (λ (l : KeeperView). IsWhole (core_of z s.words record l { dealt = n + 1 } r.readers)) (sym mine.1) r.whole;
+      seats = record {
+        keeper = r.seats.keeper;
+        owner = owner;
+        few = omega arith;
+        callers = no_callers (n + 1);
+        fresh = λ q above inside. seats.fresh q (omega arith) inside;
+        left = λ q y gone is. absurd (omega arith);
+        seated = λ q inside none.
+            dite (ℕ_discrete q n)
+            (λ here. subst (λ (m : ℕ). IsSeated (set s.views id (keeping k) ++ reading (fresh_reader n) ∷ []) m q) (sym (ap owner here ∙ moved-here r.seats.owner n new))
+            (seated_last (set s.views id (keeping k)) (reading (fresh_reader n)) q (sym here)))
+            (λ apart.
+            seated_longer (set s.views id (keeping k)) (reading (fresh_reader n)) (owner q) q
+            (seated_set s.views id (keeping (resting n [])) (keeping k) (owner q) q at (λ e. absurd e)
+            (subst (λ (m : ℕ). IsSeated s.views m q) (sym (moved-else r.seats.owner n new q apart))
+            (r.seats.seated q (let dealt : n ≡ r.k.dealt = ap (λ (l : KeeperView). l.dealt) mine.1 in omega arith) (ap (λ (l : KeeperView). times q l.gone) (sym mine.1))))));
+        each_seat = λ j v there.
+            elim (one_more (set s.views id (keeping k)) (reading (fresh_reader n)) j v there) [
+              | inl before ↦
+                  one_seat (Knows z k r.readers r.seats.keeper owner) s.views id (keeping k) (mine.0, refl)
+                  (λ i w not_id at_i. stays_dealt z n r.readers r.seats.keeper r.seats.owner new i w (λ (e : i ≡ r.seats.keeper). not_id (e ∙ sym mine.0))
+                  (subst (λ (l : KeeperView). Knows z l r.readers r.seats.keeper r.seats.owner i w) (sym mine.1) (r.seats.each_seat i w at_i))) j v before
+              | inr last ↦
+                  subst (λ (q : ℕ × Role). Knows z k r.readers r.seats.keeper owner q.0 q.1) (λ i. (sym last.0 i, last.1 i)) (
+                    moved-here r.seats.owner n new,
+                    record {
+                      dealt = omega arith;
+                      here = refl;
+                      there = seats.fresh n (omega arith) below;
+                      began = ([], refl);
+                      held = λ v is. absurd (cc);
+                      all_seen = omega arith;
+                      counted = refl;
+                    },
+                  )
+            ];
+      };
     }
-
--- one more reader of a store
-pub newcomers-push : (store : StoreId) (n : ℕ) → newcomers store n ++ newcomer n store ∷ [] ≡ newcomers store (n + 1)
-newcomers-push store n =
-    sym (map-append (λ (m : ℕ). newcomer m store) (range_with_len 0 n) (n ∷ []))
-    ∙ (ap (map (λ (m : ℕ). newcomer m store)) (range_with_len-push 0 n n (omega arith)) ∙ ap (newcomers store) (one_up n))
-  where
-    one_up : (n : ℕ) → suc n ≡ n + 1
-    one_up n = omega arith

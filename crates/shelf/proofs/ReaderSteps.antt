@@ -1,67 +1,131 @@
--- A reader's step keeps the rule.
-use Rattle.std.proofs.Common.{◌≡◌, ℕ, List, length, set, get_or, refl, ap, sym, ◌∙◌, subst, arith, length-set, get_or-set_same}
-use mathlib.Core.Option.{none}
+-- Each step of a reader keeps the rule.
+use Rattle.std.proofs.Common.{◌≡◌, ℕ, ◌+◌, List, set, get_or, refl, ap, sym, ◌∙◌, subst, arith}
+use Rattle.std.specs.Prelude.{Some, None}
+use mathlib.Core.Logic.{inl, inr}
+use mathlib.Core.Option.{none, some}
+use lib.ListN.{get_elem?}
 use Rattle.atomic_table.specs.Table.{State, Me, step, keeps, Allows}
 use Rattle.map_core.specs.Story.{newest}
-use Rattle.map_core.specs.Words.{Base, now_at, now_of, place_told, version_told}
-use Rattle.map_core.specs.Views.{story}
-use Rattle.shelf.specs.declared.signed.Signed.{Signed}
-use Rattle.shelf.specs.Roles.{KeeperView, ReaderView, Role, reading, entries, reader_in}
+use Rattle.map_core.specs.Words.{Base, now_at, pin_at, pin_word, version_told}
+use Rattle.map_core.specs.Views.{Reader, story, newest_seen}
+use Rattle.map_core.specs.Steps.{next_hold}
+use Rattle.map_core.specs.Sound.{IsWhole}
+use Rattle.map_core.proofs.LogLemmas.{newest-beginning}
+use Rattle.map_core.proofs.SoundReader.{version_of_now, next_hold_cases}
+use Rattle.map_core.proofs.StepLemmas.{keeps-announce, keeps-leave, keeps-load}
+use Rattle.shelf.proofs.LogParts.{prefix-itself, prefix-entries, made_by-prefix}
+use Rattle.shelf.specs.declared.asked.Asked.{Asked}
+use Rattle.shelf.specs.Roles.{KeeperView, ReaderView, Role, reading, entries, as_reader, reader_in, core_of}
 use Rattle.shelf.specs.Rule.{Fits, Knows, Agrees}
-use Rattle.shelf.specs.Steps.{Sees, taken}
-use Rattle.map_core.proofs.LogLemmas.{places_are}
-use Rattle.map_core.proofs.SoundReader.{place_of_now, version_of_now}
-use Rattle.shelf.proofs.LogParts.{prefix-itself, made_by-prefix, length-entries}
-use Rattle.shelf.proofs.SeatsStay.{one_seat}
+use Rattle.shelf.specs.Steps.{announcing, loaded, leaving, announces, leaves, Sees, taken}
+use Rattle.shelf.proofs.Bridge.{set_get, there_set, seats_reader}
 
--- a reader's view becomes another that fits, and NOW stays
-pub reader_moves : (z : Base) (s : State Signed Role) (r : Agrees z s) (id word : ℕ) (x y : ReaderView) → Knows r.k r.keeper r.owner id (reading x)
-    → y.number ≡ x.number → Fits r.k y → word ≡ now_of (story z (entries r.k.log))
-    → Agrees z record { words = set s.words now_at word; homes = s.homes; views = set s.views id (reading y) }
-reader_moves z s r id word x y mine same fits is =
-    let sized = r.sized in
-    record {
-      k = r.k;
-      keeper = r.keeper;
-      owner = r.owner;
-      ready = r.ready;
-      sized = length-set s.words now_at word ∙ sized;
-      now = get_or-set_same s.words now_at word 0 (omega arith) ∙ is;
-      few = r.few;
-      legal = r.legal;
-      callers = r.callers;
-      each_seat = one_seat (Knows r.k r.keeper r.owner) s.views id (reading y) (ap r.owner same ∙ mine.0, fits) (λ j v else there. r.each_seat j v there);
-    }
+-- a reader's view becomes another, and so does the core's reader of its number
+pub reader_moves : (z : Base) (s : State Asked Role) (r : Agrees z s) (id : ℕ) (words : List ℕ) (x y : ReaderView) → get_elem? s.views id ≡ some (reading x) → Knows z r.k r.readers r.seats.keeper r.seats.owner id (reading x)
+    → y.number ≡ x.number → Fits z r.k (set r.readers x.number (as_reader y)) y → IsWhole (core_of z words r.k (set r.readers x.number (as_reader y)))
+    → Agrees z record { words = words; homes = s.homes; views = set s.views id (reading y) }
+reader_moves z s r id words x y at mine same fits whole = record {
+  k = r.k;
+  readers = set r.readers x.number (as_reader y);
+  whole = whole;
+  seats = seats_reader z r.k r.readers s.views r.seats id x (as_reader y) (reading x) (reading y) at (λ q e. same ∙ e) mine.0 mine.1 (ap r.seats.owner same ∙ mine.0, fits);
+}
 
--- what a reader that fits has seen may grow to the whole log
-pub fits-all : (k : KeeperView) (x : ReaderView) → Fits k x → Fits k record x { seen = k.log }
-fits-all k x f =
-    let grown = made_by-prefix x.number x.seen k.log f.began in
-    let seen = f.all_seen in
-    record { dealt = f.dealt; here = f.here; began = prefix-itself k.log; all_seen = omega arith; counted = f.counted }
+-- what a reader's seat knows
+pub reader_knows : (z : Base) (s : State Asked Role) (r : Agrees z s) (id : ℕ) (v : Role) (x : ReaderView) → get_elem? s.views id ≡ some v → v ≡ reading x
+    → (r.seats.owner x.number ≡ id) × Fits z r.k r.readers x
+reader_knows z s r id v x at role = subst (Knows z r.k r.readers r.seats.keeper r.seats.owner id) role (r.seats.each_seat id v at)
 
--- a reader's load of NOW
-pub takes : (z : Base) (slots id : ℕ) (me : Me Signed Role) (x : ReaderView) → me.0 ≡ reading x
-    → Allows (Agrees z) slots id me now_at (λ n. n) (taken z (step slots now_at 0 0 none) me)
-takes z slots id me x role s r homes at fits =
-    let mine : Knows r.k r.keeper r.owner id (reading x) = subst (Knows r.k r.keeper r.owner id) role (r.each_seat id me.0 at) in (
-      reading record x { seen = r.k.log },
+-- a reader stores what it announces
+pub announces_it : (z : Base) (slots id word : ℕ) (me : Me Asked Role) (x : ReaderView) → me.0 ≡ reading x → x.announced ≡ None
+    → word ≡ pin_word (Some (newest_seen z (as_reader x)))
+    → Allows (Agrees z) slots id me (pin_at x.number) (λ _. word) (λ _. announces z (step slots (pin_at x.number) word 0 none) me word)
+announces_it z slots id word me x role quiet is s r homes at small =
+    let mine = reader_knows z s r id me.0 x at role in
+    let f = mine.1 in
+    let y = announcing z x in (
+      reading y,
       keeps,
       tt,
-      reader_moves z s r id (get_or s.words now_at 0) x record x { seen = r.k.log } mine refl (fits-all r.k x mine.1) r.now,
-      λ y is.
-          let same : x ≡ y = ap reader_in (sym role ∙ is) in (
+      reader_moves z s r id (set s.words (pin_at x.number) word) x y (at ∙ ap (λ (v : Role). some v) role) mine refl
+          record { dealt = f.dealt; here = f.here; there = there_set r.readers x.number (as_reader x) (as_reader y) f.there; began = f.began; held = f.held; all_seen = f.all_seen; counted = f.counted }
+          (subst (λ (n : ℕ). IsWhole (core_of z (set s.words (pin_at x.number) n) r.k (set r.readers x.number (as_reader y)))) (sym is)
+          (keeps-announce (core_of z s.words r.k r.readers) x.number (as_reader x) r.whole f.there quiet)),
+      λ v said. let same : x ≡ v = ap reader_in (sym role ∙ said) in ap (λ (q : ReaderView). (reading (announcing z q), me.1)) same,
+    )
+
+-- a reader stores 0
+pub leaves_it : (z : Base) (slots id word : ℕ) (me : Me Asked Role) (x : ReaderView) → me.0 ≡ reading x → word ≡ pin_word None
+    → Allows (Agrees z) slots id me (pin_at x.number) (λ _. word) (λ _. leaves (step slots (pin_at x.number) word 0 none) me word)
+leaves_it z slots id word me x role is s r homes at small =
+    let mine = reader_knows z s r id me.0 x at role in
+    let f = mine.1 in
+    let y = leaving x in (
+      reading y,
+      keeps,
+      tt,
+      reader_moves z s r id (set s.words (pin_at x.number) word) x y (at ∙ ap (λ (v : Role). some v) role) mine refl
+          record { dealt = f.dealt; here = f.here; there = there_set r.readers x.number (as_reader x) (as_reader y) f.there; began = f.began; held = λ v held. absurd (cc); all_seen = f.all_seen; counted = f.counted }
+          (subst (λ (n : ℕ). IsWhole (core_of z (set s.words (pin_at x.number) n) r.k (set r.readers x.number (as_reader y)))) (sym is)
+          (keeps-leave (core_of z s.words r.k r.readers) x.number (as_reader x) r.whole f.there)),
+      λ v said. let same : x ≡ v = ap reader_in (sym role ∙ said) in ap (λ (q : ReaderView). (reading (leaving q), me.1)) same,
+    )
+
+-- a reader that has loaded NOW fits
+pub fits-loaded : (z : Base) (k : KeeperView) (readers : List Reader) (x : ReaderView) → Fits z k readers x
+    → Fits z k (set readers x.number (as_reader (loaded z k.log x))) (loaded z k.log x)
+fits-loaded z k readers x f =
+    let grown = made_by-prefix x.number x.seen k.log f.began in
+    let seen = f.all_seen in
+    record {
+      dealt = f.dealt;
+      here = f.here;
+      there = there_set readers x.number (as_reader x) (as_reader (loaded z k.log x)) f.there;
+      began = prefix-itself k.log;
+      held = λ v is.
+          elim (next_hold_cases (as_reader x) (newest (story z (entries k.log))) v is) [
+            | inl held ↦ let before = f.held v held in let up = newest-beginning z (entries x.seen) (entries k.log) (prefix-entries x.seen k.log f.began) in omega arith
+            | inr new ↦ let same = new.0 in omega arith
+          ];
+      all_seen = omega arith;
+      counted = f.counted;
+    }
+
+-- the core after a load of a reader's
+pub whole-loaded : (z : Base) (words : List ℕ) (k : KeeperView) (readers : List Reader) (x : ReaderView) (i : ℕ) → IsWhole (core_of z words k readers) → Fits z k readers x
+    → IsWhole (core_of z (set words i (get_or words i 0)) k (set readers x.number (as_reader (loaded z k.log x))))
+whole-loaded z words k readers x i whole f =
+    let version : version_told (get_or words now_at 0) ≡ newest (story z (entries k.log)) = ap version_told whole.keeper.now ∙ version_of_now z (entries k.log) whole.ready whole.keeper.legal in
+    subst (λ (q : List ℕ × ℕ). IsWhole (core_of z q.0 k (set readers x.number record { seen = entries k.log; announced = x.announced; holds = next_hold (as_reader x) q.1 })))
+    (λ j. (sym (set_get words i) j, version j))
+    (keeps-load (core_of z words k readers) x.number (as_reader x) whole f.there)
+
+-- a reader loads NOW
+pub takes_it : (z : Base) (slots id : ℕ) (me : Me Asked Role) (x : ReaderView) → me.0 ≡ reading x
+    → Allows (Agrees z) slots id me now_at (λ n. n) (taken z (step slots now_at 0 0 none) me)
+takes_it z slots id me x role s r homes at small =
+    let mine = reader_knows z s r id me.0 x at role in
+    let f = mine.1 in
+    let fits = fits-loaded z r.k r.readers x f in (
+      reading (loaded z r.k.log x),
+      keeps,
+      tt,
+      reader_moves z s r id (set s.words now_at (get_or s.words now_at 0)) x (loaded z r.k.log x) (at ∙ ap (λ (v : Role). some v) role) mine refl fits (whole-loaded z s.words r.k r.readers x now_at r.whole f),
+      λ v said.
+          let same : x ≡ v = ap reader_in (sym role ∙ said) in (
             r.k.log,
-            ap (λ (v : ReaderView). (reading record v { seen = r.k.log }, me.1)) same,
-            subst (λ (v : ReaderView). Sees z v (get_or s.words now_at 0) r.k.log) same
-                record { ready = r.ready; began = mine.1.began; now = r.now; legal = r.legal; counts = (fits-all r.k x mine.1).all_seen },
+            ap (λ (q : ReaderView). (reading (loaded z r.k.log q), me.1)) same,
+            subst (λ (q : ReaderView). Sees z q (get_or s.words now_at 0) r.k.log) same
+                record { ready = r.whole.ready; began = f.began; now = r.whole.keeper.now; legal = r.whole.keeper.legal; counts = fits.all_seen },
           ),
     )
 
--- what NOW says of the log that a reader has then seen: its length, and its newest version
-pub now_says : (z : Base) (x : ReaderView) (word : ℕ) (log : List Signed) → Sees z x word log
-    → (place_told word ≡ length log) × (version_told word ≡ newest (story z (entries log)))
-now_says z x word log sees = (
-  ap place_told sees.now ∙ (place_of_now z (entries log) sees.ready sees.legal ∙ (places_are z (entries log) ∙ length-entries log)),
-  ap version_told sees.now ∙ version_of_now z (entries log) sees.ready sees.legal,
-)
+-- the word of an announcement, from the version that a seat keeps
+pub announced_word : (z : Base) (x : ReaderView) (version v : ℕ) → v ≡ version → version ≡ newest (story z (entries x.seen)) → v + 1 ≡ pin_word (Some (newest_seen z (as_reader x)))
+unfolding pin_word
+announced_word z x version v is newest_is = omega arith
+
+-- the word of a leave
+pub left_word : 0 ≡ pin_word None
+unfolding pin_word
+left_word = refl

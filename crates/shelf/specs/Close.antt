@@ -17,7 +17,7 @@ closed_of k = record { log = k.log; readers = length k.gone; made = sum_by (λ n
 
 -- no command is in hand, each commit was met, and each reader was given up once at most
 pub record IsClosing (k : KeeperView) : Type 0 where
-  pub hand : k.hand ≡ None
+  pub task : k.task ≡ None
   pub unmet : k.unmet ≡ None
   pub once : (n : ℕ) → times n k.gone ≤ 1
   pub below : (n : ℕ) → k.dealt ≤ n → times n k.gone ≡ 0

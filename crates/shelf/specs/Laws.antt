@@ -1,42 +1,99 @@
 -- What the rule of a table comes to, in the core's words: this project's own rule.
-use Rattle.std.specs.Prelude.{◌≡◌, ◌≢◌, ℕ, ◌+◌, ◌^◌, ◌<◌, ◌≤◌, List, length, All, slice_index, Option, Some}
-use mathlib.Core.List.{IsPrefix}
+use Rattle.shelf.specs.declared.signed.Signed.{Signed}
+use Rattle.map_core.specs.Blocks.{directory_of}
+use Rattle.map_core.specs.Legal.{refused}
+use Rattle.map_core.specs.declared.command.Command.{Command}
+use Rattle.std.specs.Prelude.{◌≡◌, ℕ, ◌<◌, true, slice_get, slice_index, slice_set, Option, Some, None, is_some, ◌⊎◌, List, ◌+◌}
 use mathlib.Core.Option as maybe
 use lib.ListN.{get_elem?}
 use Rattle.atomic_table.specs.Table.{State}
-use Rattle.map_core.specs.Story.{newest}
-use Rattle.map_core.specs.Legal.{IsLegal}
-use Rattle.map_core.specs.Words.{Base, now_at, now_word}
-use Rattle.map_core.specs.Views.{story}
-use Rattle.map_core.specs.Safe.{IsBeginning}
-use Rattle.shelf.specs.declared.signed.Signed.{Signed}
-use Rattle.shelf.specs.Roles.{KeeperView, ReaderView, Role, keeping, reading, meeting, entries, made_by, unmet_by}
+use Rattle.map_core.specs.declared.command.Command.TheVariants.{Collect, Publish}
+use Rattle.map_core.specs.declared.event.Event.{Event}
+use Rattle.map_core.specs.declared.event.Event.TheVariants.{Announce, Leave, Keep, Load, LookMap, LookTile, Order}
+use Rattle.map_core.specs.declared.event.StepReply.{StepReply}
+use Rattle.map_core.specs.declared.event.StepReply.TheVariants as says
+use Rattle.map_core.specs.Words.{Base, now_at, pin_at, now_of, pin_word, tiles, map_at, tile_at, slot_of, place_told, version_told}
+use Rattle.map_core.specs.Steps.{does, steps_before, write_of}
+use Rattle.map_core.specs.Views.{Reader, story, newest_seen, blocks}
+use Rattle.map_core.specs.Views as core
+use Rattle.map_core.specs.Sound.{IsWhole}
+use Rattle.map_core.specs.Safe.{IsSafe, SparesLive, IsBeginning}
+use Rattle.shelf.specs.declared.asked.Asked.{Asked}
+use Rattle.shelf.specs.Roles.{Task, KeeperView, ReaderView, Role, keeping, reading, meeting, entries, as_keeper, as_reader, learning, ticket}
+use Rattle.shelf.specs.Rule.{HasReader, HasKeeper}
+use Rattle.shelf.specs.Steps.{announcing, leaving, scanned, committed, signed_of, MayCommit, loaded, ordered, wrote}
 
--- what a reader knows of the log, where an entry of the named reader is unmet: a beginning of it, and how many entries of it are its own
-pub record IsBehind (log : List Signed) (unmet : Option ℕ) (x : ReaderView) : Type 0 where
-  pub began : IsPrefix x.seen log
-  pub without_callers : IsBeginning (entries x.seen) (entries log)
-  -- it counts its entries, but for one that is unmet, and has seen those that it counts
-  pub counted : made_by x.number log ≡ x.made + unmet_by x.number unmet
-  pub seen : x.made ≤ made_by x.number x.seen
-  -- where none of its own is unmet, all its entries are among those that it has seen
-  pub whole : unmet ≢ Some x.number → (made_by x.number log ≡ x.made) × (made_by x.number x.seen ≡ x.made)
+-- a seat of this role has this reader, of number r
+abbrev pub ShowsReader : ℕ → Reader → Role → Type 0
+ShowsReader r y (reading x) = (x.number ≡ r) × (y ≡ as_reader x)
+ShowsReader r y (meeting k x) = (x.number ≡ r) × (y ≡ as_reader x)
+ShowsReader r y (learning x seen) = (x.number ≡ r) × (y ≡ as_reader x)
+ShowsReader r y role = ⊥
 
--- the words and the seats of a table have one log, of which one entry at most is unmet
-pub record HasOneLog (z : Base) (s : State Signed Role) : Type 0 where
-  pub log : List Signed
-  pub unmet : Option ℕ
-  -- the log is legal and shorter than 2^32, and each caller is a session
-  pub legal : IsLegal z.setting z.opening (entries log)
-  pub short : length log < 2 ^ 32
-  pub callers : All (λ e. e.by < z.setting.sessions) log
-  -- NOW has its length and its newest version
-  pub now : slice_index s.words now_at ≡ now_word (length log) (newest (story z (entries log)))
-  -- the keeper's seat knows both, each reader's seat is behind them, also where its view stands in the keeper's, and no two seats are one reader's
-  pub keeper : (j : ℕ) (k : KeeperView) → get_elem? s.views j ≡ maybe.some (keeping k) → (k.log ≡ log) × (k.unmet ≡ unmet)
-  pub reader : (j : ℕ) (x : ReaderView) → get_elem? s.views j ≡ maybe.some (reading x) → IsBehind log unmet x
-  pub together : (j : ℕ) (k : KeeperView) (x : ReaderView) → get_elem? s.views j ≡ maybe.some (meeting k x) → (k.log ≡ log) × (k.unmet ≡ unmet) × IsBehind log unmet x
-  pub apart : (i j : ℕ) (x y : ReaderView) → get_elem? s.views i ≡ maybe.some (reading x) → get_elem? s.views j ≡ maybe.some (reading y) → x.number ≡ y.number → i ≡ j
-  pub apart_together : (i j : ℕ) (x y : ReaderView) (k : KeeperView) → get_elem? s.views i ≡ maybe.some (reading x) → get_elem? s.views j ≡ maybe.some (meeting k y) → x.number ≢ y.number
-  -- one seat at most is the keeper's
-  pub one_keeper : (i j : ℕ) (k l : KeeperView) → get_elem? s.views i ≡ maybe.some (keeping k) → get_elem? s.views j ≡ maybe.some (keeping l) → i ≡ j
+-- this reader is the view of a seat
+pub record IsOfSeat (views : List Role) (r : ℕ) (y : Reader) : Type 0 where
+  pub seat : ℕ
+  pub role : Role
+  pub at : get_elem? views seat ≡ maybe.some role
+  pub shows : ShowsReader r y role
+
+-- this state of the core is whole and safe, its words are the table's, its keeper is the keeper's view, and its readers are the readers' views
+pub record IsStateOf (z : Base) (s : State Asked Role) (w : core.State) : Type 0 where
+  pub whole : IsWhole w
+  pub safe : IsSafe w
+  pub base_is : w.base ≡ z
+  pub words_are : w.words ≡ s.words
+  pub keeper : (j : ℕ) (k : KeeperView) → get_elem? s.views j ≡ maybe.some (keeping k) → w.keeper ≡ as_keeper k
+  pub reader : (j : ℕ) (x : ReaderView) → get_elem? s.views j ≡ maybe.some (reading x) → slice_get w.readers x.number ≡ Some (as_reader x)
+  pub together : (j : ℕ) (k : KeeperView) (x : ReaderView) → get_elem? s.views j ≡ maybe.some (meeting k x) → (w.keeper ≡ as_keeper k) × (slice_get w.readers x.number ≡ Some (as_reader x))
+  pub taught : (j : ℕ) (x : ReaderView) (seen : List Signed) → get_elem? s.views j ≡ maybe.some (learning x seen)
+      → (slice_get w.readers x.number ≡ Some (as_reader x)) × IsBeginning (entries seen) w.keeper.log
+  -- what a ticket has seen is a beginning of the log
+  pub tickets : (j : ℕ) (seen : List Signed) → get_elem? s.views j ≡ maybe.some (ticket seen) → IsBeginning (entries seen) w.keeper.log
+  -- each reader is the view of a seat, or no seat has its number, and then its word is 0
+  pub each_reader : (r : ℕ) (y : Reader) → slice_get w.readers r ≡ Some y → IsOfSeat s.views r y ⊎ (slice_index s.words (pin_at r) ≡ 0)
+  -- no two seats have one reader's view, and one seat at most has the keeper's
+  pub apart : (i j r : ℕ) (u v : Role) → get_elem? s.views i ≡ maybe.some u → get_elem? s.views j ≡ maybe.some v → HasReader r u → HasReader r v → i ≡ j
+  pub one_keeper : (i j : ℕ) (u v : Role) → get_elem? s.views i ≡ maybe.some u → get_elem? s.views j ≡ maybe.some v → HasKeeper u → HasKeeper v → i ≡ j
+
+-- there is a state of the core that is the table's
+pub record IsAState (z : Base) (s : State Asked Role) : Type 0 where
+  pub w : core.State
+  pub is : IsStateOf z s w
+
+-- what the table becomes where a seat stores a word and has another view
+abbrev pub after_step : State Asked Role → ℕ → ℕ → ℕ → Role → State Asked Role
+after_step s at word id v = record { words = slice_set s.words at word; homes = s.homes; views = slice_set s.views id v }
+
+-- a step of the table is this event of the core
+pub record IsEvent (z : Base) (s t : State Asked Role) (e : Event) (answer : StepReply) : Type 0 where
+  pub before : core.State
+  pub after : core.State
+  pub stored : Option ℕ
+  pub was : IsStateOf z s before
+  pub is : IsStateOf z t after
+  pub done : does before e ≡ Some record { state = after; answer = answer; stored = stored }
+  pub spares : SparesLive before stored
+
+-- each step of a seat is the event of its kind
+pub record StepsAreEvents (z : Base) (s : State Asked Role) (id : ℕ) : Type 0 where
+  pub announce : (x : ReaderView) → get_elem? s.views id ≡ maybe.some (reading x) → x.announced ≡ None
+      → IsEvent z s (after_step s (pin_at x.number) (pin_word (Some (newest_seen z (as_reader x)))) id (reading (announcing z x))) (Announce x.number) (says.Announced (newest_seen z (as_reader x)))
+  pub leave : (x : ReaderView) → get_elem? s.views id ≡ maybe.some (reading x) → is_some x.announced ≡ true
+      → IsEvent z s (after_step s (pin_at x.number) (pin_word None) id (reading (leaving x))) (Leave x.number) says.Left
+  pub load : (x : ReaderView) → get_elem? s.views id ≡ maybe.some (reading x)
+      → (log : List Signed) × IsEvent z s (after_step s now_at (slice_index s.words now_at) id (reading (loaded z log x))) (Load x.number) (says.Now (place_told (slice_index s.words now_at)) (version_told (slice_index s.words now_at)))
+  pub look_map : (x : ReaderView) (v p : ℕ) → get_elem? s.views id ≡ maybe.some (reading x) → x.holds ≡ Some v → p < tiles z
+      → let at = map_at z (slot_of z (story z (entries x.seen)) v) p in IsEvent z s (after_step s at (slice_index s.words at) id (reading x)) (LookMap x.number p) (says.Block (slice_index s.words at))
+  pub look_tile : (x : ReaderView) (v p b i : ℕ) → get_elem? s.views id ≡ maybe.some (reading x) → x.holds ≡ Some v → p < tiles z → b ≡ slice_index (directory_of (blocks z (entries x.seen)) v) p → i < 64
+      → IsEvent z s (after_step s (tile_at z b i) (slice_index s.words (tile_at z b i)) id (reading x)) (LookTile x.number b i) (says.Word (slice_index s.words (tile_at z b i)))
+  pub order : (k : KeeperView) (by : ℕ) (c : Command) → get_elem? s.views id ≡ maybe.some (keeping k) → k.task ≡ None → refused z.setting (story z (entries k.log)) c ≡ None
+      → IsEvent z s (after_step s now_at (slice_index s.words now_at) id (keeping (ordered k by c))) (Order c) (says.Ordered (steps_before z (blocks z (entries k.log)) c + 1))
+  pub write : (k : KeeperView) (t : Task) → get_elem? s.views id ≡ maybe.some (keeping k) → k.task ≡ Some t → t.hand.command ≡ Publish → t.hand.done < steps_before z (blocks z (entries k.log)) Publish
+      → let next = write_of z (story z (entries k.log)) (blocks z (entries k.log)) t.hand.done in IsEvent z s (after_step s next.at next.word id (keeping (wrote k t))) Keep says.Written
+  pub scan : (k : KeeperView) (t : Task) → get_elem? s.views id ≡ maybe.some (keeping k) → k.task ≡ Some t → t.hand.command ≡ Collect → t.hand.done < z.setting.sessions
+      → IsEvent z s (after_step s (pin_at t.hand.done) (slice_index s.words (pin_at t.hand.done)) id (keeping (scanned k t (slice_index s.words (pin_at t.hand.done))))) Keep
+      (says.Scanned t.hand.done (slice_index s.words (pin_at t.hand.done)))
+  pub commit : (k : KeeperView) (may : MayCommit z k) → get_elem? s.views id ≡ maybe.some (keeping k)
+      → IsEvent z s (after_step s now_at (now_of (story z (entries (committed z k may.task).log))) id (keeping (committed z k may.task))) Keep
+      (says.Committed (signed_of z k may.task).entry.reply)

@@ -1,15 +1,23 @@
 -- What the seats at a store's table know: this project's own rule.
-use Rattle.std.specs.Prelude.{ℕ, cond, ◌==◌, List, [], ◌∷◌, map, Option, Some, None}
+use Rattle.std.specs.Prelude.{ℕ, cond, ◌==◌, List, [], map, Option, Some, None, option_map}
 use Rattle.map_core.specs.declared.command.Entry.{Entry}
+use Rattle.map_core.specs.Words.{Base}
+use Rattle.map_core.specs.Views.{Hand, Keeper, Reader}
+use Rattle.map_core.specs.Views as core
 use Rattle.map_core.specs.Safe.{times}
 use Rattle.shelf.specs.declared.signed.Signed.{Signed}
+
+-- the command that the keeper has in hand: the core's, and whose it is
+pub record Task : Type 0 where
+  pub by : ℕ
+  pub hand : Hand
 
 -- what the keeper's seat knows
 pub record KeeperView : Type 0 where
   -- the log
   pub log : List Signed
-  -- the entry in hand, which is next
-  pub hand : Option Signed
+  -- the command in hand, what is done of it, and what its scan has seen
+  pub task : Option Task
   -- the reader of the last commit, until it has met the keeper
   pub unmet : Option ℕ
   -- readers are dealt by number, and these are dealt: those below it
@@ -24,6 +32,9 @@ pub record ReaderView : Type 0 where
   pub seen : List Signed
   -- how many entries of the log are by this reader, as far as it has met the keeper
   pub made : ℕ
+  -- the version that it has announced, and the version that it holds
+  pub announced : Option ℕ
+  pub holds : Option ℕ
 
 -- what a seat is for
 pub data Role : Type 0 where
@@ -32,6 +43,10 @@ pub data Role : Type 0 where
   reading : ReaderView → Role
   -- the keeper's seat while a reader's view stands in it
   meeting : KeeperView → ReaderView → Role
+  -- a ticket: what the keeper's log was
+  ticket : List Signed → Role
+  -- a reader's seat while a ticket's view stands in it
+  learning : ReaderView → List Signed → Role
 
 -- a log without its callers
 abbrev pub entries : List Signed → List Entry
@@ -46,13 +61,25 @@ abbrev pub unmet_by : ℕ → Option ℕ → ℕ
 unmet_by reader None = 0
 unmet_by reader (Some other) = cond (reader == other) 1 0
 
+-- the keeper of the core: the view without callers
+abbrev pub as_keeper : KeeperView → Keeper
+as_keeper k = record { log = entries k.log; hand = option_map (λ t. t.hand) k.task }
+
+-- the reader of the core: the view without callers
+abbrev pub as_reader : ReaderView → Reader
+as_reader x = record { seen = entries x.seen; announced = x.announced; holds = x.holds }
+
+-- the state of the core: these words, the keeper's view, and these readers
+abbrev pub core_of : Base → List ℕ → KeeperView → List Reader → core.State
+core_of z words k readers = record { base = z; words = words; keeper = as_keeper k; readers = readers }
+
 -- the keeper at rest: so many readers are dealt, nothing is in hand, each commit was met, and no reader is given up
 abbrev pub resting : ℕ → List Signed → KeeperView
-resting dealt log = record { log = log; hand = None; unmet = None; dealt = dealt; gone = [] }
+resting dealt log = record { log = log; task = None; unmet = None; dealt = dealt; gone = [] }
 
 -- a reader at the opening: it has seen the empty log
 abbrev pub fresh_reader : ℕ → ReaderView
-fresh_reader number = record { number = number; seen = []; made = 0 }
+fresh_reader number = record { number = number; seen = []; made = 0; announced = None; holds = None }
 
 -- the keeper in a seat: in a seat of another role there is none, and one at rest stands in for it
 abbrev pub keeper_in : Role → KeeperView
@@ -64,9 +91,5 @@ keeper_in role = resting 0 []
 abbrev pub reader_in : Role → ReaderView
 reader_in (reading x) = x
 reader_in (meeting k x) = x
+reader_in (learning x seen) = x
 reader_in role = fresh_reader 0
-
--- the reader whose view a seat without slots has, if it has one
-abbrev pub reader_on : List Role → ReaderView
-reader_on [] = fresh_reader 0
-reader_on (role ∷ roles) = reader_in role

@@ -1,51 +1,81 @@
 -- What holds of a store's table between any two steps: this project's own rule.
-use Rattle.std.specs.Prelude.{◌≡◌, ℕ, ◌+◌, ◌<◌, ◌≤◌, length, All, slice_index}
+use Rattle.std.specs.Prelude.{◌≡◌, ℕ, ◌+◌, ◌<◌, ◌≤◌, List, All, slice_get, Some, None}
 use mathlib.Core.List.{IsPrefix}
 use mathlib.Core.Option as maybe
 use lib.ListN.{get_elem?}
 use Rattle.atomic_table.specs.Table.{State}
-use Rattle.map_core.specs.Legal.{IsLegal}
-use Rattle.map_core.specs.Words.{Base, now_at, now_of}
-use Rattle.map_core.specs.Views.{story}
+use Rattle.map_core.specs.Story.{newest}
+use Rattle.map_core.specs.Words.{Base}
+use Rattle.map_core.specs.Views.{Reader, story}
+use Rattle.map_core.specs.Runs.{fresh_reader}
 use Rattle.map_core.specs.Safe.{times}
-use Rattle.map_core.specs.Tidy.{IsReady}
-use Rattle.shelf.specs.declared.signed.Signed.{Signed}
-use Rattle.shelf.specs.Roles.{KeeperView, ReaderView, Role, idle, keeping, reading, meeting, entries, made_by, unmet_by}
+use Rattle.map_core.specs.Sound.{IsWhole}
+use Rattle.shelf.specs.declared.asked.Asked.{Asked}
+use Rattle.shelf.specs.Roles.{KeeperView, ReaderView, Role, idle, keeping, reading, meeting, ticket, learning, entries, made_by, unmet_by, as_reader, core_of}
 
--- what holds between the keeper and a reader
-pub record Fits (k : KeeperView) (x : ReaderView) : Type 0 where
+-- what holds between the keeper, the core's readers and a reader's seat
+pub record Fits (z : Base) (k : KeeperView) (readers : List Reader) (x : ReaderView) : Type 0 where
   -- the reader was dealt, and isn't given up
   pub dealt : x.number < k.dealt
   pub here : times x.number k.gone ≡ 0
-  -- what it has seen is a beginning of the log
+  -- it is the core's reader of its number
+  pub there : slice_get readers x.number ≡ Some (as_reader x)
+  -- what it has seen is a beginning of the log, and has the version that it holds
   pub began : IsPrefix x.seen k.log
+  pub held : (v : ℕ) → x.holds ≡ Some v → v ≤ newest (story z (entries x.seen))
   -- it has seen all entries that it counts, and the log has one more by it between a commit and its meeting
   pub all_seen : x.made ≤ made_by x.number x.seen
   pub counted : made_by x.number k.log ≡ x.made + unmet_by x.number k.unmet
 
 -- what a seat knows, where this is the keeper's view, and this seat has it, and these seats have the readers
-module _ (k : KeeperView) (keeper : ℕ) (owner : ℕ → ℕ) (seat : ℕ) where
+module _ (z : Base) (k : KeeperView) (readers : List Reader) (keeper : ℕ) (owner : ℕ → ℕ) (seat : ℕ) where
   abbrev pub Knows : Role → Type 0
   Knows idle = Unit {0}
   Knows (keeping u) = (seat ≡ keeper) × (u ≡ k)
-  Knows (reading x) = (owner x.number ≡ seat) × Fits k x
-  Knows (meeting u x) = (seat ≡ keeper) × (u ≡ k) × (owner x.number ≡ seat) × Fits k x
+  Knows (reading x) = (owner x.number ≡ seat) × Fits z k readers x
+  Knows (meeting u x) = (seat ≡ keeper) × (u ≡ k) × (owner x.number ≡ seat) × Fits z k readers x
+  Knows (ticket seen) = IsPrefix seen k.log
+  Knows (learning x seen) = (owner x.number ≡ seat) × Fits z k readers x × IsPrefix seen k.log
 
--- the rule of the table of a store with this setting and opening bitmap: its word and what its seats know agree on one keeper's log
-pub record Agrees (z : Base) (s : State Signed Role) : Type 0 where
-  -- the keeper's view, and which seats have it and the readers
-  pub k : KeeperView
+-- a seat of this role has the view of reader r
+abbrev pub HasReader : ℕ → Role → Type 0
+HasReader r (reading x) = x.number ≡ r
+HasReader r (meeting u x) = x.number ≡ r
+HasReader r (learning x seen) = x.number ≡ r
+HasReader r role = ⊥
+
+-- a seat of this role has the keeper's view
+abbrev pub HasKeeper : Role → Type 0
+HasKeeper (keeping k) = Unit {0}
+HasKeeper (meeting k x) = Unit {0}
+HasKeeper role = ⊥
+
+-- this seat has the view of reader r
+pub record IsSeated (views : List Role) (seat r : ℕ) : Type 0 where
+  pub role : Role
+  pub at : get_elem? views seat ≡ maybe.some role
+  pub is : HasReader r role
+
+-- what the seats know agrees with one keeper's view and with the core's readers. No word is read.
+pub record AreSeats (z : Base) (k : KeeperView) (readers : List Reader) (views : List Role) : Type 0 where
+  -- which seats have the keeper's view and the readers
   pub keeper : ℕ
   pub owner : ℕ → ℕ
-  -- the setting fits, so that a legal log is shorter than 2^32
-  pub ready : IsReady z
-  -- the one word is NOW after the keeper's log
-  pub sized : length s.words ≡ 1
-  pub now : slice_index s.words now_at ≡ now_of (story z (entries k.log))
-  -- no more readers are dealt than there are sessions
+  -- no more readers are dealt than there are sessions, and each caller is a reader that was dealt
   pub few : k.dealt ≤ z.setting.sessions
-  -- the log without its callers is legal, and each caller is a reader that was dealt
-  pub legal : IsLegal z.setting z.opening (entries k.log)
   pub callers : All (λ e. e.by < k.dealt) k.log
+  -- a reader that isn't dealt yet is fresh, and one that is given up has announced nothing
+  pub fresh : (r : ℕ) → k.dealt ≤ r → r < z.setting.sessions → slice_get readers r ≡ Some fresh_reader
+  pub left : (r : ℕ) (y : Reader) → 1 ≤ times r k.gone → slice_get readers r ≡ Some y → y.announced ≡ None
+  -- a reader that is dealt and not given up has a seat
+  pub seated : (r : ℕ) → r < k.dealt → times r k.gone ≡ 0 → IsSeated views (owner r) r
   -- what each seat knows is so
-  pub each_seat : (j : ℕ) (v : Role) → get_elem? s.views j ≡ maybe.some v → Knows k keeper owner j v
+  pub each_seat : (j : ℕ) (v : Role) → get_elem? views j ≡ maybe.some v → Knows z k readers keeper owner j v
+
+-- the rule of the table of a store with this setting and opening bitmap: there is a state of the core whose words are the table's, and whose keeper and
+-- readers are what the seats know
+pub record Agrees (z : Base) (s : State Asked Role) : Type 0 where
+  pub k : KeeperView
+  pub readers : List Reader
+  pub whole : IsWhole (core_of z s.words k readers)
+  pub seats : AreSeats z k readers s.views

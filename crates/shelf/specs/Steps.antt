@@ -1,39 +1,148 @@
 -- What each step does to the view of its seat, and what it tells: this project's own rule.
-use Rattle.std.specs.Prelude.{◌≡◌, ℕ, ◌+◌, ◌<◌, ◌≤◌, List, [], ◌∷◌, ◌++◌, All, Some, None}
+use Rattle.std.specs.Prelude.{◌≡◌, ℕ, ◌+◌, ◌<◌, ◌≤◌, List, [], ◌∷◌, ◌++◌, All, length, slice_index, Option, Some, None}
 use mathlib.Core.List.{IsPrefix}
 use mathlib.Core.Option as maybe
 use Rattle.atomic_table.specs.Table.{Me, Step}
-use Rattle.map_core.specs.Legal.{IsAnswer, IsLegal}
-use Rattle.map_core.specs.Words.{Base, now_of}
-use Rattle.map_core.specs.Views.{story}
+use Rattle.bits.specs.Tiles.{row_word}
+use Rattle.map_core.specs.declared.command.Command.{Command}
+use Rattle.map_core.specs.declared.command.Command.TheVariants.{Publish, Collect}
+use Rattle.map_core.specs.Story.{newest, bitmap_of}
+use Rattle.map_core.specs.Legal.{IsLegal}
+use Rattle.map_core.specs.Blocks.{directory_of, own_list}
+use Rattle.map_core.specs.Words.{Base, tiles, map_at, tile_at, now_of, slot_of}
+use Rattle.map_core.specs.Views.{story, blocks, newest_seen}
+use Rattle.map_core.specs.Steps.{next_hold, steps_before, own_positions, write_of, entry_of}
+use Rattle.map_core.specs.Safe.{times}
 use Rattle.map_core.specs.Tidy.{IsReady}
 use Rattle.shelf.specs.declared.signed.Signed.{Signed}
-use Rattle.shelf.specs.Roles.{KeeperView, ReaderView, Role, idle, keeping, reading, meeting, entries, made_by, unmet_by, fresh_reader}
-use Rattle.shelf.specs.Rule.{Fits}
+use Rattle.shelf.specs.declared.asked.Asked.{Asked}
+use Rattle.shelf.specs.Roles.{Task, KeeperView, ReaderView, Role, idle, keeping, reading, meeting, ticket, learning, entries, made_by, unmet_by, fresh_reader, as_reader}
 
--- the keeper with an entry in hand
-abbrev pub ordered : KeeperView → Signed → KeeperView
-ordered k e = record k { hand = Some e }
+-- ---- what views become
 
--- the keeper may commit: the entry in hand is a reader's command with its answer after the log, and the reader of the last commit has met the keeper
+-- the reader once it has announced the newest version that it has seen
+abbrev pub announcing : Base → ReaderView → ReaderView
+announcing z x = record x { announced = Some (newest_seen z (as_reader x)) }
+
+-- the reader once it has loaded NOW: it has seen this log, and where it has announced and held nothing it holds the newest version
+abbrev pub loaded : Base → List Signed → ReaderView → ReaderView
+loaded z log x = record x { seen = log; holds = next_hold (as_reader x) (newest (story z (entries log))) }
+
+-- the reader once it has left
+abbrev pub leaving : ReaderView → ReaderView
+leaving x = record x { announced = None; holds = None }
+
+-- the keeper with a command in hand
+abbrev pub ordered : KeeperView → ℕ → Command → KeeperView
+ordered k by command = record k { task = Some record { by = by; hand = record { command = command; done = 0; scanned = [] } } }
+
+-- the keeper once a word is stored
+abbrev pub wrote : KeeperView → Task → KeeperView
+wrote k t = record k { task = Some record t { hand = record t.hand { done = t.hand.done + 1 } } }
+
+-- the keeper once a reader's word is loaded
+abbrev pub scanned : KeeperView → Task → ℕ → KeeperView
+scanned k t word = record k { task = Some record t { hand = record t.hand { done = t.hand.done + 1; scanned = t.hand.scanned ++ word ∷ [] } } }
+
+-- the entry that the command in hand commits
+abbrev pub signed_of : Base → KeeperView → Task → Signed
+signed_of z k t = record { by = t.by; entry = entry_of (story z (entries k.log)) t.hand }
+
+-- the keeper once the command in hand is committed: the log ends with it, and its reader is to meet the keeper
+abbrev pub committed : Base → KeeperView → Task → KeeperView
+committed z k t = record k { log = k.log ++ signed_of z k t ∷ []; task = None; unmet = Some t.by }
+
+-- ---- what a step tells
+
+-- a seat's view, and its slots: none
+abbrev Sat : Type 0
+Sat = Me Asked Role
+
+-- the step
+abbrev At : Type 0
+At = Step Asked
+
+-- a reader's store of what it announces
+abbrev pub announces : Base → At → Sat → ℕ → Sat → Type 0
+announces z st m word m' = (x : ReaderView) → m.0 ≡ reading x → m' ≡ (reading (announcing z x), m.1)
+
+-- a reader's store of 0
+abbrev pub leaves : At → Sat → ℕ → Sat → Type 0
+leaves st m word m' = (x : ReaderView) → m.0 ≡ reading x → m' ≡ (reading (leaving x), m.1)
+
+-- what a load of a reader's tells: NOW is that of this log, which begins with what the reader had seen
+pub record Sees (z : Base) (x : ReaderView) (word : ℕ) (log : List Signed) : Type 0 where
+  pub ready : IsReady z
+  pub began : IsPrefix x.seen log
+  pub now : word ≡ now_of (story z (entries log))
+  pub legal : IsLegal z.setting z.opening (entries log)
+  pub counts : x.made ≤ made_by x.number log
+
+-- a reader's load of NOW
+abbrev pub taken : Base → At → Sat → ℕ → Sat → Type 0
+taken z st m word m' = (x : ReaderView) → m.0 ≡ reading x → (log : List Signed) × (m' ≡ (reading (loaded z log x), m.1)) × Sees z x word log
+
+-- a reader's load of a word of the version that it holds, which tells what it has seen: of a directory's word the block, of a row's word the row
+abbrev pub looks : Base → At → Sat → ℕ → Sat → Type 0
+looks z st m word m' =
+    (m' ≡ m)
+    × ((x : ReaderView) (v p : ℕ) → m.0 ≡ reading x → x.holds ≡ Some v → p < tiles z → st.word ≡ map_at z (slot_of z (story z (entries x.seen)) v) p
+    → (word ≡ slice_index (directory_of (blocks z (entries x.seen)) v) p) × (word < z.setting.blocks) × IsReady z)
+    × ((x : ReaderView) (v p i : ℕ) → m.0 ≡ reading x → x.holds ≡ Some v → p < tiles z → i < 64 → st.word ≡ tile_at z (slice_index (directory_of (blocks z (entries x.seen)) v) p) i
+    → word ≡ row_word (bitmap_of (story z (entries x.seen)) v) p i)
+
+-- the keeper's order of a command
+abbrev pub orders : At → Sat → ℕ → Sat → Type 0
+orders st m word m' = (k : KeeperView) (a : Asked) → m.0 ≡ keeping k → st.said ≡ maybe.some a → m' ≡ (keeping (ordered k a.by a.command), m.1)
+
+-- this word, at this place, is the next that the command in hand stores
+pub record IsNextWrite (z : Base) (k : KeeperView) (at word : ℕ) : Type 0 where
+  pub task : Task
+  pub in_hand : k.task ≡ Some task
+  pub publish : task.hand.command ≡ Publish
+  pub more : task.hand.done < steps_before z (blocks z (entries k.log)) Publish
+  pub at_is : at ≡ (write_of z (story z (entries k.log)) (blocks z (entries k.log)) task.hand.done).at
+  pub word_is : word ≡ (write_of z (story z (entries k.log)) (blocks z (entries k.log)) task.hand.done).word
+
+-- this reader's word is the next that the command in hand loads
+pub record IsNextScan (z : Base) (k : KeeperView) (reader : ℕ) : Type 0 where
+  pub task : Task
+  pub in_hand : k.task ≡ Some task
+  pub collect : task.hand.command ≡ Collect
+  pub reader_is : reader ≡ task.hand.done
+  pub inside : reader < z.setting.sessions
+
+-- the keeper's store of a word of a publish
+abbrev pub writes : At → Sat → ℕ → Sat → Type 0
+writes st m word m' = (k : KeeperView) (t : Task) → m.0 ≡ keeping k → k.task ≡ Some t → m' ≡ (keeping (wrote k t), m.1)
+
+-- the keeper's load of a reader's word: what it announces is a version that there is
+abbrev pub scans : Base → At → Sat → ℕ → Sat → Type 0
+scans z st m word m' = (k : KeeperView) (t : Task) → m.0 ≡ keeping k → k.task ≡ Some t
+    → (m' ≡ (keeping (scanned k t word), m.1)) × (word ≤ newest (story z (entries k.log)) + 1)
+
+-- the keeper may commit: all steps of the command in hand but this are done, a reader asked for it, and the reader of the last commit has met the keeper
 pub record MayCommit (z : Base) (k : KeeperView) : Type 0 where
-  pub signed : Signed
-  pub in_hand : k.hand ≡ Some signed
-  pub answer : IsAnswer z.setting (story z (entries k.log)) signed.entry.command signed.entry.reply
-  pub caller : signed.by < k.dealt
+  pub task : Task
+  pub in_hand : k.task ≡ Some task
+  pub all_done : task.hand.done ≡ steps_before z (blocks z (entries k.log)) task.hand.command
+  pub caller : task.by < k.dealt
   pub met : k.unmet ≡ None
 
--- the keeper once an entry is committed: the log ends with it, and its reader is to meet the keeper
-abbrev pub committed : KeeperView → Signed → KeeperView
-committed k e = record k { log = k.log ++ e ∷ []; hand = None; unmet = Some e.by }
+-- the keeper's store of NOW
+abbrev pub commits : Base → At → Sat → ℕ → Sat → Type 0
+commits z st m word m' = (k : KeeperView) (t : Task) → m.0 ≡ keeping k → k.task ≡ Some t
+    → (m' ≡ (keeping (committed z k t), m.1)) × IsLegal z.setting z.opening (entries (committed z k t).log)
+
+-- ---- meetings, tickets, and the end
 
 -- the keeper once the reader of the last commit has met it
 abbrev pub met : KeeperView → KeeperView
 met k = record k { unmet = None }
 
--- the reader once it has met the keeper: it has seen the whole log, and counts the entry that was committed since
-abbrev pub met_by : KeeperView → ReaderView → ReaderView
-met_by k x = record x { seen = k.log; made = x.made + unmet_by x.number k.unmet }
+-- the reader once it has met the keeper: it has loaded NOW, and counts the entry that was committed since
+abbrev pub met_by : Base → KeeperView → ReaderView → ReaderView
+met_by z k x = record (loaded z k.log x) { made = x.made + unmet_by x.number k.unmet }
 
 -- the keeper once a reader is dealt
 abbrev pub dealt_one : KeeperView → KeeperView
@@ -43,17 +152,73 @@ dealt_one k = record k { dealt = k.dealt + 1 }
 abbrev pub without : KeeperView → ReaderView → KeeperView
 without k x = record k { gone = x.number ∷ k.gone }
 
--- ---- what the views become where a seat is split off or joined
+-- what a load tells where a reader's view stands in the keeper's: what it had seen is a beginning of the log, and it counts its entries
+pub record Meets (z : Base) (k : KeeperView) (x : ReaderView) : Type 0 where
+  -- the reader was dealt, and isn't given up
+  pub dealt : x.number < k.dealt
+  pub here : times x.number k.gone ≡ 0
+  pub began : IsPrefix x.seen k.log
+  pub counted : made_by x.number k.log ≡ x.made + unmet_by x.number k.unmet
+  pub legal : IsLegal z.setting z.opening (entries k.log)
 
--- the keeper's seat once a reader is dealt
-abbrev pub dealing : Role → Role
-dealing (keeping k) = keeping (dealt_one k)
-dealing role = role
+-- the load of a meeting, after which the reader has met the keeper
+abbrev pub meets : Base → At → Sat → ℕ → Sat → Type 0
+meets z st m word m' = (k : KeeperView) (x : ReaderView) → m.0 ≡ meeting k x → (m' ≡ (meeting (met k) (met_by z k x), m.1)) × Meets z k x
 
--- the seat of the reader that is dealt
-abbrev pub next_reader : Role → Role
-next_reader (keeping k) = reading (fresh_reader k.dealt)
-next_reader role = idle
+-- the load after which a reader is given up
+abbrev pub gives_up : Base → At → Sat → ℕ → Sat → Type 0
+gives_up z st m word m' = (k : KeeperView) (x : ReaderView) → m.0 ≡ meeting k x → (m' ≡ (keeping (without k x), m.1)) × Meets z k x
+
+-- a reader's load of NOW where a ticket's view stands in its seat: it has then seen all that it and the ticket had
+abbrev pub learns : Base → At → Sat → ℕ → Sat → Type 0
+learns z st m word m' = (x : ReaderView) (seen : List Signed) → m.0 ≡ learning x seen
+    → (log : List Signed) × (m' ≡ (reading (loaded z log x), m.1)) × Sees z x word log × IsPrefix seen log
+
+-- the keeper with a collect in hand, whose scan has seen these words
+abbrev pub scanning : KeeperView → ℕ → List ℕ → KeeperView
+scanning k by words = record k { task = Some record { by = by; hand = record { command = Collect; done = length words; scanned = words } } }
+
+-- the keeper with a publish in hand, of which so many words are stored
+abbrev pub writing : KeeperView → ℕ → ℕ → KeeperView
+writing k by n = record k { task = Some record { by = by; hand = record { command = Publish; done = n; scanned = [] } } }
+
+-- the keeper once a publish is committed, all of whose words are stored
+abbrev pub published_by : Base → KeeperView → ℕ → ℕ → KeeperView
+published_by z k by n = committed z (writing k by n) record { by = by; hand = record { command = Publish; done = n; scanned = [] } }
+
+-- how many own blocks a position has
+abbrev pub one_own : Option ℕ → ℕ
+one_own o = length (own_list (o ∷ []))
+
+-- the draft's own blocks have this block in this place, at this position
+pub record IsOwn (z : Base) (k : KeeperView) (j block position : ℕ) : Type 0 where
+  pub inside : j < length (own_list (blocks z (entries k.log)).own)
+  pub block_is : block ≡ slice_index (own_list (blocks z (entries k.log)).own) j
+  pub position_is : position ≡ slice_index (own_positions 0 (blocks z (entries k.log)).own) j
+
+-- the keeper's seat once a ticket is cut from it, and the ticket's
+abbrev pub cutting : Role → Role
+cutting role = role
+
+abbrev pub cut_off : Role → Role
+cut_off (keeping k) = ticket k.log
+cut_off role = idle
+
+-- a reader's seat with a ticket's view in it
+abbrev pub handed : Role → Role → Role
+handed (reading x) (ticket seen) = learning x seen
+handed role other = role
+
+-- a reader's seat once it has learned a ticket by the load of this word
+pub record LearnsIt (z : Base) (x : ReaderView) (seen : List Signed) (word : ℕ) (views : List Role) : Type 0 where
+  pub log : List Signed
+  pub views_are : views ≡ reading (loaded z log x) ∷ []
+  pub sees : Sees z x word log
+  pub learned : IsPrefix seen log
+
+-- the keeper once a collect is committed whose scan saw these words
+abbrev pub collected : Base → KeeperView → ℕ → List ℕ → KeeperView
+collected z k by words = committed z (scanning k by words) record { by = by; hand = record { command = Collect; done = length words; scanned = words } }
 
 -- the keeper's seat with a reader's view in it
 abbrev pub together : Role → Role → Role
@@ -70,49 +235,15 @@ abbrev pub reader_part : Role → Role
 reader_part (meeting k x) = reading x
 reader_part role = idle
 
--- ---- what a step tells
+-- the keeper's seat once a reader is dealt
+abbrev pub dealing : Role → Role
+dealing (keeping k) = keeping (dealt_one k)
+dealing role = role
 
--- a seat's view, and its slots: none
-abbrev Sat : Type 0
-Sat = Me Signed Role
-
--- the step
-abbrev At : Type 0
-At = Step Signed
-
--- what a load of a reader's tells: it has then seen this log, which begins with what it had seen, and NOW is that of this log
-pub record Sees (z : Base) (x : ReaderView) (word : ℕ) (log : List Signed) : Type 0 where
-  pub ready : IsReady z
-  pub began : IsPrefix x.seen log
-  pub now : word ≡ now_of (story z (entries log))
-  pub legal : IsLegal z.setting z.opening (entries log)
-  pub counts : x.made ≤ made_by x.number log
-
--- a reader's load of NOW
-abbrev pub taken : Base → At → Sat → ℕ → Sat → Type 0
-taken z st m word m' = (x : ReaderView) → m.0 ≡ reading x → (log : List Signed) × (m' ≡ (reading (record x { seen = log }), m.1)) × Sees z x word log
-
--- the keeper's order of an entry
-abbrev pub puts_in_hand : At → Sat → ℕ → Sat → Type 0
-puts_in_hand st m word m' = (k : KeeperView) (e : Signed) → m.0 ≡ keeping k → st.said ≡ maybe.some e → m' ≡ (keeping (ordered k e), m.1)
-
--- the keeper's store of NOW
-abbrev pub commits : Base → At → Sat → ℕ → Sat → Type 0
-commits z st m word m' = (k : KeeperView) (e : Signed) → m.0 ≡ keeping k → k.hand ≡ Some e
-    → (m' ≡ (keeping (committed k e), m.1)) × IsLegal z.setting z.opening (entries (committed k e).log)
-
--- what a load tells where a reader's view stands in the keeper's: the reader fits the keeper, and the log is legal
-pub record Meets (z : Base) (k : KeeperView) (x : ReaderView) : Type 0 where
-  pub fits : Fits k x
-  pub legal : IsLegal z.setting z.opening (entries k.log)
-
--- the load of a meeting, after which the reader has met the keeper
-abbrev pub meets : Base → At → Sat → ℕ → Sat → Type 0
-meets z st m word m' = (k : KeeperView) (x : ReaderView) → m.0 ≡ meeting k x → (m' ≡ (meeting (met k) (met_by k x), m.1)) × Meets z k x
-
--- the load after which a reader is given up
-abbrev pub gives_up : Base → At → Sat → ℕ → Sat → Type 0
-gives_up z st m word m' = (k : KeeperView) (x : ReaderView) → m.0 ≡ meeting k x → (m' ≡ (keeping (without k x), m.1)) × Meets z k x
+-- the seat of the reader that is dealt
+abbrev pub next_reader : Role → Role
+next_reader (keeping k) = reading (fresh_reader k.dealt)
+next_reader role = idle
 
 -- what the last load of the keeper's tells
 pub record Ends (z : Base) (k : KeeperView) : Type 0 where

@@ -1,16 +1,17 @@
 //! A store that is closed, reader by reader.
 
-ghost use Rattle.std.specs.Prelude.{◌≡◌, ◌+◌, [], length};
+ghost use Rattle.std.specs.Prelude.{◌≡◌, ◌+◌, [], length, None};
 ghost use mathlib.Core.List.{IsPrefix};
 ghost use Rattle.map_core.specs.Legal.{IsLegal};
-ghost use Rattle.shelf.specs.Roles.{keeping, resting, keeper_in, reader_on, entries, made_by};
-ghost use Rattle.shelf.specs.Seats.{base_of, AreAt, AreKeeperAndReader};
+ghost use Rattle.shelf.specs.Roles.{keeping, resting, keeper_in, entries, made_by};
+ghost use Rattle.shelf.specs.Seats.{base_of, reader_on, AreAt, AreKeeperAndReader};
 ghost use Rattle.shelf.specs.Store.{readers_of};
 ghost use Rattle.shelf.specs.Steps.{without, Meets};
 
 use crate::keeper::KeeperSeat;
 use crate::meeting::lay_together;
 use crate::name::StoreName;
+use crate::plan::Plan;
 use crate::plays::{End, GiveUp};
 use crate::reader::ReaderSeat;
 use crate::table::{TableSeat, View, Words};
@@ -26,6 +27,7 @@ use std::sync::Arc;
 pub struct Closing<Id: StoreName> {
     seat: TableSeat,
     words: Arc<Words, Global>,
+    plan: Plan,
     of: PhantomData<Id>,
 }
 
@@ -39,7 +41,7 @@ impl<Id: StoreName> Model for Closing<Id> {
 
     ghost view = { λ s. closed_of (keeper_in s.seat.me.0) };
 
-    ghost invariant = { λ s. IsClosingSeat Id.store (arc_value s.words).shared.table_id (arc_value s.words).shared.key s.seat.table_id s.seat.me };
+    ghost invariant = { λ s. IsClosingSeat Id.store (arc_value s.words).shared.table_id (arc_value s.words).shared.key s.seat.table_id s.plan s.seat.me };
 }
 
 /// The steps by which a reader is given up: its view is laid in the keeper's seat, and NOW is loaded.
@@ -47,6 +49,7 @@ fn give_up_on<Id: StoreName>(words: &Words, keeper: &mut TableSeat, reader: Badg
     requires table { AreAt words.now.shared.table_id keeper.old.table_id reader.table_id }
     requires base { base_of words.now.shared.key ≡ Id.store.base }
     requires roles { AreKeeperAndReader keeper.old.me reader.views }
+    requires quiet { (reader_on reader.views).announced ≡ None }
     ensures table { keeper.new.table_id ≡ keeper.old.table_id }
     ensures keeper { keeper.new.me ≡ (keeping (without (keeper_in keeper.old.me.0) (reader_on reader.views)), []) }
     ensures meets { Meets Id.store.base (keeper_in keeper.old.me.0) (reader_on reader.views) }
@@ -64,6 +67,7 @@ impl<Id: StoreName> KeeperSeat<Id> {
         let KeeperSeat {
             seat,
             words,
+            plan,
             place: _,
             version: _,
             publishes: _,
@@ -73,6 +77,7 @@ impl<Id: StoreName> KeeperSeat<Id> {
         Closing {
             seat,
             words,
+            plan,
             of: PhantomData,
         }
     }
@@ -80,7 +85,10 @@ impl<Id: StoreName> KeeperSeat<Id> {
 
 impl<Id: StoreName> Closing<Id> {
     /// Takes a reader's seat back. What it has seen begins the log, and the log has as many entries by it as it counts.
+    ///
+    /// Condition: it has announced nothing.
     pub fn give_up(&mut self, reader: ReaderSeat<Id>)
+        requires { reader.announced ≡ None }
         ensures counts { self.new ≡ record self.old { readers = self.old.readers + 1; made = self.old.made + reader.made } }
         ensures began { IsPrefix reader.seen self.old.log }
         ensures own { made_by reader.number self.old.log ≡ reader.made }
@@ -88,8 +96,12 @@ impl<Id: StoreName> Closing<Id> {
         let ReaderSeat {
             seat,
             words: _,
+            plan: _,
             number: _,
             made: _,
+            version: _,
+            announced: _,
+            holds: _,
             of: _,
         } = reader;
         give_up_on::<Id>(&self.words, &mut self.seat, seat);
@@ -103,6 +115,7 @@ impl<Id: StoreName> Closing<Id> {
         let Closing {
             mut seat,
             words,
+            plan: _,
             of: _,
         } = self;
         words.shared.load::<End<Id>>(&mut seat, 0);

@@ -2,10 +2,12 @@
 
 ghost use Rattle.std.specs.Prelude.{◌≡◌, []};
 ghost use Rattle.shelf.specs.Roles.{resting, fresh_reader};
+ghost use Rattle.map_core.specs.Tidy.{IsReady};
 ghost use Rattle.shelf.specs.Store.{readers_of};
 
 use crate::keeper::KeeperSeat;
 use crate::name::StoreName;
+use crate::plan::Plan;
 use crate::reader::ReaderSeat;
 use crate::table::{TableSeat, View, Words};
 use atomic_table::Badge;
@@ -18,6 +20,7 @@ use std::sync::Arc;
 pub struct FreshKeeper {
     pub(crate) seat: TableSeat,
     pub(crate) words: Arc<Words, Global>,
+    pub(crate) plan: Plan,
 }
 
 impl Model for FreshKeeper {
@@ -29,7 +32,7 @@ impl Model for FreshKeeper {
 
     ghost view = { λ s. store_at s.seat.table_id (arc_value s.words).shared.key };
 
-    ghost invariant = { λ s. IsFreshKeeper (arc_value s.words).shared.table_id (arc_value s.words).shared.key s.seat.table_id s.seat.me };
+    ghost invariant = { λ s. IsFreshKeeper (arc_value s.words).shared.table_id (arc_value s.words).shared.key s.seat.table_id s.plan s.seat.me };
 }
 
 impl FreshKeeper {
@@ -38,10 +41,11 @@ impl FreshKeeper {
         requires { self ≡ Id.store }
         ensures { result ≡ resting (readers_of Id.store) [] }
     {
-        let FreshKeeper { seat, words } = self;
+        let FreshKeeper { seat, words, plan } = self;
         KeeperSeat {
             seat,
             words,
+            plan,
             place: 0,
             version: 0,
             publishes: false,
@@ -56,6 +60,7 @@ impl FreshKeeper {
 pub struct FreshReader {
     pub(crate) seat: Badge<View>,
     pub(crate) words: Arc<Words, Global>,
+    pub(crate) plan: Plan,
     pub(crate) number: u32,
 }
 
@@ -68,25 +73,31 @@ impl Model for FreshReader {
 
     ghost view = { λ s. newcomer s.number (store_at s.seat.table_id (arc_value s.words).shared.key) };
 
-    ghost invariant = { λ s. IsFreshReader (arc_value s.words).shared.table_id (arc_value s.words).shared.key s.seat.table_id s.seat.views s.number };
+    ghost invariant = { λ s. IsFreshReader (arc_value s.words).shared.table_id (arc_value s.words).shared.key s.seat.table_id s.plan s.seat.views s.number };
 }
 
 impl FreshReader {
-    /// The reader's seat of the store with this name. Condition: the name is its store's.
+    /// The reader's seat of the store with this name, whose setting is within its limits for the map. Condition: the name is its store's.
     pub fn named<Id: StoreName>(self) -> ReaderSeat<Id>
         requires { self.store ≡ Id.store }
-        ensures { result ≡ fresh_reader self.number }
+        ensures reader { result ≡ fresh_reader self.number }
+        ensures ready { IsReady Id.store.base }
     {
         let FreshReader {
             seat,
             words,
+            plan,
             number,
         } = self;
         ReaderSeat {
             seat,
             words,
+            plan,
             number,
             made: 0,
+            version: 0,
+            announced: false,
+            holds: None,
             of: PhantomData,
         }
     }

@@ -1,31 +1,35 @@
-//! The keeper's seat.
+//! The keeper's seat, and its steps.
 
-ghost use Rattle.std.specs.Prelude.{◌≡◌, None, Some};
-ghost use Rattle.map_core.specs.Legal.{IsLegal};
-ghost use Rattle.shelf.specs.declared.signed.Signed.{Signed};
-ghost use Rattle.shelf.specs.Roles.{entries};
-ghost use Rattle.shelf.specs.Seats.{is_publish};
-ghost use Rattle.shelf.specs.Steps.{ordered, MayCommit, committed};
+ghost use Rattle.std.specs.Prelude.{◌≡◌, ◌+◌, ◌≤◌, None, Some};
+ghost use Rattle.map_core.specs.Legal.{IsLegal, refused};
+ghost use Rattle.map_core.specs.Story.{newest};
+ghost use Rattle.map_core.specs.Views.{story};
+ghost use Rattle.shelf.specs.Seats.{is_publish, IsPlan};
+ghost use Rattle.shelf.specs.Roles.{Task, entries};
+ghost use Rattle.shelf.specs.Steps.{ordered, wrote, scanned, IsNextWrite, IsNextScan, MayCommit, committed};
 
+use crate::asked::Asked;
 use crate::name::StoreName;
-use crate::plays::{Commit, Order};
-use crate::signed::Signed;
+use crate::plan::Plan;
+use crate::plays::{Commit, Order, Scan, Write};
 use crate::table::{TableSeat, Words};
 use map_core::{Command, Now};
 use std::alloc::Global;
 use std::marker::{Model, PhantomData};
 use std::sync::Arc;
 
-/// The seat of a store's keeper: it alone stores NOW. Contracts see it as the log, the entry in hand, and which readers there are.
+/// The seat of a store's keeper: it alone stores NOW, blocks and directories. Contracts see it as the log, the command in hand with what is done
+/// of it, and which readers there are.
 ///
 /// It can't be let go: it is closed.
 pub struct KeeperSeat<Id: StoreName> {
     pub(crate) seat: TableSeat,
     pub(crate) words: Arc<Words, Global>,
+    pub(crate) plan: Plan,
     // What NOW says: the place of the last entry, and the newest version.
     pub(crate) place: u32,
     pub(crate) version: u32,
-    // Whether the entry in hand is a publish, and whether the reader of the last commit hasn't met the keeper since.
+    // Whether the command in hand is a publish, and whether the reader of the last commit hasn't met the keeper since.
     pub(crate) publishes: bool,
     pub(crate) unmet: bool,
     pub(crate) of: PhantomData<Id>,
@@ -40,14 +44,22 @@ impl<Id: StoreName> Model for KeeperSeat<Id> {
 
     ghost view = { λ s. keeper_in s.seat.me.0 };
 
-    ghost invariant = { λ s. IsKeeperSeat Id.store (arc_value s.words).shared.table_id (arc_value s.words).shared.key s.seat.table_id s.seat.me s.place s.version s.publishes s.unmet };
+    ghost invariant = { λ s. IsKeeperSeat Id.store (arc_value s.words).shared.table_id (arc_value s.words).shared.key s.seat.table_id s.plan s.seat.me s.place s.version s.publishes s.unmet };
 }
 
 impl<Id: StoreName> KeeperSeat<Id> {
-    /// Takes an entry in hand: the command that is next, with its reply and its caller. NOW stays. Condition: none is in hand.
-    pub fn order(&mut self, signed: &Signed)
-        requires { self.old.hand ≡ None }
-        ensures { self.new ≡ ordered self.old signed.now }
+    /// The sizes of the store.
+    pub fn plan(&self) -> Plan
+        ensures { IsPlan Id.store.base result }
+    {
+        self.plan
+    }
+
+    /// Takes a command in hand, with its caller. No word changes. Conditions: none is in hand, and the command is accepted after the log.
+    pub fn order(&mut self, asked: &Asked)
+        requires none { self.old.task ≡ None }
+        requires accepted { refused Id.store.base.setting (story Id.store.base (entries self.old.log)) asked.now.command ≡ None }
+        ensures { self.new ≡ ordered self.old asked.now.by asked.now.command }
     {
         let now = Now {
             place: self.place,
@@ -56,17 +68,40 @@ impl<Id: StoreName> KeeperSeat<Id> {
         .word();
         self.words
             .shared
-            .compare_exchange_with::<Order>(&mut self.seat, 0, now, now, signed);
-        self.publishes = is_publish(&signed.entry.command);
+            .compare_exchange_with::<Order>(&mut self.seat, 0, now, now, asked);
+        self.publishes = is_publish(&asked.command);
     }
 
-    /// Stores NOW. The log is then longer by the entry in hand.
+    /// Stores the next word of the publish in hand: a row of one of the draft's own blocks, by position and then by row, or after these a block
+    /// of the next version's directory, by position. Condition: it is the next one, at its place.
+    pub fn write_word(&mut self, place: usize, word: u64)
+        requires { IsNextWrite Id.store.base self.old place word }
+        ensures { (t : Task) → self.old.task ≡ Some t → self.new ≡ wrote self.old t }
+    {
+        self.words
+            .shared
+            .store::<Write>(&mut self.seat, place, word);
+    }
+
+    /// Loads the next reader's word for the collect in hand: 0, or the version that the reader has announced plus 1.
     ///
-    /// Conditions: an entry is in hand, which is an answer to its command after the log and is by one of the store's readers, and the
-    /// reader of the last commit has met the keeper.
+    /// Condition: it is the next reader, from 0 on.
+    pub fn scan(&mut self, reader: u32) -> u64
+        requires { IsNextScan Id.store.base self.old reader }
+        ensures scanned { (t : Task) → self.old.task ≡ Some t → self.new ≡ scanned self.old t result }
+        ensures there { result ≤ newest (story Id.store.base (entries self.old.log)) + 1 }
+    {
+        let place = self.plan.pin_at(reader);
+        self.words.shared.load::<Scan<Id>>(&mut self.seat, place)
+    }
+
+    /// Stores NOW. The log is then longer by the command in hand with its reply: a collect's has the floor that its scan allows.
+    ///
+    /// Conditions: a command is in hand, all its steps but this are done, its caller is one of the store's readers, and the reader of the last
+    /// commit has met the keeper.
     pub fn commit(&mut self)
         requires { MayCommit Id.store.base self.old }
-        ensures committed { (e : Signed) → self.old.hand ≡ Some e → self.new ≡ committed self.old e }
+        ensures committed { (t : Task) → self.old.task ≡ Some t → self.new ≡ committed Id.store.base self.old t }
         ensures legal { IsLegal Id.store.base.setting Id.store.base.opening (entries self.new.log) }
     {
         self.place += 1;

@@ -1,14 +1,22 @@
-//! A store's shared word NOW, and the seats that load and store it: one keeper's, and one for each reader.
+//! A store's shared words, and the seats that load and store them: one keeper's, one for each reader, and tickets.
 //!
-//! NOW is the place of the log's last entry times 2^32, plus the newest version. The log itself stands in no word: the keeper's
-//! seat knows it, and since that seat alone stores NOW, what it knows is the log. A reader's seat has seen a beginning of the log,
-//! which grows to the whole at each load of NOW: between any two steps the rule of the table ties the word to the keeper's log, and
-//! what each reader has seen to a beginning of it. Two seats in hand know nothing of each other, so `meet` lays the reader's view in
-//! the keeper's seat, loads NOW, and gives it back: the reader has then seen all, and counts the entry that was committed for it.
+//! The words are those of the core: NOW, which is the place of the log's last entry times 2^32 plus the newest version; a word for each
+//! reader, 0 or the version that it has announced plus 1; for each slot the blocks of a version, by position; and the rows of the
+//! blocks. The log itself stands in no word: the keeper's seat knows it, and since that seat alone stores NOW, what it knows is the log.
+//!
+//! The rule of the table is that between any two steps there is a state of the core: its words are the table's, its keeper is what the
+//! keeper's seat knows, and its readers are what the readers' seats know. Each call below is one load or one store of one word, the
+//! core's event of its kind in that state; `order` alone changes no word. A reader's seat has seen a beginning of the log, which grows
+//! to the whole at each load of NOW.
+//!
+//! Two seats in hand know nothing of each other. So `meet` lays the reader's view in the keeper's seat, loads NOW, and gives it back:
+//! the reader has then seen all, and counts the entry that was committed for it. A ticket is cut from the keeper's seat, and a reader
+//! that learns it has seen what the keeper knew.
 //!
 //! No call waits for anybody, and an opening alone takes memory.
 #![tactic(auto)]
 
+mod asked;
 mod closing;
 mod fresh;
 mod keeper;
@@ -17,19 +25,22 @@ mod meeting;
 mod name;
 mod opened;
 mod opening;
+mod plan;
 mod plays;
 mod reader;
 mod signed;
 mod table;
-#[cfg(test)]
-mod tests;
+mod ticket;
 
+pub use asked::Asked;
 pub use closing::Closing;
 pub use fresh::{FreshKeeper, FreshReader};
 pub use keeper::KeeperSeat;
-pub use laws::seats_have_one_log;
+pub use laws::{rule_is_a_state, seats_do_events, seats_have_one_log};
 pub use meeting::meet;
 pub use name::StoreName;
 pub use opened::Opening;
+pub use plan::Plan;
 pub use reader::ReaderSeat;
 pub use signed::Signed;
+pub use ticket::Ticket;

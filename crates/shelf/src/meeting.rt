@@ -2,15 +2,15 @@
 
 ghost use Rattle.std.specs.Prelude.{◌≡◌, ◌⊎◌, [], ◌∷◌, None, Some};
 ghost use mathlib.Core.List.{IsPrefix};
-ghost use Rattle.shelf.specs.Roles.{keeping, reading, meeting, keeper_in, reader_on, made_by};
-ghost use Rattle.shelf.specs.Seats.{base_of, AreAt, AreKeeperAndReader};
+ghost use Rattle.shelf.specs.Roles.{keeping, reading, meeting, keeper_in, made_by};
+ghost use Rattle.shelf.specs.Seats.{base_of, reader_on, AreAt, AreKeeperAndReader};
 ghost use Rattle.shelf.specs.Steps.{met, met_by, Meets};
 
+use crate::asked::Asked;
 use crate::keeper::KeeperSeat;
 use crate::name::StoreName;
 use crate::plays::{Apart, Meet, Together};
-use crate::reader::ReaderSeat;
-use crate::signed::Signed;
+use crate::reader::{ReaderSeat, held_next};
 use crate::table::{TableSeat, View, Words};
 use atomic_table::Badge;
 use std::mem::replace;
@@ -24,7 +24,7 @@ pub(crate) fn lay_together(words: &Words, keeper: &mut TableSeat, reader: Badge<
 {
     words
         .shared
-        .join_seat::<Together>(keeper, reader.into_seat::<Signed>());
+        .join_seat::<Together>(keeper, reader.into_seat::<Asked>());
 }
 
 /// The steps of a meeting: the reader's view is laid in the keeper's seat, NOW is loaded, and the reader gets its view back.
@@ -35,7 +35,7 @@ fn meet_on<Id: StoreName>(words: &Words, keeper: &mut TableSeat, reader: Badge<V
     requires unmet { let unmet = (keeper_in keeper.old.me.0).unmet in (unmet ≡ None) ⊎ (unmet ≡ Some (reader_on reader.views).number) }
     ensures table { (keeper.new.table_id ≡ keeper.old.table_id) × (result.table_id ≡ reader.table_id) }
     ensures keeper { keeper.new.me ≡ (keeping (met (keeper_in keeper.old.me.0)), []) }
-    ensures reader { result.views ≡ reading (met_by (keeper_in keeper.old.me.0) (reader_on reader.views)) ∷ [] }
+    ensures reader { result.views ≡ reading (met_by Id.store.base (keeper_in keeper.old.me.0) (reader_on reader.views)) ∷ [] }
     ensures meets { Meets Id.store.base (keeper_in keeper.old.me.0) (reader_on reader.views) }
 {
     lay_together(words, keeper, reader);
@@ -47,16 +47,19 @@ fn meet_on<Id: StoreName>(words: &Words, keeper: &mut TableSeat, reader: Badge<V
 ///
 /// Condition: no entry by another reader was committed since that reader met the keeper.
 ///
-/// It loads NOW three times, since two seats in hand know nothing of each other: a join and a cut of views tell nothing.
+/// It loads NOW three times, since two seats in hand know nothing of each other: a join and a cut of views tell nothing. As a load it
+/// gives a hold to a reader that has announced and holds nothing.
 pub fn meet<Id: StoreName>(keeper: &mut KeeperSeat<Id>, reader: &mut ReaderSeat<Id>)
     requires { (keeper.old.unmet ≡ None) ⊎ (keeper.old.unmet ≡ Some reader.old.number) }
     ensures keeper { keeper.new ≡ met keeper.old }
-    ensures reader { reader.new ≡ met_by keeper.old reader.old }
+    ensures reader { reader.new ≡ met_by Id.store.base keeper.old reader.old }
     ensures began { IsPrefix reader.old.seen keeper.old.log }
     ensures counted { made_by reader.new.number keeper.new.log ≡ reader.new.made }
 {
     let seat = replace(&mut reader.seat, Badge::blank());
     reader.seat = meet_on::<Id>(&keeper.words, &mut keeper.seat, seat);
     reader.made += u32::from(keeper.unmet);
+    reader.holds = held_next(reader.announced, reader.holds, keeper.version);
+    reader.version = keeper.version;
     keeper.unmet = false;
 }

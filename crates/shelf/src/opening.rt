@@ -6,16 +6,17 @@ ghost use Rattle.bits.specs.Tiles.{tile_count};
 ghost use Rattle.metric.specs.declared.refusal.Refusal.TheVariants.{Memory};
 ghost use Rattle.map_core.specs.Setting.{bad_field};
 ghost use Rattle.shelf.specs.Roles.{keeping, resting};
-ghost use Rattle.shelf.specs.Seats.{store_at};
+ghost use Rattle.shelf.specs.Seats.{store_at, base_of, IsOf};
 ghost use Rattle.shelf.specs.Store.{readers_of};
 ghost use Rattle.shelf.specs.Open.{newcomer, newcomers};
 
 use crate::fresh::{FreshKeeper, FreshReader};
 use crate::opened::Opening;
+use crate::plan::Plan;
 use crate::plays::Deal;
 use crate::table::{Basis, TableSeat, Words};
 use bits::Bitmap;
-use map_core::Setting;
+use map_core::{Setting, opening_words};
 use metric::Refusal;
 use std::alloc::Global;
 use std::snapshot::Snapshot;
@@ -25,9 +26,10 @@ use std::sync::Arc;
 fn deal(
     words: &Arc<Words, Global>,
     keeper: &mut TableSeat,
+    plan: Plan,
     number: u32,
 ) -> Result<FreshReader, Refusal>
-    requires table { (keeper.old.table_id ≡ (arc_value words.now).shared.table_id) × (keeper.old.table_id.words ≡ 1) }
+    requires of { IsOf (store_at keeper.old.table_id (arc_value words.now).shared.key) (arc_value words.now).shared.table_id (arc_value words.now).shared.key keeper.old.table_id plan }
     requires keeper { keeper.old.me ≡ (keeping (resting number []), []) }
     requires below { number < readers_of (store_at keeper.old.table_id (arc_value words.now).shared.key) }
     ensures table { keeper.new.table_id ≡ keeper.old.table_id }
@@ -42,30 +44,31 @@ fn deal(
     Ok(FreshReader {
         seat,
         words: own,
+        plan,
         number,
     })
 }
 
-/// Deals so many readers.
+/// Deals all readers.
 fn deal_all(
     alloc: Global,
     words: &Arc<Words, Global>,
     keeper: &mut TableSeat,
-    readers: u32,
+    plan: Plan,
 ) -> Result<Vec<FreshReader>, Refusal>
-    requires table { (keeper.old.table_id ≡ (arc_value words.now).shared.table_id) × (keeper.old.table_id.words ≡ 1) }
+    requires of { IsOf (store_at keeper.old.table_id (arc_value words.now).shared.key) (arc_value words.now).shared.table_id (arc_value words.now).shared.key keeper.old.table_id plan }
     requires keeper { keeper.old.me ≡ (keeping (resting 0 []), []) }
-    requires below { readers ≡ readers_of (store_at keeper.old.table_id (arc_value words.now).shared.key) }
     ensures table { keeper.new.table_id ≡ keeper.old.table_id }
-    ensures keeper { OnOk result (keeper.new.me ≡ (keeping (resting readers []), [])) }
-    ensures readers { IfOk result (λ dealt. dealt.items ≡ newcomers (store_at keeper.old.table_id (arc_value words.now).shared.key) readers) }
+    ensures keeper { OnOk result (keeper.new.me ≡ (keeping (resting (readers_of (store_at keeper.old.table_id (arc_value words.now).shared.key)) []), [])) }
+    ensures readers { IfOk result (λ dealt. dealt.items ≡ newcomers (store_at keeper.old.table_id (arc_value words.now).shared.key) (readers_of (store_at keeper.old.table_id (arc_value words.now).shared.key))) }
     ensures memory { IfErr result (λ refusal. refusal ≡ Memory) }
 {
+    let readers = plan.setting.sessions;
     let Ok(mut dealt) = Vec::with_capacity(alloc, readers as usize) else {
         return Err(Refusal::Memory);
     };
     for number in 0..readers {
-        let reader = deal(words, keeper, number)?;
+        let reader = deal(words, keeper, plan, number)?;
         dealt.push_reserved(reader);
     }
     Ok(dealt)
@@ -81,21 +84,24 @@ impl Opening {
         ensures base { IfOk result (λ opening. opening.keeper.base ≡ record { setting = setting; opening = map.now }) }
         ensures memory { IfErr result (λ refusal. refusal ≡ Memory) }
     {
-        // A bitmap has a cell.
-        prove!(0 < map.width());
+        let plan = Plan {
+            setting,
+            tiles: map.tiles(),
+        };
         let basis = Basis {
             setting,
             opening: Snapshot::of(map),
         };
-        let Ok((table, mut seat)) = Words::of_words(alloc, &[0], &basis) else {
+        let list = opening_words(alloc, setting, map)?;
+        let Ok((table, mut seat)) = Words::of_words(alloc, list.as_slice(), &basis) else {
             return Err(Refusal::Memory);
         };
         let Ok(words) = Arc::new(alloc, table) else {
             return Err(Refusal::Memory);
         };
-        let readers = deal_all(alloc, &words, &mut seat, setting.sessions)?;
+        let readers = deal_all(alloc, &words, &mut seat, plan)?;
         Ok(Opening {
-            keeper: FreshKeeper { seat, words },
+            keeper: FreshKeeper { seat, words, plan },
             readers,
         })
     }

@@ -1,7 +1,7 @@
-//! What each step tells its seat, and how views are split and joined.
+//! What each step tells its seat.
 
+use crate::asked::Asked;
 use crate::name::StoreName;
-use crate::signed::Signed;
 use crate::table::View;
 use atomic_table::{Join, Play, Split};
 use std::marker::PhantomData;
@@ -11,19 +11,70 @@ pub struct Take<Id> {
     of: PhantomData<Id>,
 }
 
-impl<Id: StoreName> Play<Signed, View> for Take<Id> {
+impl<Id: StoreName> Play<Asked, View> for Take<Id> {
     ghost use Rattle.shelf.specs.Steps.{taken};
 
     ghost then = { taken Id.store.base };
 }
 
-/// The keeper takes an entry in hand.
+/// A reader announces.
+pub struct Announce<Id> {
+    of: PhantomData<Id>,
+}
+
+impl<Id: StoreName> Play<Asked, View> for Announce<Id> {
+    ghost use Rattle.shelf.specs.Steps.{announces};
+
+    ghost then = { announces Id.store.base };
+}
+
+/// A reader leaves.
+pub struct Leave;
+
+impl Play<Asked, View> for Leave {
+    ghost use Rattle.shelf.specs.Steps.{leaves};
+
+    ghost then = { leaves };
+}
+
+/// A reader looks.
+pub struct Look<Id> {
+    of: PhantomData<Id>,
+}
+
+impl<Id: StoreName> Play<Asked, View> for Look<Id> {
+    ghost use Rattle.shelf.specs.Steps.{looks};
+
+    ghost then = { looks Id.store.base };
+}
+
+/// The keeper takes a command in hand.
 pub struct Order;
 
-impl Play<Signed, View> for Order {
-    ghost use Rattle.shelf.specs.Steps.{puts_in_hand};
+impl Play<Asked, View> for Order {
+    ghost use Rattle.shelf.specs.Steps.{orders};
 
-    ghost then = { puts_in_hand };
+    ghost then = { orders };
+}
+
+/// The keeper stores a word of a publish.
+pub struct Write;
+
+impl Play<Asked, View> for Write {
+    ghost use Rattle.shelf.specs.Steps.{writes};
+
+    ghost then = { writes };
+}
+
+/// The keeper loads a reader's word.
+pub struct Scan<Id> {
+    of: PhantomData<Id>,
+}
+
+impl<Id: StoreName> Play<Asked, View> for Scan<Id> {
+    ghost use Rattle.shelf.specs.Steps.{scans};
+
+    ghost then = { scans Id.store.base };
 }
 
 /// The keeper stores NOW.
@@ -31,10 +82,44 @@ pub struct Commit<Id> {
     of: PhantomData<Id>,
 }
 
-impl<Id: StoreName> Play<Signed, View> for Commit<Id> {
+impl<Id: StoreName> Play<Asked, View> for Commit<Id> {
     ghost use Rattle.shelf.specs.Steps.{commits};
 
     ghost then = { commits Id.store.base };
+}
+
+/// A ticket is cut from the keeper's seat.
+pub struct Cut;
+
+impl Split<View> for Cut {
+    ghost use Rattle.shelf.specs.Steps.{cutting, cut_off};
+
+    ghost left = { cutting };
+
+    ghost right = { cut_off };
+}
+
+/// A ticket's view is laid in a reader's seat.
+pub struct Hand;
+
+impl Join<View> for Hand {
+    ghost use Rattle.shelf.specs.Roles.{idle};
+    ghost use Rattle.shelf.specs.Steps.{handed};
+
+    ghost both = { handed };
+
+    ghost spent = { idle };
+}
+
+/// The load after which a reader has seen what a ticket had.
+pub struct Learn<Id> {
+    of: PhantomData<Id>,
+}
+
+impl<Id: StoreName> Play<Asked, View> for Learn<Id> {
+    ghost use Rattle.shelf.specs.Steps.{learns};
+
+    ghost then = { learns Id.store.base };
 }
 
 /// The load of a meeting.
@@ -42,43 +127,10 @@ pub struct Meet<Id> {
     of: PhantomData<Id>,
 }
 
-impl<Id: StoreName> Play<Signed, View> for Meet<Id> {
+impl<Id: StoreName> Play<Asked, View> for Meet<Id> {
     ghost use Rattle.shelf.specs.Steps.{meets};
 
     ghost then = { meets Id.store.base };
-}
-
-/// The load after which a reader is given up.
-pub struct GiveUp<Id> {
-    of: PhantomData<Id>,
-}
-
-impl<Id: StoreName> Play<Signed, View> for GiveUp<Id> {
-    ghost use Rattle.shelf.specs.Steps.{gives_up};
-
-    ghost then = { gives_up Id.store.base };
-}
-
-/// The keeper's last load.
-pub struct End<Id> {
-    of: PhantomData<Id>,
-}
-
-impl<Id: StoreName> Play<Signed, View> for End<Id> {
-    ghost use Rattle.shelf.specs.Steps.{ends};
-
-    ghost then = { ends Id.store.base };
-}
-
-/// A reader is dealt from the keeper's seat.
-pub struct Deal;
-
-impl Split<View> for Deal {
-    ghost use Rattle.shelf.specs.Steps.{dealing, next_reader};
-
-    ghost left = { dealing };
-
-    ghost right = { next_reader };
 }
 
 /// A reader's view is laid in the keeper's seat.
@@ -102,4 +154,37 @@ impl Split<View> for Apart {
     ghost left = { keeper_part };
 
     ghost right = { reader_part };
+}
+
+/// The load after which a reader is given up.
+pub struct GiveUp<Id> {
+    of: PhantomData<Id>,
+}
+
+impl<Id: StoreName> Play<Asked, View> for GiveUp<Id> {
+    ghost use Rattle.shelf.specs.Steps.{gives_up};
+
+    ghost then = { gives_up Id.store.base };
+}
+
+/// The keeper's last load.
+pub struct End<Id> {
+    of: PhantomData<Id>,
+}
+
+impl<Id: StoreName> Play<Asked, View> for End<Id> {
+    ghost use Rattle.shelf.specs.Steps.{ends};
+
+    ghost then = { ends Id.store.base };
+}
+
+/// A reader is dealt from the keeper's seat.
+pub struct Deal;
+
+impl Split<View> for Deal {
+    ghost use Rattle.shelf.specs.Steps.{dealing, next_reader};
+
+    ghost left = { dealing };
+
+    ghost right = { next_reader };
 }

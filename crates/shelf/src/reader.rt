@@ -1,16 +1,22 @@
-//! A reader's seat.
+//! A reader's seat, and its steps.
 
-ghost use Rattle.std.specs.Prelude.{◌≡◌, ◌<◌, ◌≤◌, length};
+ghost use Rattle.std.specs.Prelude.{◌≡◌, ◌<◌, ◌≤◌, ℕ, length, slice_index, true, None, Some, is_some};
 ghost use mathlib.Core.List.{IsPrefix};
-ghost use Rattle.map_core.specs.Story.{newest};
+ghost use Rattle.bits.specs.Tiles.{row_word};
+ghost use Rattle.map_core.specs.Story.{newest, bitmap_of};
+ghost use Rattle.map_core.specs.Blocks.{directory_of};
+ghost use Rattle.map_core.specs.Words.{tiles};
 ghost use Rattle.map_core.specs.Legal.{IsLegal};
-ghost use Rattle.map_core.specs.Views.{story};
+ghost use Rattle.map_core.specs.Views.{story, blocks};
+ghost use Rattle.shelf.specs.Seats.{held_next};
 ghost use Rattle.shelf.specs.Store.{readers_of};
-ghost use Rattle.shelf.specs.Roles.{entries, made_by};
+ghost use Rattle.shelf.specs.Roles.{entries};
+ghost use Rattle.shelf.specs.Steps.{announcing, loaded, leaving};
 
+use crate::asked::Asked;
 use crate::name::StoreName;
-use crate::plays::Take;
-use crate::signed::Signed;
+use crate::plan::Plan;
+use crate::plays::{Announce, Leave, Look, Take};
 use crate::table::{View, Words};
 use atomic_table::Badge;
 use map_core::Now;
@@ -19,27 +25,33 @@ use std::marker::{Model, PhantomData};
 use std::mem::replace;
 use std::sync::Arc;
 
-/// A reader's seat. Contracts see it as its number, what it has seen of the log, and how many entries of it are by this reader.
+/// A reader's seat. Contracts see it as its number, what it has seen of the log, how many entries of it are by this reader, and which
+/// version it has announced and holds.
 ///
 /// It can't be let go: a store that is closed takes it back.
 pub struct ReaderSeat<Id: StoreName> {
     pub(crate) seat: Badge<View>,
     pub(crate) words: Arc<Words, Global>,
+    pub(crate) plan: Plan,
     pub(crate) number: u32,
     pub(crate) made: u32,
+    // The newest version that it has seen, whether it has announced, and the version that it holds.
+    pub(crate) version: u32,
+    pub(crate) announced: bool,
+    pub(crate) holds: Option<u32>,
     pub(crate) of: PhantomData<Id>,
 }
 
 impl<Id: StoreName> Model for ReaderSeat<Id> {
     ghost use Rattle.std.specs.Arc.{arc_value};
-    ghost use Rattle.shelf.specs.Roles.{ReaderView, reader_on};
-    ghost use Rattle.shelf.specs.Seats.{IsReaderSeat};
+    ghost use Rattle.shelf.specs.Roles.{ReaderView};
+    ghost use Rattle.shelf.specs.Seats.{IsReaderSeat, reader_on};
 
     ghost Value = { ReaderView };
 
     ghost view = { λ s. reader_on s.seat.views };
 
-    ghost invariant = { λ s. IsReaderSeat Id.store (arc_value s.words).shared.table_id (arc_value s.words).shared.key s.seat.table_id s.seat.views s.number s.made };
+    ghost invariant = { λ s. IsReaderSeat Id.store (arc_value s.words).shared.table_id (arc_value s.words).shared.key s.seat.table_id s.plan s.seat.views s.number s.made s.version s.announced s.holds };
 }
 
 impl<Id: StoreName> ReaderSeat<Id> {
@@ -58,18 +70,94 @@ impl<Id: StoreName> ReaderSeat<Id> {
         self.made
     }
 
-    /// Loads NOW. The seat has then seen the whole log, as it is at the load.
+    /// Announces the newest version that this seat has seen: stores that version plus 1 in its word. Condition: it has announced nothing.
+    pub fn announce(&mut self)
+        requires { self.old.announced ≡ None }
+        ensures { self.new ≡ announcing Id.store.base self.old }
+    {
+        let mut seat = replace(&mut self.seat, Badge::blank()).into_seat::<Asked>();
+        let place = self.plan.pin_at(self.number);
+        self.words
+            .shared
+            .store::<Announce<Id>>(&mut seat, place, u64::from(self.version) + 1);
+        self.seat = seat.into_badge();
+        self.announced = true;
+    }
+
+    /// Takes the announcement back: stores 0 in its word. It then holds nothing, and has seen what it had. Condition: it has announced.
+    pub fn leave(&mut self)
+        requires { is_some self.old.announced ≡ true }
+        ensures { self.new ≡ leaving self.old }
+    {
+        let mut seat = replace(&mut self.seat, Badge::blank()).into_seat::<Asked>();
+        let place = self.plan.pin_at(self.number);
+        self.words.shared.store::<Leave>(&mut seat, place, 0);
+        self.seat = seat.into_badge();
+        self.announced = false;
+        self.holds = None;
+    }
+
+    /// Loads NOW, and answers what it says. The seat has then seen the whole log as it is at the load, and where it has announced and held
+    /// nothing it holds the newest version.
     pub fn take(&mut self) -> Now
-        ensures seat { self.new ≡ record self.old { seen = self.new.seen } }
+        ensures seat { self.new ≡ loaded Id.store.base self.new.seen self.old }
         ensures began { IsPrefix self.old.seen self.new.seen }
         ensures place { result.place ≡ length self.new.seen }
         ensures version { result.version ≡ newest (story Id.store.base (entries self.new.seen)) }
         ensures legal { IsLegal Id.store.base.setting Id.store.base.opening (entries self.new.seen) }
-        ensures counts { self.new.made ≤ made_by self.new.number self.new.seen }
     {
-        let mut seat = replace(&mut self.seat, Badge::blank()).into_seat::<Signed>();
+        let mut seat = replace(&mut self.seat, Badge::blank()).into_seat::<Asked>();
         let word = self.words.shared.load::<Take<Id>>(&mut seat, 0);
         self.seat = seat.into_badge();
-        Now::of(word)
+        let now = Now::of(word);
+        self.holds = held_next(self.announced, self.holds, now.version);
+        self.version = now.version;
+        now
+    }
+
+    /// Loads the block of a position in the version that it holds: a number below the setting's blocks.
+    ///
+    /// Conditions: it holds that version, and the map has that position.
+    pub fn look_map(&mut self, version: u32, position: u16) -> u32
+        requires held { self.old.holds ≡ Some version }
+        requires inside { position < tiles Id.store.base }
+        ensures seat { self.new ≡ self.old }
+        ensures block { result ≡ slice_index (directory_of (blocks Id.store.base (entries self.old.seen)) version) position }
+        ensures within { result < Id.store.base.setting.blocks }
+    {
+        let mut seat = replace(&mut self.seat, Badge::blank()).into_seat::<Asked>();
+        let place = self.plan.map_at(version, position);
+        let word = self.words.shared.load::<Look<Id>>(&mut seat, place);
+        self.seat = seat.into_badge();
+        word as u32
+    }
+
+    /// Loads a row of a block: bit j is column j. Where the version that it holds has the block at a position, it is that position's row, whatever
+    /// others publish and collect.
+    ///
+    /// Conditions: the store has that block, and the row is one of 64.
+    pub fn look_tile(&mut self, block: u32, row: u16) -> u64
+        requires block { block < Id.store.base.setting.blocks }
+        requires row { row < 64 }
+        ensures seat { self.new ≡ self.old }
+        ensures word { (v p : ℕ) → self.old.holds ≡ Some v → p < tiles Id.store.base → block ≡ slice_index (directory_of (blocks Id.store.base (entries self.old.seen)) v) p
+            → result ≡ row_word (bitmap_of (story Id.store.base (entries self.old.seen)) v) p row }
+    {
+        let mut seat = replace(&mut self.seat, Badge::blank()).into_seat::<Asked>();
+        let place = self.plan.tile_at(block, row);
+        let word = self.words.shared.load::<Look<Id>>(&mut seat, place);
+        self.seat = seat.into_badge();
+        word
+    }
+}
+
+/// What a seat holds after it has loaded a version.
+pub(crate) fn held_next(announced: bool, holds: Option<u32>, version: u32) -> Option<u32>
+    ensures { result ≡ held_next announced holds version }
+{
+    if announced && holds.is_none() {
+        Some(version)
+    } else {
+        holds
     }
 }

@@ -18,7 +18,12 @@ const FLOORS: [(u32, u32, [Option<u32>; 3], u32); 8] = [
 #[test]
 fn the_floor_is_the_least_announced(rt: HostRuntime) {
     for (old, newest, announced, floor) in FLOORS {
-        same(&rt, floor_after(old, newest, &announced), floor, (old, newest));
+        same(
+            &rt,
+            floor_after(old, newest, &announced),
+            floor,
+            (old, newest),
+        );
     }
 }
 

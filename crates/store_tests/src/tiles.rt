@@ -15,6 +15,7 @@ use std::test::Fail;
 
 /// The version that is opened, and the first that is published.
 const OPENED: u32 = 0;
+
 const PUBLISHED: u32 = 1;
 
 /// A bitmap with one black cell, for which there is memory.
@@ -40,7 +41,11 @@ fn open(rt: &impl Abort, alloc: Global, map: &Bitmap, arena: &mut Arena) -> Grid
     ensures new { (result.newest ≡ 0) × (result.retired ≡ []) }
     ensures room { length (own_blocks result) ≤ result.room }
 {
-    holds(rt, u32::from(map.tiles()) <= arena.free_len(), "a block for each tile");
+    holds(
+        rt,
+        u32::from(map.tiles()) <= arena.free_len(),
+        "a block for each tile",
+    );
     match Grid::open(alloc, map, arena) {
         Ok(grid) => grid,
         Err(_) => panic!(rt; "no memory for a grid"),
@@ -122,7 +127,12 @@ fn what_is_refused_draws_nothing(rt: HostRuntime) -> Result<(), Fail> {
     let mut arena = Arena::new(rt.alloc(), 6)?;
     let mut grid = open(&rt, rt.alloc(), &map, &mut arena);
     let all = paint(&rt, &mut grid, &mut arena, [0, 0, 70, 66], true);
-    same(&rt, all, Err(Refusal::BlocksFull { needed: 4, free: 2 }), "each tile");
+    same(
+        &rt,
+        all,
+        Err(Refusal::BlocksFull { needed: 4, free: 2 }),
+        "each tile",
+    );
     let row = paint(&rt, &mut grid, &mut arena, [64, 0, 70, 1], true);
     same(&rt, row, Ok(6), "what was refused has painted nothing");
     let outside = paint(&rt, &mut grid, &mut arena, [0, 0, 71, 1], true);
@@ -132,7 +142,12 @@ fn what_is_refused_draws_nothing(rt: HostRuntime) -> Result<(), Fail> {
     let outside = stamp(&mut grid, &mut arena, 69, 0, &dots);
     same(&rt, outside, Err(Refusal::OutOfRange), "half of it outside");
     let full = stamp(&mut grid, &mut arena, 68, 64, &dots);
-    same(&rt, full, Err(Refusal::BlocksFull { needed: 1, free: 0 }), "no block left");
+    same(
+        &rt,
+        full,
+        Err(Refusal::BlocksFull { needed: 1, free: 0 }),
+        "no block left",
+    );
     end(&rt, grid, arena, 6);
     Ok(())
 }
@@ -148,11 +163,23 @@ fn each_version_stays_until_it_is_swept(rt: HostRuntime) -> Result<(), Fail> {
     publish(&mut grid);
     let retired = grid.retired();
     let positions = retired.iter().map(|old| old.position);
-    holds(&rt, positions.eq([0, 1]), "the upper two tiles are replaced");
+    holds(
+        &rt,
+        positions.eq([0, 1]),
+        "the upper two tiles are replaced",
+    );
     let drawn = has(&rt, &grid, PUBLISHED, 64, 0, &mut copy);
-    holds(&rt, drawn && !has(&rt, &grid, OPENED, 64, 0, &mut copy), "what was drawn");
+    holds(
+        &rt,
+        drawn && !has(&rt, &grid, OPENED, 64, 0, &mut copy),
+        "what was drawn",
+    );
     let kept = has(&rt, &grid, PUBLISHED, 69, 65, &mut copy);
-    holds(&rt, kept && has(&rt, &grid, OPENED, 69, 65, &mut copy), "what wasn't");
+    holds(
+        &rt,
+        kept && has(&rt, &grid, OPENED, 69, 65, &mut copy),
+        "what wasn't",
+    );
     same(&rt, grid.sweep(&mut arena, PUBLISHED), 2, "swept");
     same(&rt, arena.free_len(), 2, "the replaced blocks");
     end(&rt, grid, arena, 6);
@@ -165,7 +192,12 @@ fn a_revert_gives_the_drafts_blocks_back(rt: HostRuntime) -> Result<(), Fail> {
     let mut arena = Arena::new(rt.alloc(), 6)?;
     let mut grid = open(&rt, rt.alloc(), &map, &mut arena);
     let clear = paint(&rt, &mut grid, &mut arena, [60, 60, 70, 66], false);
-    same(&rt, clear, Ok(1), "a tile without an obstacle takes no block");
+    same(
+        &rt,
+        clear,
+        Ok(1),
+        "a tile without an obstacle takes no block",
+    );
     same(&rt, arena.free_len(), 1, "one tile is the draft's own");
     grid.revert(&mut arena);
     same(&rt, arena.free_len(), 2, "and is given back");
@@ -180,14 +212,28 @@ fn a_revert_gives_the_drafts_blocks_back(rt: HostRuntime) -> Result<(), Fail> {
 fn smallest_and_largest(rt: HostRuntime) -> Result<(), Fail> {
     for (side, blocks) in [(1u16, 1u32), (4096, 4097)] {
         holds(&rt, 1 <= side && side <= 4096 && blocks <= 16384, side);
-        let last = Cell { x: side - 1, y: side - 1 };
+        let last = Cell {
+            x: side - 1,
+            y: side - 1,
+        };
         let map = dotted(&rt, rt.alloc(), side, side, last);
         let mut arena = Arena::new(rt.alloc(), blocks)?;
         let mut grid = open(&rt, rt.alloc(), &map, &mut arena);
-        let cleared = paint(&rt, &mut grid, &mut arena, [last.x, last.y, side, side], false);
+        let cleared = paint(
+            &rt,
+            &mut grid,
+            &mut arena,
+            [last.x, last.y, side, side],
+            false,
+        );
         same(&rt, cleared.is_ok(), 1 < side, side);
         let first = paint(&rt, &mut grid, &mut arena, [0, 0, 1, 1], 1 < side);
-        same(&rt, first, Err(Refusal::BlocksFull { needed: 1, free: 0 }), side);
+        same(
+            &rt,
+            first,
+            Err(Refusal::BlocksFull { needed: 1, free: 0 }),
+            side,
+        );
         end(&rt, grid, arena, blocks);
     }
     Ok(())

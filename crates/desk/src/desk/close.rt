@@ -15,7 +15,7 @@ impl<Id: StoreName> Desk<Id> {
             keeper,
             holding,
             log,
-            pins: _,
+            announced: _,
         } = self;
         holding.end();
         (keeper.close(), log)

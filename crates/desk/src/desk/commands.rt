@@ -1,19 +1,21 @@
 //! The commands of a desk. Each lends a session's seat, which has seen a beginning of the log before its command's place, and the whole log at its end.
+//!
+//! Condition of each: a seat that has announced a version holds one.
 
-ghost use Rattle.std.specs.Prelude.{◌≡◌, ◌<◌, true, vec_len, vec_capacity, IfOk, IfErr};
+ghost use Rattle.std.specs.Prelude.{◌≡◌, ◌<◌, true, Some, vec_len, vec_capacity, IfOk, IfErr};
 ghost use mathlib.Core.List.{IsPrefix};
 ghost use Rattle.map_core.specs.declared.command.Command.TheVariants.{Paint, Stamp, Publish, Revert, Collect};
 ghost use Rattle.map_core.specs.Ledger.{IsBalanced};
 ghost use Rattle.map_core.specs.Legal.{IsLegal};
 ghost use Rattle.shelf.specs.Roles.{entries};
-ghost use Rattle.desk.specs.Desks.{IsAccepted, IsRefused};
+ghost use Rattle.desk.specs.Desks.{IsSteady, IsAccepted, IsRefused};
 
+use crate::carry::carry;
 use crate::desk::Desk;
 use bits::Bitmap;
-use epoch::floor_after;
 use map_core::{Command, Entry, Ledger, Reply};
 use metric::{Rect, Refusal};
-use shelf::{ReaderSeat, Signed, StoreName, meet};
+use shelf::{Asked, ReaderSeat, Signed, StoreName, Ticket, meet};
 
 /// Whether there is room for a command's entry. None is asked for where the ledger refuses the command.
 fn finds_room(ledger: &Ledger, command: &Command, log: &mut Vec<Signed>) -> bool
@@ -31,31 +33,35 @@ impl<Id: StoreName> Desk<Id> {
         seat: &mut ReaderSeat<Id>,
         command: Command,
     ) -> Result<Reply, (Command, Refusal)>
+        requires { IsSteady seat.old }
         ensures accepted { IfOk result (λ reply. IsAccepted Id.store self.old seat.old command reply self.new seat.new) }
         ensures refused { IfErr result (λ back. (back.0 ≡ command) × IsRefused Id.store self.old seat.old command back.1 self.new seat.new) }
+        ensures stays { seat.new ≡ record seat.old { seen = seat.new.seen; made = seat.new.made } }
         ensures seen { seat.new.seen ≡ self.new.log }
         ensures began { IsPrefix seat.old.seen self.old.log }
         ensures grows { IsPrefix seat.old.seen seat.new.seen }
         ensures legal { IsLegal Id.store.base.setting Id.store.base.opening (entries self.new.log) }
     {
         meet(&mut self.keeper, seat);
-        let floor = floor_after(
-            self.holding.ledger.floor,
-            self.holding.ledger.newest,
-            self.pins.as_slice(),
-        );
         let has_room = finds_room(&self.holding.ledger, &command, &mut self.log);
-        let reply = match self.holding.answer(&command, floor, has_room) {
+        let asked = Asked {
+            by: seat.number(),
+            command,
+        };
+        let carried = carry(
+            &mut self.keeper,
+            &mut self.holding,
+            &mut self.announced,
+            &asked,
+            has_room,
+        );
+        let Asked { by, command } = asked;
+        let reply = match carried {
             Ok(reply) => reply,
             Err(refusal) => return Err((command, refusal)),
         };
-        let signed = Signed {
-            by: seat.number(),
-            entry: Entry { command, reply },
-        };
-        self.keeper.order(&signed);
-        self.keeper.commit();
-        self.log.push_reserved(signed);
+        let entry = Entry { command, reply };
+        self.log.push_reserved(Signed { by, entry });
         meet(&mut self.keeper, seat);
         Ok(reply)
     }
@@ -71,8 +77,10 @@ impl<Id: StoreName> Desk<Id> {
         rect: Rect,
         black: bool,
     ) -> Result<Reply, Refusal>
+        requires { IsSteady seat.old }
         ensures accepted { IfOk result (λ reply. IsAccepted Id.store self.old seat.old (Paint rect black) reply self.new seat.new) }
         ensures refused { IfErr result (λ refusal. IsRefused Id.store self.old seat.old (Paint rect black) refusal self.new seat.new) }
+        ensures stays { seat.new ≡ record seat.old { seen = seat.new.seen; made = seat.new.made } }
         ensures seen { seat.new.seen ≡ self.new.log }
         ensures began { IsPrefix seat.old.seen self.old.log }
         ensures grows { IsPrefix seat.old.seen seat.new.seen }
@@ -94,8 +102,10 @@ impl<Id: StoreName> Desk<Id> {
         y: u16,
         bitmap: Bitmap,
     ) -> Result<Reply, (Bitmap, Refusal)>
+        requires { IsSteady seat.old }
         ensures accepted { IfOk result (λ reply. IsAccepted Id.store self.old seat.old (Stamp x y bitmap) reply self.new seat.new) }
         ensures refused { IfErr result (λ back. (back.0 ≡ bitmap) × IsRefused Id.store self.old seat.old (Stamp x y bitmap) back.1 self.new seat.new) }
+        ensures stays { seat.new ≡ record seat.old { seen = seat.new.seen; made = seat.new.made } }
         ensures seen { seat.new.seen ≡ self.new.log }
         ensures began { IsPrefix seat.old.seen self.old.log }
         ensures grows { IsPrefix seat.old.seen seat.new.seen }
@@ -114,8 +124,10 @@ impl<Id: StoreName> Desk<Id> {
     ///
     /// Refused, in this order, for want of room in the log (`LogFull`), of a slot (`VersionsFull`) and of memory.
     pub fn publish(&mut self, seat: &mut ReaderSeat<Id>) -> Result<Reply, Refusal>
+        requires { IsSteady seat.old }
         ensures accepted { IfOk result (λ reply. IsAccepted Id.store self.old seat.old Publish reply self.new seat.new) }
         ensures refused { IfErr result (λ refusal. IsRefused Id.store self.old seat.old Publish refusal self.new seat.new) }
+        ensures stays { seat.new ≡ record seat.old { seen = seat.new.seen; made = seat.new.made } }
         ensures seen { seat.new.seen ≡ self.new.log }
         ensures began { IsPrefix seat.old.seen self.old.log }
         ensures grows { IsPrefix seat.old.seen seat.new.seen }
@@ -131,8 +143,10 @@ impl<Id: StoreName> Desk<Id> {
     ///
     /// Refused, in this order, for want of room in the log (`LogFull`) and of memory.
     pub fn revert(&mut self, seat: &mut ReaderSeat<Id>) -> Result<Reply, Refusal>
+        requires { IsSteady seat.old }
         ensures accepted { IfOk result (λ reply. IsAccepted Id.store self.old seat.old Revert reply self.new seat.new) }
         ensures refused { IfErr result (λ refusal. IsRefused Id.store self.old seat.old Revert refusal self.new seat.new) }
+        ensures stays { seat.new ≡ record seat.old { seen = seat.new.seen; made = seat.new.made } }
         ensures seen { seat.new.seen ≡ self.new.log }
         ensures began { IsPrefix seat.old.seen self.old.log }
         ensures grows { IsPrefix seat.old.seen seat.new.seen }
@@ -144,13 +158,15 @@ impl<Id: StoreName> Desk<Id> {
         }
     }
 
-    /// Raises the floor, the least version that is kept, to the least of newest and the pinned versions: `Reply::Collected`, with the floor
-    /// and how many blocks came back.
+    /// Raises the floor, the least version that is kept, to the least of newest and what the readers have announced, one word after another:
+    /// `Reply::Collected`, with the floor and how many blocks came back.
     ///
     /// Refused, in this order, for want of room in the log (`LogFull`) and of memory.
     pub fn collect(&mut self, seat: &mut ReaderSeat<Id>) -> Result<Reply, Refusal>
+        requires { IsSteady seat.old }
         ensures accepted { IfOk result (λ reply. IsAccepted Id.store self.old seat.old Collect reply self.new seat.new) }
         ensures refused { IfErr result (λ refusal. IsRefused Id.store self.old seat.old Collect refusal self.new seat.new) }
+        ensures stays { seat.new ≡ record seat.old { seen = seat.new.seen; made = seat.new.made } }
         ensures seen { seat.new.seen ≡ self.new.log }
         ensures began { IsPrefix seat.old.seen self.old.log }
         ensures grows { IsPrefix seat.old.seen seat.new.seen }
@@ -168,5 +184,13 @@ impl<Id: StoreName> Desk<Id> {
         ensures legal { IsLegal Id.store.base.setting Id.store.base.opening (entries result.now) }
     {
         self.log.as_slice()
+    }
+
+    /// A token of the log as it is now. Whoever learns it has then seen that log. It is always given.
+    pub fn ticket(&mut self) -> Option<Ticket<Id>>
+        ensures ticket { result ≡ Some self.old.log }
+        ensures desk { self.new ≡ self.old }
+    {
+        Some(self.keeper.ticket())
     }
 }

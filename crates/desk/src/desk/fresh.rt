@@ -1,10 +1,9 @@
 //! A desk before its store has a name.
 
-ghost use Rattle.std.specs.Prelude.{◌≡◌, [], replicate, None, IfOk, IfErr};
+ghost use Rattle.std.specs.Prelude.{◌≡◌, [], None, IfOk, IfErr};
 ghost use Rattle.bits.specs.Tiles.{tile_count};
 ghost use Rattle.metric.specs.declared.refusal.Refusal.TheVariants.{Memory};
 ghost use Rattle.map_core.specs.Setting.{bad_field};
-ghost use Rattle.shelf.specs.Store.{readers_of};
 
 use crate::desk::Desk;
 use crate::holding::Holding;
@@ -22,11 +21,11 @@ pub struct FreshDesk {
     keeper: FreshKeeper,
     holding: Holding,
     log: Vec<Signed>,
-    pins: Vec<Option<u32>>,
+    announced: Vec<Option<u32>>,
 }
 
 impl Model for FreshDesk {
-    ghost use Rattle.std.specs.Prelude.{◌≡◌, [], replicate, None};
+    ghost use Rattle.std.specs.Prelude.{◌≡◌, [], length};
     ghost use Rattle.shelf.specs.Store.{StoreId, readers_of};
     ghost use Rattle.desk.specs.Holdings.{IsTold};
 
@@ -34,7 +33,7 @@ impl Model for FreshDesk {
 
     ghost view = { λ d. d.keeper };
 
-    ghost invariant = { λ d. IsTold d.keeper.base [] d.holding × (d.log.items ≡ []) × (d.pins.items ≡ replicate (readers_of d.keeper) None) };
+    ghost invariant = { λ d. IsTold d.keeper.base [] d.holding × (d.log.items ≡ []) × (length d.announced.items ≡ readers_of d.keeper) };
 }
 
 impl FreshDesk {
@@ -52,14 +51,14 @@ impl FreshDesk {
         ensures desk { IfOk result (λ desk. desk ≡ keeper) }
         ensures memory { IfErr result (λ refusal. refusal ≡ Memory) }
     {
-        let Ok(pins) = vec![in alloc; None; setting.sessions as usize] else {
+        let Ok(announced) = vec![in alloc; None; setting.sessions as usize] else {
             return Err(Refusal::Memory);
         };
         Ok(FreshDesk {
             keeper,
             holding: Holding::of(alloc, setting, map)?,
             log: Vec::new(alloc),
-            pins,
+            announced,
         })
     }
 
@@ -69,7 +68,7 @@ impl FreshDesk {
             keeper: _,
             holding,
             log: _,
-            pins: _,
+            announced: _,
         } = self;
         holding.end();
     }
@@ -77,19 +76,19 @@ impl FreshDesk {
     /// The desk of the store with this name. Condition: the name is its store's.
     pub fn named<Id: StoreName>(self) -> Desk<Id>
         requires { self ≡ Id.store }
-        ensures { result ≡ record { log = []; pins = replicate (readers_of Id.store) None } }
+        ensures { result ≡ record { log = [] } }
     {
         let FreshDesk {
             keeper,
             holding,
             log,
-            pins,
+            announced,
         } = self;
         Desk {
             keeper: keeper.named::<Id>(),
             holding,
             log,
-            pins,
+            announced,
         }
     }
 }

@@ -1,9 +1,9 @@
 //! How commands are answered by what a desk holds.
 
-ghost use Rattle.std.specs.Prelude.{◌≡◌, ◌≤◌, Some, None, true, IfOk, IfErr, OnErr};
+ghost use Rattle.std.specs.Prelude.{◌≡◌, ◌≤◌, Some, None, true, IfOk, IfErr, OnErr, IfSome, IfNone};
 ghost use Rattle.map_core.specs.declared.command.Command.TheVariants.{Paint, Stamp, Publish, Revert, Collect};
 ghost use Rattle.map_core.specs.Ledger.{refused_by_ledger};
-ghost use Rattle.desk.specs.Holdings.{CanAnswer, Judges, Refuses, Does};
+ghost use Rattle.desk.specs.Holdings.{CanAnswer, IsOneStep, Judges, Refuses, Does};
 
 use crate::holding::Holding;
 use bits::Bitmap;
@@ -41,7 +41,7 @@ impl Holding {
     }
 
     /// A publish that the ledger doesn't refuse.
-    fn publish(&mut self) -> Reply
+    pub fn publish(&mut self) -> Reply
         requires able { CanAnswer self.old }
         requires judged { refused_by_ledger self.old.ledger Publish ≡ None }
         ensures { Does self.old Publish result self.new }
@@ -61,7 +61,7 @@ impl Holding {
     }
 
     /// A collect that the ledger doesn't refuse: the floor rises to this version.
-    fn collect(&mut self, floor: u32) -> Reply
+    pub fn collect(&mut self, floor: u32) -> Reply
         requires able { CanAnswer self.old }
         requires judged { refused_by_ledger self.old.ledger Collect ≡ None }
         requires floor { self.old.ledger.floor ≤ floor }
@@ -88,53 +88,40 @@ impl Holding {
         }
     }
 
-    /// Does a command that the ledger doesn't refuse, or answers why it is refused for want of blocks. It takes no memory.
-    fn done(&mut self, command: &Command, floor: u32) -> Result<Reply, Refusal>
+    /// Why a command is refused before its blocks are counted, if it is: for its area (`OutOfRange`), for want of room in the log
+    /// (`LogFull`) or of a slot (`VersionsFull`, a publish), or of memory for its entry, in this order. Want of blocks (`BlocksFull`, a
+    /// paint or a stamp) comes before want of memory.
+    ///
+    /// `has_room` tells whether memory for the entry was found.
+    pub fn judge(&self, command: &Command, has_room: bool) -> Option<Refusal>
+        requires { CanAnswer self.now }
+        ensures refused { IfSome result (λ refusal. Refuses self.now command.now has_room refusal) }
+        ensures passed { IfNone result (refused_by_ledger self.now.ledger command.now ≡ None) }
+        ensures room { IfNone result (has_room ≡ true) }
+    {
+        if let Some(refusal) = self.ledger.judge(command) {
+            return Some(refusal);
+        }
+        if !has_room {
+            return Some(self.judge_blocks(command).unwrap_or(Refusal::Memory));
+        }
+        None
+    }
+
+    /// Does a paint, a stamp or a revert that the ledger doesn't refuse, or answers why it is refused for want of blocks. It takes no memory.
+    pub fn draw(&mut self, command: &Command) -> Result<Reply, Refusal>
         requires able { CanAnswer self.old }
         requires judged { refused_by_ledger self.old.ledger command.now ≡ None }
-        requires floor { self.old.ledger.floor ≤ floor }
-        requires newest { floor ≤ self.old.ledger.newest }
+        requires one_step { IsOneStep command.now }
         ensures done { IfOk result (λ reply. Does self.old command.now reply self.new) }
-        ensures floor { IfOk result (λ reply. command.now ≡ Collect → self.new.ledger.floor ≡ floor) }
         ensures refused { IfErr result (λ refusal. Judges self.old command.now (Some refusal)) }
         ensures as_before { OnErr result (self.new ≡ self.old) }
     {
         match command {
             Command::Paint { rect, black } => self.paint(*rect, *black),
             Command::Stamp { x, y, bitmap } => self.stamp(*x, *y, bitmap),
-            Command::Publish => Ok(self.publish()),
             Command::Revert => Ok(self.revert()),
-            Command::Collect => Ok(self.collect(floor)),
+            _ => unreachable!(),
         }
-    }
-
-    /// Does a command and answers it, or answers why it is refused: for its area (`OutOfRange`), for want of room in the log (`LogFull`),
-    /// of blocks (`BlocksFull`, a paint or a stamp) or of a slot (`VersionsFull`, a publish), or of memory for its entry, in this order.
-    ///
-    /// The floor is the least version that a collect keeps, from the old floor to the newest version; other commands leave it. `has_room`
-    /// tells whether memory for the entry was found.
-    pub fn answer(
-        &mut self,
-        command: &Command,
-        floor: u32,
-        has_room: bool,
-    ) -> Result<Reply, Refusal>
-        requires able { CanAnswer self.old }
-        requires floor { self.old.ledger.floor ≤ floor }
-        requires newest { floor ≤ self.old.ledger.newest }
-        ensures done { IfOk result (λ reply. Does self.old command.now reply self.new) }
-        ensures floor { IfOk result (λ reply. command.now ≡ Collect → self.new.ledger.floor ≡ floor) }
-        ensures room { IfOk result (λ reply. has_room ≡ true) }
-        ensures refused { IfErr result (λ refusal. Refuses self.old command.now refusal) }
-        ensures found { IfErr result (λ refusal. has_room ≡ true → Judges self.old command.now (Some refusal)) }
-        ensures as_before { OnErr result (self.new ≡ self.old) }
-    {
-        if let Some(refusal) = self.ledger.judge(command) {
-            return Err(refusal);
-        }
-        if !has_room {
-            return Err(self.judge_blocks(command).unwrap_or(Refusal::Memory));
-        }
-        self.done(command, floor)
     }
 }

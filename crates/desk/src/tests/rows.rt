@@ -5,11 +5,11 @@ ghost use Rattle.bits.specs.Cells.{IsSide};
 
 use crate::desk::Desk;
 use crate::tests::answers::Answer;
-use crate::tests::opened::{Named, Opened, close, hand_back, hold, name, next, prepare};
-use bits::Bitmap;
+use crate::tests::opened::{Named, Opened, close, hand_back, name, next, prepare};
+use crate::tests::seats::{Free, pin, unpin};
 use map_core::Setting;
-use metric::{Rect, Refusal};
-use shelf::{ReaderSeat, StoreName};
+use metric::Rect;
+use shelf::StoreName;
 use std::alloc::Global;
 use std::marker::Brand;
 use std::process::Abort;
@@ -23,10 +23,6 @@ pub enum Step {
     Publish,
     Revert,
     Collect,
-    /// Pins the newest version, and answers as the last command was.
-    Pin,
-    /// Lets it go, and answers so too.
-    Unpin,
 }
 
 /// A step, its answer, and how many blocks are free then.
@@ -38,31 +34,32 @@ pub fn rect_of(rt: &impl Abort, corners: [u16; 4]) -> Rect {
     Rect::new(x0, y0, x1, y1).expect(rt, "a rectangle")
 }
 
-/// Takes a step, whose answer was `last` before it.
+/// Takes a step.
 fn take<Id: StoreName>(
     rt: &impl Abort,
-    alloc: Global,
     desk: &mut Desk<Id>,
-    seat: &mut ReaderSeat<Id>,
-    map: &Bitmap,
+    free: &mut Free<Id>,
     step: Step,
-    last: Answer,
-) -> Answer
-    requires { map.now ≡ Id.store.base.opening }
-{
+) -> Answer {
+    let seat = &mut free.seat;
     match step {
         Step::Paint(corners, black) => desk.paint(seat, rect_of(rt, corners), black),
         Step::Publish => desk.publish(seat),
         Step::Revert => desk.revert(seat),
         Step::Collect => desk.collect(seat),
-        Step::Pin => {
-            hold(rt, alloc, desk, seat, map);
-            last
-        }
-        Step::Unpin => {
-            desk.release(seat);
-            last
-        }
+    }
+}
+
+/// Takes the steps of these rows.
+fn take_all<Id: StoreName>(
+    rt: &impl Abort,
+    desk: &mut Desk<Id>,
+    free: &mut Free<Id>,
+    rows: &[Row],
+) {
+    for (step, expected, blocks) in rows {
+        let answer = take(rt, desk, free, *step);
+        assert_eq!(rt; (answer, desk.free_blocks()), (*expected, *blocks));
     }
 }
 
@@ -74,33 +71,46 @@ pub fn check(
     size: [u16; 2],
     rows: &[Row],
 ) -> Result<(), Fail> {
+    check_beside_a_pin(rt, alloc, setting, size, [rows, &[], &[]])
+}
+
+/// The same in three parts. Another seat pins the newest version before the second part, and lets it go after that.
+pub fn check_beside_a_pin(
+    rt: &impl Abort,
+    alloc: Global,
+    setting: Setting,
+    size: [u16; 2],
+    parts: [&[Row]; 3],
+) -> Result<(), Fail> {
     let [width, height] = size;
     assert!(rt; 0 < width && width <= 4096 && 0 < height && height <= 4096);
     let opened = prepare(alloc, setting, width, height)?;
-    check_rows::<Brand, _>(rt, alloc, opened, rows)
+    check_parts::<Brand, _>(rt, alloc, opened, parts)
 }
 
 /// The same, on a desk that is opened.
-fn check_rows<Id: StoreName, R: Abort>(
+fn check_parts<Id: StoreName, R: Abort>(
     rt: &R,
     alloc: Global,
     opened: Opened,
-    rows: &[Row],
+    parts: [&[Row]; 3],
 ) -> Result<(), Fail>
     requires { opened.desk ≡ Id.store }
 {
+    let [before, beside, after] = parts;
     let Named {
         mut desk,
         mut seats,
-        map,
     } = name::<Id>(alloc, opened)?;
-    let mut seat = next(rt, &mut seats);
-    let mut last = Err(Refusal::LogFull);
-    for (step, expected, free) in rows {
-        last = take(rt, alloc, &mut desk, &mut seat, &map, *step, last);
-        assert_eq!(rt; (last, desk.free_blocks()), (*expected, *free));
-    }
-    hand_back(rt, &mut seats, seat);
+    let mut writer = next(rt, &mut seats);
+    let planner = next(rt, &mut seats);
+    take_all(rt, &mut desk, &mut writer, before);
+    let pinned = pin(planner);
+    take_all(rt, &mut desk, &mut writer, beside);
+    let planner = unpin(pinned);
+    take_all(rt, &mut desk, &mut writer, after);
+    hand_back(rt, &mut seats, planner);
+    hand_back(rt, &mut seats, writer);
     close(desk, seats);
     Ok(())
 }

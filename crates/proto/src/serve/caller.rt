@@ -1,11 +1,16 @@
 //! A caller: a session, or the pin that it holds.
 
-ghost use Rattle.std.specs.Prelude.{◌≡◌, None, Some, MatchOption, is_some, true};
-ghost use Rattle.proto.specs.Callers.{IsCommanded, IsPinAnswer, IsUnpinAnswer, bitmap_held, free};
+ghost use Rattle.std.specs.Prelude.{◌≡◌, Some, is_some};
+ghost use Rattle.shelf.specs.Steps.{leaving};
+ghost use Rattle.proto.specs.Asked.{asked_by};
+ghost use Rattle.proto.specs.Callers.{IsCommanded, IsPinAnswer, IsUnpinAnswer, free};
+ghost use Rattle.proto.specs.Exchanges.{IsDumpAnswer, IsQueryAnswer, WithPin, body_of};
 
 use crate::answer::Answer;
+use crate::answering::answer_query;
+use crate::query::Query;
+use crate::serve::exchange::{Spoken, dump_of};
 use crate::serve::orders::{by_pin, by_session};
-use bits::Bitmap;
 use map_core::Command;
 use metric::Refusal;
 use session::{Pinned, Session, Store};
@@ -20,7 +25,8 @@ enum Seat<Id: StoreName> {
     Holding(Pinned<Id>),
 }
 
-/// A session of a store, with the pin that it holds, if it does. Contracts see its seat and the version that is pinned.
+/// A session of a store, with the pin that it holds, if it does. Contracts see its seat, as it is once a pin is left, and the version that is
+/// pinned.
 ///
 /// It can't be let go: it gives its session back.
 pub struct Caller<Id: StoreName> {
@@ -29,12 +35,13 @@ pub struct Caller<Id: StoreName> {
 
 impl<Id: StoreName> Model for Caller<Id> {
     ghost use Rattle.std.specs.Prelude.{Some};
+    ghost use Rattle.shelf.specs.Steps.{leaving};
     ghost use Rattle.proto.specs.Callers.{CallerValue, free};
     ghost use Rattle.proto.specs.declared.serve.caller.Seat.TheVariants.{Free, Holding};
 
     ghost Value = { CallerValue };
 
-    ghost view = { λ c. elim c.seat as (λ _. CallerValue) [ Free session ↦ free session | Holding pinned ↦ record { seat = pinned.seat; pin = Some pinned.version } ] };
+    ghost view = { λ c. elim c.seat as (λ _. CallerValue) [ Free session ↦ free session | Holding pinned ↦ record { seat = leaving pinned.seat; pin = Some pinned.version } ] };
 }
 
 impl<Id: StoreName> Caller<Id> {
@@ -49,7 +56,7 @@ impl<Id: StoreName> Caller<Id> {
 
     /// The caller that holds a pin.
     fn holding(pinned: Pinned<Id>) -> Self
-        ensures seat { result.seat ≡ pinned.seat }
+        ensures seat { result.seat ≡ leaving pinned.seat }
         ensures pin { result.pin ≡ Some pinned.version }
     {
         Caller {
@@ -67,13 +74,29 @@ impl<Id: StoreName> Caller<Id> {
         }
     }
 
-    /// The bitmap of the version that it has pinned, if it has.
-    pub fn bitmap(&self) -> Option<&Bitmap>
-        ensures { MatchOption result (self.now.pin ≡ None) (λ bitmap. (is_some self.now.pin ≡ true) × (bitmap.now ≡ bitmap_held Id.store self.now)) }
+    /// What a query of the version that it has pinned is answered.
+    pub fn query(&mut self, alloc: Global, query: &Query) -> Answer
+        ensures caller { self.new ≡ self.old }
+        ensures answer { WithPin (λ _. IsQueryAnswer Id.store (asked_by query.now) self.old result self.old) self.old result self.old }
     {
-        match &self.seat {
-            Seat::Free(_) => None,
-            Seat::Holding(pinned) => Some(pinned.bitmap()),
+        match &mut self.seat {
+            Seat::Free(_) => Answer::Refused(Refusal::NotPinned),
+            Seat::Holding(pinned) => answer_query(alloc, pinned.bitmap(), query),
+        }
+    }
+
+    /// What DUMP is answered: the plain image of the bitmap that it has pinned follows the number of its bytes.
+    pub fn dump(&mut self, alloc: Global) -> Spoken
+        ensures caller { self.new ≡ self.old }
+        ensures answer { WithPin (λ _. IsDumpAnswer Id.store self.old result.answer self.old) self.old result.answer self.old }
+        ensures body { result.body.items ≡ body_of Id.store self.old result.answer }
+    {
+        match &mut self.seat {
+            Seat::Free(_) => Spoken {
+                answer: Answer::Refused(Refusal::NotPinned),
+                body: Vec::new(alloc),
+            },
+            Seat::Holding(pinned) => dump_of(alloc, pinned.bitmap()),
         }
     }
 
@@ -89,12 +112,12 @@ impl<Id: StoreName> Caller<Id> {
     }
 
     /// Pins the newest version, where it holds no pin.
-    pub fn pin<R: Wait>(self, rt: &R, alloc: Global, store: &Store<Id>) -> (Self, Answer)
+    pub fn pin(self, alloc: Global) -> (Self, Answer)
         ensures { IsPinAnswer Id.store self result.1 result.0 }
     {
         let Caller { seat } = self;
         match seat {
-            Seat::Free(session) => pin_session(rt, alloc, store, session),
+            Seat::Free(session) => pin_session(alloc, session),
             Seat::Holding(pinned) => (
                 Caller::holding(pinned),
                 Answer::Refused(Refusal::AlreadyPinned),
@@ -103,7 +126,7 @@ impl<Id: StoreName> Caller<Id> {
     }
 
     /// Leaves its pin, where it holds one.
-    pub fn unpin<R: Wait>(self, rt: &R, store: &Store<Id>) -> (Self, Answer)
+    pub fn unpin(self) -> (Self, Answer)
         ensures { IsUnpinAnswer self result.1 result.0 }
     {
         let Caller { seat } = self;
@@ -111,34 +134,29 @@ impl<Id: StoreName> Caller<Id> {
             Seat::Free(session) => (Caller::new(session), Answer::Refused(Refusal::NotPinned)),
             Seat::Holding(pinned) => {
                 let version = pinned.version();
-                let session = store.unpin(rt, pinned);
+                let session = pinned.unpin();
                 (Caller::new(session), Answer::Version(version))
             }
         }
     }
 
     /// Gives its session back; a pin is left.
-    pub fn into_session<R: Wait>(self, rt: &R, store: &Store<Id>) -> Session<Id>
+    pub fn into_session(self) -> Session<Id>
         ensures { result ≡ self.seat }
     {
         let Caller { seat } = self;
         match seat {
             Seat::Free(session) => session,
-            Seat::Holding(pinned) => store.unpin(rt, pinned),
+            Seat::Holding(pinned) => pinned.unpin(),
         }
     }
 }
 
 /// Pins the newest version for a session.
-fn pin_session<Id: StoreName, R: Wait>(
-    rt: &R,
-    alloc: Global,
-    store: &Store<Id>,
-    session: Session<Id>,
-) -> (Caller<Id>, Answer)
+fn pin_session<Id: StoreName>(alloc: Global, session: Session<Id>) -> (Caller<Id>, Answer)
     ensures { IsPinAnswer Id.store (free session) result.1 result.0 }
 {
-    match store.pin(rt, alloc, session) {
+    match session.pin(alloc) {
         Ok(pinned) => {
             let version = pinned.version();
             (Caller::holding(pinned), Answer::Version(version))

@@ -7,9 +7,7 @@ ghost use Rattle.proto.specs.Said as saids;
 ghost use Rattle.proto.specs.Served.{AreKept};
 
 use crate::answer::Answer;
-use crate::answering::answer_query;
 use crate::line::Line;
-use crate::query::Query;
 use crate::serve::caller::Caller;
 use bits::Bitmap;
 use map_core::Command;
@@ -41,7 +39,8 @@ pub fn answer_line<Id: StoreName, R: Wait>(
     ensures body { result.1.body.items ≡ body_of Id.store caller result.1.answer }
 {
     if says_dump(&asked) {
-        let spoken = dump(alloc, &caller);
+        let mut caller = caller;
+        let spoken = caller.dump(alloc);
         return (caller, spoken);
     }
     let (caller, answer) = answer_short(rt, alloc, store, caller, asked, kept);
@@ -91,10 +90,10 @@ fn answer_short<Id: StoreName, R: Wait>(
             (caller, answer)
         }
         Ok(Line::Stamp { x, y, .. }) => stamp(rt, alloc, store, caller, x, y, kept),
-        Ok(Line::Pin) => caller.pin(rt, alloc, store),
-        Ok(Line::Unpin) => caller.unpin(rt, store),
+        Ok(Line::Pin) => caller.pin(alloc),
+        Ok(Line::Unpin) => caller.unpin(),
         Ok(Line::Query(query)) => {
-            let answer = query_pinned(alloc, &caller, &query);
+            let answer = caller.query(alloc, &query);
             (caller, answer)
         }
         Ok(Line::Dump | Line::Quit) => unreachable!(),
@@ -112,16 +111,6 @@ fn refused_first(pinned: bool, refusal: Refusal) -> Refusal
     match refusal {
         Refusal::BadPath | Refusal::Memory if !pinned => Refusal::NotPinned,
         other => other,
-    }
-}
-
-/// What a query is answered.
-fn query_pinned<Id: StoreName>(alloc: Global, caller: &Caller<Id>, query: &Query) -> Answer
-    ensures { WithPin (λ _. IsQueryAnswer Id.store (asked_by query.now) caller.now result caller.now) caller.now result caller.now }
-{
-    match caller.bitmap() {
-        Some(bitmap) => answer_query(alloc, bitmap, query),
-        None => Answer::Refused(Refusal::NotPinned),
     }
 }
 
@@ -151,22 +140,8 @@ fn stamp<Id: StoreName, R: Wait>(
     }
 }
 
-/// What DUMP is answered: the plain image of the pinned bitmap follows the number of its bytes.
-fn dump<Id: StoreName>(alloc: Global, caller: &Caller<Id>) -> Spoken
-    ensures answer { WithPin (λ _. IsDumpAnswer Id.store caller.now result.answer caller.now) caller.now result.answer caller.now }
-    ensures body { result.body.items ≡ body_of Id.store caller.now result.answer }
-{
-    match caller.bitmap() {
-        Some(bitmap) => dump_of(alloc, bitmap),
-        None => Spoken {
-            answer: Answer::Refused(Refusal::NotPinned),
-            body: Vec::new(alloc),
-        },
-    }
-}
-
 /// The plain image of a bitmap, behind the number of its bytes; or want of memory.
-fn dump_of(alloc: Global, bitmap: &Bitmap) -> Spoken
+pub fn dump_of(alloc: Global, bitmap: &Bitmap) -> Spoken
     ensures { IsDump bitmap.now result.answer result.body.items }
 {
     let mut body = Vec::new(alloc);

@@ -66,7 +66,7 @@ fn serve_read<Id: StoreName, R: Wait, S: Stream>(
 {
     let asked = hear(alloc, line);
     if says_quit(&asked) {
-        let caller = Caller::new(caller.into_session(rt, store));
+        let caller = Caller::new(caller.into_session());
         let end = say_last(stream, text, &Answer::Bye, End::Quit);
         return (caller, Some(end));
     }

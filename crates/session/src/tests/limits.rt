@@ -87,7 +87,7 @@ fn asks_the_largest_map<Id: StoreName, R: Wait + Abort>(
     let again = a.stamp(&mut store.lock(rt), 0, 0, bar);
     assert!(rt; again.is_ok_and(|reply| Ok(reply) == painted(2, 0)));
     assert_eq!(rt; a.publish(&mut store.lock(rt)), published(3, 1));
-    let pinned = pin(rt, alloc, &store, a);
+    let mut pinned = pin(rt, alloc, a);
     let last = Cell { x: 4_095, y: 4_095 };
     assert_eq!(rt; pinned.bitmap().width(), 4_096);
     assert_eq!(rt;
@@ -105,7 +105,7 @@ fn asks_the_largest_map<Id: StoreName, R: Wait + Abort>(
         Ok(Some((last, near(8_190))))
     );
     assert_eq!(rt; pinned.clear_of::<City>(alloc, &path, 8_190), Ok(None));
-    let a = store.unpin(rt, pinned);
+    let a = pinned.unpin();
     hand_back(rt, &mut sessions, a);
     assert_eq!(rt; store.close(sessions).len(), 3);
     Ok(())

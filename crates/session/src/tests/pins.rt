@@ -28,12 +28,10 @@ fn near(dist: u32) -> Near {
 }
 
 /// A pin of a version whose one obstacle is at `(0, 0)` answers each query.
-fn ask<Id: StoreName>(rt: &impl Abort, alloc: Global, pinned: &Pinned<Id>) {
+fn ask<Id: StoreName>(rt: &impl Abort, alloc: Global, pinned: &mut Pinned<Id>) {
     assert_eq!(rt; pinned.version(), 1);
-    assert_eq!(rt;
-        (pinned.bitmap().width(), pinned.bitmap().height()),
-        (64, 64)
-    );
+    let map = pinned.bitmap();
+    assert_eq!(rt; (map.width(), map.height()), (64, 64));
     assert_eq!(rt; pinned.at::<City>(alloc, cell(3, 4)), Ok(Some(near(7))));
     assert_eq!(rt;
         pinned.at::<City>(alloc, cell(64, 0)),
@@ -99,8 +97,8 @@ fn commands_beside_queries<Id: StoreName, R: Wait + Abort>(
     assert_eq!(rt; a.paint(&mut store.lock(rt), spot, true), painted(1, 1));
     assert_eq!(rt; a.publish(&mut store.lock(rt)), published(2, 1));
 
-    let mut a = pin(rt, alloc, &store, a);
-    ask(rt, alloc, &a);
+    let mut a = pin(rt, alloc, a);
+    ask(rt, alloc, &mut a);
     let stamped = a.stamp(&mut store.lock(rt), 0, 0, other);
     assert_eq!(rt; stamped.ok(), painted(3, 2).ok());
     assert_eq!(rt; a.paint(&mut store.lock(rt), spot, false), painted(4, 1));
@@ -108,10 +106,10 @@ fn commands_beside_queries<Id: StoreName, R: Wait + Abort>(
     assert_eq!(rt; a.paint(&mut store.lock(rt), spot, true), painted(6, 1));
     assert_eq!(rt; a.revert(&mut store.lock(rt)), reverted(7));
     assert_eq!(rt; a.collect(&mut store.lock(rt)), collected(8, 1, 1));
-    ask(rt, alloc, &a);
+    ask(rt, alloc, &mut a);
     assert_eq!(rt; a.made(), 8);
 
-    let a = store.unpin(rt, a);
+    let a = a.unpin();
     hand_back(rt, &mut sessions, a);
     assert_eq!(rt; store.close(sessions).len(), 8);
     Ok(())

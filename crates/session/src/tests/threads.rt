@@ -2,7 +2,7 @@
 
 ghost use Rattle.std.specs.Prelude.{◌≡◌};
 
-use super::{blank, hand_back, next, open, paint, pin};
+use super::{blank, hand_back, next, open, paint, pin, refill};
 use crate::{Blank, Session, Store};
 use map_core::Setting;
 use metric::{Cell, City};
@@ -42,13 +42,12 @@ fn publish_three<Id: StoreName, R: Wait + Abort>(
 }
 
 /// Pins the newest version, and answers its number once the pin has shown its obstacles: as many as its number says.
-fn pin_once<Id: StoreName, R: Wait + Abort>(
-    rt: &R,
+fn pin_once<Id: StoreName>(
+    rt: &impl Abort,
     alloc: Global,
-    store: &Store<Id>,
     session: Session<Id>,
 ) -> (u32, Session<Id>) {
-    let pinned = pin(rt, alloc, store, session);
+    let mut pinned = pin(rt, alloc, session);
     let version = pinned.version();
     let corner = Cell { x: 63, y: 0 };
     let dist = match pinned.at::<City>(alloc, corner) {
@@ -61,26 +60,18 @@ fn pin_once<Id: StoreName, R: Wait + Abort>(
         expected.get(version as usize).copied(),
         "version {version}"
     );
-    (version, store.unpin(rt, pinned))
+    (version, pinned.unpin())
 }
 
 /// A planner pins three times, and the version never falls.
-fn pin_three<Id: StoreName, R: Wait + Abort>(
-    rt: &R,
-    alloc: Global,
-    store: &Store<Id>,
-    slot: &mut Option<Session<Id>>,
-) {
+fn pin_three<Id: StoreName>(rt: &impl Abort, alloc: Global, slot: &mut Option<Session<Id>>) {
     let mut newest = 0;
     for _ in 0..3 {
         let session = slot.take().expect(rt, "a session");
-        let (version, session) = pin_once(rt, alloc, store, session);
+        let (version, session) = pin_once(rt, alloc, session);
         assert!(rt; newest <= version, "from {newest} to {version}");
         newest = version;
-        match slot.replace(session) {
-            None => {}
-            Some(_) => panic!(rt; "two sessions"),
-        }
+        refill(rt, slot, session);
     }
 }
 
@@ -95,7 +86,7 @@ fn work<Id: StoreName, R: Wait + Abort>(
     if number == 0 {
         publish_three(rt, store, slot);
     } else {
-        pin_three(rt, alloc, store, slot);
+        pin_three(rt, alloc, slot);
     }
 }
 

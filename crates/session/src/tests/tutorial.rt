@@ -46,7 +46,7 @@ fn paint_and_plan<Id: StoreName, R: Wait + Abort>(
     let mut painter = sessions.pop().expect(rt, "two sessions were asked for");
     let planner = sessions.pop().expect(rt, "two sessions were asked for");
     let drawn = draw(rt, &store, &mut painter);
-    let (planner, planned) = plan(rt, alloc, &store, planner);
+    let (planner, planned) = plan(alloc, planner);
     hand_back(rt, &mut sessions, painter);
     hand_back(rt, &mut sessions, planner);
     let log = store.close(sessions);
@@ -75,11 +75,9 @@ fn draw<Id: StoreName, R: Wait>(
     painter.publish(&mut store.lock(rt))
 }
 
-/// The tightest cell of a path on the newest version. The session goes in and comes back on every way out.
-fn plan<Id: StoreName, R: Wait>(
-    rt: &R,
+/// The tightest cell of a path on the newest version. The session goes in and comes back on every way out. No lock is taken.
+fn plan<Id: StoreName>(
     alloc: Global,
-    store: &Store<Id>,
     planner: Session<Id>,
 ) -> (Session<Id>, Result<Option<(Cell, Near)>, Refusal>) {
     let path = [
@@ -87,10 +85,10 @@ fn plan<Id: StoreName, R: Wait>(
         Cell { x: 9, y: 20 },
         Cell { x: 9, y: 40 },
     ];
-    match store.pin(rt, alloc, planner) {
-        Ok(pinned) => {
+    match planner.pin(alloc) {
+        Ok(mut pinned) => {
             let tightest = pinned.along::<Euclid2>(alloc, &path);
-            (store.unpin(rt, pinned), tightest)
+            (pinned.unpin(), tightest)
         }
         Err((planner, refusal)) => (planner, Err(refusal)),
     }

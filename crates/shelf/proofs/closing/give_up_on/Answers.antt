@@ -1,8 +1,8 @@
 -- Giving a reader up keeps the rule, and the load tells what the keeper and the reader have of each other.
 use Rattle.std.proofs.Common.{ap, ◌∙◌}
-use Rattle.shelf.specs.Roles.{keeping, keeper_in, reader_on}
+use Rattle.shelf.specs.Roles.{keeping, keeper_in}
+use Rattle.shelf.specs.Seats.{reader_on}
 use Rattle.shelf.specs.Steps.{without}
-use Rattle.shelf.proofs.OwnTable.{has_word}
 use Rattle.shelf.proofs.MeetingSteps.{gives_it_up}
 use Rattle.shelf.proofs.closing.give_up_on.Goals as goal
 
@@ -10,8 +10,8 @@ pub load-requires : goal.load-requires
 load-requires g c =
     let role = ap (λ m. m.0) c.lay_together.ensures.role in (
       c.lay_together.ensures.table ∙ c.requires.table.0,
-      has_word _ c.requires.table.2,
-      rw c.requires.base (gives_it_up g.Id.StoreName.store.base _ _ _ (keeper_in c.args.keeper.now.me.0) (reader_on c.args.reader.views) role),
+      c.requires.table.2,
+      rw c.requires.base (gives_it_up g.Id.StoreName.store.base _ _ _ (keeper_in c.args.keeper.now.me.0) (reader_on c.args.reader.views) role c.requires.quiet),
     )
 
 pub returns-clause-keeper : goal.returns-clause-keeper

@@ -1,8 +1,8 @@
 -- Laying a reader's view in the keeper's seat keeps the rule.
 use Rattle.std.proofs.Common.{ap, ◌∙◌}
-use Rattle.shelf.specs.Roles.{keeper_in, reader_on}
-use Rattle.shelf.specs.Seats.{base_of}
-use Rattle.shelf.proofs.OwnTable.{has_word, its_role}
+use Rattle.shelf.specs.Roles.{keeper_in}
+use Rattle.shelf.specs.Seats.{base_of, reader_on}
+use Rattle.shelf.proofs.OwnTable.{its_role}
 use Rattle.shelf.proofs.MeetingSteps.{joins}
 use Rattle.shelf.proofs.meeting.lay_together.Goals as goal
 
@@ -13,6 +13,6 @@ join_seat-requires c =
       c.requires.table.0,
       c.into_seat.ensures.0 ∙ c.requires.table.1,
       c.into_seat.ensures.3,
-      has_word _ c.requires.table.2,
+      c.requires.table.2,
       rw (role, its) (joins (base_of c.args.words.now.shared.key) _ _ (keeper_in c.args.keeper.now.me.0) (reader_on c.args.reader.views)),
     )

@@ -1,9 +1,8 @@
 -- The steps of a meeting keep the rule, and the load tells what the keeper and the reader have of each other.
 use Rattle.std.proofs.Common.{ap, ◌∙◌}
-use Rattle.shelf.specs.Roles.{keeping, keeper_in, reader_on}
-use Rattle.shelf.specs.Seats.{base_of}
+use Rattle.shelf.specs.Roles.{keeping, keeper_in}
+use Rattle.shelf.specs.Seats.{base_of, reader_on}
 use Rattle.shelf.specs.Steps.{met, met_by, keeper_part}
-use Rattle.shelf.proofs.OwnTable.{has_word}
 use Rattle.shelf.proofs.MeetingSteps.{meets_it, parts}
 use Rattle.shelf.proofs.meeting.meet_on.Goals as goal
 
@@ -11,7 +10,7 @@ pub load-requires : goal.load-requires
 load-requires g c =
     let role = ap (λ m. m.0) c.lay_together.ensures.role in (
       c.lay_together.ensures.table ∙ c.requires.table.0,
-      has_word _ c.requires.table.2,
+      c.requires.table.2,
       rw c.requires.base (meets_it g.Id.StoreName.store.base _ _ _ (keeper_in c.args.keeper.now.me.0) (reader_on c.args.reader.views) role c.requires.unmet),
     )
 
@@ -22,8 +21,8 @@ split_seat-requires g c =
     let told = c.load.ensures.2 k x (ap (λ m. m.0) c.lay_together.ensures.role) in
     let role = ap (λ m. m.0) told.0 in (
       c.load.ensures.0 ∙ (c.lay_together.ensures.table ∙ c.requires.table.0),
-      has_word _ c.requires.table.2,
-      rw role (parts (base_of c.args.words.now.shared.key) _ (met k) (met_by k x)),
+      c.requires.table.2,
+      rw role (parts (base_of c.args.words.now.shared.key) _ (met k) (met_by g.Id.StoreName.store.base k x)),
     )
 
 pub returns-clause-keeper : goal.returns-clause-keeper

@@ -1,7 +1,6 @@
 -- The readers that were taken have seats, and there is room for the others.
-use Rattle.std.proofs.Common.{◌≡◌, ◌++◌, map}
+use Rattle.std.proofs.Common.{◌≡◌, ◌++◌, length}
 use Rattle.std.specs.Vec.{vec_capacity}
-use Rattle.shelf.specs.Roles.{fresh_reader}
 use Rattle.desk.proofs.tests.opened.seats_of.Given as goal
 
 abbrev pub invariant-loop-reader : goal.invariant-loop-reader
@@ -9,5 +8,5 @@ invariant-loop-reader g l =
     (goal.iterator-loop-reader g).can_next l.reader-iterator
     × (goal.iterator-loop-reader g).is_finite l.reader-iterator
     × (l.yielded ++ l.reader-iterator.rest.items ≡ l.fn.readers.items)
-    × (l.seats.items ≡ map (λ n. fresh_reader n.number) l.yielded)
+    × (length l.seats.items ≡ length l.yielded)
     × (vec_capacity l.seats ≡ vec_capacity l.initial.seats)

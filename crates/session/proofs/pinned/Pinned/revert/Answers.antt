@@ -1,6 +1,13 @@
 -- The pin stays.
+use mathlib.Core.Logic.{inr}
+use Rattle.session.proofs.CommandLemmas.{answered_still}
 use Rattle.session.proofs.PinLemmas.{pin_stays}
 use Rattle.session.proofs.pinned.Pinned.revert.Goals as goal
 
+pub revert-requires : goal.revert-requires
+revert-requires g c = inr (c.self.inside.version, c.self.invariant.held)
+
 pub invariant_of-self : goal.invariant_of-self
-invariant_of-self g c = pin_stays _ _ _ _ c.self.invariant c.revert.ensures.grows
+invariant_of-self g c =
+    let still = answered_still _ _ _ _ _ _ c.revert.result c.revert.ensures.accepted c.revert.ensures.refused in
+    pin_stays _ _ _ _ _ c.self.invariant c.revert.ensures.grows still.announced still.holds

@@ -1,8 +1,9 @@
 -- The last load tells that each caller was a reader that was dealt, so that the counts of all readers add up.
 use Rattle.std.proofs.Common.{ap, sym, ◌∙◌}
+use Rattle.map_core.proofs.PlaceLemmas.{now-within}
 use Rattle.shelf.specs.Roles.{keeper_in}
-use Rattle.shelf.proofs.OwnTable.{at_own, has_own_word}
-use Rattle.shelf.proofs.KeeperSteps.{ends_it}
+use Rattle.shelf.proofs.OwnTable.{at_own, within_own}
+use Rattle.shelf.proofs.EndSteps.{ends_it}
 use Rattle.shelf.proofs.ClosingSums.{closed_sum}
 use Rattle.shelf.proofs.closing.Closing.end.Goals as goal
 
@@ -10,7 +11,7 @@ pub load-requires : goal.load-requires
 load-requires g c =
     let of = c.self.invariant.0 in
     let role = ap (λ m. m.0) c.self.invariant.1 in
-    rw c.deref.ensures (at_own _ _ _ _ of, has_own_word _ _ _ _ of, rw of.basis_is (ends_it g.Id.StoreName.store.base _ _ _ (keeper_in c.self.inside.seat.me.0) role))
+    rw c.deref.ensures (at_own _ _ _ _ _ of, within_own _ _ _ _ _ _ of (now-within _), rw of.basis_is (ends_it g.Id.StoreName.store.base _ _ _ (keeper_in c.self.inside.seat.me.0) role))
 
 pub returns-clause-made : goal.returns-clause-made
 returns-clause-made g c =

@@ -1,21 +1,19 @@
 -- The keeper's seat under its store's name.
 use Rattle.std.proofs.Common.{[], ap, sym, ◌∙◌, subst}
 use Rattle.std.specs.Arc.{arc_value}
-use Rattle.map_core.specs.Tidy.{IsReady}
+use Rattle.shelf.specs.Store.{StoreId}
 use Rattle.shelf.specs.Roles.{keeping, keeper_in}
 use Rattle.shelf.specs.Seats.{IsOf}
-use Rattle.shelf.specs.Store.{StoreId}
-use Rattle.shelf.proofs.KeeperSeats.{says_fresh}
+use Rattle.shelf.proofs.EndSteps.{keeper_fresh}
 use Rattle.shelf.proofs.fresh.FreshKeeper.named.Goals as goal
 
 pub invariant_of-result : goal.invariant_of-result
 invariant_of-result g c =
     let inside = c.self.inside in
     let named = c.self.view_is ∙ c.requires in
-    let is = λ (s : StoreId). IsOf s (arc_value inside.words).shared.table_id (arc_value inside.words).shared.key inside.seat.table_id in
-    let ready = subst (λ (s : StoreId). IsReady s.base) named c.self.invariant.2 in
+    let is = λ (s : StoreId). IsOf s (arc_value inside.words).shared.table_id (arc_value inside.words).shared.key inside.seat.table_id inside.plan in
     let now = ap (λ m. keeper_in m.0) c.self.invariant.1 in (
       subst is named c.self.invariant.0,
       c.self.invariant.1 ∙ ap (λ k. (keeping k, [])) (sym now),
-      rw now (says_fresh g.Id.StoreName.store _ ready),
+      rw now (keeper_fresh g.Id.StoreName.store.base _),
     )

@@ -1,28 +1,38 @@
--- An order keeps the rule, and what the seat keeps beside its view stays what the view says.
-use Rattle.std.proofs.Common.{ap, refl}
-use Rattle.shelf.specs.Roles.{keeper_in}
-use Rattle.shelf.proofs.OwnTable.{at_own, has_own_word}
-use Rattle.shelf.proofs.KeeperSteps.{orders}
-use Rattle.shelf.proofs.KeeperSeats.{still_of, keeper_role, keeper_now, says_ordered}
+-- An order keeps the rule.
+use Rattle.std.proofs.Common.{ap, refl, ◌∙◌}
+use Rattle.map_core.specs.Legal.{refused}
+use Rattle.map_core.specs.Views.{story}
+use Rattle.shelf.specs.Roles.{entries, keeper_in}
+use Rattle.shelf.proofs.OwnTable.{at_own, within_own}
+use Rattle.map_core.proofs.PlaceLemmas.{now-within}
+use Rattle.shelf.proofs.ReaderSeats.{still_of}
+use Rattle.shelf.proofs.KeeperSteps.{orders_it}
+use Rattle.shelf.proofs.KeeperSeats.{keeper_role, keeper_now, says_ordered}
 use Rattle.shelf.proofs.keeper.KeeperSeat.order.Goals as goal
 
 pub compare_exchange_with-requires : goal.compare_exchange_with-requires
 compare_exchange_with-requires g c =
     let of = c.self.invariant.0 in
     let role = ap (λ m. m.0) c.self.invariant.1 in
-    rw c.deref.ensures (at_own _ _ _ _ of, has_own_word _ _ _ _ of, rw of.basis_is (orders g.Id.StoreName.store.base _ _ _ _ (keeper_in c.self.inside.seat.me.0) c.args.signed.now role))
+    let accepted = ap (λ k. refused g.Id.StoreName.store.base.setting (story g.Id.StoreName.store.base (entries k.log)) c.args.asked.now.command) c.self.view_is ∙ c.requires.accepted in
+    rw c.deref.ensures (
+      at_own _ _ _ _ _ of,
+      within_own _ _ _ _ _ _ of (now-within _),
+      rw of.basis_is (orders_it g.Id.StoreName.store.base _ _ _ _ (keeper_in c.self.inside.seat.me.0) c.args.asked.now role accepted),
+    )
 
 pub invariant_of-self : goal.invariant_of-self
 invariant_of-self g c =
     let k = keeper_in c.self.inside.seat.me.0 in
-    let told = c.compare_exchange_with.ensures.2 k c.args.signed.now (ap (λ m. m.0) c.self.invariant.1) refl in (
-      still_of _ _ _ _ _ c.self.invariant.0 c.compare_exchange_with.ensures.0,
+    let accepted = ap (λ q. refused g.Id.StoreName.store.base.setting (story g.Id.StoreName.store.base (entries q.log)) c.args.asked.now.command) c.self.view_is ∙ c.requires.accepted in
+    let told = c.compare_exchange_with.ensures.2 k c.args.asked.now (ap (λ m. m.0) c.self.invariant.1) refl in (
+      still_of _ _ _ _ _ _ c.self.invariant.0 c.compare_exchange_with.ensures.0,
       keeper_role _ _ _ c.self.invariant.1 told,
-      rw (keeper_now c.self.inside.seat.me _ _ told, c.is_publish-self-inside.ensures) (says_ordered _ k _ _ _ _ c.args.signed.now c.self.invariant.2),
+      rw (keeper_now c.self.inside.seat.me _ _ told, c.is_publish-self-inside.ensures) (says_ordered _ k _ _ _ _ c.args.asked.now c.self.invariant.2 accepted),
     )
 
 pub returns : goal.returns
 returns g c =
     let k = keeper_in c.self.inside.seat.me.0 in
-    let told = c.compare_exchange_with.ensures.2 k c.args.signed.now (ap (λ m. m.0) c.self.invariant.1) refl in
+    let told = c.compare_exchange_with.ensures.2 k c.args.asked.now (ap (λ m. m.0) c.self.invariant.1) refl in
     rw (← c.self.view_is) (keeper_now c.self.inside.seat.me _ _ told)

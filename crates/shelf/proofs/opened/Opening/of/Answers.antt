@@ -1,30 +1,38 @@
 -- The rule holds of the table as it is made, and the seats are at it.
-use Rattle.std.proofs.Common.{[], ap, sym, ◌∙◌, subst, refl}
+use Rattle.std.proofs.Common.{length, ap, sym, ◌∙◌, refl}
+use Rattle.map_core.specs.Words.{Base}
 use Rattle.map_core.proofs.OpenWorld.{fits_ready}
-use Rattle.map_core.specs.Tidy.{IsReady}
-use Rattle.shelf.specs.declared.table.Basis.{Basis}
-use Rattle.shelf.specs.Roles.{keeping, resting}
 use Rattle.shelf.specs.Seats.{base_of}
+use Rattle.shelf.proofs.EndSteps.{is_of_new}
 use Rattle.shelf.proofs.OpeningSteps.{rule_at_first}
 use Rattle.shelf.proofs.opened.Opening.of.Goals as goal
 
 pub of_words-requires : goal.of_words-requires
-of_words-requires c = rw c.of.ensures (rule_at_first _ (fits_ready c.args.setting c.args.map.now c.width.ensures.bitmap c.requires))
+of_words-requires c =
+    let z : Base = record { setting = c.args.setting; opening = c.args.map.now } in
+    rw (c.of.ensures, c.as_slice.ensures.value) (rule_at_first z _ (fits_ready c.args.setting c.args.map.now c.tiles.ensures.bitmap c.requires) (c.in_ok-list.ensures {u = tt}).words)
+
+pub deal_all-requires-clause-of : goal.deal_all-requires-clause-of
+deal_all-requires-clause-of c =
+    let z : Base = record { setting = c.args.setting; opening = c.args.map.now } in
+    let made = c.in-Ok.ensures in
+    let shared = c.in-Ok-new.ensures.ok in
+    let told = ap base_of (ap (λ t. t.shared.key) shared ∙ made.5) ∙ ap (λ b. record { setting = c.args.setting; opening = b }) c.of.ensures in
+    is_of_new _ _ _ _ z _ (ap (λ t. t.shared.table_id) shared ∙ sym made.2) told (ap (λ t. t.shared.table_id.words) shared ∙ (made.0 ∙ ap length c.as_slice.ensures.value))
+    (c.in_ok-list.ensures {u = tt}).words
+    (fits_ready c.args.setting c.args.map.now c.tiles.ensures.bitmap c.requires)
+    record { setting_is = refl; tiles_is = c.tiles.ensures.tiles }
 
 pub invariant_of-result : goal.invariant_of-result
 invariant_of-result c =
+    let z : Base = record { setting = c.args.setting; opening = c.args.map.now } in
     let made = c.in-Ok.ensures in
     let shared = c.in-Ok-new.ensures.ok in
-    let at = c.deal_all.ensures.table in
-    let keeper = (c.in_ok-readers.ensures {u = tt}).keeper in
-    let ready = fits_ready c.args.setting c.args.map.now c.width.ensures.bitmap c.requires in
-    let basis = ap (λ t. t.shared.key) shared ∙ made.5 in (
-      record {
-        table_is = ap (λ t. t.shared.table_id) shared ∙ (sym made.2 ∙ sym at);
-        basis_is = refl;
-        seat_is = refl;
-        one_word = ap (λ t. t.words) (at ∙ made.2) ∙ made.0;
-      },
-      keeper ∙ ap (λ (g : Basis). (keeping (resting g.setting.sessions []), [])) (sym basis),
-      subst (λ (g : Basis). IsReady (base_of g)) (sym basis) (rw c.of.ensures ready),
+    let dealt = c.in_ok-readers.ensures {u = tt} in
+    let told = ap base_of (ap (λ t. t.shared.key) shared ∙ made.5) ∙ ap (λ b. record { setting = c.args.setting; opening = b }) c.of.ensures in (
+      is_of_new _ _ _ _ z _ (ap (λ t. t.shared.table_id) shared ∙ (sym made.2 ∙ sym dealt.table)) told (ap (λ t. t.shared.table_id.words) shared ∙ (made.0 ∙ ap length c.as_slice.ensures.value))
+          (c.in_ok-list.ensures {u = tt}).words
+          (fits_ready c.args.setting c.args.map.now c.tiles.ensures.bitmap c.requires)
+          record { setting_is = refl; tiles_is = c.tiles.ensures.tiles },
+      dealt.keeper,
     )

@@ -1,0 +1,82 @@
+-- A command that the keeper commits is carried out: the reply that is computed is the one that its log has.
+use Rattle.std.proofs.Common.{◌≡◌, ℕ, ◌<◌, List, [], ◌∷◌, ◌++◌, refl, ap, subst, sym, ◌∙◌}
+use Rattle.std.specs.Prelude.{false, Some, None}
+use Rattle.map_core.specs.declared.command.Command.{Command}
+use Rattle.map_core.specs.declared.command.Command.TheVariants.{Paint, Stamp, Publish, Revert, Collect}
+use Rattle.map_core.specs.declared.command.Reply.{Reply}
+use Rattle.map_core.specs.Blocks.{Blocks}
+use Rattle.map_core.specs.Drawing.{draws}
+use Rattle.map_core.specs.Legal.{refused}
+use Rattle.map_core.specs.Ledger.{refused_by_ledger}
+use Rattle.map_core.specs.Steps.{steps_before}
+use Rattle.map_core.specs.Words.{Base}
+use Rattle.map_core.specs.Views.{story, blocks}
+use Rattle.shelf.specs.Store.{StoreId, readers_of}
+use Rattle.shelf.specs.Roles.{Task, KeeperView, entries}
+use Rattle.shelf.specs.Steps.{ordered, committed, MayCommit}
+use Rattle.map_core.proofs.Replies.{HasFloor, the_reply}
+use Rattle.desk.specs.declared.holding.Holding.{Holding}
+use Rattle.desk.specs.Holdings.{IsTold, IsOneStep, Does}
+use Rattle.desk.specs.Carries.{CanCarry, IsCarried, signed}
+use Rattle.desk.proofs.HoldDraw.{judged_other}
+
+-- a command in hand, of which so many steps are done, and whose scan saw these words
+abbrev pub task_of : ℕ → Command → ℕ → List ℕ → Task
+task_of by c done words = record { by = by; hand = record { command = c; done = done; scanned = words } }
+
+-- the keeper with it
+abbrev pub with_task : KeeperView → Task → KeeperView
+with_task k t = record k { task = Some t }
+
+-- a keeper that can carry a command out has none in hand
+pub none_in_hand : (z : StoreId) (k : KeeperView) (h : Holding) → CanCarry z k h → k.task ≡ None
+none_in_hand z k h able = ap (λ (u : KeeperView). u.task) able.keeper_is
+
+-- each commit was met
+pub all_met : (z : StoreId) (k : KeeperView) (h : Holding) → CanCarry z k h → k.unmet ≡ None
+all_met z k h able = ap (λ (u : KeeperView). u.unmet) able.keeper_is
+
+-- and its caller is dealt
+pub is_dealt : (z : StoreId) (k : KeeperView) (h : Holding) (by : ℕ) → CanCarry z k h → by < readers_of z → by < k.dealt
+is_dealt z k h by able below = subst (λ (n : ℕ). by < n) (sym (ap (λ (u : KeeperView). u.dealt) able.keeper_is)) below
+
+-- a publish or a collect that the ledger doesn't refuse is accepted
+pub accepted : (z : StoreId) (k : KeeperView) (h : Holding) (c : Command) → CanCarry z k h → draws c ≡ false → refused_by_ledger h.ledger c ≡ None → refused z.base.setting (story z.base (entries k.log)) c ≡ None
+accepted z k h c able other by = sym (judged_other z.base (entries k.log) h c able.told other by)
+
+-- a command of one step has none before its last
+no_steps : (z : Base) (m : Blocks) (c : Command) → IsOneStep c → 0 ≡ steps_before z m c
+unfolding steps_before
+no_steps z m (Paint r black) one = refl
+no_steps z m (Stamp x y b) one = refl
+no_steps z m Publish one = absurd one
+no_steps z m Revert one = refl
+no_steps z m Collect one = absurd one
+
+-- so it may be committed at once
+pub may_commit : (z : Base) (k u : KeeperView) (by : ℕ) (c : Command) → u ≡ ordered k by c → IsOneStep c → by < k.dealt → k.unmet ≡ None → MayCommit z u
+may_commit z k u by c is one caller met =
+    subst (λ (q : KeeperView). MayCommit z q) (sym is)
+    record { task = task_of by c 0 []; in_hand = refl; all_done = no_steps z (blocks z (entries k.log)) c one; caller = caller; met = met }
+
+-- what a commit makes of a keeper with this task
+pub committed_is : (z : Base) (k u l : KeeperView) (t : Task) → u ≡ with_task k t → ((t : Task) → u.task ≡ Some t → l ≡ committed z u t) → l ≡ committed z (with_task k t) t
+committed_is z k u l t is step = step t (ap (λ (q : KeeperView). q.task) is) ∙ ap (λ (q : KeeperView). committed z q t) is
+
+-- what is committed is what is answered
+pub carried_is : (z : StoreId) (k after : KeeperView) (h new : Holding) (by done : ℕ) (c : Command) (words : List ℕ) (reply : Reply) → IsTold z.base (entries k.log) h → Does h c reply new
+    → HasFloor (story z.base (entries k.log)) c reply words → after ≡ committed z.base (with_task k (task_of by c done words)) (task_of by c done words) → IsCarried k h by c reply after new
+carried_is z k after h new by done c words reply told does floor is =
+    let same = the_reply (story z.base (entries k.log)) c reply words (does z.base (entries k.log) told).0.reply_is floor in
+    record {
+      keeper_is = is ∙ ap (λ (r : Reply). record k { log = k.log ++ signed by c r ∷ []; task = None; unmet = Some by }) (sym same);
+      does = does;
+    }
+
+-- a command of one step has no floor
+pub no_floor : (z : StoreId) (k : KeeperView) (c : Command) (reply : Reply) → IsOneStep c → HasFloor (story z.base (entries k.log)) c reply []
+no_floor z k (Paint r black) reply one = tt
+no_floor z k (Stamp x y b) reply one = tt
+no_floor z k Publish reply one = absurd one
+no_floor z k Revert reply one = tt
+no_floor z k Collect reply one = absurd one

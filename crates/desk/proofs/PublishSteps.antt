@@ -1,0 +1,97 @@
+-- What is held is what a publish stores, tile by tile.
+use Rattle.std.proofs.Common.{◌≡◌, ℕ, ◌+◌, ◌*◌, ◌<◌, List, [], length, take, get_or, refl, ap, subst, sym, ◌∙◌, arith}
+use Rattle.std.specs.Prelude.{Option, Some, None}
+use Rattle.std.proofs.lemmas.List.{length-map, take_all}
+use Rattle.bits.specs.Cells.{Cells}
+use Rattle.bits.specs.TileWords.{tile_words}
+use Rattle.map_core.specs.declared.command.Command.{Command}
+use Rattle.map_core.specs.declared.command.Command.TheVariants.{Publish}
+use Rattle.map_core.specs.declared.command.Reply.{Reply}
+use Rattle.map_core.specs.Story.{newest}
+use Rattle.map_core.specs.Blocks.{own_list, mapped, directory_of}
+use Rattle.map_core.specs.Words.{Base, tiles}
+use Rattle.map_core.specs.Views.{story, blocks}
+use Rattle.grid.specs.Grids.{draft, own_blocks, newest_blocks}
+use Rattle.grid.specs.Pieces.{block_if}
+use Rattle.shelf.specs.Store.{StoreId, readers_of}
+use Rattle.shelf.specs.Roles.{Task, KeeperView, entries}
+use Rattle.shelf.specs.Steps.{ordered, writing, committed, one_own, IsOwn, MayCommit}
+use Rattle.map_core.proofs.PublishWords.{own_more}
+use Rattle.shelf.proofs.WriteSteps.{is_own, may_publish, publish_done}
+use Rattle.desk.specs.declared.holding.Holding.{Holding}
+use Rattle.desk.specs.Holdings.{IsTold, Does}
+use Rattle.desk.specs.Carries.{CanCarry, IsCarried}
+use Rattle.desk.proofs.CarryLemmas.{all_met, is_dealt, carried_is}
+use Rattle.desk.proofs.HoldLemmas.{tidy_told}
+
+-- the draft has a place of its own for each position
+pub own_long : (z : Base) (k : KeeperView) (h : Holding) → IsTold z (entries k.log) h → length h.grid.own ≡ tiles z
+own_long z k h told =
+    sym (length-map h.grid.own block_if) ∙ (ap (λ (os : List (Option ℕ)). length os) told.holds.summary.own_is ∙ (tidy_told z (entries k.log) h told).shape.own)
+
+-- a tile that the draft has of its own is the next one of a publish
+pub next_tile : (z : Base) (k : KeeperView) (h : Holding) (by index p block n : ℕ) (words : List ℕ) → IsTold z (entries k.log) h → k ≡ writing k by n
+    → index ≡ length (own_list (take p (blocks z (entries k.log)).own)) → get_or (own_blocks h.grid) p None ≡ Some block → words ≡ tile_words (draft h.grid) p
+    → (q : ℕ) × IsOwn z k index block q × (words ≡ tile_words (story z (entries k.log)).draft q)
+next_tile z k h by index p block n words told in_hand count there shows = (
+  p,
+  is_own z k k by n (blocks z (entries k.log)).own p index block in_hand refl count (ap (λ (os : List (Option ℕ)). get_or os p None) (sym told.holds.summary.own_is) ∙ there),
+  shows ∙ ap (λ (b : Cells). tile_words b p) told.holds.summary.draft_is,
+)
+
+-- how many own tiles there are up to a position and with it
+pub one_more : (z : Base) (k : KeeperView) (h : Holding) (index p more : ℕ) (o : Option ℕ) → IsTold z (entries k.log) h → p < tiles z
+    → index ≡ length (own_list (take p (blocks z (entries k.log)).own)) → get_or (own_blocks h.grid) p None ≡ o → more ≡ one_own o
+    → index + more ≡ length (own_list (take (p + 1) (blocks z (entries k.log)).own))
+one_more z k h index p more o told inside count there more_is =
+    let own = (blocks z (entries k.log)).own in
+    let long = (tidy_told z (entries k.log) h told).shape.own in
+    (λ i. count i + (more_is ∙ ap one_own (sym there ∙ ap (λ (os : List (Option ℕ)). get_or os p None) told.holds.summary.own_is)) i) ∙ sym (own_more own p (omega arith))
+
+-- as many as there are in all, at the last position
+pub all_own : (z : Base) (k : KeeperView) (h : Holding) (n count : ℕ) → IsTold z (entries k.log) h → n ≡ tiles z → count ≡ length (own_list (take n (blocks z (entries k.log)).own))
+    → count ≡ length (own_list (blocks z (entries k.log)).own)
+all_own z k h n count told all is =
+    let long = (tidy_told z (entries k.log) h told).shape.own in
+    is ∙ ap (λ (os : List (Option ℕ)). length (own_list os)) (take_all n (blocks z (entries k.log)).own (omega arith))
+
+-- a block of the next directory
+pub next_block : (z : Base) (k : KeeperView) (h : Holding) (p block : ℕ) → IsTold z (entries k.log) h → block ≡ get_or (mapped (own_blocks h.grid) (newest_blocks h.grid)) p 0
+    → block ≡ get_or (mapped (blocks z (entries k.log)).own (directory_of (blocks z (entries k.log)) (newest (story z (entries k.log))))) p 0
+next_block z k h p block told is =
+    is ∙ (λ i. get_or (mapped (told.holds.summary.own_is i) (told.holds.mapped i)) p 0)
+
+-- the keeper that has taken a publish in hand has stored nothing yet
+pub publish_begun : (k u : KeeperView) (by : ℕ) (c : Command) → u ≡ ordered k by c → c ≡ Publish → u ≡ writing u by 0
+publish_begun k u by c is publish =
+    let begun : u ≡ writing k by 0 = is ∙ ap (ordered k by) publish in
+    begun ∙ sym (ap (λ (q : KeeperView). writing q by 0) begun)
+
+-- what is held is still told
+pub told_ordered : (z : Base) (k u : KeeperView) (h : Holding) (by : ℕ) (c : Command) → u ≡ ordered k by c → IsTold z (entries k.log) h → IsTold z (entries u.log) h
+told_ordered z k u h by c is told = subst (λ (q : KeeperView). IsTold z (entries q.log) h) (sym is) told
+
+-- what a publish has become before its commit: all of its words are stored
+pub record IsWritten (z : Base) (k u : KeeperView) (by stored : ℕ) : Type 0 where
+  pub keeper_is : u ≡ writing k by (64 * stored + tiles z)
+  pub count : stored ≡ length (own_list (blocks z (entries k.log)).own)
+
+-- from its steps
+pub written : (z : Base) (k a b u : KeeperView) (by stored : ℕ) (c : Command) → a ≡ ordered k by c → b ≡ writing a by (64 * stored) → stored ≡ length (own_list (blocks z (entries a.log)).own)
+    → u ≡ writing b by (64 * stored + tiles z) → IsWritten z k u by stored
+written z k a b u by stored c order rows count directory = record {
+  keeper_is = directory ∙ ap (λ (q : KeeperView). writing q by (64 * stored + tiles z)) (rows ∙ ap (λ (q : KeeperView). writing q by (64 * stored)) order);
+  count = count ∙ ap (λ (q : KeeperView). length (own_list (blocks z (entries q.log)).own)) order;
+}
+
+-- a publish all of whose words are stored may be committed
+pub may_commit_written : (z : StoreId) (k u : KeeperView) (h : Holding) (by stored : ℕ) → CanCarry z k h → by < readers_of z → IsWritten z.base k u by stored → MayCommit z.base u
+may_commit_written z k u h by stored able caller done =
+    may_publish z.base k u by (64 * stored + tiles z.base) done.keeper_is (ap (λ (n : ℕ). 64 * n + tiles z.base) done.count) (is_dealt z k h by able caller) (all_met z k h able)
+
+-- and is carried out then
+pub publish_carried : (z : StoreId) (k u l : KeeperView) (h new : Holding) (by stored : ℕ) (c : Command) (reply : Reply) → CanCarry z k h → c ≡ Publish → IsWritten z.base k u by stored
+    → Does h Publish reply new → ((t : Task) → u.task ≡ Some t → l ≡ committed z.base u t) → IsCarried k h by c reply l new
+publish_carried z k u l h new by stored c reply able publish done does step =
+    subst (λ (d : Command). IsCarried k h by d reply l new) (sym publish)
+    (carried_is z k l h new by (64 * stored + tiles z.base) Publish [] reply able.told does tt (publish_done z.base k u l by (64 * stored + tiles z.base) done.keeper_is step))

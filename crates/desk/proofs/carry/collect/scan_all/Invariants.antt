@@ -1,0 +1,12 @@
+-- So many words are loaded.
+use Rattle.std.proofs.Common.{◌≡◌, length, map, take}
+use Rattle.map_core.specs.Words.{pin_word}
+use Rattle.shelf.specs.Steps.{scanning}
+use Rattle.desk.proofs.carry.collect.scan_all.Given as goal
+
+abbrev pub invariant-loop-reader : goal.invariant-loop-reader
+invariant-loop-reader g l =
+    record {
+      keeper : l.keeper ≡ scanning l.fn.keeper l.by (map pin_word (take l.reader l.announced.items));
+      place_each : length l.announced.items ≡ l.sessions;
+    }

@@ -1,0 +1,7 @@
+-- So many words are stored.
+use Rattle.std.proofs.Common.{◌≡◌, ◌+◌, ◌*◌}
+use Rattle.shelf.specs.Steps.{writing}
+use Rattle.desk.proofs.carry.publish.write_directory.Given as goal
+
+abbrev pub invariant-loop-position : goal.invariant-loop-position
+invariant-loop-position g l = l.keeper ≡ writing l.fn.keeper l.by (64 * l.stored + l.position)

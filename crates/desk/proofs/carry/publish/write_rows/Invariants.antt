@@ -1,0 +1,7 @@
+-- So many rows are stored.
+use Rattle.std.proofs.Common.{◌≡◌, ◌+◌, ◌*◌}
+use Rattle.shelf.specs.Steps.{writing}
+use Rattle.desk.proofs.carry.publish.write_rows.Given as goal
+
+abbrev pub invariant-loop-row : goal.invariant-loop-row
+invariant-loop-row g l = l.keeper ≡ writing l.fn.keeper l.by (64 * l.index + l.row)

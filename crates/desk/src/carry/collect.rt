@@ -1,0 +1,78 @@
+//! A collect, word by word: what each reader announces is loaded, and the floor is the least that one of them may still need.
+
+ghost use Rattle.std.specs.Prelude.{◌≡◌, ℕ, ◌+◌, ◌<◌, ◌≤◌, ◌^◌, [], length, map, Some, None};
+ghost use Rattle.map_core.specs.declared.command.Command.TheVariants.{Collect};
+ghost use Rattle.map_core.specs.Ledger.{refused_by_ledger};
+ghost use Rattle.map_core.specs.Steps.{floor_after};
+ghost use Rattle.map_core.specs.Story.{newest};
+ghost use Rattle.map_core.specs.Words.{pin_word};
+ghost use Rattle.map_core.specs.Views.{story};
+ghost use Rattle.shelf.specs.Store.{readers_of};
+ghost use Rattle.shelf.specs.Roles.{entries};
+ghost use Rattle.shelf.specs.Steps.{scanning, collected};
+ghost use Rattle.desk.specs.Carries.{CanCarry, IsCarried};
+
+use crate::holding::Holding;
+use epoch::floor_after;
+use map_core::Reply;
+use shelf::{Asked, KeeperSeat, StoreName};
+
+/// The version that a reader's word announces, if it announces one.
+fn version_in(word: u64) -> Option<u32>
+    requires { word < 2 ^ 32 }
+    ensures { word ≡ pin_word result }
+{
+    match word {
+        0 => None,
+        _ => Some((word - 1) as u32),
+    }
+}
+
+/// Loads each reader's word, by number, and leaves there what it announces.
+fn scan_all<Id: StoreName>(
+    keeper: &mut KeeperSeat<Id>,
+    by: u32,
+    sessions: u32,
+    announced: &mut Vec<Option<u32>>,
+)
+    requires in_hand { keeper.old ≡ scanning keeper.old by [] }
+    requires sessions { sessions ≡ readers_of Id.store }
+    requires place_each { length announced.old.items ≡ sessions }
+    requires few { newest (story Id.store.base (entries keeper.old.log)) + 1 < 2 ^ 32 }
+    ensures keeper { keeper.new ≡ scanning keeper.old by (map pin_word announced.new.items) }
+    ensures place_each { length announced.new.items ≡ sessions }
+{
+    for reader in 0..sessions {
+        let word = keeper.scan(reader);
+        announced[reader as usize] = version_in(word);
+    }
+}
+
+/// Carries out a collect that the ledger doesn't refuse. The floor is that of what its scan saw, which is left in `announced`.
+pub fn carry_collect<Id: StoreName>(
+    keeper: &mut KeeperSeat<Id>,
+    holding: &mut Holding,
+    announced: &mut Vec<Option<u32>>,
+    asked: &Asked,
+) -> Reply
+    requires able { CanCarry Id.store keeper.old holding.old }
+    requires caller { asked.now.by < readers_of Id.store }
+    requires place_each { length announced.old.items ≡ readers_of Id.store }
+    requires command { asked.now.command ≡ Collect }
+    requires judged { refused_by_ledger holding.old.ledger asked.now.command ≡ None }
+    ensures carried { IsCarried keeper.old holding.old asked.now.by asked.now.command result keeper.new holding.new }
+    ensures scanned { keeper.new ≡ collected Id.store.base keeper.old asked.now.by (map pin_word announced.new.items) }
+    ensures floor { holding.new.ledger.floor ≡ floor_after (story Id.store.base (entries keeper.old.log)) (map pin_word announced.new.items) }
+    ensures place_each { length announced.new.items ≡ readers_of Id.store }
+{
+    keeper.order(asked);
+    scan_all(keeper, asked.by, holding.ledger.setting.sessions, announced);
+    let floor = floor_after(
+        holding.ledger.floor,
+        holding.ledger.newest,
+        announced.as_slice(),
+    );
+    let reply = holding.collect(floor);
+    keeper.commit();
+    reply
+}

@@ -1,0 +1,126 @@
+//! A publish, word by word: the rows of the draft's own tiles, then the directory of the next version.
+
+ghost use Rattle.std.specs.Prelude.{◌≡◌, ℕ, ◌+◌, ◌*◌, ◌<◌, length, take, None};
+ghost use Rattle.bits.specs.TileWords.{tile_words};
+ghost use Rattle.map_core.specs.declared.command.Command.TheVariants.{Publish};
+ghost use Rattle.map_core.specs.Blocks.{own_list};
+ghost use Rattle.map_core.specs.Ledger.{refused_by_ledger};
+ghost use Rattle.map_core.specs.Words.{tiles};
+ghost use Rattle.map_core.specs.Views.{story, blocks};
+ghost use Rattle.shelf.specs.Store.{readers_of};
+ghost use Rattle.shelf.specs.Roles.{entries};
+ghost use Rattle.shelf.specs.Seats.{IsPlan};
+ghost use Rattle.shelf.specs.Steps.{writing, one_own, IsOwn};
+ghost use Rattle.desk.specs.Holdings.{IsTold};
+ghost use Rattle.desk.specs.Carries.{CanCarry, IsCarried};
+
+use crate::holding::Holding;
+use map_core::Reply;
+use shelf::{Asked, KeeperSeat, Plan, StoreName};
+
+/// Stores the rows of one of the draft's own blocks, the one at this place among them, counted from 0.
+fn write_rows<Id: StoreName>(
+    keeper: &mut KeeperSeat<Id>,
+    plan: Plan,
+    by: u32,
+    index: u32,
+    block: u32,
+    rows: &[u64; 64],
+)
+    requires plan { IsPlan Id.store.base plan }
+    requires in_hand { keeper.old ≡ writing keeper.old by (64 * index) }
+    requires own { (p : ℕ) × IsOwn Id.store.base keeper.old index block p × (rows.now ≡ tile_words (story Id.store.base (entries keeper.old.log)).draft p) }
+    ensures { keeper.new ≡ writing keeper.old by (64 * index + 64) }
+{
+    for row in 0..64u16 {
+        keeper.write_word(plan.tile_at(block, row), rows[usize::from(row)]);
+    }
+}
+
+/// Stores the rows of the tile that the draft has of its own at a position, if it has one, and answers how many tiles that were.
+fn write_tile<Id: StoreName>(
+    keeper: &mut KeeperSeat<Id>,
+    plan: Plan,
+    holding: &Holding,
+    by: u32,
+    index: u32,
+    position: u16,
+) -> u32
+    requires plan { IsPlan Id.store.base plan }
+    requires told { IsTold Id.store.base (entries keeper.old.log) holding.now }
+    requires inside { position < tiles Id.store.base }
+    requires in_hand { keeper.old ≡ writing keeper.old by (64 * index) }
+    requires index { index ≡ length (own_list (take position (blocks Id.store.base (entries keeper.old.log)).own)) }
+    ensures keeper { keeper.new ≡ writing keeper.old by (64 * (index + result)) }
+    ensures count { index + result ≡ length (own_list (take (position + 1) (blocks Id.store.base (entries keeper.old.log)).own)) }
+{
+    match holding.grid.own_tile(position) {
+        Some(tile) => {
+            write_rows(keeper, plan, by, index, tile.number(), tile.words());
+            1
+        }
+        None => 0,
+    }
+}
+
+/// Stores the rows of all of the draft's own tiles, by position, and answers how many tiles there are.
+fn write_tiles<Id: StoreName>(
+    keeper: &mut KeeperSeat<Id>,
+    plan: Plan,
+    holding: &Holding,
+    by: u32,
+) -> u32
+    requires plan { IsPlan Id.store.base plan }
+    requires told { IsTold Id.store.base (entries keeper.old.log) holding.now }
+    requires in_hand { keeper.old ≡ writing keeper.old by 0 }
+    ensures keeper { keeper.new ≡ writing keeper.old by (64 * result) }
+    ensures count { result ≡ length (own_list (blocks Id.store.base (entries keeper.old.log)).own) }
+{
+    let mut stored = 0;
+    for position in 0..plan.tiles {
+        stored += write_tile(keeper, plan, holding, by, stored, position);
+    }
+    stored
+}
+
+/// Stores the directory of the next version, behind the rows of so many tiles.
+fn write_directory<Id: StoreName>(
+    keeper: &mut KeeperSeat<Id>,
+    plan: Plan,
+    holding: &Holding,
+    by: u32,
+    stored: u32,
+)
+    requires plan { IsPlan Id.store.base plan }
+    requires told { IsTold Id.store.base (entries keeper.old.log) holding.now }
+    requires in_hand { keeper.old ≡ writing keeper.old by (64 * stored) }
+    requires stored { stored ≡ length (own_list (blocks Id.store.base (entries keeper.old.log)).own) }
+    ensures { keeper.new ≡ writing keeper.old by (64 * stored + tiles Id.store.base) }
+{
+    let version = holding.ledger.newest + 1;
+    for position in 0..plan.tiles {
+        let block = holding.grid.block_at(position);
+        keeper.write_word(plan.map_at(version, position), u64::from(block));
+    }
+}
+
+/// Carries out a publish that the ledger doesn't refuse.
+pub fn carry_publish<Id: StoreName>(
+    keeper: &mut KeeperSeat<Id>,
+    holding: &mut Holding,
+    asked: &Asked,
+) -> Reply
+    requires able { CanCarry Id.store keeper.old holding.old }
+    requires caller { asked.now.by < readers_of Id.store }
+    requires command { asked.now.command ≡ Publish }
+    requires judged { refused_by_ledger holding.old.ledger asked.now.command ≡ None }
+    ensures { IsCarried keeper.old holding.old asked.now.by asked.now.command result keeper.new holding.new }
+{
+    let plan = keeper.plan();
+    keeper.order(asked);
+    let stored = write_tiles(keeper, plan, holding, asked.by);
+    write_directory(keeper, plan, holding, asked.by, stored);
+    let reply = holding.publish();
+    keeper.commit();
+    reply
+}

@@ -1,0 +1,13 @@
+-- The readers that were taken are the first sessions.
+use Rattle.std.proofs.Common.{◌≡◌, ◌++◌, map}
+use Rattle.std.specs.Vec.{vec_capacity}
+use Rattle.shelf.specs.Roles.{fresh_reader}
+use Rattle.session.proofs.sessions.sessions_of.Given as goal
+
+abbrev pub invariant-loop-reader : goal.invariant-loop-reader
+invariant-loop-reader g l =
+    (goal.iterator-loop-reader g).can_next l.reader-iterator
+    × (goal.iterator-loop-reader g).is_finite l.reader-iterator
+    × (l.yielded ++ l.reader-iterator.rest.items ≡ l.fn.readers.items)
+    × (l.sessions.items ≡ map (λ n. fresh_reader n.number) l.yielded)
+    × (vec_capacity l.sessions ≡ vec_capacity l.initial.sessions)

@@ -1,0 +1,76 @@
+//! What a pin is asked: the queries over the version that it holds.
+
+ghost use Rattle.std.specs.Prelude.{◌≡◌, None, IfOk, IfErr};
+ghost use Rattle.metric.specs.Nearest.{IsNear};
+ghost use Rattle.bits.specs.Cells.{IsInside, IsObstacle};
+ghost use Rattle.clearance.specs.Answers.{IsClearOf, IsLeastOf, IsRefusalFor, LiesIn, cells_of_rect};
+ghost use Rattle.clearance.specs.Paths.{IsPathRefusal, cells_of_path, path_refusal};
+ghost use Rattle.session.specs.Sessions.{bitmap_pinned};
+
+use crate::pinned::Pinned;
+use metric::{Cell, Metric, Near, Rect, Refusal};
+use shelf::StoreName;
+use std::alloc::Global;
+
+impl<Id: StoreName> Pinned<Id> {
+    /// The nearest obstacle of a cell in the version that it holds, as `clearance::at` answers.
+    ///
+    /// Refused, in this order, for a cell outside the map (`OutOfRange`) and for want of memory.
+    pub fn at<M: Metric>(&mut self, alloc: Global, cell: Cell) -> Result<Option<Near>, Refusal>
+        ensures pin { self.new ≡ self.old }
+        ensures inside { IfOk result (λ _. IsInside (bitmap_pinned Id.store self.old) cell.x cell.y) }
+        ensures near { IfOk result (λ near. IsNear M.distance (IsObstacle (bitmap_pinned Id.store self.old)) cell.x cell.y near) }
+        ensures refused { IfErr result (IsRefusalFor (IsInside (bitmap_pinned Id.store self.old) cell.x cell.y)) }
+    {
+        clearance::at::<M>(alloc, self.bitmap(), cell)
+    }
+
+    /// The least distance over a rectangle in the version that it holds, as `clearance::least_in` answers.
+    ///
+    /// Refused, in this order, for a rectangle that isn't wholly in the map (`OutOfRange`) and for want of memory.
+    pub fn least_in<M: Metric>(
+        &mut self,
+        alloc: Global,
+        rect: Rect,
+    ) -> Result<Option<(Cell, Near)>, Refusal>
+        ensures pin { self.new ≡ self.old }
+        ensures inside { IfOk result (λ _. LiesIn (bitmap_pinned Id.store self.old) rect) }
+        ensures least { IfOk result (IsLeastOf M.distance (IsObstacle (bitmap_pinned Id.store self.old)) (cells_of_rect rect.x0 rect.y0 rect.x1 rect.y1)) }
+        ensures refused { IfErr result (IsRefusalFor (LiesIn (bitmap_pinned Id.store self.old) rect)) }
+    {
+        clearance::least_in::<M>(alloc, self.bitmap(), rect)
+    }
+
+    /// The least distance along a path in the version that it holds, as `clearance::along` answers.
+    ///
+    /// Refused, in this order, for no point or over 1000 (`BadPath`), a point outside the map (`OutOfRange`), the first point that is in
+    /// neither the row nor the column of the one before it (`Crooked`), and want of memory.
+    pub fn along<M: Metric>(
+        &mut self,
+        alloc: Global,
+        points: &[Cell],
+    ) -> Result<Option<(Cell, Near)>, Refusal>
+        ensures pin { self.new ≡ self.old }
+        ensures accepted { IfOk result (λ _. path_refusal (bitmap_pinned Id.store self.old) points.now ≡ None) }
+        ensures least { IfOk result (IsLeastOf M.distance (IsObstacle (bitmap_pinned Id.store self.old)) (cells_of_path points.now)) }
+        ensures refused { IfErr result (IsPathRefusal (bitmap_pinned Id.store self.old) points.now) }
+    {
+        clearance::along::<M>(alloc, self.bitmap(), points)
+    }
+
+    /// Whether each cell of a path is at least `d` away from the obstacles of the version that it holds, in the metric's unit, as
+    /// `clearance::clear_of` answers. Refused as `along` is.
+    pub fn clear_of<M: Metric>(
+        &mut self,
+        alloc: Global,
+        points: &[Cell],
+        d: u32,
+    ) -> Result<Option<(Cell, Near)>, Refusal>
+        ensures pin { self.new ≡ self.old }
+        ensures accepted { IfOk result (λ _. path_refusal (bitmap_pinned Id.store self.old) points.now ≡ None) }
+        ensures clear { IfOk result (IsClearOf M.distance (IsObstacle (bitmap_pinned Id.store self.old)) (cells_of_path points.now) d) }
+        ensures refused { IfErr result (IsPathRefusal (bitmap_pinned Id.store self.old) points.now) }
+    {
+        clearance::clear_of::<M>(alloc, self.bitmap(), points, d)
+    }
+}

@@ -1,0 +1,64 @@
+//! Reading a version by the shared words.
+
+ghost use Rattle.std.specs.Prelude.{◌≡◌, ◌<◌, true, Some};
+ghost use Rattle.bits.specs.TileWords.{tile_words};
+ghost use Rattle.map_core.specs.Words.{tiles};
+ghost use Rattle.map_core.specs.Tidy.{IsOfMap};
+ghost use Rattle.session.specs.Sessions.{bitmap_seen};
+
+use bits::Bitmap;
+use shelf::{ReaderSeat, StoreName};
+
+/// Reads the words of the tile that the held version has at a position: its block, and the block's rows.
+fn read_tile<Id: StoreName>(
+    seat: &mut ReaderSeat<Id>,
+    version: u32,
+    position: u16,
+    words: &mut [u64; 64],
+)
+    requires held { seat.old.holds ≡ Some version }
+    requires inside { position < tiles Id.store.base }
+    ensures seat { seat.new ≡ seat.old }
+    ensures words { words.new ≡ tile_words (bitmap_seen Id.store seat.old version) position }
+{
+    let block = seat.look_map(version, position);
+    'rows: for row in 0..64u16 {
+        words[usize::from(row)] = seat.look_tile(block, row);
+    }
+}
+
+/// Reads the held version, tile by tile, into a bitmap of the map's size.
+fn read_version<Id: StoreName>(seat: &mut ReaderSeat<Id>, version: u32, bitmap: &mut Bitmap)
+    requires held { seat.old.holds ≡ Some version }
+    requires of_map { IsOfMap Id.store.base (bitmap_seen Id.store seat.old version) }
+    requires width { bitmap.old.width ≡ Id.store.base.opening.width }
+    requires height { bitmap.old.height ≡ Id.store.base.opening.height }
+    ensures seat { seat.new ≡ seat.old }
+    ensures bitmap { bitmap.new ≡ bitmap_seen Id.store seat.old version }
+{
+    let mut words = [0; 64];
+    'positions: for position in 0..bitmap.tiles() {
+        read_tile(seat, version, position, &mut words);
+        bitmap.put_tile(position, &words);
+    }
+}
+
+/// Reads the held version into a bitmap of the map's size, unless it is read already.
+pub fn read_once<Id: StoreName>(
+    seat: &mut ReaderSeat<Id>,
+    version: u32,
+    is_read: bool,
+    bitmap: &mut Bitmap,
+)
+    requires held { seat.old.holds ≡ Some version }
+    requires of_map { IsOfMap Id.store.base (bitmap_seen Id.store seat.old version) }
+    requires width { bitmap.old.width ≡ Id.store.base.opening.width }
+    requires height { bitmap.old.height ≡ Id.store.base.opening.height }
+    requires is_read { is_read ≡ true → bitmap.old ≡ bitmap_seen Id.store seat.old version }
+    ensures seat { seat.new ≡ seat.old }
+    ensures bitmap { bitmap.new ≡ bitmap_seen Id.store seat.old version }
+{
+    if !is_read {
+        read_version(seat, version, bitmap);
+    }
+}

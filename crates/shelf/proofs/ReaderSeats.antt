@@ -1,0 +1,64 @@
+-- A reader's seat after a load of NOW.
+use mathlib.Core.Logic.{inl, inr}
+use Rattle.map_core.specs.Steps.{next_hold}
+use Rattle.std.proofs.Common.{◌≡◌, ℕ, Bool, List, [], ◌∷◌, length, ap, sym, ◌∙◌, refl}
+use Rattle.std.specs.Prelude.{Option, Some, None, is_some, is_none, ◌&&◌, if◌then◌else◌, ◌⊎◌}
+use Rattle.atomic_table.specs.Seated.{TableId}
+use Rattle.map_core.specs.Story.{newest}
+use Rattle.map_core.specs.Words.{Base, place_told, version_told}
+use Rattle.map_core.specs.Views.{story}
+use Rattle.map_core.proofs.LogLemmas.{places_are}
+use Rattle.map_core.proofs.SoundReader.{place_of_now, version_of_now}
+use Rattle.shelf.specs.declared.signed.Signed.{Signed}
+use Rattle.shelf.specs.Store.{StoreId}
+use Rattle.shelf.proofs.LogParts.{length-entries}
+use Rattle.shelf.specs.declared.table.Basis.{Basis}
+use Rattle.shelf.specs.declared.plan.Plan.{Plan}
+use Rattle.shelf.specs.Roles.{ReaderView, Role, reading, entries, as_reader}
+use Rattle.shelf.specs.Seats.{IsOf, ReaderSays, reader_on, held_next}
+use Rattle.shelf.specs.Steps.{loaded, Sees}
+
+-- a seat stays its store's where it stays at its table
+pub still_of : (store : StoreId) (table : TableId) (basis : Basis) (seat new : TableId) (plan : Plan) → IsOf store table basis seat plan → new ≡ seat → IsOf store table basis new plan
+still_of store table basis seat new plan is same = record { table_is = is.table_is; basis_is = is.basis_is; seat_is = same ∙ is.seat_is; sized = is.sized; ready = is.ready; plan_is = is.plan_is }
+
+-- the one view of a seat
+pub one_view : (views : List Role) (x : ReaderView) → views ≡ reading x ∷ [] → views ≡ reading (reader_on views) ∷ []
+one_view views x is = is ∙ ap (λ (y : ReaderView). reading y ∷ []) (sym (ap reader_on is))
+
+-- what NOW says of the log that a reader has then seen: its length, and its newest version
+pub now_says : (z : Base) (x : ReaderView) (word : ℕ) (log : List Signed) → Sees z x word log
+    → (place_told word ≡ length log) × (version_told word ≡ newest (story z (entries log)))
+now_says z x word log sees = (
+  ap place_told sees.now ∙ (place_of_now z (entries log) sees.ready sees.legal ∙ (places_are z (entries log) ∙ length-entries log)),
+  ap version_told sees.now ∙ version_of_now z (entries log) sees.ready sees.legal,
+)
+
+-- what a seat keeps beside its view, after it has loaded NOW
+pub says_loaded : (z : Base) (x y : ReaderView) (number made version : ℕ) (announced : Bool) (holds : Option ℕ) (word v : ℕ) (h : Option ℕ) (log : List Signed)
+    → ReaderSays z x number made version announced holds → Sees z x word log → v ≡ version_told word → h ≡ held_next announced holds v → y ≡ loaded z log x
+    → ReaderSays z y number made v announced h
+says_loaded z x y number made version announced holds word v h log says sees told held is =
+    let newest_is : v ≡ newest (story z (entries log)) = told ∙ (now_says z x word log sees).1 in
+    rw is record {
+      below = says.below;
+      number_is = says.number_is;
+      made_is = says.made_is;
+      version_is = newest_is;
+      announced_is = says.announced_is;
+      holds_is = held ∙ ap (λ (q : Bool × Option ℕ × ℕ). held_next q.0 q.1 q.2) (λ i. (says.announced_is i, says.holds_is i, newest_is i));
+    }
+
+-- a reader that holds, or has announced nothing, holds after a load what it held
+pub hold_stays : (x : ReaderView) (n : ℕ) → (x.announced ≡ None) ⊎ ((v : ℕ) × (x.holds ≡ Some v)) → next_hold (as_reader x) n ≡ x.holds
+hold_stays x n (inl quiet) = unannounced x.announced x.holds quiet
+  where
+    unannounced : (announced holds : Option ℕ) → announced ≡ None → (if is_some announced && is_none holds then Some n else holds) ≡ holds
+    unannounced None holds is = refl
+    unannounced (Some a) holds is = absurd (cc)
+hold_stays x n (inr holds) = by_fields x.announced x.holds holds.0 holds.1
+  where
+    by_fields : (announced holds : Option ℕ) (v : ℕ) → holds ≡ Some v → (if is_some announced && is_none holds then Some n else holds) ≡ holds
+    by_fields None holds v is = refl
+    by_fields (Some a) None v is = absurd (cc)
+    by_fields (Some a) (Some b) v is = refl

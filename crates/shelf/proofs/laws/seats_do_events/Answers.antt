@@ -1,0 +1,6 @@
+-- By the lemma on any table.
+use Rattle.shelf.proofs.EventSteps.{steps_are_events}
+use Rattle.shelf.proofs.laws.seats_do_events.Goals as goal
+
+pub returns : goal.returns
+returns c = steps_are_events

@@ -1,0 +1,45 @@
+-- The one log of a table's words and seats: this project's own rule.
+use Rattle.std.specs.Prelude.{◌≡◌, ◌≢◌, ℕ, ◌+◌, ◌^◌, ◌<◌, ◌≤◌, List, length, All, slice_index, Option, Some}
+use mathlib.Core.List.{IsPrefix}
+use mathlib.Core.Option as maybe
+use lib.ListN.{get_elem?}
+use Rattle.atomic_table.specs.Table.{State}
+use Rattle.map_core.specs.Story.{newest}
+use Rattle.map_core.specs.Legal.{IsLegal}
+use Rattle.map_core.specs.Words.{Base, now_at, now_word}
+use Rattle.map_core.specs.Views.{story}
+use Rattle.map_core.specs.Safe.{IsBeginning}
+use Rattle.shelf.specs.declared.signed.Signed.{Signed}
+use Rattle.shelf.specs.declared.asked.Asked.{Asked}
+use Rattle.shelf.specs.Roles.{KeeperView, ReaderView, Role, keeping, reading, meeting, learning, entries, made_by, unmet_by}
+use Rattle.shelf.specs.Rule.{HasReader, HasKeeper}
+
+-- what a reader knows of the log, where an entry of the named reader is unmet: a beginning of it, and how many entries of it are its own
+pub record IsBehind (log : List Signed) (unmet : Option ℕ) (x : ReaderView) : Type 0 where
+  pub began : IsPrefix x.seen log
+  pub without_callers : IsBeginning (entries x.seen) (entries log)
+  -- it counts its entries, but for one that is unmet, and has seen those that it counts
+  pub counted : made_by x.number log ≡ x.made + unmet_by x.number unmet
+  pub seen : x.made ≤ made_by x.number x.seen
+  -- where none of its own is unmet, all its entries are among those that it has seen
+  pub whole : unmet ≢ Some x.number → (made_by x.number log ≡ x.made) × (made_by x.number x.seen ≡ x.made)
+
+-- the words and the seats of a table have one log, of which one entry at most is unmet
+pub record HasOneLog (z : Base) (s : State Asked Role) : Type 0 where
+  pub log : List Signed
+  pub unmet : Option ℕ
+  -- the log is legal and shorter than 2^32, and each caller is a session
+  pub legal : IsLegal z.setting z.opening (entries log)
+  pub short : length log < 2 ^ 32
+  pub callers : All (λ e. e.by < z.setting.sessions) log
+  -- NOW has its length and its newest version
+  pub now : slice_index s.words now_at ≡ now_word (length log) (newest (story z (entries log)))
+  -- the keeper's seat knows both, each reader's seat is behind them, also where its view stands in the keeper's, and no two seats have one reader's view
+  pub keeper : (j : ℕ) (k : KeeperView) → get_elem? s.views j ≡ maybe.some (keeping k) → (k.log ≡ log) × (k.unmet ≡ unmet)
+  pub reader : (j : ℕ) (x : ReaderView) → get_elem? s.views j ≡ maybe.some (reading x) → IsBehind log unmet x
+  -- also while a ticket's view stands in it
+  pub taught : (j : ℕ) (x : ReaderView) (seen : List Signed) → get_elem? s.views j ≡ maybe.some (learning x seen) → IsBehind log unmet x × IsPrefix seen log
+  pub together : (j : ℕ) (k : KeeperView) (x : ReaderView) → get_elem? s.views j ≡ maybe.some (meeting k x) → (k.log ≡ log) × (k.unmet ≡ unmet) × IsBehind log unmet x
+  pub apart : (i j r : ℕ) (u v : Role) → get_elem? s.views i ≡ maybe.some u → get_elem? s.views j ≡ maybe.some v → HasReader r u → HasReader r v → i ≡ j
+  -- one seat at most has the keeper's view
+  pub one_keeper : (i j : ℕ) (u v : Role) → get_elem? s.views i ≡ maybe.some u → get_elem? s.views j ≡ maybe.some v → HasKeeper u → HasKeeper v → i ≡ j

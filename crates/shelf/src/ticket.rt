@@ -1,0 +1,102 @@
+//! Tickets: what the keeper knew, handed from one reader to another.
+
+ghost use Rattle.std.specs.Prelude.{◌≡◌, ◌<◌, [], ◌∷◌, length};
+ghost use mathlib.Core.List.{IsPrefix};
+ghost use Rattle.map_core.specs.Story.{newest};
+ghost use Rattle.map_core.specs.Words.{word_count, place_told, version_told};
+ghost use Rattle.map_core.specs.Legal.{IsLegal};
+ghost use Rattle.map_core.specs.Views.{story};
+ghost use Rattle.shelf.specs.Roles.{reading, entries, ticket};
+ghost use Rattle.shelf.specs.Seats.{base_of, reader_on, ticket_on};
+ghost use Rattle.shelf.specs.Steps.{loaded, LearnsIt};
+
+use crate::asked::Asked;
+use crate::keeper::KeeperSeat;
+use crate::name::StoreName;
+use crate::plays::{Cut, Hand, Learn};
+use crate::reader::{ReaderSeat, held_next};
+use crate::table::{View, Words};
+use atomic_table::Badge;
+use map_core::Now;
+use std::marker::{Model, PhantomData};
+use std::mem::replace;
+
+/// A token of the log as it was. Contracts see it as that log.
+///
+/// It can't be let go: a reader learns it, or it is discarded.
+pub struct Ticket<Id: StoreName> {
+    seat: Badge<View>,
+    of: PhantomData<Id>,
+}
+
+impl<Id: StoreName> Model for Ticket<Id> {
+    ghost use Rattle.std.specs.Prelude.{◌≡◌, List, [], ◌∷◌};
+    ghost use Rattle.shelf.specs.declared.signed.Signed.{Signed};
+    ghost use Rattle.shelf.specs.Roles.{ticket};
+    ghost use Rattle.shelf.specs.Seats.{ticket_on};
+
+    ghost Value = { List Signed };
+
+    ghost view = { λ t. ticket_on t.seat.views };
+
+    ghost invariant = { λ t. (t.seat.table_id ≡ Id.store.table) × (t.seat.views ≡ ticket (ticket_on t.seat.views) ∷ []) };
+}
+
+impl<Id: StoreName> Ticket<Id> {
+    /// Lets it go: nobody learns it.
+    pub fn discard(self) {
+        let Ticket { seat: _, of: _ } = self;
+    }
+}
+
+impl<Id: StoreName> KeeperSeat<Id> {
+    /// A ticket of the log as it is. It is cut off by a load of NOW.
+    pub fn ticket(&mut self) -> Ticket<Id>
+        ensures log { result ≡ self.old.log }
+        ensures seat { self.new ≡ self.old }
+    {
+        let seat = self
+            .words
+            .shared
+            .split_seat::<Cut>(&mut self.seat)
+            .into_badge();
+        Ticket {
+            seat,
+            of: PhantomData,
+        }
+    }
+}
+
+/// Lays the ticket's view in the reader's seat, and loads NOW.
+fn learn_on<Id: StoreName>(words: &Words, reader: &mut Badge<View>, token: Badge<View>) -> u64
+    requires table { (reader.old.table_id ≡ words.now.shared.table_id) × (token.table_id ≡ words.now.shared.table_id) × (0 < words.now.shared.table_id.words) }
+    requires base { base_of words.now.shared.key ≡ Id.store.base }
+    requires reader { reader.old.views ≡ reading (reader_on reader.old.views) ∷ [] }
+    requires token { token.views ≡ ticket (ticket_on token.views) ∷ [] }
+    ensures table { reader.new.table_id ≡ reader.old.table_id }
+    ensures learned { LearnsIt Id.store.base (reader_on reader.old.views) (ticket_on token.views) result reader.new.views }
+{
+    let mut seat = replace(reader, Badge::blank()).into_seat::<Asked>();
+    words
+        .shared
+        .join_seat::<Hand>(&mut seat, token.into_seat::<Asked>());
+    let word = words.shared.load::<Learn<Id>>(&mut seat, 0);
+    *reader = seat.into_badge();
+    word
+}
+
+impl<Id: StoreName> ReaderSeat<Id> {
+    /// Loads NOW. The seat has then seen all that it and the ticket had; what it holds stays, and what it has announced.
+    pub fn learn(&mut self, ticket: Ticket<Id>)
+        ensures seat { self.new ≡ loaded Id.store.base self.new.seen self.old }
+        ensures began { IsPrefix self.old.seen self.new.seen }
+        ensures learned { IsPrefix ticket self.new.seen }
+        ensures legal { IsLegal Id.store.base.setting Id.store.base.opening (entries self.new.seen) }
+    {
+        let Ticket { seat, of: _ } = ticket;
+        let word = learn_on::<Id>(&self.words, &mut self.seat, seat);
+        let now = Now::of(word);
+        self.holds = held_next(self.announced, self.holds, now.version);
+        self.version = now.version;
+    }
+}
