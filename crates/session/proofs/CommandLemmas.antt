@@ -1,5 +1,5 @@
 -- A command leaves what a seat has announced and holds.
-use Rattle.std.proofs.Common.{◌≡◌, ℕ, ap, ◌∙◌}
+use Rattle.std.proofs.Common.{◌≡◌, ap, ◌∙◌}
 use Rattle.std.specs.Prelude.{Result, Ok, Err, IfOk, IfErr}
 use Rattle.metric.specs.declared.refusal.Refusal.{Refusal}
 use Rattle.bits.specs.Cells.{Cells}
@@ -8,7 +8,7 @@ use Rattle.map_core.specs.declared.command.Reply.{Reply}
 use Rattle.shelf.specs.Store.{StoreId}
 use Rattle.shelf.specs.Roles.{ReaderView}
 use Rattle.desk.specs.Desks.{DeskView, IsAccepted, IsRefused}
-use Rattle.session.specs.Sessions.{IsSession}
+use Rattle.session.specs.Sessions.{Size, IsSession}
 
 -- the seat has announced what it had, and holds what it did
 pub record HoldsStill (x y : ReaderView) : Type 0 where
@@ -35,8 +35,8 @@ module _ (store : StoreId) (d : DeskView) (x : ReaderView) (c : Command) (e : De
   stamped_still b (Err back) accepted refused = refused_still back.1 refused.1
 
 -- a session is one still
-pub session_holds : (store : StoreId) (x y : ReaderView) (width height : ℕ) → IsSession store x width height → HoldsStill x y → IsSession store y width height
-session_holds store x y width height session still = record {
+pub session_holds : (store : StoreId) (x y : ReaderView) (size : Size) → IsSession store x size → HoldsStill x y → IsSession store y size
+session_holds store x y size session still = record {
   quiet = still.announced ∙ session.quiet;
   free = still.holds ∙ session.free;
   ready = session.ready;

@@ -19,7 +19,7 @@ use Rattle.shelf.proofs.LogParts.{prefix-entries}
 use Rattle.shelf.specs.Roles.{ReaderView, entries, as_reader}
 use Rattle.shelf.specs.Steps.{announcing, loaded}
 use Rattle.shelf.proofs.ReaderSeats.{hold_stays}
-use Rattle.session.specs.Sessions.{PinView, IsSession, IsPin}
+use Rattle.session.specs.Sessions.{PinView, Size, IsSession, IsPin}
 
 -- a load by a seat that holds, or has announced nothing, changes what it has seen alone
 pub seen_alone : (z : Base) (x y : ReaderView) → (x.announced ≡ None) ⊎ ((v : ℕ) × (x.holds ≡ Some v)) → y ≡ loaded z y.seen x → y ≡ record x { seen = y.seen }
@@ -43,8 +43,8 @@ pinned_seat z x a b y quiet free first told last =
     ∙ ap (λ (q : ℕ × ℕ). record { number = q.0; seen = y.seen; made = q.1; announced = Some v; holds = Some n }) (λ i. (ap (λ (q : ReaderView). q.number) a_is i, ap (λ (q : ReaderView). q.made) a_is i))))
 
 -- a session is one still where its seat has seen more
-pub session_stays : (store : StoreId) (x y : ReaderView) (width height : ℕ) → IsSession store x width height → y ≡ record x { seen = y.seen } → IsSession store y width height
-session_stays store x y width height session is = record {
+pub session_stays : (store : StoreId) (x y : ReaderView) (size : Size) → IsSession store x size → y ≡ record x { seen = y.seen } → IsSession store y size
+session_stays store x y size session is = record {
   quiet = ap (λ (q : ReaderView). q.announced) is ∙ session.quiet;
   free = ap (λ (q : ReaderView). q.holds) is ∙ session.free;
   ready = session.ready;

@@ -35,13 +35,18 @@ all_fresh store = map fresh_reader (range_with_len 0 (readers_of store))
 abbrev pub IsIn : List Signed → ReaderView → Type 0
 IsIn log s = IsPrefix s.seen log × (made_by s.number log ≡ s.made)
 
+-- the size of a map
+pub record Size : Type 0 where
+  pub width : ℕ
+  pub height : ℕ
+
 -- a session has announced nothing and holds nothing, and has the size of its store's map, which fits the store's setting
-pub record IsSession (store : StoreId) (x : ReaderView) (width height : ℕ) : Type 0 where
+pub record IsSession (store : StoreId) (x : ReaderView) (size : Size) : Type 0 where
   pub quiet : x.announced ≡ None
   pub free : x.holds ≡ None
   pub ready : IsReady store.base
-  pub width_is : width ≡ store.base.opening.width
-  pub height_is : height ≡ store.base.opening.height
+  pub width_is : size.width ≡ store.base.opening.width
+  pub height_is : size.height ≡ store.base.opening.height
 
 -- a pin has announced a version and holds one that was published in what it has seen; it has that version's bitmap once it is read, and until then
 -- a bitmap of the same size

@@ -9,6 +9,7 @@
 mod blank;
 mod pinned;
 mod reading;
+mod room;
 mod session;
 mod sessions;
 mod store;

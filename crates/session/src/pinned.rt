@@ -12,6 +12,7 @@ mod commands;
 mod queries;
 
 use crate::reading::read_once;
+use crate::room::Room;
 use crate::session::Session;
 use bits::Bitmap;
 use shelf::{ReaderSeat, StoreName, Ticket};
@@ -90,13 +91,8 @@ impl<Id: StoreName> Pinned<Id> {
             bitmap,
             read: _,
         } = self;
-        let width = bitmap.width();
-        let height = bitmap.height();
         seat.leave();
-        Session {
-            seat,
-            width,
-            height,
-        }
+        let room = Room::with(bitmap);
+        Session { seat, room }
     }
 }

@@ -10,7 +10,7 @@ ghost use Rattle.session.specs.Sessions.{newest_seen};
 mod commands;
 
 use crate::pinned::Pinned;
-use bits::Bitmap;
+use crate::room::Room;
 use metric::Refusal;
 use shelf::{ReaderSeat, StoreName, Ticket};
 use std::alloc::Global;
@@ -22,9 +22,7 @@ use std::marker::Model;
 /// It can't be let go: a store that is closed takes it back.
 pub struct Session<Id: StoreName> {
     pub(crate) seat: ReaderSeat<Id>,
-    // The map's size.
-    pub(crate) width: u16,
-    pub(crate) height: u16,
+    pub(crate) room: Room,
 }
 
 impl<Id: StoreName> Model for Session<Id> {
@@ -35,7 +33,7 @@ impl<Id: StoreName> Model for Session<Id> {
 
     ghost view = { λ s. s.seat };
 
-    ghost invariant = { λ s. IsSession Id.store s.seat s.width s.height };
+    ghost invariant = { λ s. IsSession Id.store s.seat s.room };
 }
 
 impl<Id: StoreName> Session<Id> {
@@ -44,11 +42,7 @@ impl<Id: StoreName> Session<Id> {
         ensures seat { result ≡ self }
         ensures free { (result.announced ≡ None) × (result.holds ≡ None) }
     {
-        let Session {
-            seat,
-            width: _,
-            height: _,
-        } = self;
+        let Session { seat, room: _ } = self;
         seat
     }
 
@@ -59,7 +53,7 @@ impl<Id: StoreName> Session<Id> {
         self.seat.made()
     }
 
-    /// Pins the newest version: makes room for one bitmap, then loads what is newest, announces it, loads again and holds that. It waits for
+    /// Pins the newest version: makes room for one bitmap, unless a pin before has left it, then loads what is newest, announces it, loads again and holds that. It waits for
     /// nobody, whatever others publish and collect meanwhile, and the version is at least the newest that the session had seen.
     ///
     /// Refused for want of memory alone; the session is handed back, and nothing was announced.
@@ -72,10 +66,10 @@ impl<Id: StoreName> Session<Id> {
         ensures legal { IfOk result (λ pinned. IsLegal Id.store.base.setting Id.store.base.opening (entries pinned.seat.seen)) }
         ensures refused { IfErr result (λ back. (back.0 ≡ self) × (back.1 ≡ Memory)) }
     {
-        let Ok(bitmap) = Bitmap::blank(alloc, self.width, self.height) else {
-            return Err((self, Refusal::Memory));
+        let Session { mut seat, mut room } = self;
+        let Some(bitmap) = room.take(alloc) else {
+            return Err((Session { seat, room }, Refusal::Memory));
         };
-        let mut seat = self.into_seat();
         seat.take();
         seat.announce();
         let now = seat.take();

@@ -6,6 +6,7 @@ ghost use Rattle.shelf.specs.Open.{all_newcomers};
 ghost use Rattle.shelf.specs.Store.{readers_of};
 ghost use Rattle.session.specs.Sessions.{IsIn, all_fresh};
 
+use crate::room::Room;
 use crate::session::Session;
 use shelf::{Closing, FreshReader, StoreName};
 
@@ -25,11 +26,8 @@ pub fn sessions_of<Id: StoreName>(
 {
     for reader in readers {
         let seat = reader.named::<Id>();
-        sessions.push_reserved(Session {
-            seat,
-            width,
-            height,
-        });
+        let room = Room::empty(width, height);
+        sessions.push_reserved(Session { seat, room });
     }
     sessions
 }

@@ -233,13 +233,14 @@ fn paints_and_plans<Id: StoreName + Send + Sync, R: Threads + Wait + Abort + Clo
     ];
     side_by_side(rt, alloc, &store, since, &mut slots);
     let [painter, first, second, third] = slots;
-    hand_back(rt, &mut sessions, painter.expect(rt, "the painter"));
+    let painter = painter.expect(rt, "the painter");
+    let made = painter.made();
+    hand_back(rt, &mut sessions, painter);
     hand_back(rt, &mut sessions, first.expect(rt, "a planner"));
     hand_back(rt, &mut sessions, second.expect(rt, "a planner"));
     hand_back(rt, &mut sessions, third.expect(rt, "a planner"));
     let (_, session) = compare(rt, alloc, next(rt, &mut sessions));
     hand_back(rt, &mut sessions, session);
-    let made = sessions.iter().map(|session| session.made()).sum::<u32>();
     assert_eq!(rt; store.close(sessions).len(), made as usize);
     Ok(())
 }

@@ -7,4 +7,4 @@ pub collect-requires : goal.collect-requires
 collect-requires g c = inl c.self.invariant.quiet
 
 pub invariant_of-self : goal.invariant_of-self
-invariant_of-self g c = session_holds _ _ _ _ _ c.self.invariant (answered_still _ _ _ _ _ _ c.collect.result c.collect.ensures.accepted c.collect.ensures.refused)
+invariant_of-self g c = session_holds _ _ _ _ c.self.invariant (answered_still _ _ _ _ _ _ c.collect.result c.collect.ensures.accepted c.collect.ensures.refused)

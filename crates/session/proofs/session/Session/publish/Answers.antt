@@ -7,4 +7,4 @@ pub publish-requires : goal.publish-requires
 publish-requires g c = inl c.self.invariant.quiet
 
 pub invariant_of-self : goal.invariant_of-self
-invariant_of-self g c = session_holds _ _ _ _ _ c.self.invariant (answered_still _ _ _ _ _ _ c.publish.result c.publish.ensures.accepted c.publish.ensures.refused)
+invariant_of-self g c = session_holds _ _ _ _ c.self.invariant (answered_still _ _ _ _ _ _ c.publish.result c.publish.ensures.accepted c.publish.ensures.refused)

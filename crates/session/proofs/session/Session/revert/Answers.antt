@@ -7,4 +7,4 @@ pub revert-requires : goal.revert-requires
 revert-requires g c = inl c.self.invariant.quiet
 
 pub invariant_of-self : goal.invariant_of-self
-invariant_of-self g c = session_holds _ _ _ _ _ c.self.invariant (answered_still _ _ _ _ _ _ c.revert.result c.revert.ensures.accepted c.revert.ensures.refused)
+invariant_of-self g c = session_holds _ _ _ _ c.self.invariant (answered_still _ _ _ _ _ _ c.revert.result c.revert.ensures.accepted c.revert.ensures.refused)
