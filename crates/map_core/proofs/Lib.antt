@@ -16,6 +16,7 @@ pub mod OpenWords
 pub mod OpenWorld
 pub mod OrderWorld
 pub mod PlaceLemmas
+mod PlanLemmas
 pub mod PublishOwn
 pub mod PublishWorld
 pub mod PublishWords

@@ -1,5 +1,5 @@
 -- The steps of a reader, on a world by its parts.
-use Rattle.std.proofs.Common.{◌≡◌, ℕ, suc, ◌+◌, ◌*◌, ◌<◌, ◌≤◌, ◌&&◌, ◌==◌, Bool, true, false, if◌then◌else◌, List, length, get_or, set, map, take, refl, ap, subst, sym, ◌∙◌, arith}
+use Rattle.std.proofs.Common.{◌≡◌, ℕ, suc, ◌+◌, ◌<◌, ◌≤◌, ◌&&◌, ◌==◌, Bool, true, false, if◌then◌else◌, List, length, get_or, set, map, take, refl, ap, subst, sym, ◌∙◌, arith}
 use Rattle.std.specs.Prelude.{Option, Some, None, slice_get, is_some, is_none, nat_lt}
 use Rattle.std.proofs.lemmas.Bool.Decides.{nat_tests}
 use Rattle.std.proofs.lemmas.List.{map-set, take_all, get_or_read, get_or_default}
@@ -251,16 +251,12 @@ pub look_tile_does : (w : State) (r b i v word : ℕ) (held : Option ℕ) → he
 unfolding does look_tile
 look_tile_does w r b i v word held is some test word_is = ap (look_tile w b i) (sym is ∙ some) ∙ rw (test, ← word_is)
 
--- the place of a word of a block
-pub tile_at_is : (w : State) → IsWhole w → (b i tiles_here : ℕ) → tiles_here ≡ tiles w.base → b < w.base.setting.blocks → i < 64
-    → (1 + w.base.setting.sessions + w.base.setting.versions * tiles_here + (b * 64 + i) ≡ tile_at w.base b i)
-    × (1 + w.base.setting.sessions + w.base.setting.versions * tiles_here + (b * 64 + i) < length w.words)
-unfolding tile_at
-tile_at_is w whole b i tiles_here same hb hi =
-    let is = ap (λ (t : ℕ). 1 + w.base.setting.sessions + w.base.setting.versions * t + (b * 64 + i)) same in
+-- a word of a block is one of the words
+pub tile_in_words : (w : State) → IsWhole w → (b i place : ℕ) → place ≡ tile_at w.base b i → b < w.base.setting.blocks → i < 64 → place < length w.words
+tile_in_words w whole b i place is hb hi =
     let within = tile-within w.base b i hb hi in
     let sized = whole.keeper.sized in
-    (is, omega arith)
+    omega arith
 
 -- a world is whole under another name
 pub whole_of : (w v : State) → v ≡ w → IsWhole v → IsWhole w
@@ -274,7 +270,3 @@ no_row false i h = refl
 -- a row of a mapped block can be looked at
 pub row_there : (mapped : Bool) (i : ℕ) → mapped ≡ true → i < 64 → (mapped && nat_lt i 64) ≡ true
 row_there mapped i is h = grind (arith, nat_tests)
-
--- a block of a world read through another name of it
-pub inside_setting : (w v : State) (b : ℕ) → w ≡ v → b < v.base.setting.blocks → b < w.base.setting.blocks
-inside_setting w v b same h = subst (λ (x : State). b < x.base.setting.blocks) (sym same) h

@@ -1,5 +1,5 @@
 -- A world by its parts: what an event does to them, and that what is kept beside its words stays right.
-use Rattle.std.proofs.Common.{◌≡◌, ℕ, ◌+◌, ◌*◌, ◌%◌, ◌^◌, ◌<◌, List, length, set, map, refl, ap, subst, sym, ◌∙◌, arith}
+use Rattle.std.proofs.Common.{◌≡◌, ℕ, ◌^◌, ◌<◌, List, length, set, map, refl, ap, subst, sym, ◌∙◌, arith}
 use Rattle.std.specs.Prelude.{Option, Some, None, Ok, Err, slice_get, option_map}
 use Rattle.std.proofs.lemmas.List.{take_all}
 use Rattle.std.proofs.lemmas.Option.{slice_get-map}
@@ -90,17 +90,9 @@ pub now_word_there : (w : State) (hand : Option Command) (steps : ℕ) (standing
 unfolding word_count
 now_word_there w hand steps standings u room consistent = let sized = consistent.whole.keeper.sized in omega arith
 
--- the place of a word of a directory
-pub map_at_is : (w : State) → IsWhole w → (v p tiles_here : ℕ) → tiles_here ≡ tiles w.base → p < tiles w.base
-    → (1 + w.base.setting.sessions + (v % w.base.setting.versions * tiles_here + p) ≡ map_at w.base (slot_of w.base (story_of w) v) p)
-    × (1 + w.base.setting.sessions + (v % w.base.setting.versions * tiles_here + p) < length w.words)
-unfolding map_at slot_of
-map_at_is w whole v p tiles_here same inside =
-    let is = ap (λ (t : ℕ). 1 + w.base.setting.sessions + (v % w.base.setting.versions * t + p)) same in
+-- a word of a directory is one of the words
+pub map_in_words : (w : State) → IsWhole w → (v p place : ℕ) → place ≡ map_at w.base (slot_of w.base (story_of w) v) p → p < tiles w.base → place < length w.words
+map_in_words w whole v p place is inside =
     let within = map-within w.base (slot_of w.base (story_of w) v) p (slot-within w.base (story_of w) v whole.ready.versions) inside in
     let sized = whole.keeper.sized in
-    (is, omega arith)
-
--- a world read through another name of it
-pub inside_of : (w v : State) (p : ℕ) → w ≡ v → p < tiles v.base → p < tiles w.base
-inside_of w v p same h = subst (λ (x : State). p < tiles x.base) (sym same) h
+    omega arith

@@ -1,8 +1,9 @@
 -- The words of a world and what stands in them: this project's own rule. First NOW, then a word for each reader, then the slots' directories, then the blocks, 64 words each.
-use Rattle.std.specs.Prelude.{ℕ, suc, ◌+◌, ◌*◌, ◌/◌, ◌%◌, ◌^◌, ◌==◌, List, slice_index, Option, Some, None}
+use Rattle.std.specs.Prelude.{◌≡◌, ℕ, suc, ◌+◌, ◌*◌, ◌/◌, ◌%◌, ◌^◌, ◌==◌, List, slice_index, Option, Some, None}
 use Rattle.std.specs.Int.{bit_at}
 use Rattle.bits.specs.Cells.{Cells, cells_where}
 use Rattle.bits.specs.Tiles.{tile_count, tile_of}
+use Rattle.map_core.specs.declared.plan.Plan.{Plan}
 use Rattle.map_core.specs.declared.setting.Setting.{Setting}
 use Rattle.map_core.specs.Story.{Story, newest}
 
@@ -14,6 +15,11 @@ pub record Base : Type 0 where
 -- how many positions the map has
 abbrev pub tiles : Base → ℕ
 tiles k = tile_count k.opening
+
+-- sizes that are those of a store
+pub record IsPlan (k : Base) (plan : Plan) : Type 0 where
+  pub setting_is : plan.setting ≡ k.setting
+  pub tiles_is : plan.tiles ≡ tiles k
 
 -- how many words there are
 unfoldable pub word_count : Base → ℕ

@@ -4,16 +4,16 @@ use mathlib.Core.Option.{none}
 use Rattle.atomic_table.specs.Seated.{TableId}
 use Rattle.atomic_table.specs.Table.{Me, step, keeps, Allows}
 use Rattle.map_core.specs.Story.{opened, newest}
-use Rattle.map_core.specs.Words.{Base, now_at, word_count}
+use Rattle.map_core.specs.Words.{Base, IsPlan, now_at, word_count}
 use Rattle.map_core.specs.Views.{story}
 use Rattle.map_core.specs.Runs.{AreOpeningWords}
 use Rattle.map_core.specs.Tidy.{IsReady}
 use Rattle.shelf.specs.declared.asked.Asked.{Asked}
 use Rattle.shelf.specs.Roles.{KeeperView, Role, keeping, keeper_in, resting, fresh_reader}
 use Rattle.shelf.specs.Rule.{Agrees}
-use Rattle.shelf.specs.declared.plan.Plan.{Plan}
+use Rattle.map_core.specs.declared.plan.Plan.{Plan}
 use Rattle.shelf.specs.declared.table.Basis.{Basis}
-use Rattle.shelf.specs.Seats.{KeeperSays, ReaderSays, base_of, store_at, IsPlan, IsOf}
+use Rattle.shelf.specs.Seats.{KeeperSays, ReaderSays, base_of, store_at, IsOf}
 use Rattle.shelf.specs.Steps.{Ends, ends}
 use Rattle.shelf.proofs.KeeperSteps.{keeper_knows}
 use Rattle.shelf.proofs.LookSteps.{nothing_moves}

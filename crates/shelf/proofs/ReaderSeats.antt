@@ -13,7 +13,7 @@ use Rattle.shelf.specs.declared.signed.Signed.{Signed}
 use Rattle.shelf.specs.Store.{StoreId}
 use Rattle.shelf.proofs.LogParts.{length-entries}
 use Rattle.shelf.specs.declared.table.Basis.{Basis}
-use Rattle.shelf.specs.declared.plan.Plan.{Plan}
+use Rattle.map_core.specs.declared.plan.Plan.{Plan}
 use Rattle.shelf.specs.Roles.{ReaderView, Role, reading, entries, as_reader}
 use Rattle.shelf.specs.Seats.{IsOf, ReaderSays, reader_on, held_next}
 use Rattle.shelf.specs.Steps.{loaded, Sees}

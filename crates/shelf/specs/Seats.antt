@@ -3,7 +3,7 @@ use Rattle.std.specs.Prelude.{◌≡◌, ℕ, ◌<◌, Bool, true, false, List, 
 use Rattle.atomic_table.specs.Seated.{TableId}
 use Rattle.atomic_table.specs.Table.{Me}
 use Rattle.map_core.specs.Story.{newest}
-use Rattle.map_core.specs.Words.{Base, tiles, word_count}
+use Rattle.map_core.specs.Words.{Base, IsPlan, word_count}
 use Rattle.map_core.specs.Views.{story}
 use Rattle.map_core.specs.Legal.{IsLegal, refused}
 use Rattle.map_core.specs.Tidy.{IsReady}
@@ -13,7 +13,7 @@ use Rattle.map_core.specs.declared.command.Command.TheVariants.{Publish}
 use Rattle.shelf.specs.Store.{StoreId, readers_of}
 use Rattle.shelf.specs.declared.asked.Asked.{Asked}
 use Rattle.shelf.specs.declared.table.Basis.{Basis}
-use Rattle.shelf.specs.declared.plan.Plan.{Plan}
+use Rattle.map_core.specs.declared.plan.Plan.{Plan}
 use Rattle.shelf.specs.Roles.{Task, KeeperView, ReaderView, Role, keeping, reading, ticket, entries, keeper_in, reader_in, fresh_reader, resting}
 use Rattle.shelf.specs.Close.{IsClosing}
 
@@ -30,11 +30,6 @@ reader_on (role ∷ roles) = reader_in role
 -- what a table was told as it was made
 abbrev pub base_of : Basis → Base
 base_of basis = record { setting = basis.setting; opening = basis.opening.value }
-
--- the sizes that a seat keeps are its store's
-pub record IsPlan (k : Base) (plan : Plan) : Type 0 where
-  pub setting_is : plan.setting ≡ k.setting
-  pub tiles_is : plan.tiles ≡ tiles k
 
 -- a table, told this, is the store's, and a seat at this table is at it, and keeps its sizes
 pub record IsOf (store : StoreId) (table : TableId) (basis : Basis) (seat : TableId) (plan : Plan) : Type 0 where

@@ -7,10 +7,10 @@ ghost use Rattle.shelf.specs.Store.{readers_of};
 
 use crate::keeper::KeeperSeat;
 use crate::name::StoreName;
-use crate::plan::Plan;
 use crate::reader::ReaderSeat;
 use crate::table::{TableSeat, View, Words};
 use atomic_table::Badge;
+use map_core::Plan;
 use std::alloc::Global;
 use std::marker::{Model, PhantomData};
 use std::sync::Arc;

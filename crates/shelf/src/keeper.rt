@@ -4,16 +4,16 @@ ghost use Rattle.std.specs.Prelude.{◌≡◌, ◌+◌, ◌≤◌, None, Some};
 ghost use Rattle.map_core.specs.Legal.{IsLegal, refused};
 ghost use Rattle.map_core.specs.Story.{newest};
 ghost use Rattle.map_core.specs.Views.{story};
-ghost use Rattle.shelf.specs.Seats.{is_publish, IsPlan};
+ghost use Rattle.map_core.specs.Words.{IsPlan};
+ghost use Rattle.shelf.specs.Seats.{is_publish};
 ghost use Rattle.shelf.specs.Roles.{Task, entries};
 ghost use Rattle.shelf.specs.Steps.{ordered, wrote, scanned, IsNextWrite, IsNextScan, MayCommit, committed};
 
 use crate::asked::Asked;
 use crate::name::StoreName;
-use crate::plan::Plan;
 use crate::plays::{Commit, Order, Scan, Write};
 use crate::table::{TableSeat, Words};
-use map_core::{Command, Now};
+use map_core::{Command, Now, Plan};
 use std::alloc::Global;
 use std::marker::{Model, PhantomData};
 use std::sync::Arc;
@@ -91,7 +91,7 @@ impl<Id: StoreName> KeeperSeat<Id> {
         ensures scanned { (t : Task) → self.old.task ≡ Some t → self.new ≡ scanned self.old t result }
         ensures there { result ≤ newest (story Id.store.base (entries self.old.log)) + 1 }
     {
-        let place = self.plan.pin_at(reader);
+        let place = Plan::pin_at(reader);
         self.words.shared.load::<Scan<Id>>(&mut self.seat, place)
     }
 

@@ -12,11 +12,10 @@ ghost use Rattle.shelf.specs.Open.{newcomer, newcomers};
 
 use crate::fresh::{FreshKeeper, FreshReader};
 use crate::opened::Opening;
-use crate::plan::Plan;
 use crate::plays::Deal;
 use crate::table::{Basis, TableSeat, Words};
 use bits::Bitmap;
-use map_core::{Setting, opening_words};
+use map_core::{Plan, Setting, opening_words};
 use metric::Refusal;
 use std::alloc::Global;
 use std::snapshot::Snapshot;
@@ -84,10 +83,7 @@ impl Opening {
         ensures base { IfOk result (λ opening. opening.keeper.base ≡ record { setting = setting; opening = map.now }) }
         ensures memory { IfErr result (λ refusal. refusal ≡ Memory) }
     {
-        let plan = Plan {
-            setting,
-            tiles: map.tiles(),
-        };
+        let plan = Plan::of(setting, map);
         let basis = Basis {
             setting,
             opening: Snapshot::of(map),

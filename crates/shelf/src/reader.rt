@@ -15,11 +15,10 @@ ghost use Rattle.shelf.specs.Steps.{announcing, loaded, leaving};
 
 use crate::asked::Asked;
 use crate::name::StoreName;
-use crate::plan::Plan;
 use crate::plays::{Announce, Leave, Look, Take};
 use crate::table::{View, Words};
 use atomic_table::Badge;
-use map_core::Now;
+use map_core::{Now, Plan};
 use std::alloc::Global;
 use std::marker::{Model, PhantomData};
 use std::mem::replace;
@@ -76,7 +75,7 @@ impl<Id: StoreName> ReaderSeat<Id> {
         ensures { self.new ≡ announcing Id.store.base self.old }
     {
         let mut seat = replace(&mut self.seat, Badge::blank()).into_seat::<Asked>();
-        let place = self.plan.pin_at(self.number);
+        let place = Plan::pin_at(self.number);
         self.words
             .shared
             .store::<Announce<Id>>(&mut seat, place, u64::from(self.version) + 1);
@@ -90,7 +89,7 @@ impl<Id: StoreName> ReaderSeat<Id> {
         ensures { self.new ≡ leaving self.old }
     {
         let mut seat = replace(&mut self.seat, Badge::blank()).into_seat::<Asked>();
-        let place = self.plan.pin_at(self.number);
+        let place = Plan::pin_at(self.number);
         self.words.shared.store::<Leave>(&mut seat, place, 0);
         self.seat = seat.into_badge();
         self.announced = false;
@@ -126,7 +125,7 @@ impl<Id: StoreName> ReaderSeat<Id> {
         ensures within { result < Id.store.base.setting.blocks }
     {
         let mut seat = replace(&mut self.seat, Badge::blank()).into_seat::<Asked>();
-        let place = self.plan.map_at(version, position);
+        let place = self.plan.map_at(version, u32::from(position));
         let word = self.words.shared.load::<Look<Id>>(&mut seat, place);
         self.seat = seat.into_badge();
         word as u32
@@ -144,7 +143,7 @@ impl<Id: StoreName> ReaderSeat<Id> {
             → result ≡ row_word (bitmap_of (story Id.store.base (entries self.old.seen)) v) p row }
     {
         let mut seat = replace(&mut self.seat, Badge::blank()).into_seat::<Asked>();
-        let place = self.plan.tile_at(block, row);
+        let place = self.plan.tile_at(block, u32::from(row));
         let word = self.words.shared.load::<Look<Id>>(&mut seat, place);
         self.seat = seat.into_badge();
         word

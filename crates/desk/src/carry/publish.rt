@@ -9,14 +9,14 @@ ghost use Rattle.map_core.specs.Words.{tiles};
 ghost use Rattle.map_core.specs.Views.{story, blocks};
 ghost use Rattle.shelf.specs.Store.{readers_of};
 ghost use Rattle.shelf.specs.Roles.{entries};
-ghost use Rattle.shelf.specs.Seats.{IsPlan};
+ghost use Rattle.map_core.specs.Words.{IsPlan};
 ghost use Rattle.shelf.specs.Steps.{writing, one_own, IsOwn};
 ghost use Rattle.desk.specs.Holdings.{IsTold};
 ghost use Rattle.desk.specs.Carries.{CanCarry, IsCarried};
 
 use crate::holding::Holding;
-use map_core::Reply;
-use shelf::{Asked, KeeperSeat, Plan, StoreName};
+use map_core::{Plan, Reply};
+use shelf::{Asked, KeeperSeat, StoreName};
 
 /// Stores the rows of one of the draft's own blocks, the one at this place among them, counted from 0.
 fn write_rows<Id: StoreName>(
@@ -32,8 +32,8 @@ fn write_rows<Id: StoreName>(
     requires own { (p : ℕ) × IsOwn Id.store.base keeper.old index block p × (rows.now ≡ tile_words (story Id.store.base (entries keeper.old.log)).draft p) }
     ensures { keeper.new ≡ writing keeper.old by (64 * index + 64) }
 {
-    for row in 0..64u16 {
-        keeper.write_word(plan.tile_at(block, row), rows[usize::from(row)]);
+    for row in 0..64u32 {
+        keeper.write_word(plan.tile_at(block, row), rows[row as usize]);
     }
 }
 
@@ -100,7 +100,7 @@ fn write_directory<Id: StoreName>(
     let version = holding.ledger.newest + 1;
     for position in 0..plan.tiles {
         let block = holding.grid.block_at(position);
-        keeper.write_word(plan.map_at(version, position), u64::from(block));
+        keeper.write_word(plan.map_at(version, u32::from(position)), u64::from(block));
     }
 }
 

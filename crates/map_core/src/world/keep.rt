@@ -11,9 +11,9 @@ ghost use Rattle.map_core.specs.Consistent.{IsStepOf};
 
 use crate::command::Command;
 use crate::event::{NotEnabled, StepReply};
+use crate::plan::Plan;
 use crate::tiles::{count_own, nth_own};
 use crate::world::World;
-use crate::world::words::pin_at;
 
 impl World {
     /// A step of a collect: the next reader's word is loaded.
@@ -22,7 +22,7 @@ impl World {
         ensures { SafeStep self.old Keep (Ok result) self.new }
     {
         let reader = self.done;
-        let word = self.words[pin_at(reader)];
+        let word = self.words[Plan::pin_at(reader)];
         self.scanned.push_reserved(word);
         self.done += 1;
         StepReply::Scanned { reader, word }

@@ -11,9 +11,10 @@ ghost use Rattle.map_core.specs.declared.event.Event.TheVariants.{Announce, Load
 
 use crate::event::{NotEnabled, StepReply};
 use crate::now::Now;
+use crate::plan::Plan;
 use crate::reader::Standing;
 use crate::world::World;
-use crate::world::words::{NOW_AT, pin_at};
+use crate::world::words::NOW_AT;
 
 impl World {
     /// A reader that hasn't announced stores the newest version that it has seen.
@@ -31,7 +32,7 @@ impl World {
             announced: Some(version),
             ..standing
         };
-        self.words[pin_at(reader)] = u64::from(version) + 1;
+        self.words[Plan::pin_at(reader)] = u64::from(version) + 1;
         Ok(StepReply::Announced { version })
     }
 
@@ -129,7 +130,7 @@ impl World {
             holds: None,
             ..standing
         };
-        self.words[pin_at(reader)] = 0;
+        self.words[Plan::pin_at(reader)] = 0;
         Ok(StepReply::Left)
     }
 }

@@ -20,5 +20,5 @@ write_word-requires g c =
     let below = subst (λ n. c.loop-position.position < n) c.requires.plan.tiles_is c.loop-position-test.true in
     next_position z c.args.keeper.now c.loop-position.keeper c.args.by c.loop-position.position _ _ _ (c.args.holding.now.ledger.newest + 1)
     c.loop-position.invariant (ap (λ n. 64 * n + c.loop-position.position) c.requires.stored) below (ap (λ (n : ℕ). n + 1) told.holds.summary.ledger_is.newest_is)
-    (c.map_at.ensures z (story z (entries c.args.keeper.now.log)) c.requires.plan)
-    (c.from.ensures ∙ next_block z c.args.keeper.now c.args.holding.now c.loop-position.position _ told c.block_at-block.ensures)
+    (rw (← c.from.ensures) (c.map_at.ensures z (story z (entries c.args.keeper.now.log)) c.requires.plan))
+    (c.from-in-loop-position.ensures ∙ next_block z c.args.keeper.now c.args.holding.now c.loop-position.position _ told c.block_at-block.ensures)

@@ -1,5 +1,5 @@
 -- The rule holds of the table as it is made, and the seats are at it.
-use Rattle.std.proofs.Common.{length, ap, sym, ◌∙◌, refl}
+use Rattle.std.proofs.Common.{length, ap, sym, ◌∙◌}
 use Rattle.map_core.specs.Words.{Base}
 use Rattle.map_core.proofs.OpenWorld.{fits_ready}
 use Rattle.shelf.specs.Seats.{base_of}
@@ -10,7 +10,7 @@ use Rattle.shelf.proofs.opened.Opening.of.Goals as goal
 pub of_words-requires : goal.of_words-requires
 of_words-requires c =
     let z : Base = record { setting = c.args.setting; opening = c.args.map.now } in
-    rw (c.of.ensures, c.as_slice.ensures.value) (rule_at_first z _ (fits_ready c.args.setting c.args.map.now c.tiles.ensures.bitmap c.requires) (c.in_ok-list.ensures {u = tt}).words)
+    rw (c.of.ensures, c.as_slice.ensures.value) (rule_at_first z _ (fits_ready c.args.setting c.args.map.now c.of-plan.ensures.bitmap c.requires) (c.in_ok-list.ensures {u = tt}).words)
 
 pub deal_all-requires-clause-of : goal.deal_all-requires-clause-of
 deal_all-requires-clause-of c =
@@ -20,8 +20,8 @@ deal_all-requires-clause-of c =
     let told = ap base_of (ap (λ t. t.shared.key) shared ∙ made.5) ∙ ap (λ b. record { setting = c.args.setting; opening = b }) c.of.ensures in
     is_of_new _ _ _ _ z _ (ap (λ t. t.shared.table_id) shared ∙ sym made.2) told (ap (λ t. t.shared.table_id.words) shared ∙ (made.0 ∙ ap length c.as_slice.ensures.value))
     (c.in_ok-list.ensures {u = tt}).words
-    (fits_ready c.args.setting c.args.map.now c.tiles.ensures.bitmap c.requires)
-    record { setting_is = refl; tiles_is = c.tiles.ensures.tiles }
+    (fits_ready c.args.setting c.args.map.now c.of-plan.ensures.bitmap c.requires)
+    c.of-plan.ensures.plan
 
 pub invariant_of-result : goal.invariant_of-result
 invariant_of-result c =
@@ -32,7 +32,7 @@ invariant_of-result c =
     let told = ap base_of (ap (λ t. t.shared.key) shared ∙ made.5) ∙ ap (λ b. record { setting = c.args.setting; opening = b }) c.of.ensures in (
       is_of_new _ _ _ _ z _ (ap (λ t. t.shared.table_id) shared ∙ (sym made.2 ∙ sym dealt.table)) told (ap (λ t. t.shared.table_id.words) shared ∙ (made.0 ∙ ap length c.as_slice.ensures.value))
           (c.in_ok-list.ensures {u = tt}).words
-          (fits_ready c.args.setting c.args.map.now c.tiles.ensures.bitmap c.requires)
-          record { setting_is = refl; tiles_is = c.tiles.ensures.tiles },
+          (fits_ready c.args.setting c.args.map.now c.of-plan.ensures.bitmap c.requires)
+          c.of-plan.ensures.plan,
       dealt.keeper,
     )

@@ -16,7 +16,7 @@ load-word-requires g c =
     let s = story z (entries x.seen) in
     let role = its_role _ _ _ c.into_seat-seat.ensures.2 (ap (λ b. b.views) c.replace.ensures.value ∙ c.self.invariant.1) in
     let at = c.into_seat-seat.ensures.0 ∙ (ap (λ b. b.table_id) c.replace.ensures.value ∙ at_own _ _ _ _ _ of) in
-    rw (c.deref.ensures, c.map_at-place.ensures z s of.plan_is) (
+    rw (c.deref.ensures, c.map_at-place.ensures z s of.plan_is, c.from.ensures) (
       at,
       within_own _ _ _ _ _ _ of (map-within z _ _ (slot-within z s _ of.ready.versions) c.requires.inside),
       rw of.basis_is (looks_it z _ _ _ _ x role),
