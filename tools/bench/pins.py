@@ -12,7 +12,7 @@ import subprocess
 import sys
 import tempfile
 
-from program import HERE, build
+from program import HERE, build_over_sessions
 
 
 def build_lmdb(folder):
@@ -46,7 +46,7 @@ def main():
     parser.add_argument("--seconds", type=int, default=2)
     given = parser.parse_args()
     with tempfile.TemporaryDirectory() as work:
-        own = build(work, HERE / "pins" / "main.rt.in")
+        own = build_over_sessions(work, HERE / "pins" / "main.rt.in")
         peer = build_lmdb(work)
         print("| Readers | who | pins a second | 50 % | 99 % | 99.99 % |")
         print("|---|---|---|---|---|---|")

@@ -1,4 +1,4 @@
-"""Builds a measuring program over the crates up to `session`, in a scratch copy of them."""
+"""Builds a measuring program over some crates, in a scratch copy of them."""
 import pathlib
 import shutil
 import subprocess
@@ -6,7 +6,7 @@ import sys
 
 HERE = pathlib.Path(__file__).resolve().parent
 ROOT = HERE.parent.parent
-NAME = """-- The store that was just made has the name.
+STORE_NAME = """-- The store that was just made has the name.
 use Rattle.measure.proofs.main.Given as goal
 
 abbrev pub ghosts-measure : goal.ghosts-measure
@@ -14,10 +14,10 @@ ghosts-measure g a = record { store = a.blank }
 """
 
 
-def crates_below(name, lines):
-    """The crate and those that it stands on, in the order of crates.txt."""
+def crates_below(names, lines):
+    """The crates and those that they stand on, in the order of crates.txt."""
     needs = {line.split(":")[0].strip(): line.split(":")[1].split() for line in lines if ":" in line}
-    wanted, found = [name], set()
+    wanted, found = list(names), set()
     while wanted:
         crate = wanted.pop()
         if crate in needs and crate not in found:
@@ -26,16 +26,19 @@ def crates_below(name, lines):
     return [crate for crate in needs if crate in found]
 
 
-def build(folder, source):
-    """Proves and builds `source` as a program named `measure` in this folder."""
+def build(folder, text, uses, root=ROOT, answers=None):
+    """Proves and builds this text, over the crates that it uses, as a program named `measure` in this folder.
+
+    The crates are those of the clone at `root`; `answers` are the program's own, where it has any.
+    """
     folder = pathlib.Path(folder)
-    lines = [line for line in (ROOT / "crates.txt").read_text().splitlines() if not line.startswith("#")]
-    wanted = crates_below("session", lines)
+    lines = [line for line in (root / "crates.txt").read_text().splitlines() if not line.startswith("#")]
+    wanted = crates_below(uses, lines)
     kept = [line for line in lines if line.split(":")[0] in wanted]
-    (folder / "crates").mkdir()
+    (folder / "crates").mkdir(parents=True)
     for name in wanted:
-        shutil.copytree(ROOT / "crates" / name, folder / "crates" / name)
-    shutil.copy(ROOT / "HANDLES", folder / "HANDLES")
+        shutil.copytree(root / "crates" / name, folder / "crates" / name)
+    shutil.copy(root / "HANDLES", folder / "HANDLES")
     (folder / "crates.txt").write_text("\n".join(kept) + "\n")
     subprocess.run(["rt", "new", "crates/measure", "start_io"], cwd=folder, check=True, capture_output=True)
     measure = folder / "crates" / "measure"
@@ -44,11 +47,18 @@ def build(folder, source):
     for name in ("proofs", "specs", "src"):
         shutil.rmtree(measure / name, ignore_errors=True)
     (measure / "src").mkdir()
-    (measure / "proofs" / "main").mkdir(parents=True)
-    (measure / "proofs" / "main" / "Invariants.antt").write_text(NAME)
-    shutil.copy(source, measure / "src" / "main.rt")
-    (folder / "crates.txt").write_text("\n".join([*kept, "measure: session shelf map_core bits metric"]) + "\n")
+    if answers:
+        (measure / "proofs" / "main").mkdir(parents=True)
+        (measure / "proofs" / "main" / "Invariants.antt").write_text(answers)
+    (measure / "src" / "main.rt").write_text(text)
+    (folder / "crates.txt").write_text("\n".join([*kept, f"measure: {' '.join(uses)}"]) + "\n")
     built = subprocess.run(["rt", "run"], cwd=measure, capture_output=True, text=True)
-    if built.returncode != 0:
-        sys.exit(built.stdout + built.stderr)
-    return measure / "out" / "measure"
+    program = measure / "out" / "measure"
+    if not program.exists():
+        sys.exit(built.stdout[-3000:] + built.stderr[-3000:])
+    return program
+
+
+def build_over_sessions(folder, source):
+    """A program over a store's sessions, whose one answer names the store that it makes."""
+    return build(folder, source.read_text(), ["session", "shelf", "map_core", "bits", "metric"], answers=STORE_NAME)

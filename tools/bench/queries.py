@@ -20,10 +20,8 @@ import tempfile
 import time
 
 import bench
+from program import HERE, ROOT, build
 
-HERE = pathlib.Path(__file__).resolve().parent
-ROOT = HERE.parent.parent
-CRATES = "metric bits pbm column envelope field clearance".split()
 LOOPS = ["clearance/src/" + name for name in "bit row search nearest segment strip area walk".split()] + ["pbm/src/raw_raster"]
 SIDE = 4096
 
@@ -55,28 +53,6 @@ def build_twin(folder):
     path.write_text("\n".join(parts))
     subprocess.run(["rustc", "-O", "-C", "target-cpu=x86-64-v2", "-A", "warnings", "-o", str(folder / "twin"), str(path)], check=True)
     return folder / "twin"
-
-
-def build_program(folder):
-    crates = folder / "crates"
-    crates.mkdir()
-    lines = [line for line in (ROOT / "crates.txt").read_text().splitlines() if line.split(":")[0] in CRATES]
-    for name in CRATES:
-        shutil.copytree(ROOT / "crates" / name, crates / name)
-    for name in ("HANDLES",):
-        shutil.copy(ROOT / name, folder / name)
-    (folder / "crates.txt").write_text("\n".join(lines) + "\n")
-    subprocess.run(["rt", "new", "crates/measure", "start_io"], cwd=folder, check=True, capture_output=True)
-    measure = crates / "measure"
-    for name in ("BUILD.bazel", "stdin", "stdout"):
-        (measure / name).unlink(missing_ok=True)
-    for name in ("proofs", "specs", "src"):
-        shutil.rmtree(measure / name, ignore_errors=True)
-    (measure / "src").mkdir()
-    shutil.copy(HERE / "queries" / "main.rt.in", measure / "src" / "main.rt")
-    (folder / "crates.txt").write_text("\n".join(lines + ["measure: clearance pbm bits metric"]) + "\n")
-    subprocess.run(["rt", "run"], cwd=measure, check=True, stdout=subprocess.DEVNULL)
-    return measure / "out" / "measure"
 
 
 def figures(program, source):
@@ -134,7 +110,8 @@ def main():
             make(SIDE, random.Random(bench.SEED)).write(source)
             sources.append((name, source))
         if not given.no_queries:
-            program, twin = build_program(pathlib.Path(work)), build_twin(pathlib.Path(work))
+            text = (HERE / "queries" / "main.rt.in").read_text()
+            program, twin = build(work, text, ["clearance", "pbm", "bits", "metric"]), build_twin(pathlib.Path(work))
             print("| Map | " + " | ".join(("`read_image`, us", "`at`, ns", "`least_in`, ns", "`along`, ns", "`clear_of`, ns", "walk, us")) + " |")
             print("|---|---|---|---|---|---|---|")
             for name, source in sources:

@@ -11,7 +11,7 @@ import subprocess
 import sys
 import tempfile
 
-from program import HERE, build
+from program import HERE, build_over_sessions
 
 SIDES = (512, 4096)
 KINDS = ("paint", "stamp", "publish", "collect")
@@ -33,7 +33,7 @@ def main():
     parser.add_argument("--rounds", type=int, default=3)
     given = parser.parse_args()
     with tempfile.TemporaryDirectory() as work:
-        program = build(work, HERE / "tiles" / "main.rt.in")
+        program = build_over_sessions(work, HERE / "tiles" / "main.rt.in")
         least = {side: {} for side in SIDES}
         for _ in range(given.rounds):
             for side in SIDES:
