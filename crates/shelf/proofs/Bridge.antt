@@ -12,7 +12,7 @@ use Rattle.map_core.specs.Runs.{fresh_reader}
 use Rattle.map_core.specs.Safe.{times}
 use Rattle.shelf.specs.declared.signed.Signed.{Signed}
 use Rattle.shelf.specs.Roles.{KeeperView, ReaderView, Role, idle, keeping, reading, meeting, ticket, learning}
-use Rattle.shelf.specs.Rule.{Fits, Knows, HasReader, IsSeated, AreSeats}
+use Rattle.shelf.specs.Rule.{Fits, Knows, HasReader, HasKeeper, IsSeated, AreSeats}
 use Rattle.atomic_table.proofs.Lists.{at_set, set_else, at_longer, at_last}
 use Rattle.std.proofs.Common.{⊎_elim}
 
@@ -78,30 +78,30 @@ set_there [] i v w is = absurd (some-ne-none v (sym is))
 set_there (x ∷ xs) zero v w is = refl
 set_there (x ∷ xs) (suc i) v w is = set_there xs i v w is
 
--- a reader's seat stays where a seat has another view of the same reader
-pub seated_set : (views : List Role) (id : ℕ) (v w : Role) (seat r : ℕ) → get_elem? views id ≡ some v → (HasReader r v → HasReader r w) → IsSeated views seat r → IsSeated (set views id w) seat r
-seated_set views id v w seat r at same it =
+-- a seat of a kind stays one where a seat has another view of the same kind
+pub seated_set : (views : List Role) (id : ℕ) (v w : Role) (seat : ℕ) (Kind : Role → Type 0) → get_elem? views id ≡ some v → (Kind v → Kind w) → IsSeated Kind views seat → IsSeated Kind (set views id w) seat
+seated_set views id v w seat Kind at same it =
     dite (ℕ_discrete seat id)
     (λ here. record {
       role = w;
       at = ap (get_elem? (set views id w)) here ∙ set_there views id v w at;
-      is = same (subst (HasReader r) (some-injective it.role v (sym it.at ∙ (ap (get_elem? views) here ∙ at))) it.is);
+      is = same (subst Kind (some-injective it.role v (sym it.at ∙ (ap (get_elem? views) here ∙ at))) it.is);
     })
     (λ else. record { role = it.role; at = set_else views id seat w else ∙ it.at; is = it.is })
 
 -- and where one more seat is there
-pub seated_longer : (views : List Role) (w : Role) (seat r : ℕ) → IsSeated views seat r → IsSeated (views ++ w ∷ []) seat r
-seated_longer views w seat r it = record { role = it.role; at = at_longer views (w ∷ []) seat it.role it.at; is = it.is }
+pub seated_longer : (views : List Role) (w : Role) (seat : ℕ) (Kind : Role → Type 0) → IsSeated Kind views seat → IsSeated Kind (views ++ w ∷ []) seat
+seated_longer views w seat Kind it = record { role = it.role; at = at_longer views (w ∷ []) seat it.role it.at; is = it.is }
 
--- the new seat's reader
-pub seated_last : (views : List Role) (w : Role) (r : ℕ) → HasReader r w → IsSeated (views ++ w ∷ []) (length views) r
-seated_last views w r is = record { role = w; at = at_last views w (length views) refl; is = is }
+-- the new seat is of its view's kind
+pub seated_last : (views : List Role) (w : Role) (Kind : Role → Type 0) → Kind w → IsSeated Kind (views ++ w ∷ []) (length views)
+seated_last views w Kind is = record { role = w; at = at_last views w (length views) refl; is = is }
 
 -- a reader's seat has another view, and the core another reader of that number
 pub seats_reader : (z : Base) (k : KeeperView) (readers : List Reader) (views : List Role) (r : AreSeats z k readers views) (id : ℕ) (x : ReaderView) (y : Reader) (v w : Role)
-    → get_elem? views id ≡ some v → ((q : ℕ) → HasReader q v → HasReader q w) → r.owner x.number ≡ id → Fits z k readers x → Knows z k (set readers x.number y) r.keeper r.owner id w
+    → get_elem? views id ≡ some v → ((q : ℕ) → HasReader q v → HasReader q w) → (HasKeeper v → HasKeeper w) → r.owner x.number ≡ id → Fits z k readers x → Knows z k (set readers x.number y) r.keeper r.owner id w
     → AreSeats z k (set readers x.number y) (set views id w)
-seats_reader z k readers views r id x y v w at same own fits mine =
+seats_reader z k readers views r id x y v w at same kept own fits mine =
     let dealt = fits.dealt in
     let here = fits.here in
     record {
@@ -111,7 +111,8 @@ seats_reader z k readers views r id x y v w at same own fits mine =
       callers = r.callers;
       fresh = λ q above below. there_else readers x.number q y (λ e. absurd (omega arith)) ∙ r.fresh q above below;
       left = λ q z gone is. r.left q z gone (sym (there_else readers x.number q y (λ e. absurd (let same : times q k.gone ≡ times x.number k.gone = ap (λ m. times m k.gone) e in omega arith))) ∙ is);
-      seated = λ q below none. seated_set views id v w (r.owner q) q at (same q) (r.seated q below none);
+      seated = λ q below none. seated_set views id v w (r.owner q) (HasReader q) at (same q) (r.seated q below none);
+      kept = seated_set views id v w r.keeper HasKeeper at kept r.kept;
       each_seat = one_seat (Knows z k (set readers x.number y) r.keeper r.owner) views id w mine
           (λ j v else there. reader_else z k readers r.keeper r.owner x.number id y j v own else (r.each_seat j v there));
     }
@@ -132,10 +133,10 @@ pub seats_keeper : (z : Base) (k u : KeeperView) (readers after : List Reader) (
     → u.dealt ≤ z.setting.sessions → All (λ e. e.by < u.dealt) u.log
     → ((q : ℕ) → u.dealt ≤ q → q < z.setting.sessions → slice_get after q ≡ Some fresh_reader)
     → ((q : ℕ) (y : Reader) → 1 ≤ times q u.gone → slice_get after q ≡ Some y → y.announced ≡ None)
-    → ((q : ℕ) → q < u.dealt → times q u.gone ≡ 0 → IsSeated (set views id w) (r.owner q) q) → Knows z u after r.keeper r.owner id w
+    → ((q : ℕ) → q < u.dealt → times q u.gone ≡ 0 → IsSeated (HasReader q) (set views id w) (r.owner q)) → HasKeeper w → Knows z u after r.keeper r.owner id w
     → ((x : ReaderView) → r.owner x.number ≢ id → Fits z k readers x → Fits z u after x) → ((seen : List Signed) → IsPrefix seen k.log → IsPrefix seen u.log)
     → AreSeats z u after (set views id w)
-seats_keeper z k u readers after views r id w here few callers fresh left seated mine fit grown = record {
+seats_keeper z k u readers after views r id w here few callers fresh left seated kept mine fit grown = record {
   keeper = r.keeper;
   owner = r.owner;
   few = few;
@@ -143,6 +144,7 @@ seats_keeper z k u readers after views r id w here few callers fresh left seated
   fresh = fresh;
   left = left;
   seated = seated;
+  kept = subst (IsSeated HasKeeper (set views id w)) here record { role = w; at = set_there views id r.kept.role w (ap (get_elem? views) here ∙ r.kept.at); is = kept };
   each_seat = one_seat (Knows z u after r.keeper r.owner) views id w mine
       (λ j v else there. keeper_else z k u readers after r.keeper r.owner j v (λ e. else (e ∙ sym here))
       (λ x not_here f. fit x (λ e. not_here (e ∙ here)) f) grown (r.each_seat j v there));

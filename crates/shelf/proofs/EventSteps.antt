@@ -9,8 +9,9 @@ use Rattle.map_core.specs.declared.command.Command.{Command}
 use Rattle.atomic_table.proofs.Lists.{set_again}
 use Rattle.std.proofs.lemmas.Bool.Decides.{nat_tests}
 use Rattle.std.proofs.Common.{◌≡◌, ℕ, ◌<◌, true, List, [], ◌∷◌, ◌++◌, set, get_or, refl, ap, sym, ◌∙◌, subst, ◌&&◌, Bool, false, ◌+◌, arith}
-use Rattle.std.specs.Prelude.{Option, Some, None, is_some, option_map, nat_lt}
+use Rattle.std.specs.Prelude.{◌⊎◌, Option, Some, None, is_some, option_map, nat_lt}
 use mathlib.Core.Option.{some}
+use mathlib.Core.List.{IsPrefix}
 use lib.ListN.{get_elem?}
 use Rattle.atomic_table.specs.Table.{State}
 use Rattle.map_core.specs.declared.command.Entry.{Entry}
@@ -26,14 +27,15 @@ use Rattle.map_core.proofs.DoesLemmas.{does-keeps}
 use Rattle.map_core.proofs.StepLemmas.{story-push}
 use Rattle.shelf.proofs.LogParts.{prefix-push, entries-push, callers-push}
 use Rattle.shelf.specs.declared.asked.Asked.{Asked}
-use Rattle.shelf.specs.Roles.{Task, KeeperView, ReaderView, Role, keeping, reading, entries, as_reader, core_of}
-use Rattle.shelf.specs.Rule.{AreSeats, Agrees}
+use Rattle.shelf.specs.Roles.{Task, KeeperView, ReaderView, Role, keeping, reading, meeting, learning, entries, as_reader, core_of}
+use Rattle.shelf.specs.Rule.{Fits, AreSeats, HasReader, HasKeeper, Agrees}
 use Rattle.shelf.specs.Laws.{after_step, IsEvent, StepsAreEvents}
-use Rattle.shelf.specs.Steps.{announcing, leaving, scanned, signed_of, committed, MayCommit, loaded, ordered, wrote}
+use Rattle.shelf.specs.Steps.{announcing, leaving, scanned, signed_of, committed, MayCommit, loaded, met, met_by, ordered, wrote}
 use Rattle.shelf.proofs.Bridge.{set_get, there_set, seated_set, seats_reader, seats_keeper}
 use Rattle.map_core.proofs.Events.{does_announce, does_leave, does_scan, does_commit, does_load, does_order, does_write}
 use Rattle.shelf.proofs.OneCore.{core_at}
-use Rattle.shelf.proofs.ReaderSteps.{reader_knows, fits-loaded}
+use Rattle.shelf.proofs.ReaderSteps.{reader_knows, seats_loaded}
+use Rattle.shelf.proofs.MeetingSteps.{met_seats}
 use Rattle.shelf.proofs.KeeperSteps.{keeper_knows, fits-task, fits-committed}
 
 -- an event after which words and seats agree again
@@ -61,7 +63,7 @@ announce_event z s r id x at quiet =
     let y = announcing z x in
     event_at z s r (Announce x.number) _ (Some (pin_at x.number)) _ _ r.k (set r.readers x.number (as_reader y))
     (does_announce (core_of z s.words r.k r.readers) x.number (as_reader x) f.there quiet)
-    (seats_reader z r.k r.readers s.views r.seats id x (as_reader y) (reading x) (reading y) at (λ q e. e) mine.0 f
+    (seats_reader z r.k r.readers s.views r.seats id x (as_reader y) (reading x) (reading y) at (λ q e. e) (λ e. e) mine.0 f
     (mine.0, record { dealt = f.dealt; here = f.here; there = there_set r.readers x.number (as_reader x) (as_reader y) f.there; began = f.began; held = f.held; all_seen = f.all_seen; counted = f.counted }))
 
 -- a leave
@@ -73,7 +75,7 @@ leave_event z s r id x at there =
     let y = leaving x in
     event_at z s r (Leave x.number) _ (Some (pin_at x.number)) _ _ r.k (set r.readers x.number (as_reader y))
     (does_leave (core_of z s.words r.k r.readers) x.number (as_reader x) f.there there)
-    (seats_reader z r.k r.readers s.views r.seats id x (as_reader y) (reading x) (reading y) at (λ q e. e) mine.0 f
+    (seats_reader z r.k r.readers s.views r.seats id x (as_reader y) (reading x) (reading y) at (λ q e. e) (λ e. e) mine.0 f
     (mine.0, record { dealt = f.dealt; here = f.here; there = there_set r.readers x.number (as_reader x) (as_reader y) f.there; began = f.began; held = λ v held. absurd (cc); all_seen = f.all_seen; counted = f.counted }))
 
 -- a step of a scan
@@ -91,7 +93,7 @@ scan_event z s r id t at task collect more =
     (event_at z s r Keep (says.Scanned t.hand.done n) None s.words (set s.views id (keeping u)) u r.readers
     (does_scan w t.hand (ap (option_map (λ v. v.hand)) task) collect more)
     (seats_keeper z r.k u r.readers r.readers s.views r.seats id (keeping u) mine.0 r.seats.few r.seats.callers r.seats.fresh r.seats.left
-    (λ q below none. seated_set s.views id (keeping r.k) (keeping u) (r.seats.owner q) q at (λ e. absurd e) (r.seats.seated q below none)) (mine.0, refl)
+    (λ q below none. seated_set s.views id (keeping r.k) (keeping u) (r.seats.owner q) (HasReader q) at (λ e. absurd e) (r.seats.seated q below none)) tt (mine.0, refl)
     (λ x else f. fits-task z r.k r.readers u.task x f) (λ seen p. p)))
 
 -- a commit
@@ -110,24 +112,41 @@ commit_event z s r id may at =
     (subst (λ (q : ℕ × List Entry). does w Keep ≡ Some record { state = record { base = z; words = set s.words now_at q.0; keeper = record { log = q.1; hand = None }; readers = r.readers }; answer = says.Committed e.reply; stored = Some now_at })
     (λ j. (sym now j, sym grown j)) done)
     (seats_keeper z r.k u r.readers r.readers s.views r.seats id (keeping u) mine.0 r.seats.few (callers-push r.k.dealt r.k.log (signed_of z r.k t) r.seats.callers may.caller) r.seats.fresh r.seats.left
-    (λ q below none. seated_set s.views id (keeping r.k) (keeping u) (r.seats.owner q) q at (λ e. absurd e) (r.seats.seated q below none))
-    (mine.0, refl) (λ x else f. fits-committed z r.k r.readers t x may.met f) (λ seen p. prefix-push seen r.k.log (signed_of z r.k t) p))
+    (λ q below none. seated_set s.views id (keeping r.k) (keeping u) (r.seats.owner q) (HasReader q) at (λ e. absurd e) (r.seats.seated q below none))
+    tt (mine.0, refl) (λ x else f. fits-committed z r.k r.readers t x may.met f) (λ seen p. prefix-push seen r.k.log (signed_of z r.k t) p))
 
--- a load
-load_event : (z : Base) (s : State Asked Role) (r : Agrees z s) (id : ℕ) (x : ReaderView) → get_elem? s.views id ≡ some (reading x)
-    → IsEvent z s (after_step s now_at (get_or s.words now_at 0) id (reading (loaded z r.k.log x))) (Load x.number) (says.Now (place_told (get_or s.words now_at 0)) (version_told (get_or s.words now_at 0)))
-load_event z s r id x at =
-    let mine = reader_knows z s r id (reading x) x at refl in
-    let f = mine.1 in
-    let y = loaded z r.k.log x in
+-- what a reader's load does in the core
+load_does : (z : Base) (s : State Asked Role) (r : Agrees z s) (x : ReaderView) → Fits z r.k r.readers x
+    → let n = get_or s.words now_at 0 in does (core_of z s.words r.k r.readers) (Load x.number)
+    ≡ Some record { state = core_of z s.words r.k (set r.readers x.number (as_reader (loaded z r.k.log x))); answer = says.Now (place_told n) (version_told n); stored = None }
+load_does z s r x f =
     let w = core_of z s.words r.k r.readers in
     let n = get_or s.words now_at 0 in
     let version : version_told n ≡ newest (story z (entries r.k.log)) = ap version_told r.whole.keeper.now ∙ version_of_now z (entries r.k.log) r.whole.ready r.whole.keeper.legal in
+    subst (λ (v : ℕ). does w (Load x.number) ≡ Some record { state = core_of z s.words r.k (set r.readers x.number record { seen = entries r.k.log; announced = x.announced; holds = next_hold (as_reader x) v }); answer = says.Now (place_told n) (version_told n); stored = None })
+    version (does_load w x.number (as_reader x) f.there)
+
+-- a load, whatever else stands in the reader's seat
+load_event : (z : Base) (s : State Asked Role) (r : Agrees z s) (id : ℕ) (x : ReaderView) (old : Role) → get_elem? s.views id ≡ some old → ((q : ℕ) → HasReader q old → x.number ≡ q) → (HasKeeper old → ⊥)
+    → r.seats.owner x.number ≡ id → Fits z r.k r.readers x
+    → IsEvent z s (after_step s now_at (get_or s.words now_at 0) id (reading (loaded z r.k.log x))) (Load x.number) (says.Now (place_told (get_or s.words now_at 0)) (version_told (get_or s.words now_at 0)))
+load_event z s r id x old at same other own f =
+    let y = loaded z r.k.log x in
+    let n = get_or s.words now_at 0 in
     subst (λ (ws : List ℕ). IsEvent z s record { words = ws; homes = s.homes; views = set s.views id (reading y) } (Load x.number) (says.Now (place_told n) (version_told n))) (sym (set_get s.words now_at))
     (event_at z s r (Load x.number) (says.Now (place_told n) (version_told n)) None s.words (set s.views id (reading y)) r.k (set r.readers x.number (as_reader y))
-    (subst (λ (v : ℕ). does w (Load x.number) ≡ Some record { state = core_of z s.words r.k (set r.readers x.number record { seen = entries r.k.log; announced = x.announced; holds = next_hold (as_reader x) v }); answer = says.Now (place_told n) (version_told n); stored = None })
-    version (does_load w x.number (as_reader x) f.there))
-    (seats_reader z r.k r.readers s.views r.seats id x (as_reader y) (reading x) (reading y) at (λ q e. e) mine.0 f (mine.0, fits-loaded z r.k r.readers x f)))
+    (load_does z s r x f) (seats_loaded z s r id x old at same other own f))
+
+-- the load of a meeting
+meet_event : (z : Base) (s : State Asked Role) (r : Agrees z s) (id : ℕ) (x : ReaderView) → get_elem? s.views id ≡ some (meeting r.k x) → (r.k.unmet ≡ None) ⊎ (r.k.unmet ≡ Some x.number)
+    → IsEvent z s (after_step s now_at (get_or s.words now_at 0) id (meeting (met r.k) (met_by z r.k x))) (Load x.number) (says.Now (place_told (get_or s.words now_at 0)) (version_told (get_or s.words now_at 0)))
+meet_event z s r id x at unmet =
+    let mine : (id ≡ r.seats.keeper) × (r.k ≡ r.k) × (r.seats.owner x.number ≡ id) × Fits z r.k r.readers x = r.seats.each_seat id (meeting r.k x) at in
+    let n = get_or s.words now_at 0 in
+    let u = meeting (met r.k) (met_by z r.k x) in
+    subst (λ (ws : List ℕ). IsEvent z s record { words = ws; homes = s.homes; views = set s.views id u } (Load x.number) (says.Now (place_told n) (version_told n))) (sym (set_get s.words now_at))
+    (event_at z s r (Load x.number) (says.Now (place_told n) (version_told n)) None s.words (set s.views id u) (met r.k) (set r.readers x.number (as_reader (loaded z r.k.log x)))
+    (load_does z s r x mine.3) (met_seats z s r id x at unmet))
 
 -- an event that leaves words and seats as they are, where a word is loaded
 look_event : (z : Base) (s : State Asked Role) (r : Agrees z s) (id i : ℕ) (x : ReaderView) (e : Event) (answer : StepReply) → get_elem? s.views id ≡ some (reading x)
@@ -177,7 +196,7 @@ order_event z s r id by c at none accepted =
     (event_at z s r (Order c) answer None s.words (set s.views id (keeping u)) u r.readers
     (does_order (core_of z s.words r.k r.readers) c (ap (option_map (λ v. v.hand)) none) accepted)
     (seats_keeper z r.k u r.readers r.readers s.views r.seats id (keeping u) mine.0 r.seats.few r.seats.callers r.seats.fresh r.seats.left
-    (λ q below e. seated_set s.views id (keeping r.k) (keeping u) (r.seats.owner q) q at (λ e. absurd e) (r.seats.seated q below e)) (mine.0, refl)
+    (λ q below e. seated_set s.views id (keeping r.k) (keeping u) (r.seats.owner q) (HasReader q) at (λ e. absurd e) (r.seats.seated q below e)) tt (mine.0, refl)
     (λ y else f. fits-task z r.k r.readers u.task y f) (λ seen p. p)))
 
 -- a step of a publish
@@ -191,7 +210,7 @@ write_event z s r id t at task publish more =
     event_at z s r Keep says.Written (Some next.at) (set s.words next.at next.word) (set s.views id (keeping u)) u r.readers
     (does_write (core_of z s.words r.k r.readers) t.hand (ap (option_map (λ v. v.hand)) task) publish more)
     (seats_keeper z r.k u r.readers r.readers s.views r.seats id (keeping u) mine.0 r.seats.few r.seats.callers r.seats.fresh r.seats.left
-    (λ q below none. seated_set s.views id (keeping r.k) (keeping u) (r.seats.owner q) q at (λ e. absurd e) (r.seats.seated q below none)) (mine.0, refl)
+    (λ q below none. seated_set s.views id (keeping r.k) (keeping u) (r.seats.owner q) (HasReader q) at (λ e. absurd e) (r.seats.seated q below none)) tt (mine.0, refl)
     (λ y else f. fits-task z r.k r.readers u.task y f) (λ seen p. p))
 
 -- each step
@@ -199,7 +218,15 @@ pub steps_are_events : (z : Base) (s : State Asked Role) (id : ℕ) → Agrees z
 steps_are_events z s id r = record {
   announce = λ x at quiet. announce_event z s r id x at quiet;
   leave = λ x at there. leave_event z s r id x at there;
-  load = λ x at. (r.k.log, load_event z s r id x at);
+  load = λ x at. let mine = reader_knows z s r id (reading x) x at refl in (r.k.log, load_event z s r id x (reading x) at (λ q e. e) (λ e. e) mine.0 mine.1);
+  learn = λ x seen at.
+      let mine : (r.seats.owner x.number ≡ id) × Fits z r.k r.readers x × IsPrefix seen r.k.log = r.seats.each_seat id (learning x seen) at in
+      (r.k.log, load_event z s r id x (learning x seen) at (λ q e. e) (λ e. e) mine.0 mine.1);
+  meet = λ k x at unmet.
+      let mine : (id ≡ r.seats.keeper) × (k ≡ r.k) × (r.seats.owner x.number ≡ id) × Fits z r.k r.readers x = r.seats.each_seat id (meeting k x) at in
+      subst (λ (l : KeeperView). get_elem? s.views id ≡ some (meeting l x) → (l.unmet ≡ None) ⊎ (l.unmet ≡ Some x.number)
+      → IsEvent z s (after_step s now_at (get_or s.words now_at 0) id (meeting (met l) (met_by z l x))) (Load x.number) (says.Now (place_told (get_or s.words now_at 0)) (version_told (get_or s.words now_at 0)))) (sym mine.1)
+      (λ at' unmet'. meet_event z s r id x at' unmet') at unmet;
   look_map = λ x v p at held inside. map_event z s r id x v p at held inside;
   look_tile = λ x v p b i at held inside is row. tile_event z s r id x v p b i at held inside is row;
   order = λ k by c at none accepted.

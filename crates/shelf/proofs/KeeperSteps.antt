@@ -18,7 +18,7 @@ use Rattle.map_core.proofs.StepLemmas.{in_hand, story-push, keeps-order, keeps-w
 use Rattle.shelf.proofs.LogParts.{prefix-push, entries-push, made_by-append, callers-push}
 use Rattle.shelf.specs.declared.asked.Asked.{Asked}
 use Rattle.shelf.specs.Roles.{Task, KeeperView, ReaderView, Role, keeping, entries, made_by, unmet_by, keeper_in, core_of}
-use Rattle.shelf.specs.Rule.{Fits, Knows, Agrees}
+use Rattle.shelf.specs.Rule.{Fits, Knows, HasReader, Agrees}
 use Rattle.shelf.specs.Steps.{ordered, wrote, scanned, signed_of, committed, orders, writes, scans, MayCommit, commits}
 use Rattle.shelf.proofs.Bridge.{set_get, seated_set, seats_keeper}
 
@@ -40,8 +40,8 @@ task_moves z s r id words l task at here whole = record {
   readers = r.readers;
   whole = whole;
   seats = seats_keeper z r.k record r.k { task = task } r.readers r.readers s.views r.seats id (keeping record r.k { task = task }) here r.seats.few r.seats.callers
-      r.seats.fresh r.seats.left (λ q below none. seated_set s.views id (keeping l) (keeping record r.k { task = task }) (r.seats.owner q) q at (λ e. absurd e) (r.seats.seated q below none))
-      (here, refl) (λ x else f. fits-task z r.k r.readers task x f) (λ seen p. p);
+      r.seats.fresh r.seats.left (λ q below none. seated_set s.views id (keeping l) (keeping record r.k { task = task }) (r.seats.owner q) (HasReader q) at (λ e. absurd e) (r.seats.seated q below none))
+      tt (here, refl) (λ x else f. fits-task z r.k r.readers task x f) (λ seen p. p);
 }
 
 -- the core with the keeper's command in hand
@@ -183,7 +183,7 @@ commits_it z slots id word me k role may is s r homes at small =
         whole = whole;
         seats = seats_keeper z r.k u r.readers r.readers s.views r.seats id (keeping u) mine.0 r.seats.few
             (callers-push r.k.dealt r.k.log (signed_of z r.k t) r.seats.callers may'.2) r.seats.fresh r.seats.left
-            (λ q below none. seated_set s.views id (keeping k) (keeping u) (r.seats.owner q) q (at ∙ ap (λ (v : Role). some v) role) (λ e. absurd e) (r.seats.seated q below none)) (mine.0, refl)
+            (λ q below none. seated_set s.views id (keeping k) (keeping u) (r.seats.owner q) (HasReader q) (at ∙ ap (λ (v : Role). some v) role) (λ e. absurd e) (r.seats.seated q below none)) tt (mine.0, refl)
             (λ x else f. fits-committed z r.k r.readers t x may'.3 f) (λ seen p. prefix-push seen r.k.log (signed_of z r.k t) p);
       },
       λ l v said task.

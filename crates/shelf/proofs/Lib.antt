@@ -9,6 +9,8 @@ pub mod OneLog
 pub mod ReaderSteps
 pub mod LookSteps
 pub mod KeeperSteps
+pub mod HandedSeats
+pub mod TicketSteps
 pub mod MeetingSteps
 pub mod OwnTable
 pub mod ReaderSeats
@@ -18,4 +20,5 @@ pub mod OpeningSteps
 pub mod EndSteps
 pub mod ClosingSums
 pub mod EventSteps
+pub mod HandingSteps
 pub mod WriteSteps

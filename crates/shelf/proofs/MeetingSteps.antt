@@ -1,4 +1,4 @@
--- The steps of a meeting, of a ticket and of giving a reader up keep the rule.
+-- The steps of a meeting, and of giving a reader up, keep the rule.
 use Rattle.std.proofs.Common.{◌≡◌, ◌≢◌, ◌==◌, ℕ, zero, suc, ◌+◌, cond, Bool, List, [], ◌∷◌, ◌++◌, length, set, get_or, refl, ap, sym, ◌∙◌, subst, arith, ne_eqb, ⊎_elim, Option, Some, None, ◌<◌, eq-eqb}
 use Rattle.std.specs.Prelude.{◌⊎◌, slice_get}
 use mathlib.Core.Logic.{inl, inr}
@@ -17,53 +17,21 @@ use Rattle.shelf.proofs.LogParts.{prefix-itself}
 use Rattle.shelf.proofs.Moved.{moved, moved-here, moved-else}
 use Rattle.shelf.specs.declared.asked.Asked.{Asked}
 use Rattle.shelf.specs.Roles.{KeeperView, ReaderView, Role, idle, keeping, reading, meeting, ticket, learning, made_by, unmet_by, as_reader, keeper_in, reader_in}
-use Rattle.shelf.specs.Rule.{Fits, Knows, IsSeated, Agrees}
+use Rattle.shelf.specs.Rule.{Fits, Knows, HasReader, HasKeeper, IsSeated, AreSeats, Agrees}
 use Rattle.shelf.specs.Steps.{loaded, met, met_by, without, Meets, meets, gives_up, Sees, learns}
+use Rattle.shelf.proofs.HandedSeats.{one_more, stays_moved, same_seats, same_rule, two_seats}
 use Rattle.shelf.proofs.Bridge.{there_else, fits_else, apart, one_seat, set_there, seated_set, seated_longer, seated_last, seats_reader, seats_keeper}
-use Rattle.shelf.proofs.ReaderSteps.{fits-loaded, whole-loaded}
+use Rattle.shelf.proofs.ReaderSteps.{fits-loaded, whole-loaded, seats_loaded}
 use Rattle.shelf.proofs.KeeperSteps.{keeper_knows, whole_same}
 
--- one more seat
-pub one_more : (views : List Role) (w : Role) (j : ℕ) (v : Role) → get_elem? (views ++ w ∷ []) j ≡ some v → (get_elem? views j ≡ some v) ⊎ ((j ≡ length views) × (w ≡ v))
-one_more [] w zero v e = inr (refl, some-injective w v e)
-one_more [] w (suc j) v e = absurd (some-ne-none v (sym e))
-one_more (x ∷ xs) w zero v e = inl e
-one_more (x ∷ xs) w (suc j) v e = ⊎_elim (λ t. inl t) (λ t. inr (ap suc t.0, t.1)) (one_more xs w j v e)
-
--- what a seat knows where reader r has moved to another seat than it, whose number isn't the keeper's
-stays_moved : (z : Base) (k : KeeperView) (readers : List Reader) (keeper : ℕ) (owner : ℕ → ℕ) (r to : ℕ) (j : ℕ) (v : Role) → j ≢ owner r
-    → Knows z k readers keeper owner j v → Knows z k readers keeper (moved owner r to) j v
-stays_moved z k readers keeper owner r to j idle other knows = tt
-stays_moved z k readers keeper owner r to j (keeping u) other knows = knows
-stays_moved z k readers keeper owner r to j (reading x) other knows = (moved-else owner r to x.number (λ e. other (sym knows.0 ∙ ap owner e)) ∙ knows.0, knows.1)
-stays_moved z k readers keeper owner r to j (meeting u x) other knows = (knows.0, knows.1, moved-else owner r to x.number (λ e. other (sym knows.2 ∙ ap owner e)) ∙ knows.2, knows.3)
-stays_moved z k readers keeper owner r to j (ticket seen) other knows = knows
-stays_moved z k readers keeper owner r to j (learning x seen) other knows = (moved-else owner r to x.number (λ e. other (sym knows.0 ∙ ap owner e)) ∙ knows.0, knows.1, knows.2)
-
--- the seats are others, and know what is so
-same_rule : (z : Base) (s : State Asked Role) (r : Agrees z s) (owner : ℕ → ℕ) (views : List Role)
-    → ((q : ℕ) → q < r.k.dealt → times q r.k.gone ≡ 0 → IsSeated views (owner q) q) → ((j : ℕ) (v : Role) → get_elem? views j ≡ some v → Knows z r.k r.readers r.seats.keeper owner j v) → Agrees z record { words = s.words; homes = s.homes; views = views }
-same_rule z s r owner views seated each = record {
-  k = r.k;
-  readers = r.readers;
-  whole = r.whole;
-  seats = record { keeper = r.seats.keeper; owner = owner; few = r.seats.few; callers = r.seats.callers; fresh = r.seats.fresh; left = r.seats.left; seated = seated; each_seat = each };
-}
-
--- where two seats have other views, the others' facts stay
-two_seats : (K : ℕ → Role → Type 0) (views : List Role) (id : ℕ) (w : Role) (other : ℕ) (u : Role) → K id w → K other u
-    → ((j : ℕ) (v : Role) → j ≢ id → j ≢ other → get_elem? views j ≡ some v → K j v) → (j : ℕ) (v : Role) → get_elem? (set (set views id w) other u) j ≡ some v → K j v
-two_seats K views id w other u mine its others =
-    one_seat K (set views id w) other u its (λ j v else at.
-    one_seat (λ i x. i ≢ other → K i x) views id w (λ _. mine) (λ i x not_id there not_other. others i x not_id not_other there) j v at else)
-
 -- a reader's view is laid in the keeper's seat
-pub joins : (z : Base) (id other : ℕ) (k : KeeperView) (x : ReaderView) → Joins (Agrees z) id (keeping k) other (reading x) (meeting k x) idle
-joins z id other k x s r at else there =
+pub together_seats : (z : Base) (s : State Asked Role) (r : Agrees z s) (id other : ℕ) (k : KeeperView) (x : ReaderView) → get_elem? s.views id ≡ some (keeping k) → other ≢ id
+    → get_elem? (set s.views id (meeting k x)) other ≡ some (reading x) → AreSeats z r.k r.readers (set (set s.views id (meeting k x)) other idle)
+together_seats z s r id other k x at else there =
     let mine = keeper_knows z s r id (keeping k) k at refl in
     let its : (r.seats.owner x.number ≡ other) × Fits z r.k r.readers x = r.seats.each_seat other (reading x) (sym (set_else s.views id other (meeting k x) else) ∙ there) in
     let owner = moved r.seats.owner x.number id in
-    same_rule z s r owner (set (set s.views id (meeting k x)) other idle)
+    same_seats z s r owner (set (set s.views id (meeting k x)) other idle)
     (λ q below none.
     dite (ℕ_discrete q x.number)
     (λ here. record {
@@ -73,27 +41,34 @@ joins z id other k x s r at else there =
       is = sym here;
     })
     (λ apart.
-    seated_set (set s.views id (meeting k x)) other (reading x) idle (owner q) q there (λ e. absurd (apart (sym e)))
-    (seated_set s.views id (keeping k) (meeting k x) (owner q) q at (λ e. absurd e)
-    (subst (λ (n : ℕ). IsSeated s.views n q) (sym (moved-else r.seats.owner x.number id q apart)) (r.seats.seated q below none)))))
+    seated_set (set s.views id (meeting k x)) other (reading x) idle (owner q) (HasReader q) there (λ e. absurd (apart (sym e)))
+    (seated_set s.views id (keeping k) (meeting k x) (owner q) (HasReader q) at (λ e. absurd e)
+    (subst (IsSeated (HasReader q) s.views) (sym (moved-else r.seats.owner x.number id q apart)) (r.seats.seated q below none)))))
+    (seated_set (set s.views id (meeting k x)) other (reading x) idle r.seats.keeper HasKeeper there (λ e. e) (seated_set s.views id (keeping k) (meeting k x) r.seats.keeper HasKeeper at (λ e. e) r.seats.kept))
     (two_seats (Knows z r.k r.readers r.seats.keeper owner) s.views id (meeting k x) other idle (mine.0, mine.1, moved-here r.seats.owner x.number id, its.1) tt
     (λ j v not_id not_it at_j. stays_moved z r.k r.readers r.seats.keeper r.seats.owner x.number id j v (λ e. not_it (e ∙ its.0)) (r.seats.each_seat j v at_j)))
 
+-- that keeps the rule
+pub joins : (z : Base) (id other : ℕ) (k : KeeperView) (x : ReaderView) → Joins (Agrees z) id (keeping k) other (reading x) (meeting k x) idle
+joins z id other k x s r at else there = same_rule z s r _ (together_seats z s r id other k x at else there)
+
 -- the reader gets its view back, in a seat of its own
-pub parts : (z : Base) (id : ℕ) (k : KeeperView) (x : ReaderView) → Splits (Agrees z) id (meeting k x) (keeping k) (reading x)
-parts z id k x s r at =
+pub apart_seats : (z : Base) (s : State Asked Role) (r : Agrees z s) (id : ℕ) (k : KeeperView) (x : ReaderView) → get_elem? s.views id ≡ some (meeting k x)
+    → AreSeats z r.k r.readers (set s.views id (keeping k) ++ reading x ∷ [])
+apart_seats z s r id k x at =
     let mine : (id ≡ r.seats.keeper) × (k ≡ r.k) × (r.seats.owner x.number ≡ id) × Fits z r.k r.readers x = r.seats.each_seat id (meeting k x) at in
     let new = length (set s.views id (keeping k)) in
     let owner = moved r.seats.owner x.number new in
-    same_rule z s r owner (set s.views id (keeping k) ++ reading x ∷ [])
+    same_seats z s r owner (set s.views id (keeping k) ++ reading x ∷ [])
     (λ q below none.
     dite (ℕ_discrete q x.number)
-    (λ here. subst (λ (n : ℕ). IsSeated (set s.views id (keeping k) ++ reading x ∷ []) n q) (sym (ap owner here ∙ moved-here r.seats.owner x.number new))
-    (seated_last (set s.views id (keeping k)) (reading x) q (sym here)))
+    (λ here. subst (IsSeated (HasReader q) (set s.views id (keeping k) ++ reading x ∷ [])) (sym (ap owner here ∙ moved-here r.seats.owner x.number new))
+    (seated_last (set s.views id (keeping k)) (reading x) (HasReader q) (sym here)))
     (λ apart.
-    seated_longer (set s.views id (keeping k)) (reading x) (owner q) q
-    (seated_set s.views id (meeting k x) (keeping k) (owner q) q at (λ e. absurd (apart (sym e)))
-    (subst (λ (n : ℕ). IsSeated s.views n q) (sym (moved-else r.seats.owner x.number new q apart)) (r.seats.seated q below none)))))
+    seated_longer (set s.views id (keeping k)) (reading x) (owner q) (HasReader q)
+    (seated_set s.views id (meeting k x) (keeping k) (owner q) (HasReader q) at (λ e. absurd (apart (sym e)))
+    (subst (IsSeated (HasReader q) s.views) (sym (moved-else r.seats.owner x.number new q apart)) (r.seats.seated q below none)))))
+    (seated_longer (set s.views id (keeping k)) (reading x) r.seats.keeper HasKeeper (seated_set s.views id (meeting k x) (keeping k) r.seats.keeper HasKeeper at (λ e. e) r.seats.kept))
     (λ j v there.
     elim (one_more (set s.views id (keeping k)) (reading x) j v there) [
       | inl before ↦
@@ -103,62 +78,9 @@ parts z id k x s r at =
           subst (λ (q : ℕ × Role). Knows z r.k r.readers r.seats.keeper owner q.0 q.1) (λ i. (sym last.0 i, last.1 i)) (moved-here r.seats.owner x.number new, mine.3)
     ])
 
--- a ticket is cut from the keeper's seat
-pub cuts_ticket : (z : Base) (id : ℕ) (k : KeeperView) → Splits (Agrees z) id (keeping k) (keeping k) (ticket k.log)
-cuts_ticket z id k s r at =
-    let mine = keeper_knows z s r id (keeping k) k at refl in
-    same_rule z s r r.seats.owner (set s.views id (keeping k) ++ ticket k.log ∷ [])
-    (λ q below none. seated_longer (set s.views id (keeping k)) (ticket k.log) (r.seats.owner q) q
-    (seated_set s.views id (keeping k) (keeping k) (r.seats.owner q) q at (λ e. absurd e) (r.seats.seated q below none)))
-    (λ j v there.
-    elim (one_more (set s.views id (keeping k)) (ticket k.log) j v there) [
-      | inl before ↦ one_seat (Knows z r.k r.readers r.seats.keeper r.seats.owner) s.views id (keeping k) mine (λ i w not_id at_i. r.seats.each_seat i w at_i) j v before
-      | inr last ↦
-          subst (Knows z r.k r.readers r.seats.keeper r.seats.owner j) last.1 (subst (λ (l : KeeperView). IsPrefix l.log r.k.log) (sym mine.1) (prefix-itself r.k.log))
-    ])
-
--- a ticket's view is laid in a reader's seat
-pub joins_ticket : (z : Base) (id other : ℕ) (x : ReaderView) (seen : List Signed) → Joins (Agrees z) id (reading x) other (ticket seen) (learning x seen) idle
-joins_ticket z id other x seen s r at else there =
-    let mine = r.seats.each_seat id (reading x) at in
-    let its : IsPrefix seen r.k.log = r.seats.each_seat other (ticket seen) (sym (set_else s.views id other (learning x seen) else) ∙ there) in
-    same_rule z s r r.seats.owner (set (set s.views id (learning x seen)) other idle)
-    (λ q below none. seated_set (set s.views id (learning x seen)) other (ticket seen) idle (r.seats.owner q) q there (λ e. absurd e)
-    (seated_set s.views id (reading x) (learning x seen) (r.seats.owner q) q at (λ e. e) (r.seats.seated q below none)))
-    (two_seats (Knows z r.k r.readers r.seats.keeper r.seats.owner) s.views id (learning x seen) other idle (mine.0, mine.1, its) tt
-    (λ j v not_id not_it at_j. r.seats.each_seat j v at_j))
-
--- the load after which a reader has seen all that a ticket had
-pub learns_it : (z : Base) (slots id : ℕ) (me : Me Asked Role) (x : ReaderView) (seen : List Signed) → me.0 ≡ learning x seen
-    → Allows (Agrees z) slots id me now_at (λ n. n) (learns z (step slots now_at 0 0 none) me)
-learns_it z slots id me x seen role s r homes at small =
-    let mine : (r.seats.owner x.number ≡ id) × Fits z r.k r.readers x × IsPrefix seen r.k.log = subst (Knows z r.k r.readers r.seats.keeper r.seats.owner id) role (r.seats.each_seat id me.0 at) in
-    let f = mine.1 in
-    let fits = fits-loaded z r.k r.readers x f in (
-      reading (loaded z r.k.log x),
-      keeps,
-      tt,
-      record {
-        k = r.k;
-        readers = set r.readers x.number (as_reader (loaded z r.k.log x));
-        whole = whole-loaded z s.words r.k r.readers x now_at r.whole f;
-        seats = seats_reader z r.k r.readers s.views r.seats id x (as_reader (loaded z r.k.log x)) (learning x seen) (reading (loaded z r.k.log x)) (at ∙ ap (λ (v : Role). some v) role) (λ q e. e) mine.0 f (mine.0, fits);
-      },
-      λ y more said.
-          let one : learning x seen ≡ learning y more = sym role ∙ said in
-          let same : x ≡ y = ap reader_in one in
-          let again : seen ≡ more = ap of_ticket one in (
-            r.k.log,
-            ap (λ (q : ReaderView). (reading (loaded z r.k.log q), me.1)) same,
-            subst (λ (q : ReaderView). Sees z q (get_or s.words now_at 0) r.k.log) same
-                record { ready = r.whole.ready; began = f.began; now = r.whole.keeper.now; legal = r.whole.keeper.legal; counts = fits.all_seen },
-            subst (λ (q : List Signed). IsPrefix q r.k.log) again mine.2,
-          ),
-    )
-  where
-    of_ticket : Role → List Signed
-    of_ticket (learning y more) = more
-    of_ticket role = []
+-- that keeps the rule
+pub parts : (z : Base) (id : ℕ) (k : KeeperView) (x : ReaderView) → Splits (Agrees z) id (meeting k x) (keeping k) (reading x)
+parts z id k x s r at = same_rule z s r _ (apart_seats z s r id k x at)
 
 -- another reader has no entry that is unmet, where this one's is
 none_unmet : (unmet : Option ℕ) (n m : ℕ) → n ≢ m → (unmet ≡ None) ⊎ (unmet ≡ Some m) → unmet_by n unmet ≡ 0
@@ -181,6 +103,24 @@ met_by-fits z k readers x f =
     let g = fits-loaded z k readers x f in
     record { dealt = f.dealt; here = f.here; there = g.there; began = g.began; held = g.held; all_seen = omega arith; counted = omega arith }
 
+-- the seats once a reader has met the keeper
+pub met_seats : (z : Base) (s : State Asked Role) (r : Agrees z s) (id : ℕ) (x : ReaderView) → get_elem? s.views id ≡ some (meeting r.k x) → (r.k.unmet ≡ None) ⊎ (r.k.unmet ≡ Some x.number)
+    → AreSeats z (met r.k) (set r.readers x.number (as_reader (loaded z r.k.log x))) (set s.views id (meeting (met r.k) (met_by z r.k x)))
+met_seats z s r id x at unmet =
+    let mine : (id ≡ r.seats.keeper) × (r.k ≡ r.k) × (r.seats.owner x.number ≡ id) × Fits z r.k r.readers x = r.seats.each_seat id (meeting r.k x) at in
+    let f = mine.3 in
+    let y = as_reader (loaded z r.k.log x) in
+    let below = f.dealt in
+    let here = f.here in
+    seats_keeper z r.k (met r.k) r.readers (set r.readers x.number y) s.views r.seats id (meeting (met r.k) (met_by z r.k x)) mine.0 r.seats.few r.seats.callers
+    (λ q above inside. there_else r.readers x.number q y (λ e. absurd (omega arith)) ∙ r.seats.fresh q above inside)
+    (λ q w gone is. r.seats.left q w gone (sym (there_else r.readers x.number q y (λ e. absurd (let same : times q r.k.gone ≡ times x.number r.k.gone = ap (λ m. times m r.k.gone) e in omega arith))) ∙ is))
+    (λ q inside none. seated_set s.views id (meeting r.k x) (meeting (met r.k) (met_by z r.k x)) (r.seats.owner q) (HasReader q) at (λ e. e) (r.seats.seated q inside none))
+    tt (mine.0, refl, mine.2, met_by-fits z r.k r.readers x f)
+    (λ v else g. let other = apart r.seats.owner v.number x.number id mine.2 else in
+    fits-met z r.k (set r.readers x.number y) v x other unmet (fits_else z r.k r.readers x.number y v other g))
+    (λ seen p. p)
+
 -- the load of a meeting
 pub meets_it : (z : Base) (slots id : ℕ) (me : Me Asked Role) (k : KeeperView) (x : ReaderView) → me.0 ≡ meeting k x
     → (k.unmet ≡ None) ⊎ (k.unmet ≡ Some x.number) → Allows (Agrees z) slots id me now_at (λ n. n) (meets z (step slots now_at 0 0 none) me)
@@ -188,9 +128,7 @@ meets_it z slots id me k x role unmet s r homes at small =
     let mine : (id ≡ r.seats.keeper) × (k ≡ r.k) × (r.seats.owner x.number ≡ id) × Fits z r.k r.readers x = subst (Knows z r.k r.readers r.seats.keeper r.seats.owner id) role (r.seats.each_seat id me.0 at) in
     let unmet' : (r.k.unmet ≡ None) ⊎ (r.k.unmet ≡ Some x.number) = subst (λ (l : KeeperView). (l.unmet ≡ None) ⊎ (l.unmet ≡ Some x.number)) mine.1 unmet in
     let f = mine.3 in
-    let y = as_reader (loaded z r.k.log x) in
-    let below = f.dealt in
-    let here = f.here in (
+    let y = as_reader (loaded z r.k.log x) in (
       meeting (met r.k) (met_by z r.k x),
       keeps,
       tt,
@@ -198,14 +136,7 @@ meets_it z slots id me k x role unmet s r homes at small =
         k = met r.k;
         readers = set r.readers x.number y;
         whole = whole-loaded z s.words r.k r.readers x now_at r.whole f;
-        seats = seats_keeper z r.k (met r.k) r.readers (set r.readers x.number y) s.views r.seats id (meeting (met r.k) (met_by z r.k x)) mine.0 r.seats.few r.seats.callers
-            (λ q above inside. there_else r.readers x.number q y (λ e. absurd (omega arith)) ∙ r.seats.fresh q above inside)
-            (λ q w gone is. r.seats.left q w gone (sym (there_else r.readers x.number q y (λ e. absurd (let same : times q r.k.gone ≡ times x.number r.k.gone = ap (λ m. times m r.k.gone) e in omega arith))) ∙ is))
-            (λ q inside none. seated_set s.views id (meeting k x) (meeting (met r.k) (met_by z r.k x)) (r.seats.owner q) q (at ∙ ap (λ (v : Role). some v) role) (λ e. e) (r.seats.seated q inside none))
-            (mine.0, refl, mine.2, met_by-fits z r.k r.readers x f)
-            (λ v else g. let other = apart r.seats.owner v.number x.number id mine.2 else in
-            fits-met z r.k (set r.readers x.number y) v x other unmet' (fits_else z r.k r.readers x.number y v other g))
-            (λ seen p. p);
+        seats = met_seats z s r id x (at ∙ ap (λ (v : Role). some v) (role ∙ ap (λ (l : KeeperView). meeting l x) mine.1)) unmet';
       },
       λ l v said.
           let same : r.k ≡ l = sym mine.1 ∙ ap keeper_in (sym role ∙ said) in
@@ -222,6 +153,28 @@ fits-without z k readers y x else f =
     let here : times y.number k.gone ≡ 0 = f.here in
     record { dealt = f.dealt; here = rw test (omega arith); there = f.there; began = f.began; held = f.held; all_seen = f.all_seen; counted = f.counted }
 
+-- the seats once a reader is given up, which has announced nothing
+pub without_seats : (z : Base) (s : State Asked Role) (r : Agrees z s) (id : ℕ) (x : ReaderView) → get_elem? s.views id ≡ some (meeting r.k x) → x.announced ≡ None
+    → AreSeats z (without r.k x) r.readers (set s.views id (keeping (without r.k x)))
+without_seats z s r id x at quiet =
+    let mine : (id ≡ r.seats.keeper) × (r.k ≡ r.k) × (r.seats.owner x.number ≡ id) × Fits z r.k r.readers x = r.seats.each_seat id (meeting r.k x) at in
+    let f = mine.3 in
+    seats_keeper z r.k (without r.k x) r.readers r.readers s.views r.seats id (keeping (without r.k x)) mine.0 r.seats.few r.seats.callers r.seats.fresh
+    (λ q w gone is.
+    dite (ℕ_discrete q x.number)
+    (λ same. ap (λ (v : Reader). v.announced) (one_value (sym is ∙ (ap (slice_get r.readers) same ∙ f.there))) ∙ quiet)
+    (λ else. r.seats.left q w (let none_of = ne_eqb q x.number else in let count : cond (q == x.number) 1 0 ≡ 0 = ap (λ (b : Bool). let one : ℕ = cond b 1 0 in one) none_of in omega arith) is))
+    (λ q inside none.
+    seated_set s.views id (meeting r.k x) (keeping (without r.k x)) (r.seats.owner q) (HasReader q) at
+    (λ e. let test = eq-eqb q x.number (sym e) in let count : cond (q == x.number) 1 0 ≡ 1 = ap (λ (b : Bool). let one : ℕ = cond b 1 0 in one) test in absurd (omega arith))
+    (r.seats.seated q inside (omega arith)))
+    tt (mine.0, refl)
+    (λ v else g. fits-without z r.k r.readers v x (apart r.seats.owner v.number x.number id mine.2 else) g)
+    (λ seen p. p)
+  where
+    one_value : {a b : Reader} → Some a ≡ Some b → a ≡ b
+    one_value e = cc
+
 -- the load after which a reader is given up, which has announced nothing
 pub gives_it_up : (z : Base) (slots id : ℕ) (me : Me Asked Role) (k : KeeperView) (x : ReaderView) → me.0 ≡ meeting k x → x.announced ≡ None
     → Allows (Agrees z) slots id me now_at (λ n. n) (gives_up z (step slots now_at 0 0 none) me)
@@ -235,18 +188,7 @@ gives_it_up z slots id me k x role quiet s r homes at small =
         k = without r.k x;
         readers = r.readers;
         whole = whole_same z s.words r.k r.readers now_at (get_or s.words now_at 0) refl r.whole;
-        seats = seats_keeper z r.k (without r.k x) r.readers r.readers s.views r.seats id (keeping (without r.k x)) mine.0 r.seats.few r.seats.callers r.seats.fresh
-            (λ q w gone is.
-            dite (ℕ_discrete q x.number)
-            (λ same. ap (λ (v : Reader). v.announced) (one_value (sym is ∙ (ap (slice_get r.readers) same ∙ f.there))) ∙ quiet)
-            (λ else. r.seats.left q w (let none_of = ne_eqb q x.number else in let count : cond (q == x.number) 1 0 ≡ 0 = ap (λ (b : Bool). let one : ℕ = cond b 1 0 in one) none_of in omega arith) is))
-            (λ q inside none.
-            seated_set s.views id (meeting k x) (keeping (without r.k x)) (r.seats.owner q) q (at ∙ ap (λ (v : Role). some v) role)
-            (λ e. let test = eq-eqb q x.number (sym e) in let count : cond (q == x.number) 1 0 ≡ 1 = ap (λ (b : Bool). let one : ℕ = cond b 1 0 in one) test in absurd (omega arith))
-            (r.seats.seated q inside (omega arith)))
-            (mine.0, refl)
-            (λ v else g. fits-without z r.k r.readers v x (apart r.seats.owner v.number x.number id mine.2 else) g)
-            (λ seen p. p);
+        seats = without_seats z s r id x (at ∙ ap (λ (v : Role). some v) (role ∙ ap (λ (l : KeeperView). meeting l x) mine.1)) quiet;
       },
       λ l v said.
           let same : r.k ≡ l = sym mine.1 ∙ ap keeper_in (sym role ∙ said) in
@@ -255,6 +197,3 @@ gives_it_up z slots id me k x role quiet s r homes at small =
             subst (λ (q : KeeperView × ReaderView). Meets z q.0 q.1) (λ i. (same i, one i)) record { dealt = f.dealt; here = f.here; began = f.began; counted = f.counted; legal = r.whole.keeper.legal },
           ),
     )
-  where
-    one_value : {a b : Reader} → Some a ≡ Some b → a ≡ b
-    one_value e = cc

@@ -12,8 +12,8 @@ use Rattle.map_core.specs.Sound.{IsWhole}
 use Rattle.map_core.proofs.SafeLemmas.{IsSafe-whole}
 use Rattle.shelf.specs.declared.asked.Asked.{Asked}
 use Rattle.shelf.specs.Roles.{KeeperView, Role, keeping, reading, meeting, as_keeper, core_of, idle, ticket, learning}
-use Rattle.shelf.specs.Rule.{AreSeats, Agrees, Knows, HasReader}
-use Rattle.shelf.specs.Laws.{ShowsReader, IsOfSeat, IsStateOf, IsAState}
+use Rattle.shelf.specs.Rule.{AreSeats, Agrees, Knows, HasReader, HasKeeper, IsSomeSeat}
+use Rattle.shelf.specs.Laws.{ShowsReader, ShowsKeeper, IsStateOf, IsAState}
 use Rattle.shelf.proofs.Owners.{readers_apart, keepers_one}
 use Rattle.std.proofs.lemmas.Bool.{cases_lt}
 use Rattle.std.specs.Prelude.{slice_get, Some}
@@ -43,9 +43,18 @@ shown_by z k readers keeper owner j r y (reading x) knows is there = (is, one_va
 shown_by z k readers keeper owner j r y (meeting u x) knows is there = (is, one_value (sym there ∙ (ap (slice_get readers) (sym is) ∙ knows.3.there)))
 shown_by z k readers keeper owner j r y (learning x seen) knows is there = (is, one_value (sym there ∙ (ap (slice_get readers) (sym is) ∙ knows.1.there)))
 
+-- the keeper of the core is its seat's view
+kept_by : (z : Base) (k : KeeperView) (readers : List Reader) (keeper : ℕ) (owner : ℕ → ℕ) (j : ℕ) (role : Role) → Knows z k readers keeper owner j role → HasKeeper role → ShowsKeeper (as_keeper k) role
+kept_by z k readers keeper owner j idle knows is = absurd is
+kept_by z k readers keeper owner j (keeping u) knows is = ap as_keeper (sym knows.1)
+kept_by z k readers keeper owner j (ticket seen) knows is = absurd is
+kept_by z k readers keeper owner j (reading x) knows is = absurd is
+kept_by z k readers keeper owner j (meeting u x) knows is = ap as_keeper (sym knows.1)
+kept_by z k readers keeper owner j (learning x seen) knows is = absurd is
+
 -- each reader of the core is the view of a seat, or its word is 0
 each_reader_is : (z : Base) (words : List ℕ) (k : KeeperView) (readers : List Reader) (views : List Role) → IsWhole (core_of z words k readers) → AreSeats z k readers views
-    → (r : ℕ) (y : Reader) → slice_get readers r ≡ Some y → IsOfSeat views r y ⊎ (get_or words (pin_at r) 0 ≡ 0)
+    → (r : ℕ) (y : Reader) → slice_get readers r ≡ Some y → IsSomeSeat (ShowsReader r y) views ⊎ (get_or words (pin_at r) 0 ≡ 0)
 each_reader_is z words k readers views whole seats r y there =
     elim (cases_lt r k.dealt) [
       | inl below ↦
@@ -53,7 +62,10 @@ each_reader_is z words k readers views whole seats r y there =
             | inl gone ↦ inr (quiet_words z words k readers views whole seats r inside (inr gone))
             | inr here ↦
                 let it = seats.seated r below (omega arith) in
-                inl record { seat = seats.owner r; role = it.role; at = it.at; shows = shown_by z k readers seats.keeper seats.owner (seats.owner r) r y it.role (seats.each_seat (seats.owner r) it.role it.at) it.is there }
+                inl record {
+                  seat = seats.owner r;
+                  seated = record { role = it.role; at = it.at; is = shown_by z k readers seats.keeper seats.owner (seats.owner r) r y it.role (seats.each_seat (seats.owner r) it.role it.at) it.is there };
+                }
           ]
       | inr above ↦ inr (quiet_words z words k readers views whole seats r inside (inl above))
     ]
@@ -69,6 +81,7 @@ core_at z s k readers whole seats = record {
   safe = IsSafe-whole (core_of z s.words k readers) whole;
   base_is = refl;
   words_are = refl;
+  kept = record { seat = seats.keeper; seated = record { role = seats.kept.role; at = seats.kept.at; is = kept_by z k readers seats.keeper seats.owner seats.keeper seats.kept.role (seats.each_seat seats.keeper seats.kept.role seats.kept.at) seats.kept.is } };
   keeper = λ j u at. ap as_keeper (sym (seats.each_seat j (keeping u) at).1);
   reader = λ j x at. (seats.each_seat j (reading x) at).1.there;
   together = λ j u x at. let told = seats.each_seat j (meeting u x) at in (ap as_keeper (sym told.1), told.3.there);

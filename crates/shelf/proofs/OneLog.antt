@@ -4,9 +4,9 @@ use Rattle.atomic_table.specs.Table.{State}
 use Rattle.map_core.specs.Words.{Base}
 use Rattle.shelf.specs.declared.asked.Asked.{Asked}
 use Rattle.map_core.specs.Views.{Reader}
-use Rattle.shelf.specs.Roles.{learning, KeeperView, ReaderView, Role, keeping, reading, meeting, made_by, unmet_by}
-use Rattle.shelf.specs.Rule.{Fits, Agrees}
-use Rattle.shelf.specs.OneLog.{IsBehind, HasOneLog}
+use Rattle.shelf.specs.Roles.{learning, KeeperView, ReaderView, Role, idle, ticket, keeping, reading, meeting, made_by, unmet_by}
+use Rattle.shelf.specs.Rule.{Fits, Knows, HasKeeper, Agrees}
+use Rattle.shelf.specs.OneLog.{IsBehind, KnowsLog, HasOneLog}
 use Rattle.shelf.proofs.Owners.{readers_apart, keepers_one}
 use Rattle.shelf.proofs.LogParts.{prefix-entries, made_by-prefix}
 use Rattle.shelf.proofs.NowLemmas.{now_of_log, room}
@@ -30,6 +30,15 @@ fits-behind z k readers x f =
       whole = λ other. let none_left = none_unmet x.number k.unmet other in (omega arith, omega arith);
     }
 
+-- the keeper's view knows its log
+known_by : (z : Base) (k : KeeperView) (readers : List Reader) (keeper : ℕ) (owner : ℕ → ℕ) (j : ℕ) (role : Role) → Knows z k readers keeper owner j role → HasKeeper role → KnowsLog k.log k.unmet role
+known_by z k readers keeper owner j idle knows is = absurd is
+known_by z k readers keeper owner j (keeping u) knows is = (ap (λ (l : KeeperView). l.log) knows.1, ap (λ (l : KeeperView). l.unmet) knows.1)
+known_by z k readers keeper owner j (ticket seen) knows is = absurd is
+known_by z k readers keeper owner j (reading x) knows is = absurd is
+known_by z k readers keeper owner j (meeting u x) knows is = (ap (λ (l : KeeperView). l.log) knows.1, ap (λ (l : KeeperView). l.unmet) knows.1)
+known_by z k readers keeper owner j (learning x seen) knows is = absurd is
+
 -- the words and the seats have the keeper's log
 pub one_log : (z : Base) (s : State Asked Role) → Agrees z s → HasOneLog z s
 one_log z s r =
@@ -42,12 +51,14 @@ one_log z s r =
       short = omega arith;
       callers = λ i d h. let below = r.seats.callers i d h in let few = r.seats.few in omega arith;
       now = r.whole.keeper.now ∙ now_of_log z r.k.log;
+      kept = record { seat = r.seats.keeper; seated = record { role = r.seats.kept.role; at = r.seats.kept.at; is = known_by z r.k r.readers r.seats.keeper r.seats.owner r.seats.keeper r.seats.kept.role (r.seats.each_seat r.seats.keeper r.seats.kept.role r.seats.kept.at) r.seats.kept.is } };
       keeper = λ j k at. let same = (r.seats.each_seat j (keeping k) at).1 in (ap (λ (l : KeeperView). l.log) same, ap (λ (l : KeeperView). l.unmet) same);
       reader = λ j x at. fits-behind z r.k r.readers x (r.seats.each_seat j (reading x) at).1;
       taught = λ j x seen at. let told = r.seats.each_seat j (learning x seen) at in (fits-behind z r.k r.readers x told.1, told.2);
       together = λ j k x at.
           let told = r.seats.each_seat j (meeting k x) at in
           (ap (λ (l : KeeperView). l.log) told.1, ap (λ (l : KeeperView). l.unmet) told.1, fits-behind z r.k r.readers x told.3);
+      tickets = λ j seen at. r.seats.each_seat j (ticket seen) at;
       apart = λ i j n u v at_i at_j here there. readers_apart z r.k r.readers s.views r.seats i j n u v at_i at_j here there;
       one_keeper = λ i j u v at_i at_j here there. keepers_one z r.k r.readers s.views r.seats i j u v at_i at_j here there;
     }

@@ -6,7 +6,7 @@ use native.Mathlib.Decide.{ℕ_discrete}
 use Rattle.map_core.specs.Safe.{times}
 use mathlib.Core.Option.{some, some-injective, some-ne-none}
 use lib.ListN.{get_elem?}
-use Rattle.atomic_table.specs.Table.{opening, Splits}
+use Rattle.atomic_table.specs.Table.{State, opening, Splits}
 use Rattle.map_core.specs.Words.{Base}
 use Rattle.map_core.specs.Views.{Reader}
 use Rattle.map_core.specs.Runs.{AreOpeningWords}
@@ -15,12 +15,13 @@ use Rattle.map_core.specs.Sound.{IsWhole}
 use Rattle.map_core.specs.Tidy.{IsReady}
 use Rattle.map_core.proofs.OpenWorld.{IsWhole-opening}
 use Rattle.shelf.specs.declared.signed.Signed.{Signed}
+use Rattle.shelf.specs.declared.asked.Asked.{Asked}
 use Rattle.shelf.proofs.Moved.{moved, moved-here, moved-else}
 use Rattle.shelf.specs.Roles.{KeeperView, ReaderView, Role, idle, keeping, reading, meeting, ticket, learning, resting, fresh_reader, core_of}
-use Rattle.shelf.specs.Rule.{Fits, Knows, IsSeated, AreSeats, Agrees}
+use Rattle.shelf.specs.Rule.{Fits, Knows, HasReader, HasKeeper, IsSeated, AreSeats, Agrees}
 use Rattle.shelf.proofs.Bridge.{one_seat, seated_set, seated_longer, seated_last}
 use Rattle.shelf.proofs.KeeperSteps.{keeper_knows}
-use Rattle.shelf.proofs.MeetingSteps.{one_more}
+use Rattle.shelf.proofs.HandedSeats.{one_more}
 
 -- no entry, no caller
 no_callers : (d : ℕ) → All (λ (e : Signed). e.by < d) []
@@ -46,6 +47,7 @@ rule_at_first z words ready opening = record {
     fresh = λ r above below. get_replicate z.setting.sessions r core.fresh_reader below;
     left = λ r y gone is. absurd (omega arith);
     seated = λ q below none. absurd (omega arith);
+    kept = record { role = keeping (resting 0 []); at = refl; is = tt };
     each_seat = only;
   };
 }
@@ -72,53 +74,62 @@ stays_dealt z n readers keeper owner to j (ticket seen) else knows = knows
 stays_dealt z n readers keeper owner to j (learning x seen) else knows =
     let below = knows.1.dealt in (moved-else owner n to x.number (λ e. absurd (omega arith)) ∙ knows.0, fits-dealt z n readers x knows.1, knows.2)
 
--- the next reader is dealt
-pub deals : (z : Base) (id n : ℕ) → n < z.setting.sessions → Splits (Agrees z) id (keeping (resting n [])) (keeping (resting (n + 1) [])) (reading (fresh_reader n))
-deals z id n below s r at =
+-- the seats once the next reader is dealt
+pub dealt_seats : (z : Base) (s : State Asked Role) (r : Agrees z s) (id n : ℕ) → n < z.setting.sessions → get_elem? s.views id ≡ some (keeping (resting n []))
+    → AreSeats z (resting (n + 1) []) r.readers (set s.views id (keeping (resting (n + 1) [])) ++ reading (fresh_reader n) ∷ [])
+dealt_seats z s r id n below at =
     let mine = keeper_knows z s r id (keeping (resting n [])) (resting n []) at refl in
     let k = resting (n + 1) [] in
     let new = length (set s.views id (keeping k)) in
     let owner = moved r.seats.owner n new in
     let seats : AreSeats z (resting n []) r.readers s.views = subst (λ (l : KeeperView). AreSeats z l r.readers s.views) (sym mine.1) r.seats in
     record {
-      k = k;
+    keeper = r.seats.keeper;
+    owner = owner;
+    few = omega arith;
+    callers = no_callers (n + 1);
+    fresh = λ q above inside. seats.fresh q (omega arith) inside;
+    left = λ q y gone is. absurd (omega arith);
+    seated = λ q inside none.
+        dite (ℕ_discrete q n)
+        (λ here. subst (IsSeated (HasReader q) (set s.views id (keeping k) ++ reading (fresh_reader n) ∷ [])) (sym (ap owner here ∙ moved-here r.seats.owner n new))
+        (seated_last (set s.views id (keeping k)) (reading (fresh_reader n)) (HasReader q) (sym here)))
+        (λ apart.
+        seated_longer (set s.views id (keeping k)) (reading (fresh_reader n)) (owner q) (HasReader q)
+        (seated_set s.views id (keeping (resting n [])) (keeping k) (owner q) (HasReader q) at (λ e. absurd e)
+        (subst (IsSeated (HasReader q) s.views) (sym (moved-else r.seats.owner n new q apart))
+        (r.seats.seated q (let dealt : n ≡ r.k.dealt = ap (λ (l : KeeperView). l.dealt) mine.1 in omega arith) (ap (λ (l : KeeperView). times q l.gone) (sym mine.1))))));
+    kept = seated_longer (set s.views id (keeping k)) (reading (fresh_reader n)) r.seats.keeper HasKeeper
+        (seated_set s.views id (keeping (resting n [])) (keeping k) r.seats.keeper HasKeeper at (λ e. e) r.seats.kept);
+    each_seat = λ j v there.
+        elim (one_more (set s.views id (keeping k)) (reading (fresh_reader n)) j v there) [
+          | inl before ↦
+              one_seat (Knows z k r.readers r.seats.keeper owner) s.views id (keeping k) (mine.0, refl)
+              (λ i w not_id at_i. stays_dealt z n r.readers r.seats.keeper r.seats.owner new i w (λ (e : i ≡ r.seats.keeper). not_id (e ∙ sym mine.0))
+              (subst (λ (l : KeeperView). Knows z l r.readers r.seats.keeper r.seats.owner i w) (sym mine.1) (r.seats.each_seat i w at_i))) j v before
+          | inr last ↦
+              subst (λ (q : ℕ × Role). Knows z k r.readers r.seats.keeper owner q.0 q.1) (λ i. (sym last.0 i, last.1 i)) (
+                moved-here r.seats.owner n new,
+                record {
+                  dealt = omega arith;
+                  here = refl;
+                  there = seats.fresh n (omega arith) below;
+                  began = ([], refl);
+                  held = λ v is. absurd (cc);
+                  all_seen = omega arith;
+                  counted = refl;
+                },
+              )
+        ];
+  }
+
+-- that keeps the rule
+pub deals : (z : Base) (id n : ℕ) → n < z.setting.sessions → Splits (Agrees z) id (keeping (resting n [])) (keeping (resting (n + 1) [])) (reading (fresh_reader n))
+deals z id n below s r at =
+    let mine = keeper_knows z s r id (keeping (resting n [])) (resting n []) at refl in
+    record {
+      k = resting (n + 1) [];
       readers = r.readers;
       whole = subst (λ (l : KeeperView). IsWhole (core_of z s.words record l { dealt = n + 1 } r.readers)) (sym mine.1) r.whole;
-      seats = record {
-        keeper = r.seats.keeper;
-        owner = owner;
-        few = omega arith;
-        callers = no_callers (n + 1);
-        fresh = λ q above inside. seats.fresh q (omega arith) inside;
-        left = λ q y gone is. absurd (omega arith);
-        seated = λ q inside none.
-            dite (ℕ_discrete q n)
-            (λ here. subst (λ (m : ℕ). IsSeated (set s.views id (keeping k) ++ reading (fresh_reader n) ∷ []) m q) (sym (ap owner here ∙ moved-here r.seats.owner n new))
-            (seated_last (set s.views id (keeping k)) (reading (fresh_reader n)) q (sym here)))
-            (λ apart.
-            seated_longer (set s.views id (keeping k)) (reading (fresh_reader n)) (owner q) q
-            (seated_set s.views id (keeping (resting n [])) (keeping k) (owner q) q at (λ e. absurd e)
-            (subst (λ (m : ℕ). IsSeated s.views m q) (sym (moved-else r.seats.owner n new q apart))
-            (r.seats.seated q (let dealt : n ≡ r.k.dealt = ap (λ (l : KeeperView). l.dealt) mine.1 in omega arith) (ap (λ (l : KeeperView). times q l.gone) (sym mine.1))))));
-        each_seat = λ j v there.
-            elim (one_more (set s.views id (keeping k)) (reading (fresh_reader n)) j v there) [
-              | inl before ↦
-                  one_seat (Knows z k r.readers r.seats.keeper owner) s.views id (keeping k) (mine.0, refl)
-                  (λ i w not_id at_i. stays_dealt z n r.readers r.seats.keeper r.seats.owner new i w (λ (e : i ≡ r.seats.keeper). not_id (e ∙ sym mine.0))
-                  (subst (λ (l : KeeperView). Knows z l r.readers r.seats.keeper r.seats.owner i w) (sym mine.1) (r.seats.each_seat i w at_i))) j v before
-              | inr last ↦
-                  subst (λ (q : ℕ × Role). Knows z k r.readers r.seats.keeper owner q.0 q.1) (λ i. (sym last.0 i, last.1 i)) (
-                    moved-here r.seats.owner n new,
-                    record {
-                      dealt = omega arith;
-                      here = refl;
-                      there = seats.fresh n (omega arith) below;
-                      began = ([], refl);
-                      held = λ v is. absurd (cc);
-                      all_seen = omega arith;
-                      counted = refl;
-                    },
-                  )
-            ];
-      };
+      seats = dealt_seats z s r id n below at;
     }

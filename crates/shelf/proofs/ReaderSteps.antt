@@ -16,7 +16,7 @@ use Rattle.map_core.proofs.StepLemmas.{keeps-announce, keeps-leave, keeps-load}
 use Rattle.shelf.proofs.LogParts.{prefix-itself, prefix-entries, made_by-prefix}
 use Rattle.shelf.specs.declared.asked.Asked.{Asked}
 use Rattle.shelf.specs.Roles.{KeeperView, ReaderView, Role, reading, entries, as_reader, reader_in, core_of}
-use Rattle.shelf.specs.Rule.{Fits, Knows, Agrees}
+use Rattle.shelf.specs.Rule.{Fits, Knows, HasReader, HasKeeper, AreSeats, Agrees}
 use Rattle.shelf.specs.Steps.{announcing, loaded, leaving, announces, leaves, Sees, taken}
 use Rattle.shelf.proofs.Bridge.{set_get, there_set, seats_reader}
 
@@ -28,7 +28,7 @@ reader_moves z s r id words x y at mine same fits whole = record {
   k = r.k;
   readers = set r.readers x.number (as_reader y);
   whole = whole;
-  seats = seats_reader z r.k r.readers s.views r.seats id x (as_reader y) (reading x) (reading y) at (λ q e. same ∙ e) mine.0 mine.1 (ap r.seats.owner same ∙ mine.0, fits);
+  seats = seats_reader z r.k r.readers s.views r.seats id x (as_reader y) (reading x) (reading y) at (λ q e. same ∙ e) (λ e. e) mine.0 mine.1 (ap r.seats.owner same ∙ mine.0, fits);
 }
 
 -- what a reader's seat knows
@@ -90,6 +90,13 @@ fits-loaded z k readers x f =
       all_seen = omega arith;
       counted = f.counted;
     }
+
+-- the seats once a reader has loaded NOW, whatever else stood in its seat
+pub seats_loaded : (z : Base) (s : State Asked Role) (r : Agrees z s) (id : ℕ) (x : ReaderView) (old : Role) → get_elem? s.views id ≡ some old → ((q : ℕ) → HasReader q old → x.number ≡ q) → (HasKeeper old → ⊥)
+    → r.seats.owner x.number ≡ id → Fits z r.k r.readers x
+    → AreSeats z r.k (set r.readers x.number (as_reader (loaded z r.k.log x))) (set s.views id (reading (loaded z r.k.log x)))
+seats_loaded z s r id x old at same other own f =
+    seats_reader z r.k r.readers s.views r.seats id x (as_reader (loaded z r.k.log x)) old (reading (loaded z r.k.log x)) at same other own f (own, fits-loaded z r.k r.readers x f)
 
 -- the core after a load of a reader's
 pub whole-loaded : (z : Base) (words : List ℕ) (k : KeeperView) (readers : List Reader) (x : ReaderView) (i : ℕ) → IsWhole (core_of z words k readers) → Fits z k readers x

@@ -3,7 +3,7 @@ use Rattle.shelf.specs.declared.signed.Signed.{Signed}
 use Rattle.map_core.specs.Blocks.{directory_of}
 use Rattle.map_core.specs.Legal.{refused}
 use Rattle.map_core.specs.declared.command.Command.{Command}
-use Rattle.std.specs.Prelude.{◌≡◌, ℕ, ◌<◌, true, slice_get, slice_index, slice_set, Option, Some, None, is_some, ◌⊎◌, List, ◌+◌}
+use Rattle.std.specs.Prelude.{◌≡◌, ◌≢◌, ℕ, ◌<◌, true, [], ◌∷◌, ◌++◌, slice_get, slice_index, slice_set, Option, Some, None, is_some, ◌⊎◌, List, ◌+◌}
 use mathlib.Core.Option as maybe
 use lib.ListN.{get_elem?}
 use Rattle.atomic_table.specs.Table.{State}
@@ -14,14 +14,14 @@ use Rattle.map_core.specs.declared.event.StepReply.{StepReply}
 use Rattle.map_core.specs.declared.event.StepReply.TheVariants as says
 use Rattle.map_core.specs.Words.{Base, now_at, pin_at, now_of, pin_word, tiles, map_at, tile_at, slot_of, place_told, version_told}
 use Rattle.map_core.specs.Steps.{does, steps_before, write_of}
-use Rattle.map_core.specs.Views.{Reader, story, newest_seen, blocks}
+use Rattle.map_core.specs.Views.{Keeper, Reader, story, newest_seen, blocks}
 use Rattle.map_core.specs.Views as core
 use Rattle.map_core.specs.Sound.{IsWhole}
 use Rattle.map_core.specs.Safe.{IsSafe, SparesLive, IsBeginning}
 use Rattle.shelf.specs.declared.asked.Asked.{Asked}
-use Rattle.shelf.specs.Roles.{Task, KeeperView, ReaderView, Role, keeping, reading, meeting, entries, as_keeper, as_reader, learning, ticket}
-use Rattle.shelf.specs.Rule.{HasReader, HasKeeper}
-use Rattle.shelf.specs.Steps.{announcing, leaving, scanned, committed, signed_of, MayCommit, loaded, ordered, wrote}
+use Rattle.shelf.specs.Roles.{Task, KeeperView, ReaderView, Role, keeping, reading, meeting, entries, as_keeper, as_reader, learning, ticket, idle, resting, fresh_reader}
+use Rattle.shelf.specs.Rule.{HasReader, HasKeeper, IsSomeSeat}
+use Rattle.shelf.specs.Steps.{announcing, leaving, scanned, committed, signed_of, MayCommit, loaded, ordered, wrote, met, met_by, without}
 
 -- a seat of this role has this reader, of number r
 abbrev pub ShowsReader : ℕ → Reader → Role → Type 0
@@ -30,12 +30,11 @@ ShowsReader r y (meeting k x) = (x.number ≡ r) × (y ≡ as_reader x)
 ShowsReader r y (learning x seen) = (x.number ≡ r) × (y ≡ as_reader x)
 ShowsReader r y role = ⊥
 
--- this reader is the view of a seat
-pub record IsOfSeat (views : List Role) (r : ℕ) (y : Reader) : Type 0 where
-  pub seat : ℕ
-  pub role : Role
-  pub at : get_elem? views seat ≡ maybe.some role
-  pub shows : ShowsReader r y role
+-- a seat of this role has this keeper
+abbrev pub ShowsKeeper : Keeper → Role → Type 0
+ShowsKeeper y (keeping k) = y ≡ as_keeper k
+ShowsKeeper y (meeting k x) = y ≡ as_keeper k
+ShowsKeeper y role = ⊥
 
 -- this state of the core is whole and safe, its words are the table's, its keeper is the keeper's view, and its readers are the readers' views
 pub record IsStateOf (z : Base) (s : State Asked Role) (w : core.State) : Type 0 where
@@ -43,6 +42,7 @@ pub record IsStateOf (z : Base) (s : State Asked Role) (w : core.State) : Type 0
   pub safe : IsSafe w
   pub base_is : w.base ≡ z
   pub words_are : w.words ≡ s.words
+  pub kept : IsSomeSeat (ShowsKeeper w.keeper) s.views
   pub keeper : (j : ℕ) (k : KeeperView) → get_elem? s.views j ≡ maybe.some (keeping k) → w.keeper ≡ as_keeper k
   pub reader : (j : ℕ) (x : ReaderView) → get_elem? s.views j ≡ maybe.some (reading x) → slice_get w.readers x.number ≡ Some (as_reader x)
   pub together : (j : ℕ) (k : KeeperView) (x : ReaderView) → get_elem? s.views j ≡ maybe.some (meeting k x) → (w.keeper ≡ as_keeper k) × (slice_get w.readers x.number ≡ Some (as_reader x))
@@ -50,8 +50,8 @@ pub record IsStateOf (z : Base) (s : State Asked Role) (w : core.State) : Type 0
       → (slice_get w.readers x.number ≡ Some (as_reader x)) × IsBeginning (entries seen) w.keeper.log
   -- what a ticket has seen is a beginning of the log
   pub tickets : (j : ℕ) (seen : List Signed) → get_elem? s.views j ≡ maybe.some (ticket seen) → IsBeginning (entries seen) w.keeper.log
-  -- each reader is the view of a seat, or no seat has its number, and then its word is 0
-  pub each_reader : (r : ℕ) (y : Reader) → slice_get w.readers r ≡ Some y → IsOfSeat s.views r y ⊎ (slice_index s.words (pin_at r) ≡ 0)
+  -- each reader is the view of a seat, or its word is 0
+  pub each_reader : (r : ℕ) (y : Reader) → slice_get w.readers r ≡ Some y → IsSomeSeat (ShowsReader r y) s.views ⊎ (slice_index s.words (pin_at r) ≡ 0)
   -- no two seats have one reader's view, and one seat at most has the keeper's
   pub apart : (i j r : ℕ) (u v : Role) → get_elem? s.views i ≡ maybe.some u → get_elem? s.views j ≡ maybe.some v → HasReader r u → HasReader r v → i ≡ j
   pub one_keeper : (i j : ℕ) (u v : Role) → get_elem? s.views i ≡ maybe.some u → get_elem? s.views j ≡ maybe.some v → HasKeeper u → HasKeeper v → i ≡ j
@@ -75,6 +75,16 @@ pub record IsEvent (z : Base) (s t : State Asked Role) (e : Event) (answer : Ste
   pub done : does before e ≡ Some record { state = after; answer = answer; stored = stored }
   pub spares : SparesLive before stored
 
+-- words and seats of a table become others, and no event of the core has happened: one state of the core is that of both
+pub record IsNoEvent (z : Base) (s t : State Asked Role) : Type 0 where
+  pub state : core.State
+  pub was : IsStateOf z s state
+  pub is : IsStateOf z t state
+
+-- what the table becomes where its seats have other views
+abbrev pub with_views : State Asked Role → List Role → State Asked Role
+with_views s views = record { words = s.words; homes = s.homes; views = views }
+
 -- each step of a seat is the event of its kind
 pub record StepsAreEvents (z : Base) (s : State Asked Role) (id : ℕ) : Type 0 where
   pub announce : (x : ReaderView) → get_elem? s.views id ≡ maybe.some (reading x) → x.announced ≡ None
@@ -83,6 +93,11 @@ pub record StepsAreEvents (z : Base) (s : State Asked Role) (id : ℕ) : Type 0 
       → IsEvent z s (after_step s (pin_at x.number) (pin_word None) id (reading (leaving x))) (Leave x.number) says.Left
   pub load : (x : ReaderView) → get_elem? s.views id ≡ maybe.some (reading x)
       → (log : List Signed) × IsEvent z s (after_step s now_at (slice_index s.words now_at) id (reading (loaded z log x))) (Load x.number) (says.Now (place_told (slice_index s.words now_at)) (version_told (slice_index s.words now_at)))
+  -- the load by which a reader learns what a ticket has seen, and that of a meeting, whose reader counts its entry
+  pub learn : (x : ReaderView) (seen : List Signed) → get_elem? s.views id ≡ maybe.some (learning x seen)
+      → (log : List Signed) × IsEvent z s (after_step s now_at (slice_index s.words now_at) id (reading (loaded z log x))) (Load x.number) (says.Now (place_told (slice_index s.words now_at)) (version_told (slice_index s.words now_at)))
+  pub meet : (k : KeeperView) (x : ReaderView) → get_elem? s.views id ≡ maybe.some (meeting k x) → (k.unmet ≡ None) ⊎ (k.unmet ≡ Some x.number)
+      → IsEvent z s (after_step s now_at (slice_index s.words now_at) id (meeting (met k) (met_by z k x))) (Load x.number) (says.Now (place_told (slice_index s.words now_at)) (version_told (slice_index s.words now_at)))
   pub look_map : (x : ReaderView) (v p : ℕ) → get_elem? s.views id ≡ maybe.some (reading x) → x.holds ≡ Some v → p < tiles z
       → let at = map_at z (slot_of z (story z (entries x.seen)) v) p in IsEvent z s (after_step s at (slice_index s.words at) id (reading x)) (LookMap x.number p) (says.Block (slice_index s.words at))
   pub look_tile : (x : ReaderView) (v p b i : ℕ) → get_elem? s.views id ≡ maybe.some (reading x) → x.holds ≡ Some v → p < tiles z → b ≡ slice_index (directory_of (blocks z (entries x.seen)) v) p → i < 64
@@ -97,3 +112,21 @@ pub record StepsAreEvents (z : Base) (s : State Asked Role) (id : ℕ) : Type 0 
   pub commit : (k : KeeperView) (may : MayCommit z k) → get_elem? s.views id ≡ maybe.some (keeping k)
       → IsEvent z s (after_step s now_at (now_of (story z (entries (committed z k may.task).log))) id (keeping (committed z k may.task))) Keep
       (says.Committed (signed_of z k may.task).entry.reply)
+
+-- what seats hand to one another, and the last loads of a store that is closed, are no events
+pub record HandingsAreNone (z : Base) (s : State Asked Role) (id other : ℕ) : Type 0 where
+  -- a reader's view is laid in the keeper's seat, and parted from it again
+  pub together : (k : KeeperView) (x : ReaderView) → get_elem? s.views id ≡ maybe.some (keeping k) → other ≢ id → get_elem? (slice_set s.views id (meeting k x)) other ≡ maybe.some (reading x)
+      → IsNoEvent z s (with_views s (slice_set (slice_set s.views id (meeting k x)) other idle))
+  pub apart : (k : KeeperView) (x : ReaderView) → get_elem? s.views id ≡ maybe.some (meeting k x) → IsNoEvent z s (with_views s (slice_set s.views id (keeping k) ++ reading x ∷ []))
+  -- a ticket is cut from the keeper's seat, and laid in a reader's
+  pub cut : (k : KeeperView) → get_elem? s.views id ≡ maybe.some (keeping k) → IsNoEvent z s (with_views s (slice_set s.views id (keeping k) ++ ticket k.log ∷ []))
+  pub hand : (x : ReaderView) (seen : List Signed) → get_elem? s.views id ≡ maybe.some (reading x) → other ≢ id → get_elem? (slice_set s.views id (learning x seen)) other ≡ maybe.some (ticket seen)
+      → IsNoEvent z s (with_views s (slice_set (slice_set s.views id (learning x seen)) other idle))
+  -- the next reader is dealt
+  pub deal : (n : ℕ) → n < z.setting.sessions → get_elem? s.views id ≡ maybe.some (keeping (resting n []))
+      → IsNoEvent z s (with_views s (slice_set s.views id (keeping (resting (n + 1) [])) ++ reading (fresh_reader n) ∷ []))
+  -- a reader is given up, and the keeper's last load
+  pub give_up : (k : KeeperView) (x : ReaderView) → get_elem? s.views id ≡ maybe.some (meeting k x) → x.announced ≡ None
+      → IsNoEvent z s (after_step s now_at (slice_index s.words now_at) id (keeping (without k x)))
+  pub end : (k : KeeperView) → get_elem? s.views id ≡ maybe.some (keeping k) → IsNoEvent z s (after_step s now_at (slice_index s.words now_at) id (keeping k))

@@ -11,8 +11,8 @@ use Rattle.map_core.specs.Views.{story}
 use Rattle.map_core.specs.Safe.{IsBeginning}
 use Rattle.shelf.specs.declared.signed.Signed.{Signed}
 use Rattle.shelf.specs.declared.asked.Asked.{Asked}
-use Rattle.shelf.specs.Roles.{KeeperView, ReaderView, Role, keeping, reading, meeting, learning, entries, made_by, unmet_by}
-use Rattle.shelf.specs.Rule.{HasReader, HasKeeper}
+use Rattle.shelf.specs.Roles.{KeeperView, ReaderView, Role, keeping, reading, meeting, learning, ticket, entries, made_by, unmet_by}
+use Rattle.shelf.specs.Rule.{HasReader, HasKeeper, IsSomeSeat}
 
 -- what a reader knows of the log, where an entry of the named reader is unmet: a beginning of it, and how many entries of it are its own
 pub record IsBehind (log : List Signed) (unmet : Option ℕ) (x : ReaderView) : Type 0 where
@@ -24,6 +24,12 @@ pub record IsBehind (log : List Signed) (unmet : Option ℕ) (x : ReaderView) : 
   -- where none of its own is unmet, all its entries are among those that it has seen
   pub whole : unmet ≢ Some x.number → (made_by x.number log ≡ x.made) × (made_by x.number x.seen ≡ x.made)
 
+-- a seat of this role has the keeper's view, which knows this log and this unmet entry
+abbrev pub KnowsLog : List Signed → Option ℕ → Role → Type 0
+KnowsLog log unmet (keeping k) = (k.log ≡ log) × (k.unmet ≡ unmet)
+KnowsLog log unmet (meeting k x) = (k.log ≡ log) × (k.unmet ≡ unmet)
+KnowsLog log unmet role = ⊥
+
 -- the words and the seats of a table have one log, of which one entry at most is unmet
 pub record HasOneLog (z : Base) (s : State Asked Role) : Type 0 where
   pub log : List Signed
@@ -34,12 +40,16 @@ pub record HasOneLog (z : Base) (s : State Asked Role) : Type 0 where
   pub callers : All (λ e. e.by < z.setting.sessions) log
   -- NOW has its length and its newest version
   pub now : slice_index s.words now_at ≡ now_word (length log) (newest (story z (entries log)))
-  -- the keeper's seat knows both, each reader's seat is behind them, also where its view stands in the keeper's, and no two seats have one reader's view
+  -- the keeper's view is some seat's
+  pub kept : IsSomeSeat (KnowsLog log unmet) s.views
+  -- its seat knows both, each reader's seat is behind them, also where its view stands in the keeper's, and no two seats have one reader's view
   pub keeper : (j : ℕ) (k : KeeperView) → get_elem? s.views j ≡ maybe.some (keeping k) → (k.log ≡ log) × (k.unmet ≡ unmet)
   pub reader : (j : ℕ) (x : ReaderView) → get_elem? s.views j ≡ maybe.some (reading x) → IsBehind log unmet x
   -- also while a ticket's view stands in it
   pub taught : (j : ℕ) (x : ReaderView) (seen : List Signed) → get_elem? s.views j ≡ maybe.some (learning x seen) → IsBehind log unmet x × IsPrefix seen log
   pub together : (j : ℕ) (k : KeeperView) (x : ReaderView) → get_elem? s.views j ≡ maybe.some (meeting k x) → (k.log ≡ log) × (k.unmet ≡ unmet) × IsBehind log unmet x
+  -- a ticket has seen a beginning of it
+  pub tickets : (j : ℕ) (seen : List Signed) → get_elem? s.views j ≡ maybe.some (ticket seen) → IsPrefix seen log
   pub apart : (i j r : ℕ) (u v : Role) → get_elem? s.views i ≡ maybe.some u → get_elem? s.views j ≡ maybe.some v → HasReader r u → HasReader r v → i ≡ j
   -- one seat at most has the keeper's view
   pub one_keeper : (i j : ℕ) (u v : Role) → get_elem? s.views i ≡ maybe.some u → get_elem? s.views j ≡ maybe.some v → HasKeeper u → HasKeeper v → i ≡ j

@@ -50,11 +50,16 @@ HasKeeper (keeping k) = Unit {0}
 HasKeeper (meeting k x) = Unit {0}
 HasKeeper role = ⊥
 
--- this seat has the view of reader r
-pub record IsSeated (views : List Role) (seat r : ℕ) : Type 0 where
+-- this seat has a role of this kind
+pub record IsSeated (Kind : Role → Type 0) (views : List Role) (seat : ℕ) : Type 0 where
   pub role : Role
   pub at : get_elem? views seat ≡ maybe.some role
-  pub is : HasReader r role
+  pub is : Kind role
+
+-- some seat has one
+pub record IsSomeSeat (Kind : Role → Type 0) (views : List Role) : Type 0 where
+  pub seat : ℕ
+  pub seated : IsSeated Kind views seat
 
 -- what the seats know agrees with one keeper's view and with the core's readers. No word is read.
 pub record AreSeats (z : Base) (k : KeeperView) (readers : List Reader) (views : List Role) : Type 0 where
@@ -68,7 +73,9 @@ pub record AreSeats (z : Base) (k : KeeperView) (readers : List Reader) (views :
   pub fresh : (r : ℕ) → k.dealt ≤ r → r < z.setting.sessions → slice_get readers r ≡ Some fresh_reader
   pub left : (r : ℕ) (y : Reader) → 1 ≤ times r k.gone → slice_get readers r ≡ Some y → y.announced ≡ None
   -- a reader that is dealt and not given up has a seat
-  pub seated : (r : ℕ) → r < k.dealt → times r k.gone ≡ 0 → IsSeated views (owner r) r
+  pub seated : (r : ℕ) → r < k.dealt → times r k.gone ≡ 0 → IsSeated (HasReader r) views (owner r)
+  -- and the keeper's view has one
+  pub kept : IsSeated HasKeeper views keeper
   -- what each seat knows is so
   pub each_seat : (j : ℕ) (v : Role) → get_elem? views j ≡ maybe.some v → Knows z k readers keeper owner j v
 

@@ -4,7 +4,7 @@ ghost use Rattle.std.specs.Prelude.{ℕ};
 ghost use Rattle.atomic_table.specs.Table.{State};
 ghost use Rattle.map_core.specs.Words.{Base};
 ghost use Rattle.shelf.specs.declared.asked.Asked.{Asked};
-ghost use Rattle.shelf.specs.Laws.{IsAState, StepsAreEvents};
+ghost use Rattle.shelf.specs.Laws.{IsAState, StepsAreEvents, HandingsAreNone};
 ghost use Rattle.shelf.specs.OneLog.{HasOneLog};
 ghost use Rattle.shelf.specs.Roles.{Role};
 ghost use Rattle.shelf.specs.Rule.{Agrees};
@@ -15,9 +15,14 @@ pub fn rule_is_a_state()
     ensures { (z : Base) (s : State Asked Role) → Agrees z s → IsAState z s }
 {}
 
-/// Each step of a seat is the core's event of its kind, in that state, and stores in no live block.
+/// Each step by which a seat stores or loads a word, and the order of a command, is the core's event of its kind, in that state, and stores in no live block.
 pub fn seats_do_events()
     ensures { (z : Base) (s : State Asked Role) (id : ℕ) → Agrees z s → StepsAreEvents z s id }
+{}
+
+/// Where seats hand views to one another, and at the loads of a store that is closed, no event happens: one state of the core is that of the table before and behind.
+pub fn handings_are_no_events()
+    ensures { (z : Base) (s : State Asked Role) (id other : ℕ) → Agrees z s → HandingsAreNone z s id other }
 {}
 
 /// Between any two steps NOW has the length and the newest version of one legal log, which the keeper's seat knows, and of which each

@@ -35,7 +35,7 @@ pub use asked::Asked;
 pub use closing::Closing;
 pub use fresh::{FreshKeeper, FreshReader};
 pub use keeper::KeeperSeat;
-pub use laws::{rule_is_a_state, seats_do_events, seats_have_one_log};
+pub use laws::{handings_are_no_events, rule_is_a_state, seats_do_events, seats_have_one_log};
 pub use meeting::meet;
 pub use name::StoreName;
 pub use opened::Opening;
