@@ -19,7 +19,7 @@ use Rattle.shelf.proofs.LogParts.{prefix-entries}
 use Rattle.shelf.specs.Roles.{ReaderView, entries, as_reader}
 use Rattle.shelf.specs.Steps.{announcing, loaded}
 use Rattle.shelf.proofs.ReaderSeats.{hold_stays}
-use Rattle.session.specs.Sessions.{PinView, Size, IsSession, IsPin}
+use Rattle.session.specs.Sessions.{PinView, Size, IsSession, IsPin, bitmap_pinned}
 
 -- a load by a seat that holds, or has announced nothing, changes what it has seen alone
 pub seen_alone : (z : Base) (x y : ReaderView) → (x.announced ≡ None) ⊎ ((v : ℕ) × (x.holds ≡ Some v)) → y ≡ loaded z y.seen x → y ≡ record x { seen = y.seen }
@@ -56,6 +56,13 @@ session_stays store x y size session is = record {
 pub published_size : (z : Base) (x : ReaderView) (v : ℕ) → IsReady z → IsLegal z.setting z.opening (entries x.seen) → v ≤ newest (story z (entries x.seen)) → IsOfMap z (bitmap_of (story z (entries x.seen)) v)
 published_size z x v ready legal within = (IsTidy-legal z (entries x.seen) ready legal).published v within
 
+-- the bitmap of a pin stays where its session sees more of the log
+pub bitmap_stays : (store : StoreId) (p : PinView) (y : ReaderView) (bitmap : Cells) (is_read : Bool) → IsPin store p bitmap is_read → IsPrefix p.seat.seen y.seen
+    → bitmap_pinned store record { seat = y; version = p.version } ≡ bitmap_pinned store p
+bitmap_stays store p y bitmap is_read pin began =
+    let published = pin.published in
+    bitmap-beginning store.base (entries p.seat.seen) (entries y.seen) (prefix-entries p.seat.seen y.seen began) p.version published
+
 -- a pin stays where its session sees more of the log: it holds the same version, which has the same bitmap
 pub pin_stays : (store : StoreId) (p : PinView) (y : ReaderView) (bitmap : Cells) (is_read : Bool) → IsPin store p bitmap is_read → IsPrefix p.seat.seen y.seen → y.announced ≡ p.seat.announced → y.holds ≡ p.seat.holds
     → IsPin store record { seat = y; version = p.version } bitmap is_read
@@ -64,7 +71,7 @@ pin_stays store p y bitmap is_read pin began announced holds =
     let begins = prefix-entries p.seat.seen y.seen began in
     let grown = newest-beginning z (entries p.seat.seen) (entries y.seen) begins in
     let published = pin.published in
-    let same = sym (bitmap-beginning z (entries p.seat.seen) (entries y.seen) begins p.version published) in
+    let same = sym (bitmap_stays store p y bitmap is_read pin began) in
     record {
       announced = ap (λ (a : Option ℕ). is_some a) announced ∙ pin.announced;
       held = holds ∙ pin.held;

@@ -1,12 +1,12 @@
 //! A pin: a session that holds a version, and asks it.
 
-ghost use Rattle.std.specs.Prelude.{◌≡◌, true, Some, None, is_some};
+ghost use Rattle.std.specs.Prelude.{◌≡◌, ◌≤◌, true, Some, None, is_some};
 ghost use mathlib.Core.List.{IsPrefix};
 ghost use Rattle.map_core.specs.Legal.{IsLegal};
 ghost use Rattle.shelf.specs.Roles.{entries};
 ghost use Rattle.shelf.specs.Steps.{leaving};
 ghost use Rattle.std.specs.Borrow.{sem};
-ghost use Rattle.session.specs.Sessions.{bitmap_pinned};
+ghost use Rattle.session.specs.Sessions.{bitmap_pinned, newest_seen};
 
 mod commands;
 mod queries;
@@ -46,6 +46,7 @@ impl<Id: StoreName> Pinned<Id> {
     /// The version that it holds.
     pub fn version(&self) -> u32
         ensures version { result ≡ self.now.version }
+        ensures published { result ≤ newest_seen Id.store self.now.seat }
         ensures holds { (self.now.seat.holds ≡ Some result) × (is_some self.now.seat.announced ≡ true) }
     {
         self.version
@@ -74,6 +75,7 @@ impl<Id: StoreName> Pinned<Id> {
         ensures seat { self.new.seat ≡ record self.old.seat { seen = self.new.seat.seen } }
         ensures version { self.new.version ≡ self.old.version }
         ensures began { IsPrefix self.old.seat.seen self.new.seat.seen }
+        ensures bitmap { bitmap_pinned Id.store self.new ≡ bitmap_pinned Id.store self.old }
         ensures learned { IsPrefix ticket self.new.seat.seen }
         ensures legal { IsLegal Id.store.base.setting Id.store.base.opening (entries self.new.seat.seen) }
     {

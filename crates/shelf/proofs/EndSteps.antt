@@ -1,5 +1,5 @@
 -- The keeper's last load, and what the seats say at the opening.
-use Rattle.std.proofs.Common.{◌≡◌, ℕ, ◌<◌, false, List, [], length, refl, ap, sym, ◌∙◌, subst, None}
+use Rattle.std.proofs.Common.{◌≡◌, ℕ, ◌<◌, false, List, [], length, refl, ap, sym, ◌∙◌, subst}
 use mathlib.Core.Option.{none}
 use Rattle.atomic_table.specs.Seated.{TableId}
 use Rattle.atomic_table.specs.Table.{Me, step, keeps, Allows}
@@ -38,9 +38,9 @@ unfolding story opened newest
 keeper_fresh z dealt = record { legal = tt; place_is = refl; version_is = refl; publishes_is = λ t none_there. absurd (cc); accepted = λ t none_there. absurd (cc); unmet_is = refl }
 
 -- what a reader's seat says at the opening
-pub reader_fresh : (z : Base) (number : ℕ) → number < z.setting.sessions → ReaderSays z (fresh_reader number) number 0 0 false None
+pub reader_fresh : (z : Base) (number : ℕ) → number < z.setting.sessions → ReaderSays z (fresh_reader number) number 0 0
 unfolding story opened newest
-reader_fresh z number below = record { below = below; number_is = refl; made_is = refl; version_is = refl; announced_is = refl; holds_is = refl }
+reader_fresh z number below = record { below = below; number_is = refl; made_is = refl; version_is = refl }
 
 -- a seat of a table as it is made, with the sizes of its store
 pub is_of_new : (table seat : TableId) (key : Basis) (plan : Plan) (z : Base) (words : List ℕ) → table ≡ seat → base_of key ≡ z → table.words ≡ length words → AreOpeningWords z words

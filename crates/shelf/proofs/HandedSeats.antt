@@ -1,28 +1,19 @@
 -- Seats that hand views to one another, while words and the core's state stay.
-use Rattle.std.proofs.Common.{◌≡◌, ◌≢◌, ◌==◌, ℕ, zero, suc, ◌+◌, cond, Bool, List, [], ◌∷◌, ◌++◌, length, set, get_or, refl, ap, sym, ◌∙◌, subst, arith, ne_eqb, ⊎_elim, Option, Some, None, ◌<◌, eq-eqb}
-use Rattle.std.specs.Prelude.{◌⊎◌, slice_get}
+use Rattle.std.proofs.Common.{◌≡◌, ◌≢◌, ℕ, zero, suc, List, [], ◌∷◌, ◌++◌, length, set, refl, ap, sym, ◌∙◌, ⊎_elim, ◌<◌}
+use Rattle.std.specs.Prelude.{◌⊎◌}
 use mathlib.Core.Logic.{inl, inr}
-use mathlib.Core.List.{IsPrefix}
-use mathlib.Core.Option.{some, none, some-injective, some-ne-none}
-use native.Mathlib.Decide.{ℕ_discrete}
-use mathlib.Core.Logic.{dite}
+use mathlib.Core.Option.{some, some-injective, some-ne-none}
 use lib.ListN.{get_elem?}
-use Rattle.atomic_table.specs.Table.{State, Me, step, keeps, Allows, Splits, Joins}
-use Rattle.atomic_table.proofs.Lists.{set_else}
-use Rattle.map_core.specs.Words.{Base, now_at}
+use Rattle.atomic_table.specs.Table.{State}
+use Rattle.map_core.specs.Words.{Base}
 use Rattle.map_core.specs.Views.{Reader}
 use Rattle.map_core.specs.Safe.{times}
-use Rattle.shelf.specs.declared.signed.Signed.{Signed}
-use Rattle.shelf.proofs.LogParts.{prefix-itself}
-use Rattle.shelf.proofs.Moved.{moved, moved-here, moved-else}
+use Rattle.shelf.proofs.Moved.{moved, moved-else}
 use Rattle.shelf.specs.declared.asked.Asked.{Asked}
-use Rattle.shelf.specs.Roles.{KeeperView, ReaderView, Role, idle, keeping, reading, meeting, ticket, learning, made_by, unmet_by, as_reader, keeper_in, reader_in}
+use Rattle.shelf.specs.Roles.{KeeperView, Role, idle, keeping, reading, meeting, ticket, learning}
 use Rattle.shelf.specs.Laws.{with_views}
-use Rattle.shelf.specs.Rule.{Fits, Knows, HasReader, HasKeeper, IsSeated, AreSeats, Agrees}
-use Rattle.shelf.specs.Steps.{loaded, met, met_by, without, Meets, meets, gives_up, Sees, learns}
-use Rattle.shelf.proofs.Bridge.{there_else, fits_else, apart, one_seat, set_there, seated_set, seated_longer, seated_last, seats_reader, seats_keeper}
-use Rattle.shelf.proofs.ReaderSteps.{fits-loaded, whole-loaded, seats_loaded}
-use Rattle.shelf.proofs.KeeperSteps.{keeper_knows, whole_same}
+use Rattle.shelf.specs.Rule.{Knows, HasReader, HasKeeper, IsSeated, AreSeats, Agrees}
+use Rattle.shelf.proofs.Bridge.{one_seat}
 
 -- one more seat
 pub one_more : (views : List Role) (w : Role) (j : ℕ) (v : Role) → get_elem? (views ++ w ∷ []) j ≡ some v → (get_elem? views j ≡ some v) ⊎ ((j ≡ length views) × (w ≡ v))

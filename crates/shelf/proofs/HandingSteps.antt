@@ -8,7 +8,7 @@ use Rattle.map_core.specs.Words.{Base, now_at}
 use Rattle.map_core.specs.Views.{Keeper}
 use Rattle.map_core.specs.Sound.{IsWhole}
 use Rattle.shelf.specs.declared.asked.Asked.{Asked}
-use Rattle.shelf.specs.Roles.{KeeperView, ReaderView, Role, keeping, meeting, resting, as_keeper, core_of}
+use Rattle.shelf.specs.Roles.{KeeperView, Role, keeping, meeting, resting, as_keeper, core_of}
 use Rattle.shelf.specs.Rule.{Fits, AreSeats, Agrees}
 use Rattle.shelf.specs.Steps.{without}
 use Rattle.shelf.specs.Laws.{after_step, with_views, IsStateOf, IsNoEvent, HandingsAreNone}

@@ -1,9 +1,8 @@
 -- The steps of a meeting, and of giving a reader up, keep the rule.
-use Rattle.std.proofs.Common.{◌≡◌, ◌≢◌, ◌==◌, ℕ, zero, suc, ◌+◌, cond, Bool, List, [], ◌∷◌, ◌++◌, length, set, get_or, refl, ap, sym, ◌∙◌, subst, arith, ne_eqb, ⊎_elim, Option, Some, None, ◌<◌, eq-eqb}
+use Rattle.std.proofs.Common.{◌≡◌, ◌≢◌, ◌==◌, ℕ, ◌+◌, cond, Bool, List, [], ◌∷◌, ◌++◌, length, set, get_or, refl, ap, sym, ◌∙◌, subst, arith, ne_eqb, Option, Some, None, eq-eqb}
 use Rattle.std.specs.Prelude.{◌⊎◌, slice_get}
 use mathlib.Core.Logic.{inl, inr}
-use mathlib.Core.List.{IsPrefix}
-use mathlib.Core.Option.{some, none, some-injective, some-ne-none}
+use mathlib.Core.Option.{some, none}
 use native.Mathlib.Decide.{ℕ_discrete}
 use mathlib.Core.Logic.{dite}
 use lib.ListN.{get_elem?}
@@ -12,16 +11,14 @@ use Rattle.atomic_table.proofs.Lists.{set_else}
 use Rattle.map_core.specs.Words.{Base, now_at}
 use Rattle.map_core.specs.Views.{Reader}
 use Rattle.map_core.specs.Safe.{times}
-use Rattle.shelf.specs.declared.signed.Signed.{Signed}
-use Rattle.shelf.proofs.LogParts.{prefix-itself}
 use Rattle.shelf.proofs.Moved.{moved, moved-here, moved-else}
 use Rattle.shelf.specs.declared.asked.Asked.{Asked}
-use Rattle.shelf.specs.Roles.{KeeperView, ReaderView, Role, idle, keeping, reading, meeting, ticket, learning, made_by, unmet_by, as_reader, keeper_in, reader_in}
+use Rattle.shelf.specs.Roles.{KeeperView, ReaderView, Role, idle, keeping, reading, meeting, made_by, unmet_by, as_reader, keeper_in, reader_in}
 use Rattle.shelf.specs.Rule.{Fits, Knows, HasReader, HasKeeper, IsSeated, AreSeats, Agrees}
-use Rattle.shelf.specs.Steps.{loaded, met, met_by, without, Meets, meets, gives_up, Sees, learns}
+use Rattle.shelf.specs.Steps.{loaded, met, met_by, without, Meets, meets, gives_up}
 use Rattle.shelf.proofs.HandedSeats.{one_more, stays_moved, same_seats, same_rule, two_seats}
-use Rattle.shelf.proofs.Bridge.{there_else, fits_else, apart, one_seat, set_there, seated_set, seated_longer, seated_last, seats_reader, seats_keeper}
-use Rattle.shelf.proofs.ReaderSteps.{fits-loaded, whole-loaded, seats_loaded}
+use Rattle.shelf.proofs.Bridge.{there_else, fits_else, apart, one_seat, set_there, seated_set, seated_longer, seated_last, seats_keeper}
+use Rattle.shelf.proofs.ReaderSteps.{fits-loaded, whole-loaded}
 use Rattle.shelf.proofs.KeeperSteps.{keeper_knows, whole_same}
 
 -- a reader's view is laid in the keeper's seat

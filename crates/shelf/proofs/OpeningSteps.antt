@@ -84,44 +84,44 @@ dealt_seats z s r id n below at =
     let owner = moved r.seats.owner n new in
     let seats : AreSeats z (resting n []) r.readers s.views = subst (λ (l : KeeperView). AreSeats z l r.readers s.views) (sym mine.1) r.seats in
     record {
-    keeper = r.seats.keeper;
-    owner = owner;
-    few = omega arith;
-    callers = no_callers (n + 1);
-    fresh = λ q above inside. seats.fresh q (omega arith) inside;
-    left = λ q y gone is. absurd (omega arith);
-    seated = λ q inside none.
-        dite (ℕ_discrete q n)
-        (λ here. subst (IsSeated (HasReader q) (set s.views id (keeping k) ++ reading (fresh_reader n) ∷ [])) (sym (ap owner here ∙ moved-here r.seats.owner n new))
-        (seated_last (set s.views id (keeping k)) (reading (fresh_reader n)) (HasReader q) (sym here)))
-        (λ apart.
-        seated_longer (set s.views id (keeping k)) (reading (fresh_reader n)) (owner q) (HasReader q)
-        (seated_set s.views id (keeping (resting n [])) (keeping k) (owner q) (HasReader q) at (λ e. absurd e)
-        (subst (IsSeated (HasReader q) s.views) (sym (moved-else r.seats.owner n new q apart))
-        (r.seats.seated q (let dealt : n ≡ r.k.dealt = ap (λ (l : KeeperView). l.dealt) mine.1 in omega arith) (ap (λ (l : KeeperView). times q l.gone) (sym mine.1))))));
-    kept = seated_longer (set s.views id (keeping k)) (reading (fresh_reader n)) r.seats.keeper HasKeeper
-        (seated_set s.views id (keeping (resting n [])) (keeping k) r.seats.keeper HasKeeper at (λ e. e) r.seats.kept);
-    each_seat = λ j v there.
-        elim (one_more (set s.views id (keeping k)) (reading (fresh_reader n)) j v there) [
-          | inl before ↦
-              one_seat (Knows z k r.readers r.seats.keeper owner) s.views id (keeping k) (mine.0, refl)
-              (λ i w not_id at_i. stays_dealt z n r.readers r.seats.keeper r.seats.owner new i w (λ (e : i ≡ r.seats.keeper). not_id (e ∙ sym mine.0))
-              (subst (λ (l : KeeperView). Knows z l r.readers r.seats.keeper r.seats.owner i w) (sym mine.1) (r.seats.each_seat i w at_i))) j v before
-          | inr last ↦
-              subst (λ (q : ℕ × Role). Knows z k r.readers r.seats.keeper owner q.0 q.1) (λ i. (sym last.0 i, last.1 i)) (
-                moved-here r.seats.owner n new,
-                record {
-                  dealt = omega arith;
-                  here = refl;
-                  there = seats.fresh n (omega arith) below;
-                  began = ([], refl);
-                  held = λ v is. absurd (cc);
-                  all_seen = omega arith;
-                  counted = refl;
-                },
-              )
-        ];
-  }
+      keeper = r.seats.keeper;
+      owner = owner;
+      few = omega arith;
+      callers = no_callers (n + 1);
+      fresh = λ q above inside. seats.fresh q (omega arith) inside;
+      left = λ q y gone is. absurd (omega arith);
+      seated = λ q inside none.
+          dite (ℕ_discrete q n)
+          (λ here. subst (IsSeated (HasReader q) (set s.views id (keeping k) ++ reading (fresh_reader n) ∷ [])) (sym (ap owner here ∙ moved-here r.seats.owner n new))
+          (seated_last (set s.views id (keeping k)) (reading (fresh_reader n)) (HasReader q) (sym here)))
+          (λ apart.
+          seated_longer (set s.views id (keeping k)) (reading (fresh_reader n)) (owner q) (HasReader q)
+          (seated_set s.views id (keeping (resting n [])) (keeping k) (owner q) (HasReader q) at (λ e. absurd e)
+          (subst (IsSeated (HasReader q) s.views) (sym (moved-else r.seats.owner n new q apart))
+          (r.seats.seated q (let dealt : n ≡ r.k.dealt = ap (λ (l : KeeperView). l.dealt) mine.1 in omega arith) (ap (λ (l : KeeperView). times q l.gone) (sym mine.1))))));
+      kept = seated_longer (set s.views id (keeping k)) (reading (fresh_reader n)) r.seats.keeper HasKeeper
+          (seated_set s.views id (keeping (resting n [])) (keeping k) r.seats.keeper HasKeeper at (λ e. e) r.seats.kept);
+      each_seat = λ j v there.
+          elim (one_more (set s.views id (keeping k)) (reading (fresh_reader n)) j v there) [
+            | inl before ↦
+                one_seat (Knows z k r.readers r.seats.keeper owner) s.views id (keeping k) (mine.0, refl)
+                (λ i w not_id at_i. stays_dealt z n r.readers r.seats.keeper r.seats.owner new i w (λ (e : i ≡ r.seats.keeper). not_id (e ∙ sym mine.0))
+                (subst (λ (l : KeeperView). Knows z l r.readers r.seats.keeper r.seats.owner i w) (sym mine.1) (r.seats.each_seat i w at_i))) j v before
+            | inr last ↦
+                subst (λ (q : ℕ × Role). Knows z k r.readers r.seats.keeper owner q.0 q.1) (λ i. (sym last.0 i, last.1 i)) (
+                  moved-here r.seats.owner n new,
+                  record {
+                    dealt = omega arith;
+                    here = refl;
+                    there = seats.fresh n (omega arith) below;
+                    began = ([], refl);
+                    held = λ v is. absurd (cc);
+                    all_seen = omega arith;
+                    counted = refl;
+                  },
+                )
+          ];
+    }
 
 -- that keeps the rule
 pub deals : (z : Base) (id n : ℕ) → n < z.setting.sessions → Splits (Agrees z) id (keeping (resting n [])) (keeping (resting (n + 1) [])) (reading (fresh_reader n))

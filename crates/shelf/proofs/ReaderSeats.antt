@@ -1,7 +1,7 @@
 -- A reader's seat after a load of NOW.
 use mathlib.Core.Logic.{inl, inr}
 use Rattle.map_core.specs.Steps.{next_hold}
-use Rattle.std.proofs.Common.{◌≡◌, ℕ, Bool, List, [], ◌∷◌, length, ap, sym, ◌∙◌, refl}
+use Rattle.std.proofs.Common.{◌≡◌, ℕ, List, [], ◌∷◌, length, ap, sym, ◌∙◌, refl}
 use Rattle.std.specs.Prelude.{Option, Some, None, is_some, is_none, ◌&&◌, if◌then◌else◌, ◌⊎◌}
 use Rattle.atomic_table.specs.Seated.{TableId}
 use Rattle.map_core.specs.Story.{newest}
@@ -15,7 +15,7 @@ use Rattle.shelf.proofs.LogParts.{length-entries}
 use Rattle.shelf.specs.declared.table.Basis.{Basis}
 use Rattle.map_core.specs.declared.plan.Plan.{Plan}
 use Rattle.shelf.specs.Roles.{ReaderView, Role, reading, entries, as_reader}
-use Rattle.shelf.specs.Seats.{IsOf, ReaderSays, reader_on, held_next}
+use Rattle.shelf.specs.Seats.{IsOf, ReaderSays, reader_on}
 use Rattle.shelf.specs.Steps.{loaded, Sees}
 
 -- a seat stays its store's where it stays at its table
@@ -35,18 +35,16 @@ now_says z x word log sees = (
 )
 
 -- what a seat keeps beside its view, after it has loaded NOW
-pub says_loaded : (z : Base) (x y : ReaderView) (number made version : ℕ) (announced : Bool) (holds : Option ℕ) (word v : ℕ) (h : Option ℕ) (log : List Signed)
-    → ReaderSays z x number made version announced holds → Sees z x word log → v ≡ version_told word → h ≡ held_next announced holds v → y ≡ loaded z log x
-    → ReaderSays z y number made v announced h
-says_loaded z x y number made version announced holds word v h log says sees told held is =
+pub says_loaded : (z : Base) (x y : ReaderView) (number made version word v : ℕ) (log : List Signed)
+    → ReaderSays z x number made version → Sees z x word log → v ≡ version_told word → y ≡ loaded z log x
+    → ReaderSays z y number made v
+says_loaded z x y number made version word v log says sees told is =
     let newest_is : v ≡ newest (story z (entries log)) = told ∙ (now_says z x word log sees).1 in
     rw is record {
       below = says.below;
       number_is = says.number_is;
       made_is = says.made_is;
       version_is = newest_is;
-      announced_is = says.announced_is;
-      holds_is = held ∙ ap (λ (q : Bool × Option ℕ × ℕ). held_next q.0 q.1 q.2) (λ i. (says.announced_is i, says.holds_is i, newest_is i));
     }
 
 -- a reader that holds, or has announced nothing, holds after a load what it held

@@ -1,28 +1,22 @@
 -- The steps of a ticket keep the rule.
-use Rattle.std.proofs.Common.{◌≡◌, ◌≢◌, ◌==◌, ℕ, zero, suc, ◌+◌, cond, Bool, List, [], ◌∷◌, ◌++◌, length, set, get_or, refl, ap, sym, ◌∙◌, subst, arith, ne_eqb, ⊎_elim, Option, Some, None, ◌<◌, eq-eqb}
-use Rattle.std.specs.Prelude.{◌⊎◌, slice_get}
+use Rattle.std.proofs.Common.{◌≡◌, ◌≢◌, ℕ, List, [], ◌∷◌, ◌++◌, set, get_or, refl, ap, sym, ◌∙◌, subst}
 use mathlib.Core.Logic.{inl, inr}
 use mathlib.Core.List.{IsPrefix}
-use mathlib.Core.Option.{some, none, some-injective, some-ne-none}
-use native.Mathlib.Decide.{ℕ_discrete}
-use mathlib.Core.Logic.{dite}
+use mathlib.Core.Option.{some, none}
 use lib.ListN.{get_elem?}
 use Rattle.atomic_table.specs.Table.{State, Me, step, keeps, Allows, Splits, Joins}
 use Rattle.atomic_table.proofs.Lists.{set_else}
 use Rattle.map_core.specs.Words.{Base, now_at}
-use Rattle.map_core.specs.Views.{Reader}
-use Rattle.map_core.specs.Safe.{times}
 use Rattle.shelf.specs.declared.signed.Signed.{Signed}
 use Rattle.shelf.proofs.LogParts.{prefix-itself}
-use Rattle.shelf.proofs.Moved.{moved, moved-here, moved-else}
 use Rattle.shelf.specs.declared.asked.Asked.{Asked}
-use Rattle.shelf.specs.Roles.{KeeperView, ReaderView, Role, idle, keeping, reading, meeting, ticket, learning, made_by, unmet_by, as_reader, keeper_in, reader_in}
-use Rattle.shelf.specs.Rule.{Fits, Knows, HasReader, HasKeeper, IsSeated, AreSeats, Agrees}
-use Rattle.shelf.specs.Steps.{loaded, met, met_by, without, Meets, meets, gives_up, Sees, learns}
-use Rattle.shelf.proofs.HandedSeats.{one_more, stays_moved, same_seats, same_rule, two_seats}
-use Rattle.shelf.proofs.Bridge.{there_else, fits_else, apart, one_seat, set_there, seated_set, seated_longer, seated_last, seats_reader, seats_keeper}
+use Rattle.shelf.specs.Roles.{KeeperView, ReaderView, Role, idle, keeping, reading, ticket, learning, as_reader, reader_in}
+use Rattle.shelf.specs.Rule.{Fits, Knows, HasReader, HasKeeper, AreSeats, Agrees}
+use Rattle.shelf.specs.Steps.{loaded, Sees, learns}
+use Rattle.shelf.proofs.HandedSeats.{one_more, same_seats, same_rule, two_seats}
+use Rattle.shelf.proofs.Bridge.{one_seat, seated_set, seated_longer}
 use Rattle.shelf.proofs.ReaderSteps.{fits-loaded, whole-loaded, seats_loaded}
-use Rattle.shelf.proofs.KeeperSteps.{keeper_knows, whole_same}
+use Rattle.shelf.proofs.KeeperSteps.{keeper_knows}
 
 -- a ticket is cut from the keeper's seat
 pub cut_seats : (z : Base) (s : State Asked Role) (r : Agrees z s) (id : ℕ) (k : KeeperView) → get_elem? s.views id ≡ some (keeping k)

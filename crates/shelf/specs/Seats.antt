@@ -1,5 +1,5 @@
 -- What ties a seat to its store, and what it keeps beside its view: this project's own rule.
-use Rattle.std.specs.Prelude.{◌≡◌, ℕ, ◌<◌, Bool, true, false, List, [], ◌∷◌, ◌&&◌, if◌then◌else◌, length, Option, Some, None, is_some, is_none}
+use Rattle.std.specs.Prelude.{◌≡◌, ℕ, ◌<◌, Bool, true, false, List, [], ◌∷◌, length, Some, None, is_some}
 use Rattle.atomic_table.specs.Seated.{TableId}
 use Rattle.atomic_table.specs.Table.{Me}
 use Rattle.map_core.specs.Story.{newest}
@@ -41,22 +41,16 @@ pub record IsOf (store : StoreId) (table : TableId) (basis : Basis) (seat : Tabl
   pub plan_is : IsPlan store.base plan
 
 -- what a reader's seat keeps beside its view is what the view says
-pub record ReaderSays (k : Base) (x : ReaderView) (number made version : ℕ) (announced : Bool) (holds : Option ℕ) : Type 0 where
+pub record ReaderSays (k : Base) (x : ReaderView) (number made version : ℕ) : Type 0 where
   pub below : x.number < k.setting.sessions
   pub number_is : number ≡ x.number
   pub made_is : made ≡ x.made
   pub version_is : version ≡ newest (story k (entries x.seen))
-  pub announced_is : announced ≡ is_some x.announced
-  pub holds_is : holds ≡ x.holds
 
 -- a reader's seat in a store
-abbrev pub IsReaderSeat : StoreId → TableId → Basis → TableId → Plan → List Role → ℕ → ℕ → ℕ → Bool → Option ℕ → Type 0
-IsReaderSeat store table basis seat plan views number made version announced holds =
-    IsOf store table basis seat plan × (views ≡ reading (reader_on views) ∷ []) × ReaderSays store.base (reader_on views) number made version announced holds
-
--- what a seat holds after it has loaded a version
-abbrev pub held_next : Bool → Option ℕ → ℕ → Option ℕ
-held_next announced holds version = if announced && is_none holds then Some version else holds
+abbrev pub IsReaderSeat : StoreId → TableId → Basis → TableId → Plan → List Role → ℕ → ℕ → ℕ → Type 0
+IsReaderSeat store table basis seat plan views number made version =
+    IsOf store table basis seat plan × (views ≡ reading (reader_on views) ∷ []) × ReaderSays store.base (reader_on views) number made version
 
 -- what the keeper's seat keeps beside its view is what the view says, and the command in hand was accepted
 pub record KeeperSays (z : Base) (k : KeeperView) (place version : ℕ) (publishes unmet : Bool) : Type 0 where

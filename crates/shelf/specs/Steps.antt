@@ -82,6 +82,14 @@ pub record Sees (z : Base) (x : ReaderView) (word : ℕ) (log : List Signed) : T
 abbrev pub taken : Base → At → Sat → ℕ → Sat → Type 0
 taken z st m word m' = (x : ReaderView) → m.0 ≡ reading x → (log : List Signed) × (m' ≡ (reading (loaded z log x), m.1)) × Sees z x word log
 
+-- the version that a reader holds has this block at a position
+pub record HasBlock (z : Base) (x : ReaderView) (block : ℕ) : Type 0 where
+  pub version : ℕ
+  pub position : ℕ
+  pub held : x.holds ≡ Some version
+  pub inside : position < tiles z
+  pub block_is : block ≡ slice_index (directory_of (blocks z (entries x.seen)) version) position
+
 -- a reader's load of a word of the version that it holds, which tells what it has seen: of a directory's word the block, of a row's word the row
 abbrev pub looks : Base → At → Sat → ℕ → Sat → Type 0
 looks z st m word m' =

@@ -100,8 +100,6 @@ impl<Id: StoreName> Closing<Id> {
             number: _,
             made: _,
             version: _,
-            announced: _,
-            holds: _,
             of: _,
         } = reader;
         give_up_on::<Id>(&self.words, &mut self.seat, seat);

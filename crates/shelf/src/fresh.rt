@@ -96,8 +96,6 @@ impl FreshReader {
             number,
             made: 0,
             version: 0,
-            announced: false,
-            holds: None,
             of: PhantomData,
         }
     }

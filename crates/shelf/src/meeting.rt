@@ -10,7 +10,7 @@ use crate::asked::Asked;
 use crate::keeper::KeeperSeat;
 use crate::name::StoreName;
 use crate::plays::{Apart, Meet, Together};
-use crate::reader::{ReaderSeat, held_next};
+use crate::reader::ReaderSeat;
 use crate::table::{TableSeat, View, Words};
 use atomic_table::Badge;
 use std::mem::replace;
@@ -59,7 +59,6 @@ pub fn meet<Id: StoreName>(keeper: &mut KeeperSeat<Id>, reader: &mut ReaderSeat<
     let seat = replace(&mut reader.seat, Badge::blank());
     reader.seat = meet_on::<Id>(&keeper.words, &mut keeper.seat, seat);
     reader.made += u32::from(keeper.unmet);
-    reader.holds = held_next(reader.announced, reader.holds, keeper.version);
     reader.version = keeper.version;
     keeper.unmet = false;
 }

@@ -8,10 +8,9 @@ ghost use Rattle.map_core.specs.Blocks.{directory_of};
 ghost use Rattle.map_core.specs.Words.{tiles};
 ghost use Rattle.map_core.specs.Legal.{IsLegal};
 ghost use Rattle.map_core.specs.Views.{story, blocks};
-ghost use Rattle.shelf.specs.Seats.{held_next};
 ghost use Rattle.shelf.specs.Store.{readers_of};
 ghost use Rattle.shelf.specs.Roles.{entries};
-ghost use Rattle.shelf.specs.Steps.{announcing, loaded, leaving};
+ghost use Rattle.shelf.specs.Steps.{announcing, loaded, leaving, HasBlock};
 
 use crate::asked::Asked;
 use crate::name::StoreName;
@@ -34,10 +33,8 @@ pub struct ReaderSeat<Id: StoreName> {
     pub(crate) plan: Plan,
     pub(crate) number: u32,
     pub(crate) made: u32,
-    // The newest version that it has seen, whether it has announced, and the version that it holds.
+    // The newest version that it has seen.
     pub(crate) version: u32,
-    pub(crate) announced: bool,
-    pub(crate) holds: Option<u32>,
     pub(crate) of: PhantomData<Id>,
 }
 
@@ -50,7 +47,7 @@ impl<Id: StoreName> Model for ReaderSeat<Id> {
 
     ghost view = { λ s. reader_on s.seat.views };
 
-    ghost invariant = { λ s. IsReaderSeat Id.store (arc_value s.words).shared.table_id (arc_value s.words).shared.key s.seat.table_id s.plan s.seat.views s.number s.made s.version s.announced s.holds };
+    ghost invariant = { λ s. IsReaderSeat Id.store (arc_value s.words).shared.table_id (arc_value s.words).shared.key s.seat.table_id s.plan s.seat.views s.number s.made s.version };
 }
 
 impl<Id: StoreName> ReaderSeat<Id> {
@@ -80,7 +77,6 @@ impl<Id: StoreName> ReaderSeat<Id> {
             .shared
             .store::<Announce<Id>>(&mut seat, place, u64::from(self.version) + 1);
         self.seat = seat.into_badge();
-        self.announced = true;
     }
 
     /// Takes the announcement back: stores 0 in its word. It then holds nothing, and has seen what it had. Condition: it has announced.
@@ -92,8 +88,6 @@ impl<Id: StoreName> ReaderSeat<Id> {
         let place = Plan::pin_at(self.number);
         self.words.shared.store::<Leave>(&mut seat, place, 0);
         self.seat = seat.into_badge();
-        self.announced = false;
-        self.holds = None;
     }
 
     /// Loads NOW, and answers what it says. The seat has then seen the whole log as it is at the load, and where it has announced and held
@@ -109,7 +103,6 @@ impl<Id: StoreName> ReaderSeat<Id> {
         let word = self.words.shared.load::<Take<Id>>(&mut seat, 0);
         self.seat = seat.into_badge();
         let now = Now::of(word);
-        self.holds = held_next(self.announced, self.holds, now.version);
         self.version = now.version;
         now
     }
@@ -131,12 +124,13 @@ impl<Id: StoreName> ReaderSeat<Id> {
         word as u32
     }
 
-    /// Loads a row of a block: bit j is column j. Where the version that it holds has the block at a position, it is that position's row, whatever
-    /// others publish and collect.
+    /// Loads a row of a block: bit j is column j. It is that of the position at which the version that it holds has the block, whatever others
+    /// publish and collect.
     ///
-    /// Conditions: the store has that block, and the row is one of 64.
+    /// Conditions: the store has that block, the version that it holds has it at a position, and the row is one of 64.
     pub fn look_tile(&mut self, block: u32, row: u16) -> u64
         requires block { block < Id.store.base.setting.blocks }
+        requires mapped { HasBlock Id.store.base self.old block }
         requires row { row < 64 }
         ensures seat { self.new ≡ self.old }
         ensures word { (v p : ℕ) → self.old.holds ≡ Some v → p < tiles Id.store.base → block ≡ slice_index (directory_of (blocks Id.store.base (entries self.old.seen)) v) p
@@ -147,16 +141,5 @@ impl<Id: StoreName> ReaderSeat<Id> {
         let word = self.words.shared.load::<Look<Id>>(&mut seat, place);
         self.seat = seat.into_badge();
         word
-    }
-}
-
-/// What a seat holds after it has loaded a version.
-pub(crate) fn held_next(announced: bool, holds: Option<u32>, version: u32) -> Option<u32>
-    ensures { result ≡ held_next announced holds version }
-{
-    if announced && holds.is_none() {
-        Some(version)
-    } else {
-        holds
     }
 }

@@ -14,7 +14,7 @@ use crate::asked::Asked;
 use crate::keeper::KeeperSeat;
 use crate::name::StoreName;
 use crate::plays::{Cut, Hand, Learn};
-use crate::reader::{ReaderSeat, held_next};
+use crate::reader::ReaderSeat;
 use crate::table::{View, Words};
 use atomic_table::Badge;
 use map_core::Now;
@@ -96,7 +96,6 @@ impl<Id: StoreName> ReaderSeat<Id> {
         let Ticket { seat, of: _ } = ticket;
         let word = learn_on::<Id>(&self.words, &mut self.seat, seat);
         let now = Now::of(word);
-        self.holds = held_next(self.announced, self.holds, now.version);
         self.version = now.version;
     }
 }

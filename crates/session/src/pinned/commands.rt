@@ -1,4 +1,4 @@
-//! The commands of a pin: those of its session. The version that it holds stays.
+//! The commands of a pin: those of its session. The version that it holds stays, and so does its bitmap.
 
 ghost use Rattle.std.specs.Prelude.{◌≡◌, IfOk, IfErr};
 ghost use mathlib.Core.List.{IsPrefix};
@@ -6,6 +6,7 @@ ghost use Rattle.map_core.specs.declared.command.Command.TheVariants.{Paint, Sta
 ghost use Rattle.map_core.specs.Legal.{IsLegal};
 ghost use Rattle.shelf.specs.Roles.{entries};
 ghost use Rattle.desk.specs.Desks.{IsAccepted, IsRefused};
+ghost use Rattle.session.specs.Sessions.{bitmap_pinned};
 
 use crate::pinned::Pinned;
 use bits::Bitmap;
@@ -20,6 +21,7 @@ impl<Id: StoreName> Pinned<Id> {
         ensures accepted { IfOk result (λ reply. IsAccepted Id.store desk.old self.old.seat (Paint rect black) reply desk.new self.new.seat) }
         ensures refused { IfErr result (λ refusal. IsRefused Id.store desk.old self.old.seat (Paint rect black) refusal desk.new self.new.seat) }
         ensures version { self.new.version ≡ self.old.version }
+        ensures bitmap { bitmap_pinned Id.store self.new ≡ bitmap_pinned Id.store self.old }
         ensures began { IsPrefix self.old.seat.seen desk.old.log }
         ensures grows { IsPrefix self.old.seat.seen self.new.seat.seen }
         ensures legal { IsLegal Id.store.base.setting Id.store.base.opening (entries desk.new.log) }
@@ -38,6 +40,7 @@ impl<Id: StoreName> Pinned<Id> {
         ensures accepted { IfOk result (λ reply. IsAccepted Id.store desk.old self.old.seat (Stamp x y bitmap) reply desk.new self.new.seat) }
         ensures refused { IfErr result (λ back. (back.0 ≡ bitmap) × IsRefused Id.store desk.old self.old.seat (Stamp x y bitmap) back.1 desk.new self.new.seat) }
         ensures version { self.new.version ≡ self.old.version }
+        ensures bitmap { bitmap_pinned Id.store self.new ≡ bitmap_pinned Id.store self.old }
         ensures began { IsPrefix self.old.seat.seen desk.old.log }
         ensures grows { IsPrefix self.old.seat.seen self.new.seat.seen }
         ensures legal { IsLegal Id.store.base.setting Id.store.base.opening (entries desk.new.log) }
@@ -50,6 +53,7 @@ impl<Id: StoreName> Pinned<Id> {
         ensures accepted { IfOk result (λ reply. IsAccepted Id.store desk.old self.old.seat Publish reply desk.new self.new.seat) }
         ensures refused { IfErr result (λ refusal. IsRefused Id.store desk.old self.old.seat Publish refusal desk.new self.new.seat) }
         ensures version { self.new.version ≡ self.old.version }
+        ensures bitmap { bitmap_pinned Id.store self.new ≡ bitmap_pinned Id.store self.old }
         ensures began { IsPrefix self.old.seat.seen desk.old.log }
         ensures grows { IsPrefix self.old.seat.seen self.new.seat.seen }
         ensures legal { IsLegal Id.store.base.setting Id.store.base.opening (entries desk.new.log) }
@@ -62,6 +66,7 @@ impl<Id: StoreName> Pinned<Id> {
         ensures accepted { IfOk result (λ reply. IsAccepted Id.store desk.old self.old.seat Revert reply desk.new self.new.seat) }
         ensures refused { IfErr result (λ refusal. IsRefused Id.store desk.old self.old.seat Revert refusal desk.new self.new.seat) }
         ensures version { self.new.version ≡ self.old.version }
+        ensures bitmap { bitmap_pinned Id.store self.new ≡ bitmap_pinned Id.store self.old }
         ensures began { IsPrefix self.old.seat.seen desk.old.log }
         ensures grows { IsPrefix self.old.seat.seen self.new.seat.seen }
         ensures legal { IsLegal Id.store.base.setting Id.store.base.opening (entries desk.new.log) }
@@ -74,6 +79,7 @@ impl<Id: StoreName> Pinned<Id> {
         ensures accepted { IfOk result (λ reply. IsAccepted Id.store desk.old self.old.seat Collect reply desk.new self.new.seat) }
         ensures refused { IfErr result (λ refusal. IsRefused Id.store desk.old self.old.seat Collect refusal desk.new self.new.seat) }
         ensures version { self.new.version ≡ self.old.version }
+        ensures bitmap { bitmap_pinned Id.store self.new ≡ bitmap_pinned Id.store self.old }
         ensures began { IsPrefix self.old.seat.seen desk.old.log }
         ensures grows { IsPrefix self.old.seat.seen self.new.seat.seen }
         ensures legal { IsLegal Id.store.base.setting Id.store.base.opening (entries desk.new.log) }

@@ -1,7 +1,7 @@
 -- The pin stays.
 use mathlib.Core.Logic.{inr}
 use Rattle.session.proofs.CommandLemmas.{answered_still}
-use Rattle.session.proofs.PinLemmas.{pin_stays}
+use Rattle.session.proofs.PinLemmas.{bitmap_stays, pin_stays}
 use Rattle.session.proofs.pinned.Pinned.collect.Goals as goal
 
 pub collect-requires : goal.collect-requires
@@ -11,3 +11,6 @@ pub invariant_of-self : goal.invariant_of-self
 invariant_of-self g c =
     let still = answered_still _ _ _ _ _ _ c.collect.result c.collect.ensures.accepted c.collect.ensures.refused in
     pin_stays _ _ _ _ _ c.self.invariant c.collect.ensures.grows still.announced still.holds
+
+pub returns-clause-bitmap : goal.returns-clause-bitmap
+returns-clause-bitmap g c = rw (← c.self.view_is) (bitmap_stays _ _ c.collect.new.seat _ _ c.self.invariant c.collect.ensures.grows)

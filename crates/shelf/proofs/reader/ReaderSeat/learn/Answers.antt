@@ -16,7 +16,7 @@ invariant_of-self g c =
     let it = c.learn_on-word.ensures.learned in (
       still_of _ _ _ _ _ _ c.self.invariant.0 c.learn_on-word.ensures.table,
       one_view _ _ it.views_are,
-      says_loaded g.Id.StoreName.store.base _ _ _ _ _ _ _ _ _ _ it.log c.self.invariant.2 it.sees c.of-now.ensures.version c.held_next-self-inside.ensures (ap reader_on it.views_are),
+      says_loaded g.Id.StoreName.store.base _ _ _ _ _ _ _ it.log c.self.invariant.2 it.sees c.of-now.ensures.version (ap reader_on it.views_are),
     )
 
 pub returns-clause-legal : goal.returns-clause-legal

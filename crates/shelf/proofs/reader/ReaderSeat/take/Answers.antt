@@ -26,7 +26,7 @@ invariant_of-self g c =
     let at = c.into_badge.ensures.0 ∙ (c.load-word.ensures.0 ∙ (c.into_seat-seat.ensures.0 ∙ ap (λ b. b.table_id) c.replace.ensures.value)) in (
       still_of _ _ _ _ _ _ of at,
       one_view _ _ views,
-      says_loaded g.Id.StoreName.store.base _ _ _ _ _ _ _ _ _ _ told.0 c.self.invariant.2 told.2 c.of-now.ensures.version c.held_next-self-inside.ensures (ap reader_on views),
+      says_loaded g.Id.StoreName.store.base _ _ _ _ _ _ _ told.0 c.self.invariant.2 told.2 c.of-now.ensures.version (ap reader_on views),
     )
 
 pub returns-clause-place : goal.returns-clause-place
