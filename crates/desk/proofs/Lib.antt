@@ -5,7 +5,6 @@ pub mod HoldDraw
 pub mod HoldLemmas
 pub mod HoldOpen
 pub mod HoldPublish
-pub mod NamingLemmas
 pub mod OpenedLemmas
 pub mod PublishSteps
 pub mod ScanSteps

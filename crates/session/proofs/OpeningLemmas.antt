@@ -10,29 +10,9 @@ use Rattle.shelf.specs.Roles.{ReaderView, fresh_reader}
 use Rattle.shelf.specs.Store.{StoreId, readers_of}
 use Rattle.session.specs.Sessions.{all_fresh}
 
--- each of these readers is the store's
-stores : (z : StoreId) (ns : List ℕ) → All (λ (n : Newcomer). n.store ≡ z) (map (λ n. record { number = n; store = z }) ns)
-stores z [] k d within = absurd (omega arith)
-stores z (n ∷ ns) zero d within = refl
-stores z (n ∷ ns) (suc k) d within = stores z ns k d (omega arith)
-
--- how many readers there are
-pub newcomers_counted : (z : StoreId) → length (all_newcomers z) ≡ readers_of z
-newcomers_counted z = length-map (range_with_len 0 (readers_of z)) (λ n. record { number = n; store = z }) ∙ length-range_with_len 0 (readers_of z)
-
--- a reader that is taken is the store's
-pub newcomer_of : (z : StoreId) (all front rest : List Newcomer) (x : Newcomer) → all ≡ all_newcomers z → front ++ x ∷ rest ≡ all → x.store ≡ z
-newcomer_of z all front rest x all_is parts =
-    let whole = parts ∙ all_is in
-    let within : length front < length (all_newcomers z) = omega (arith, ap length whole, length-append front (x ∷ rest)) in
-    sym (ap (λ (n : Newcomer). n.store) (ap (λ (ns : List Newcomer). get_or ns (length front) x) (sym whole) ∙ get_or-append_seam front x rest x))
-    ∙ stores z (range_with_len 0 (readers_of z)) (length front) x within
-
--- there is room for the session of one reader more
-pub room_left : (z : StoreId) (all front rest : List Newcomer) (x : Newcomer) (sessions : List ReaderView) (room : ℕ) → all ≡ all_newcomers z → front ++ x ∷ rest ≡ all
-    → sessions ≡ map (λ (n : Newcomer). fresh_reader n.number) front → readers_of z ≤ room → length sessions < room
-room_left z all front rest x sessions room all_is parts sessions_are enough =
-    omega (arith, ap length (parts ∙ all_is), length-append front (x ∷ rest), newcomers_counted z, ap length sessions_are, length-map front (λ (n : Newcomer). fresh_reader n.number))
+-- so many sessions as readers were taken
+pub sessions_counted : (front : List Newcomer) (sessions : List ReaderView) → sessions ≡ map (λ (n : Newcomer). fresh_reader n.number) front → length sessions ≡ length front
+sessions_counted front sessions are = ap length are ∙ length-map front (λ (n : Newcomer). fresh_reader n.number)
 
 -- the sessions of some readers, by number
 sessions_map : (z : StoreId) (ns : List ℕ) → map (λ (n : Newcomer). fresh_reader n.number) (map (λ n. record { number = n; store = z }) ns) ≡ map fresh_reader ns

@@ -2,7 +2,8 @@
 use Rattle.std.proofs.Common.{arith, sym, ap, List, ◌∙◌, ◌++◌}
 use Rattle.std.specs.Vec.{vec_capacity}
 use Rattle.shelf.specs.Open.{Newcomer}
-use Rattle.session.proofs.OpeningLemmas.{newcomer_of, room_left, sessions_whole, nothing_left}
+use Rattle.shelf.proofs.Newcomers.{newcomer_of, room_left}
+use Rattle.session.proofs.OpeningLemmas.{sessions_counted, sessions_whole, nothing_left}
 use Rattle.session.proofs.sessions.sessions_of.Goals as goal
 
 pub named-seat-requires : goal.named-seat-requires
@@ -12,7 +13,7 @@ named-seat-requires g c =
 pub push_reserved-requires : goal.push_reserved-requires
 push_reserved-requires g c =
     let parts = ap (λ (ns : List Newcomer). c.loop-reader.yielded ++ ns) (sym c.in-Some.ensures.steps.0) ∙ c.loop-reader.invariant.2 in
-    omega (arith, c.loop-reader.sessions.ok, room_left g.Id.StoreName.store _ c.loop-reader.yielded _ c.in-Some.reader c.loop-reader.sessions.items (vec_capacity c.loop-reader.sessions) c.requires.readers parts c.loop-reader.invariant.3 (omega (arith, c.requires.room, c.loop-reader.invariant.4)))
+    omega (arith, c.loop-reader.sessions.ok, room_left g.Id.StoreName.store _ c.loop-reader.yielded _ c.in-Some.reader _ (vec_capacity c.loop-reader.sessions) c.requires.readers parts (sessions_counted c.loop-reader.yielded c.loop-reader.sessions.items c.loop-reader.invariant.3) (omega (arith, c.requires.room, c.loop-reader.invariant.4)))
 
 pub returns : goal.returns
 returns g c =

@@ -1,7 +1,7 @@
 -- There is room for each seat.
 use Rattle.std.proofs.Common.{arith, ap, length}
 use Rattle.shelf.specs.Store.{StoreId, readers_of}
-use Rattle.desk.proofs.NamingLemmas.{newcomers_counted}
+use Rattle.shelf.proofs.Newcomers.{newcomers_counted}
 use Rattle.desk.proofs.tests.opened.name.Goals as goal
 
 pub seats_of-seats-requires-clause-room : goal.seats_of-seats-requires-clause-room

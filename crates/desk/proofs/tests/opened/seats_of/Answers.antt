@@ -2,7 +2,7 @@
 use Rattle.std.proofs.Common.{arith, sym, ap, List, length, ◌∙◌, ◌++◌}
 use Rattle.std.specs.Vec.{vec_capacity}
 use Rattle.shelf.specs.Open.{Newcomer}
-use Rattle.desk.proofs.NamingLemmas.{newcomer_of, room_left}
+use Rattle.shelf.proofs.Newcomers.{newcomer_of, room_left}
 use Rattle.desk.proofs.tests.opened.seats_of.Goals as goal
 
 pub named-requires : goal.named-requires
