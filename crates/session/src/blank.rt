@@ -14,7 +14,7 @@ use shelf::{FreshReader, Opening};
 use std::alloc::Global;
 use std::marker::Model;
 
-/// A store that has no name yet: its word, its seats and its desk. Contracts see it as the store.
+/// A store that has no name yet: its words, its seats and its desk. Contracts see it as the store.
 ///
 /// It can't be let go: it is opened, or discarded.
 pub struct Blank {

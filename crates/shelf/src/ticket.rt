@@ -86,7 +86,7 @@ fn learn_on<Id: StoreName>(words: &Words, reader: &mut Badge<View>, token: Badge
 }
 
 impl<Id: StoreName> ReaderSeat<Id> {
-    /// Loads NOW. The seat has then seen all that it and the ticket had; what it holds stays, and what it has announced.
+    /// Loads NOW. The seat has then seen all that it and the ticket had. As a load it gives a hold to a seat that has announced and holds nothing; else what it holds stays.
     pub fn learn(&mut self, ticket: Ticket<Id>)
         ensures seat { self.new ≡ loaded Id.store.base self.new.seen self.old }
         ensures began { IsPrefix self.old.seen self.new.seen }

@@ -158,8 +158,9 @@ impl<Id: StoreName> Desk<Id> {
         }
     }
 
-    /// Raises the floor, the least version that is kept, to the least of newest and what the readers have announced, one word after another:
-    /// `Reply::Collected`, with the floor and how many blocks came back.
+    /// Raises the floor, the least version that is kept, to the least of newest and what the readers have announced, one word after another, and never lowers it:
+    /// `Reply::Collected`, with the floor and how many blocks came back. That the floor is that of the words which were loaded is a clause of the keeper's steps
+    /// (`KeeperSeat::scan`, `commit`), since the words of readers stand in no clause here.
     ///
     /// Refused, in this order, for want of room in the log (`LogFull`) and of memory.
     pub fn collect(&mut self, seat: &mut ReaderSeat<Id>) -> Result<Reply, Refusal>
