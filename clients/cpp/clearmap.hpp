@@ -465,7 +465,7 @@ public:
     /// Makes the draft the newest version again, and answers the place in the log.
     std::uint32_t revert() { return wire_.numbers(wire_.call("REVERT"), 1)[0]; }
 
-    /// Gives back what only versions below the floor use: the least version that is pinned, or the newest.
+    /// Gives back what only versions below the floor use: the least version that a pin has announced, or the newest.
     Collected collect() {
         auto n = wire_.numbers(wire_.call("COLLECT"), 3);
         return {n[0], n[1], n[2]};

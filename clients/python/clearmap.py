@@ -358,7 +358,7 @@ class Client:
         return int(self._call("REVERT", _one)[0])
 
     def collect(self) -> Collected:
-        """Gives back what only versions below the floor use: the least version that is pinned, or the newest."""
+        """Gives back what only versions below the floor use: the least version that a pin has announced, or the newest."""
         return Collected(*self._call("COLLECT", _three))
 
     # planners

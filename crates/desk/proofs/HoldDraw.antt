@@ -92,11 +92,6 @@ judged_why h c refusal by = λ k log tells. sym (refused_first k (story k log) h
 pub judged_first : (h : Holding) (c : Command) (has_room : Bool) (refusal : Refusal) → refused_by_ledger h.ledger c ≡ Some refusal → Refuses h c has_room refusal
 judged_first h c has_room refusal by = inl (judged_why h c refusal by)
 
--- a command that finds no memory for its entry
-pub judged_starved : (h : Holding) (c : Command) (has_room : Bool) (found : Option Refusal) (refusal : Refusal) → has_room ≡ false → Judges h c found → refusal ≡ unwrap_or found Memory → Refuses h c has_room refusal
-judged_starved h c has_room (Some why) refusal none judged is = inl (subst (λ (r : Refusal). Judges h c (Some r)) (sym is) judged)
-judged_starved h c has_room None refusal none judged is = inr (judged, is, none)
-
 -- a paint or a stamp is done
 pub draw_done : (old new : Holding) (c : Command) (changed : ℕ) (reply : Reply) → IsDraw c → refused_by_ledger old.ledger c ≡ None → refused_by old.grid old.arena.free c ≡ None
     → Draws old.grid old.arena.free c changed new.grid new.arena.free → new.arena.home ≡ old.arena.home

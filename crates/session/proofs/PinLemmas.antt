@@ -42,16 +42,6 @@ pinned_seat z x a b y quiet free first told last =
     ∙ (ap (λ (h : Option ℕ). record a { seen = y.seen; announced = Some v; holds = h }) (takes_hold (Some v) a.holds (entries a.seen) n v refl none)
     ∙ ap (λ (q : ℕ × ℕ). record { number = q.0; seen = y.seen; made = q.1; announced = Some v; holds = Some n }) (λ i. (ap (λ (q : ReaderView). q.number) a_is i, ap (λ (q : ReaderView). q.made) a_is i))))
 
--- a session is one still where its seat has seen more
-pub session_stays : (store : StoreId) (x y : ReaderView) (size : Size) → IsSession store x size → y ≡ record x { seen = y.seen } → IsSession store y size
-session_stays store x y size session is = record {
-  quiet = ap (λ (q : ReaderView). q.announced) is ∙ session.quiet;
-  free = ap (λ (q : ReaderView). q.holds) is ∙ session.free;
-  ready = session.ready;
-  width_is = session.width_is;
-  height_is = session.height_is;
-}
-
 -- a bitmap that was published is of the map's size
 pub published_size : (z : Base) (x : ReaderView) (v : ℕ) → IsReady z → IsLegal z.setting z.opening (entries x.seen) → v ≤ newest (story z (entries x.seen)) → IsOfMap z (bitmap_of (story z (entries x.seen)) v)
 published_size z x v ready legal within = (IsTidy-legal z (entries x.seen) ready legal).published v within

@@ -11,10 +11,6 @@ use Rattle.grid.specs.Pieces.{cells_of}
 use Rattle.grid.proofs.GridPaint.{shown_is}
 use Rattle.grid.proofs.CopyLemmas.{put_before, put_next, put_all}
 
--- a bitmap of the map's size has its tiles
-pub as_many_tiles : (z : Base) (b : Cells) → b.width ≡ z.opening.width → b.height ≡ z.opening.height → tile_count b ≡ tiles z
-as_many_tiles z b width height i = words_across (width i) * tiles_down (height i)
-
 -- one tile more is put
 pub tile_more : (old now new cells : Cells) (k : ℕ) (words : List ℕ) → now ≡ put_before old (tile_words cells) k → words ≡ tile_words cells k → new ≡ with_tile now k words
     → new ≡ put_before old (tile_words cells) (k + 1)

@@ -6,8 +6,7 @@ use mathlib.Core.Logic.{dite}
 use native.Mathlib.Decide.{ℕ_discrete, dec_le}
 use Rattle.map_core.specs.Safe.{times}
 use Rattle.shelf.specs.declared.signed.Signed.{Signed}
-use Rattle.shelf.specs.Roles.{KeeperView, ReaderView, made_by}
-use Rattle.shelf.specs.Steps.{without}
+use Rattle.shelf.specs.Roles.{KeeperView, made_by}
 use Rattle.shelf.specs.Close.{IsClosing}
 
 -- 1 where two numbers are one, else 0
@@ -113,25 +112,3 @@ pub closed_sum : (k : KeeperView) → IsClosing k → All (λ e. e.by < k.dealt)
 closed_sum k closing callers all =
     let counted : sum_below k.dealt (λ n. times n k.gone) ≡ k.dealt = all_counted k.dealt k.gone closing.below ∙ all in
     made_by_all k.gone k.log (λ i d h. each_one k.dealt (λ n. times n k.gone) closing.once counted _ (callers i d h))
-
--- a reader that is given up wasn't before
-pub closing-without : (k : KeeperView) (x : ReaderView) → times x.number k.gone ≡ 0 → x.number < k.dealt → IsClosing k → IsClosing (without k x)
-closing-without k x here_is dealt closing =
-    record {
-      task = closing.task;
-      unmet = closing.unmet;
-      once = λ n. once n;
-      below = λ n le. below n le;
-    }
-  where
-    once : (n : ℕ) → times n (x.number ∷ k.gone) ≤ 1
-    once n =
-        dite (ℕ_discrete n x.number)
-        (λ is. let one = equal n x.number is in let here : times n k.gone ≡ 0 = ap (λ m. times m k.gone) is ∙ here_is in omega arith)
-        (λ else. let none_of = other n x.number else in let before = closing.once n in omega arith)
-
-    below : (n : ℕ) → k.dealt ≤ n → times n (x.number ∷ k.gone) ≡ 0
-    below n le =
-        let none_of = other n x.number (λ is. absurd (omega arith)) in
-        let before = closing.below n le in
-        omega arith

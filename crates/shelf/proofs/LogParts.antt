@@ -1,7 +1,6 @@
 -- Logs with callers: what a beginning has, what one more entry adds, and how many entries a reader has.
-use Rattle.std.proofs.Common.{◌≡◌, ◌==◌, ℕ, ◌+◌, ◌<◌, ◌≤◌, cond, Bool, true, false, List, [], ◌∷◌, ◌++◌, length, map, refl, ap, sym, ◌∙◌, arith, append-nil, append_assoc}
+use Rattle.std.proofs.Common.{◌≡◌, ◌==◌, ℕ, ◌+◌, ◌<◌, ◌≤◌, cond, Bool, true, false, List, [], ◌∷◌, ◌++◌, length, map, ap, sym, ◌∙◌, arith, append-nil, append_assoc}
 use Rattle.std.specs.Prelude.{All, zero, suc, slice_index_or}
-use Rattle.std.proofs.lemmas.Bool.Decides.{nat_tests}
 use Rattle.std.proofs.lemmas.List.{map-append, length-map}
 use Rattle.std.proofs.lemmas.List.Elements.{All-append}
 use mathlib.Core.List.{IsPrefix}
@@ -49,15 +48,6 @@ made_by-fits n (e ∷ es) = let rest = made_by-fits n es in let one = at_most_on
     at_most_one : (b : Bool) → cond b 1 0 ≤ 1
     at_most_one true = omega arith
     at_most_one false = omega arith
-
--- a number that no caller reaches has no entry
-pub made_by-none : (n d : ℕ) (log : List Signed) → All (λ e. e.by < d) log → d ≤ n → made_by n log ≡ 0
-made_by-none n d [] all le = refl
-made_by-none n d (e ∷ es) all le =
-    let first : e.by < d = all 0 e (omega arith) in
-    let rest : made_by n es ≡ 0 = made_by-none n d es (λ k x h. all (suc k) x (omega arith)) le in
-    let test : (n == e.by) ≡ false = grind (arith, nat_tests) in
-    rw test (omega arith)
 
 -- the callers of a log with one more entry
 pub callers-push : (d : ℕ) (log : List Signed) (e : Signed) → All (λ f. f.by < d) log → e.by < d → All (λ f. f.by < d) (log ++ e ∷ [])

@@ -9,7 +9,7 @@ use Rattle.map_core.specs.Views.{story, blocks}
 use Rattle.map_core.specs.Steps.{Write, steps_before, own_positions, map_write, write_of}
 use Rattle.map_core.proofs.PublishWords.{write_of-tile, write_of-map, own_at}
 use Rattle.shelf.specs.Roles.{Task, KeeperView, entries}
-use Rattle.shelf.specs.Steps.{writing, published_by, committed, IsOwn, IsNextWrite, MayCommit}
+use Rattle.shelf.specs.Steps.{writing, committed, IsOwn, IsNextWrite, MayCommit}
 
 -- the next word, where it is the word of this number
 next_write : (z : Base) (k0 k : KeeperView) (by n : ℕ) (at word : ℕ) → k ≡ writing k0 by n → n < steps_before z (blocks z (entries k0.log)) Publish
@@ -66,6 +66,10 @@ unfolding steps_before
 may_publish z k0 k by n is all caller met =
     subst (λ (q : KeeperView). MayCommit z q) (sym is)
     record { task = record { by = by; hand = record { command = Publish; done = n; scanned = [] } }; in_hand = refl; all_done = all; caller = caller; met = met }
+
+-- the keeper once a publish is committed, all of whose words are stored
+abbrev pub published_by : Base → KeeperView → ℕ → ℕ → KeeperView
+published_by z k by n = committed z (writing k by n) record { by = by; hand = record { command = Publish; done = n; scanned = [] } }
 
 -- what it becomes then
 pub publish_done : (z : Base) (k0 k l : KeeperView) (by n : ℕ) → k ≡ writing k0 by n → ((t : Task) → k.task ≡ Some t → l ≡ committed z k t) → l ≡ published_by z k0 by n

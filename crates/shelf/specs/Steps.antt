@@ -190,10 +190,6 @@ scanning k by words = record k { task = Some record { by = by; hand = record { c
 abbrev pub writing : KeeperView → ℕ → ℕ → KeeperView
 writing k by n = record k { task = Some record { by = by; hand = record { command = Publish; done = n; scanned = [] } } }
 
--- the keeper once a publish is committed, all of whose words are stored
-abbrev pub published_by : Base → KeeperView → ℕ → ℕ → KeeperView
-published_by z k by n = committed z (writing k by n) record { by = by; hand = record { command = Publish; done = n; scanned = [] } }
-
 -- how many own blocks a position has
 abbrev pub one_own : Option ℕ → ℕ
 one_own o = length (own_list (o ∷ []))
