@@ -1,23 +1,49 @@
 #!/usr/bin/env python3
-"""Measures the rows of nearest obstacles inside one process, by each metric and with 1, 2 and 4 workers, on the maps of `bench.py`.
+"""Measures the rows of nearest obstacles inside one process, and the table that keeps only where these are, by each metric and with 1, 2 and 4 workers, on the maps of `bench.py`, beside OpenCV's distance transforms on one thread.
 
-Printed is a Markdown table of milliseconds, the least of several rounds, and whether each number of workers gave one sum of answers.
-With `--before CLONE` the one-worker times of another clone of this repository stand beside them.
+Each map is worked by the program and by OpenCV in turn, and the least time of all rounds counts. Printed are Markdown tables: milliseconds and the ratio to OpenCV's time
+for each map, then the ratios' geometric means and largest values beside the aims, and how the time a cell grows from the smallest to the largest maps. The sums of
+the answers have to be the same for each number of workers and for the table. With `--before CLONE` the one-worker times of another clone of this repository stand beside them.
+
+OpenCV is Debian's `python3-opencv`.
 """
 import argparse
+import math
 import pathlib
 import random
-import shutil
 import subprocess
 import sys
 import tempfile
 
 import bench
+from program import HERE, ROOT, build
 
-HERE = pathlib.Path(__file__).resolve().parent
-ROOT = HERE.parent.parent
-CRATES = ("metric", "bits", "column", "envelope", "field", "pbm")
+USES = ["field", "pbm", "bits", "metric"]
 METRICS = ("euclid2", "city", "chess")
+KINDS = ("", "-table")
+# The largest mean and the largest ratio that are aimed at, by kind, metric and whether the map has 512 cells a side.
+AIMS = {
+    ("", "euclid2", False): (0.30, 0.40),
+    ("", "euclid2", True): (0.40, 0.60),
+    ("-table", "euclid2", False): (0.20, None),
+    ("", "city", False): (0.8, 1.2),
+    ("", "city", True): (0.8, 1.2),
+    ("", "chess", False): (0.8, 1.2),
+    ("", "chess", True): (0.8, 1.2),
+}
+
+
+def without(text, start, end):
+    """The text without what stands from one mark to before another."""
+    first = text.index(start)
+    return text[:first] + text[text.index(end, first) :]
+
+
+def without_table(text):
+    """The program for crates that have no table."""
+    text = without(text, "/// A few of the table's answers", "/// Times one metric").replace("ObstacleTable, ", "")
+    text = text.replace("told = work_table::<M, R>(rt, rt.alloc(), bitmap, count);", "told = answers;")
+    return text
 
 
 def alone(text):
@@ -27,29 +53,13 @@ def alone(text):
     return text[:start] + "    let _ = count;\n    let nears = rows::<M>(alloc, bitmap, 0, height);\n" + text[end:]
 
 
-def build(root, folder):
-    crates = folder / "crates"
-    crates.mkdir(parents=True)
-    lines = [line for line in (root / "crates.txt").read_text().splitlines() if line.split(":")[0] in CRATES]
-    for name in CRATES:
-        shutil.copytree(root / "crates" / name, crates / name)
-    shutil.copy(root / "HANDLES", folder / "HANDLES")
-    (folder / "crates.txt").write_text("\n".join(lines) + "\n")
-    subprocess.run(["rt", "new", "crates/measure", "start_io"], cwd=folder, check=True, capture_output=True)
-    measure = crates / "measure"
-    for name in ("BUILD.bazel", "stdin", "stdout"):
-        (measure / name).unlink(missing_ok=True)
-    for name in ("proofs", "specs", "src"):
-        shutil.rmtree(measure / name, ignore_errors=True)
-    (measure / "src").mkdir()
+def program_text(root):
+    """The program for the crates of a clone."""
+    field = root / "crates" / "field"
     text = (HERE / "rows" / "main.rt.in").read_text()
-    (measure / "src" / "main.rt").write_text(text if (crates / "field" / "src" / "workers.rt").exists() else alone(text))
-    (folder / "crates.txt").write_text("\n".join(lines + ["measure: field pbm bits metric"]) + "\n")
-    built = subprocess.run(["rt", "run"], cwd=measure, capture_output=True, text=True)
-    program = measure / "out" / "measure"
-    if not program.exists():
-        sys.exit(built.stdout[-3000:] + built.stderr[-3000:])
-    return program
+    if not (field / "src" / "obstacle_table.rt").exists():
+        text = without_table(text)
+    return text if (field / "src" / "workers.rt").exists() else alone(text)
 
 
 def figures(program, source):
@@ -57,29 +67,89 @@ def figures(program, source):
     return {line.split()[0]: (int(line.split()[1]) / 1e6, line.split()[2]) for line in text.splitlines()}
 
 
+def opencv(source):
+    text = subprocess.run([bench.PYTHON, str(HERE / "opencv_rows.py"), str(source)], capture_output=True, text=True, check=True).stdout
+    return {line.split()[0]: int(line.split()[1]) / 1e6 for line in text.splitlines()}
+
+
+def least(runs):
+    """The least time of each name, and its answers, which have to be the same in all runs."""
+    together = {}
+    for run in runs:
+        for name, (taken, answers) in run.items():
+            before = together.get(name, (taken, answers))
+            if before[1] != answers:
+                sys.exit(f"{name}: the answers differ")
+            together[name] = (min(before[0], taken), answers)
+    return together
+
+
+def mean(ratios):
+    return math.exp(sum(math.log(ratio) for ratio in ratios) / len(ratios))
+
+
+def print_means(ratios):
+    print("\n| Cells a side | Metric | What | Mean beside OpenCV | Largest | Aim, mean | Aim, largest |")
+    print("|---|---|---|---|---|---|---|")
+    for (side, metric, kind), values in ratios.items():
+        aims = AIMS.get((kind, metric, side <= 512), (None, None))
+        told = " | ".join("-" if aim is None else f"{aim:.2f}" for aim in aims)
+        print(f"| {side} | {metric} | {'table' if kind else 'rows'} | {mean(values):.2f} | {max(values):.2f} | {told} |")
+
+
+def print_growth(cells, sides):
+    print(f"\n| Map | Metric | ns a cell at {sides[-1]} by those at {sides[0]}, rows | table (aim: 1.5) |")
+    print("|---|---|---|---|")
+    for name, _ in bench.MAPS:
+        for metric in METRICS:
+            grown = [cells[name, sides[-1], metric, kind] / cells[name, sides[0], metric, kind] for kind in KINDS]
+            print(f"| {name} | {metric} | {grown[0]:.2f} | {grown[1]:.2f} |")
+
+
+def print_map(name, side, metric, now, peer, old):
+    """Prints one map's line, and answers the ratios of rows and table to OpenCV's time."""
+    counts = (1, 2, 4)
+    rows, table = ([now[f"{metric}{kind}-{count}"] for count in counts] for kind in KINDS)
+    if len({answers for _, answers in rows + table} | {old[f"{metric}-1"][1] for _ in old}) != 1:
+        sys.exit(f"{name}, {side}, {metric}: the answers differ")
+    was = f"{old[metric + '-1'][0]:.2f}" if old else "-"
+    times = " | ".join(f"{taken:.2f}" for taken, _ in rows + table)
+    ratios = [rows[0][0] / peer[metric], table[0][0] / peer[metric]]
+    print(f"| {name} | {side} | {metric} | {times} | {was} | {peer[metric]:.2f} | {ratios[0]:.2f} | {ratios[1]:.2f} |", flush=True)
+    return ratios
+
+
 def main():
     parser = argparse.ArgumentParser(description=__doc__.splitlines()[0])
     parser.add_argument("--sizes", type=int, nargs="+", default=[512, 1024, 4096])
+    parser.add_argument("--rounds", type=int, default=2, help="how often the program and OpenCV run in turn")
     parser.add_argument("--before", type=pathlib.Path)
     given = parser.parse_args()
     with tempfile.TemporaryDirectory() as work:
         work = pathlib.Path(work)
-        program = build(ROOT, work / "now")
-        before = build(given.before, work / "before") if given.before else None
-        print("| Map | Cells a side | Metric | 1 worker, ms | 2 | 4 | before, ms |")
-        print("|---|---|---|---|---|---|---|")
+        program = build(work / "now", program_text(ROOT), USES)
+        before = build(work / "before", program_text(given.before), USES, given.before) if given.before else None
+        ratios, cells = {}, {}
+        print("| Map | Cells a side | Metric | rows, 1 worker, ms | 2 | 4 | table, 1 worker, ms | 2 | 4 | rows before, ms | OpenCV, ms | rows / OpenCV | table / OpenCV |")
+        print("|" + "---|" * 13)
         for side in given.sizes:
             for name, make in bench.MAPS:
                 source = work / "map.pbm"
                 make(side, random.Random(f"{bench.SEED} {name} {side}")).write(source)
-                now = figures(program, source)
-                old = figures(before, source) if before else {}
+                runs, peers, olds = [], [], []
+                for _ in range(given.rounds):
+                    runs.append(figures(program, source))
+                    peers.append(opencv(source))
+                    olds.append(figures(before, source) if before else {})
+                now, old = least(runs), least(olds)
+                peer = {metric: min(run[metric] for run in peers) for metric in METRICS}
                 for metric in METRICS:
-                    times = [now[f"{metric}-{count}"] for count in (1, 2, 4)]
-                    if len({answers for _, answers in times} | {old[f"{metric}-1"][1] for _ in old}) != 1:
-                        sys.exit(f"{name}, {side}, {metric}: the answers differ")
-                    was = f"{old[metric + '-1'][0]:.2f}" if old else "-"
-                    print(f"| {name} | {side} | {metric} | " + " | ".join(f"{time:.2f}" for time, _ in times) + f" | {was} |", flush=True)
+                    for kind, ratio in zip(KINDS, print_map(name, side, metric, now, peer, old)):
+                        ratios.setdefault((side, metric, kind), []).append(ratio)
+                        cells[name, side, metric, kind] = now[f"{metric}{kind}-1"][0] / side / side
+        print_means(ratios)
+        if len(given.sizes) > 1:
+            print_growth(cells, given.sizes)
 
 
 if __name__ == "__main__":

@@ -3,3 +3,4 @@ pub mod Nearest
 pub mod Seeking
 pub mod Sweeping
 pub mod Tables
+pub mod LineLemmas

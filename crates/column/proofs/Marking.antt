@@ -1,10 +1,11 @@
 -- Which entries still stand for no row, as masks of bits tell it.
-use Rattle.std.proofs.Common.{false, ◌≡◌, ℕ, ◌-◌, ◌^◌, ◌<◌, ◌==◌, ◌∙◌, min, arith, refl, sym, ap, ◌≤◌, not}
+use Rattle.std.proofs.Common.{false, ◌≡◌, ℕ, ◌+◌, ◌-◌, ◌*◌, ◌/◌, ◌%◌, ◌^◌, ◌<◌, ◌==◌, ◌∙◌, min, arith, refl, sym, ap, ◌≤◌, not}
 use Rattle.std.specs.Int.{bit_at, w64}
+use Rattle.std.proofs.lemmas.Nat.{div-add-mod', mod_below, pow_pos}
 use lib.Bits.{bit_and}
 use Rattle.std.specs.Int.RustNames.{bit_or}
 use Rattle.std.proofs.lemmas.Bool.Decides.{nat_tests}
-use Rattle.std.proofs.lemmas.Nat.Bits.{bit_at_and, bit_at_not, bit_at-lt, bit_at-zero, bit_at_or, same_from_bits}
+use Rattle.std.proofs.lemmas.Nat.Bits.{bit_at_and, bit_at_not, bit_at-lt, bit_at-zero, bit_at_cat_high, bit_at_ones, bit_at_or, same_from_bits}
 use Rattle.column.specs.Sweeps.{marked, first_marked}
 
 -- one bit: a column is missing where it was, and the word has no obstacle there
@@ -53,3 +54,16 @@ joined_none word new none less = same_from_bits word 0 (λ i.
 -- the test of a number that is 0
 pub zero_from_test : (n : ℕ) → not (n == 0) ≡ false → n ≡ 0
 zero_from_test n test = grind (arith, nat_tests)
+
+-- a bit of sixteen, cut out of a word
+pub bit_of_part : (word part i : ℕ) → i < 16 → bit_at (bit_and (word / 2 ^ (16 * part)) 65535) i ≡ bit_at word (16 * part + i)
+bit_of_part word part i within =
+    let ones : bit_at 65535 i ≡ 1 = bit_at_ones 16 i within in
+    let bit = bit_at-lt (word / 2 ^ (16 * part)) i in
+    let cut : bit_at (bit_and (word / 2 ^ (16 * part)) 65535) i ≡ bit_at (word / 2 ^ (16 * part)) i = rw (bit_at_and (word / 2 ^ (16 * part)) 65535 i, ones) (omega (arith, bit)) in
+    let back : 16 * part + i - 16 * part ≡ i = omega arith in
+    let whole : bit_at word (16 * part + i) ≡ bit_at (word / 2 ^ (16 * part)) i =
+    ap (λ (n : ℕ). bit_at n (16 * part + i)) (sym (div-add-mod' word (2 ^ (16 * part))))
+    ∙ (bit_at_cat_high (word / 2 ^ (16 * part)) (16 * part) (word % 2 ^ (16 * part)) (16 * part + i) (mod_below word (2 ^ (16 * part)) (pow_pos (16 * part))) (omega arith)
+    ∙ ap (bit_at (word / 2 ^ (16 * part))) back) in
+    cut ∙ sym whole

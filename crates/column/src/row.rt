@@ -31,11 +31,53 @@ pub fn mark_word(word: u64, y: u16, first: usize, row: &mut [u16])
     ensures marked { (i : ℕ) → i < 64 → first + i < length row.old → slice_index row.new (first + i) ≡ marked (bit_at word i == 1) y (slice_index row.old (first + i)) }
     ensures others { (x : ℕ) → (x < first) ⊎ (first + 64 ≤ x) → slice_index row.new x ≡ slice_index row.old x }
 {
-    let count = WORD_BITS.min(row.len() - first);
-    'bits: for place in 0..count {
-        let x = first + place;
-        let entry = row[x];
-        row[x] = if (word >> place) & 1 == 1 { y } else { entry };
+    'parts: for part in 0..4 {
+        let start = first + 16 * part;
+        let bits = ((word >> (16 * part)) & 0xffff) as u16;
+        mark_part(bits, y, start, row);
+    }
+}
+
+/// Writes the row `y` into the entries of the obstacles of sixteen cells, as far as the row has them.
+#[inline(always)]
+fn mark_part(bits: u16, y: u16, first: usize, row: &mut [u16])
+    requires { first ≤ length row.old + 48 }
+    ensures len { length row.new ≡ length row.old }
+    ensures marked { (i : ℕ) → i < 16 → first + i < length row.old → slice_index row.new (first + i) ≡ marked (bit_at bits i == 1) y (slice_index row.old (first + i)) }
+    ensures others { (x : ℕ) → (x < first) ⊎ (first + 16 ≤ x) → slice_index row.new x ≡ slice_index row.old x }
+{
+    if first + 16 <= row.len() {
+        mark_sixteen(bits, y, first, row);
+    } else if first < row.len() {
+        mark_last(bits, y, first, row);
+    }
+}
+
+/// Writes the row `y` into the entries of the obstacles of sixteen cells.
+#[inline(always)]
+fn mark_sixteen(bits: u16, y: u16, first: usize, row: &mut [u16])
+    requires { first + 16 ≤ length row.old }
+    ensures len { length row.new ≡ length row.old }
+    ensures marked { (i : ℕ) → i < 16 → slice_index row.new (first + i) ≡ marked (bit_at bits i == 1) y (slice_index row.old (first + i)) }
+    ensures others { (x : ℕ) → (x < first) ⊎ (first + 16 ≤ x) → slice_index row.new x ≡ slice_index row.old x }
+{
+    'bits: for place in 0..16 {
+        let entry = row[first + place];
+        row[first + place] = if (bits >> place) & 1 == 1 { y } else { entry };
+    }
+}
+
+/// Writes the row `y` into the entries of the obstacles of the row's last cells, fewer than sixteen.
+fn mark_last(bits: u16, y: u16, first: usize, row: &mut [u16])
+    requires some { first ≤ length row.old }
+    requires few { length row.old < first + 16 }
+    ensures len { length row.new ≡ length row.old }
+    ensures marked { (i : ℕ) → i < 16 → first + i < length row.old → slice_index row.new (first + i) ≡ marked (bit_at bits i == 1) y (slice_index row.old (first + i)) }
+    ensures others { (x : ℕ) → x < first → slice_index row.new x ≡ slice_index row.old x }
+{
+    'bits: for place in 0..row.len() - first {
+        let entry = row[first + place];
+        row[first + place] = if (bits >> place) & 1 == 1 { y } else { entry };
     }
 }
 
@@ -53,7 +95,7 @@ pub fn lift_row(y: u16, start: usize, entries: &mut [u16], below: &[u16])
 }
 
 /// The nearer of two entries, as it is seen from row `y`; the first one on a tie.
-fn nearer(y: u16, above: u16, below: u16) -> u16
+pub fn nearer(y: u16, above: u16, below: u16) -> u16
     ensures { result ≡ nearer y above below }
 {
     if below == NONE {

@@ -8,8 +8,9 @@ use Rattle.metric.specs.declared.near.Near.{Near}
 use Rattle.bits.specs.Cells.{Cells, IsBitmap, IsObstacle}
 use Rattle.bits.proofs.CellsLemmas.{has-outside}
 use Rattle.column.specs.Columns.{IsNearestRow, IsRowAtMost, IsRowOfTable}
-use Rattle.envelope.specs.Rows.{AreRowNears}
+use Rattle.envelope.specs.Rows.{AreRowAnswers, AreRowNears}
 use Rattle.envelope.specs.Columns.{AreEntries, AreNearColumns, IsAmong, IsBest, IsNearColumn, gap_of, near_from}
+use Rattle.envelope.specs.Answer.{Reading}
 
 -- a column with an obstacle has an entry
 entry_some : (cells : Cells) (y : ℕ) (entries : List ℕ) (a b : ℕ) → IsRowOfTable cells y entries → a < cells.width → IsObstacle cells a b → slice_index entries a ≢ 65535
@@ -107,15 +108,19 @@ near_of_column d cells x y entries (Some near) grows bitmap inside within row fo
     let (column, best, same) = found in
     subst (λ (n : Near). IsNearest d (IsObstacle cells) x y n) (sym same) (nearest_of_best d cells x y column entries grows bitmap inside within row best)
 
--- the obstacles of the nearest columns are the nearest of all, in the whole row
-pub AreRowNears-columns : (d : ℕ → ℕ → ℕ) (cells : Cells) (y : ℕ) (entries : List ℕ) (nears : List (Option Near)) → Grows d → IsBitmap cells → y < cells.height → IsRowOfTable cells y entries
-    → AreNearColumns d entries y nears → AreRowNears d cells y cells.width nears
-AreRowNears-columns d cells y entries nears grows bitmap within row found =
+-- answers that tell the obstacles of the nearest columns tell the nearest of all, in the whole row
+pub AreRowAnswers-columns : {T : Type 0} (told : Reading T) (nothing : T) (d : ℕ → ℕ → ℕ) (cells : Cells) (y : ℕ) (entries : List ℕ) (answers : List T) → Grows d → IsBitmap cells → y < cells.height
+    → IsRowOfTable cells y entries → AreNearColumns told nothing d entries y answers → AreRowAnswers told nothing d cells y cells.width answers
+AreRowAnswers-columns told nothing d cells y entries answers grows bitmap within row found =
     let many = row.as_many in
     let filled = found.as_many in
     record {
       as_many = omega (arith, many, filled);
       each = λ x below.
           let inside : x < length entries = omega (arith, below, many) in
-          near_of_column d cells x y entries (slice_index_or nears x None) grows bitmap below within row (found.each x inside);
+          near_of_column d cells x y entries (told d x y (slice_index_or answers x nothing)) grows bitmap below within row (found.each x inside);
     }
+
+-- where all is kept, the answers are the nearest obstacles
+pub AreRowNears-answers : (d : ℕ → ℕ → ℕ) (cells : Cells) (y count : ℕ) (nears : List (Option Near)) → AreRowAnswers (λ distance x y near. near) None d cells y count nears → AreRowNears d cells y count nears
+AreRowNears-answers d cells y count nears answers = record { as_many = answers.as_many; each = answers.each }

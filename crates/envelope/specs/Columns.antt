@@ -4,6 +4,7 @@ use Rattle.std.specs.Prelude.{◌≡◌, ◌≢◌, ℕ, ◌<◌, ◌≤◌, Lis
 use Rattle.std.specs.Int.{abs_diff}
 use Rattle.metric.specs.declared.near.Near.{Near}
 use Rattle.metric.specs.Crossing.{at_column}
+use Rattle.envelope.specs.Answer.{Reading}
 
 -- a row of a table, seen from the row y: each entry is a row of a map, or 65535 where the column has no obstacle
 pub record AreEntries (entries : List ℕ) (y : ℕ) : Type 0 where
@@ -45,7 +46,7 @@ abbrev pub IsNearColumn : (ℕ → ℕ → ℕ) → List ℕ → ℕ → ℕ →
 IsNearColumn distance entries y x None = (column : ℕ) → IsAmong entries (length entries) column → ⊥
 IsNearColumn distance entries y x (Some near) = (column : ℕ) × IsBest distance (gap_of entries y) (IsAmong entries (length entries)) x column × (near ≡ near_from distance entries y column x)
 
--- the obstacles of the columns that are the nearest to the cells of the row y
-pub record AreNearColumns (distance : ℕ → ℕ → ℕ) (entries : List ℕ) (y : ℕ) (nears : List (Option Near)) : Type 0 where
-  pub as_many : length nears ≡ length entries
-  pub each : (x : ℕ) → x < length entries → IsNearColumn distance entries y x (slice_index_or nears x None)
+-- the answers tell the obstacles of the columns that are the nearest to the cells of the row y
+pub record AreNearColumns {T : Type 0} (told : Reading T) (nothing : T) (distance : ℕ → ℕ → ℕ) (entries : List ℕ) (y : ℕ) (answers : List T) : Type 0 where
+  pub as_many : length answers ≡ length entries
+  pub each : (x : ℕ) → x < length entries → IsNearColumn distance entries y x (told distance x y (slice_index_or answers x nothing))

@@ -1,3 +1,4 @@
+pub mod Answer
 pub mod Beside
 pub mod Columns
 pub mod Envelope

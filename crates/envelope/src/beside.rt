@@ -2,11 +2,12 @@
 //!
 //! Each column has a place, 128 behind its number, and a part at this place: what its gap has in a distance of 16 bits. The places before the first column and behind the last one, and those of columns without an obstacle, have the part that stands for no obstacle. A column is named by how far right it lies of 128 columns to the left of the cell.
 
-ghost use Rattle.std.specs.Prelude.{◌≡◌, ℕ, ◌+◌, ◌-◌, ◌<◌, ◌≤◌, ◌⊎◌, length, slice_index, slice_index_or, true, None, Some, IfSome};
+ghost use Rattle.std.specs.Prelude.{◌≡◌, ℕ, ◌+◌, ◌-◌, ◌<◌, ◌≤◌, ◌⊎◌, length, slice_index, slice_index_or, true, Some, IfSome};
 ghost use Rattle.metric.specs.declared.near.Near.{Near};
 ghost use Rattle.envelope.specs.Beside.{AreBestNear, AreDecided, AreParts, AreSmall, AreTold};
 ghost use Rattle.envelope.specs.Columns.{AreEntries, AreNearColumns, IsNearColumn};
 
+use crate::answer::Answer;
 use crate::lanes::{all_of, are_below, chosen, least, load};
 use metric::{Cell, Metric, Near};
 use std::simd::prelude::*;
@@ -33,16 +34,16 @@ struct Eight {
 /// Fills the row with the obstacle of the column that is the nearest to each cell, where these are found near by. Answers whether they were. `parts` has a place for each column, and 272 more.
 // Not inlined: the two phases would compete for registers.
 #[inline(never)]
-pub fn fill_beside<M: Metric>(
+pub fn fill_beside<M: Metric, A: Answer>(
     entries: &[u16],
     y: u16,
     parts: &mut [u16],
-    nears: &mut [Option<Near>],
+    answers: &mut [A],
 ) -> bool
     requires entries { AreEntries entries.now y }
     requires room { length parts.old ≡ length entries.now + 272 }
-    requires width { length nears.old ≡ length entries.now }
-    ensures { result ≡ true → AreNearColumns M.distance entries.now y nears.new }
+    requires width { length answers.old ≡ length entries.now }
+    ensures { result ≡ true → AreNearColumns A.told A.nothing M.distance entries.now y answers.new }
 {
     set_parts::<M>(entries, y, parts);
     let mut start = 0;
@@ -50,8 +51,8 @@ pub fn fill_beside<M: Metric>(
         let Some((low, high)) = search::<M>(parts, start + FIRST) else {
             return false;
         };
-        fill_eight::<M>(entries, y, start, low, nears);
-        fill_eight::<M>(entries, y, start + 8, high, nears);
+        fill_eight::<M, A>(entries, y, start, low, answers);
+        fill_eight::<M, A>(entries, y, start + 8, high, answers);
         start += 16;
     }
     true
@@ -147,24 +148,24 @@ fn look_aside<M: Metric>(parts: &[u16], at: usize, k: u16, best: u16x8, away: u1
 
 /// Fills up to eight cells, as far as the row has them.
 #[inline(always)]
-fn fill_eight<M: Metric>(
+fn fill_eight<M: Metric, A: Answer>(
     entries: &[u16],
     y: u16,
     start: usize,
     eight: Eight,
-    nears: &mut [Option<Near>],
+    answers: &mut [A],
 )
     requires entries { AreEntries entries.now y }
-    requires width { length nears.old ≡ length entries.now }
+    requires width { length answers.old ≡ length entries.now }
     requires start { start ≤ 4111 }
     requires told { AreTold M.distance entries.now y start eight.best eight.away }
-    ensures filled { (x : ℕ) → start ≤ x → x < start + 8 → x < length entries.now → IsNearColumn M.distance entries.now y x (slice_index_or nears.new x None) }
-    ensures others { (x : ℕ) → (x < start) ⊎ (start + 8 ≤ x) → slice_index_or nears.new x None ≡ slice_index_or nears.old x None }
+    ensures filled { (x : ℕ) → start ≤ x → x < start + 8 → x < length entries.now → IsNearColumn M.distance entries.now y x (A.told M.distance x y (slice_index_or answers.new x A.nothing)) }
+    ensures others { (x : ℕ) → (x < start) ⊎ (start + 8 ≤ x) → slice_index_or answers.new x A.nothing ≡ slice_index_or answers.old x A.nothing }
 {
     let (best, away) = (eight.best.to_array(), eight.away.to_array());
     let count = (entries.len().max(start) - start).min(8);
     'cells: for lane in 0..count {
-        nears[start + lane] = Some(near(entries, start + lane, best[lane], away[lane]));
+        answers[start + lane] = A::some(near(entries, start + lane, best[lane], away[lane]));
     }
 }
 

@@ -1,6 +1,7 @@
 //! The row phase: for each cell of a row the nearest obstacle, found from the nearest obstacle of each column.
 #![tactic(auto)]
 
+mod answer;
 mod beside;
 mod columns;
 mod cover;
@@ -8,5 +9,6 @@ mod fill;
 mod lanes;
 mod stack;
 
+pub use answer::Answer;
 pub use metric::Near;
-pub use stack::{Stack, row, row_alone};
+pub use stack::{Stack, row, row_alone, row_from};

@@ -1,11 +1,13 @@
 //! The room in which a row's spans are stacked, and the row phase.
 
-ghost use Rattle.std.specs.Prelude.{◌≡◌, ℕ, ◌<◌, ◌≤◌, length, IfOk, IfErr};
-ghost use Rattle.bits.specs.Cells.{IsBitmap};
+ghost use Rattle.std.specs.Prelude.{◌≡◌, ℕ, ◌<◌, ◌≤◌, true, length, IfOk, IfErr};
+ghost use Rattle.bits.specs.Cells.{Cells, IsBitmap};
+ghost use Rattle.column.specs.Columns.{IsRowOfTable};
 ghost use Rattle.envelope.specs.Columns.{AreEntries, AreNearColumns};
-ghost use Rattle.envelope.specs.Rows.{AreRowNears};
+ghost use Rattle.envelope.specs.Rows.{AreRowAnswers, AreRowNears};
 ghost use Rattle.metric.specs.declared.refusal.Refusal.TheVariants.{Memory};
 
+use crate::answer::Answer;
 use crate::beside::{SPARE, fill_beside};
 use crate::cover::{Span, cover};
 use crate::fill::fill;
@@ -22,11 +24,16 @@ const UNUSED: Span = Span {
     gap: 0,
 };
 
+/// So many rows go to the stack at once behind one whose obstacles weren't found near by: neighbours are alike.
+const FAR_ROWS: u8 = 16;
+
 /// The room for the spans of one row, and for the parts of its columns. Contracts see it as the width of the rows that it was made for.
 #[derive(Debug, Drop)]
 pub struct Stack {
     spans: Vec<Span>,
     parts: Vec<u16>,
+    /// How many rows from here on aren't looked at side by side.
+    far_rows: u8,
 }
 
 impl Model for Stack {
@@ -49,7 +56,11 @@ impl Stack {
             return Err(Refusal::Memory);
         };
         match vec![in alloc; 0; usize::from(width) + SPARE] {
-            Ok(parts) => Ok(Stack { spans, parts }),
+            Ok(parts) => Ok(Stack {
+                spans,
+                parts,
+                far_rows: 0,
+            }),
             Err(_) => Err(Refusal::Memory),
         }
     }
@@ -65,7 +76,7 @@ pub fn row<M: Metric>(table: &ColumnTable, y: u16, stack: &mut Stack, nears: &mu
     ensures nears { AreRowNears M.distance table.now y table.now.width nears.new }
     ensures stack { stack.new ≡ stack.old }
 {
-    fill_row::<M>(table.row(y), y, stack, nears);
+    row_from::<M, Option<Near>>(table.row(y), y, stack, nears);
 }
 
 /// The same without a table: the nearest obstacles of the columns, seen from this row alone, are put into `entries`.
@@ -87,22 +98,59 @@ pub fn row_alone<M: Metric>(
     ensures stack { stack.new ≡ stack.old }
 {
     nearest_rows(bitmap, y, entries);
-    fill_row::<M>(entries, y, stack, nears);
+    row_from::<M, Option<Near>>(entries, y, stack, nears);
+}
+
+/// Fills a row with what is kept of the nearest obstacle of each cell of row `y`, from the left. `entries` are the row of a table of the map: the nearest obstacles of the columns.
+///
+/// The row in hand has as many cells as there are entries, and the stack is for so many or more. No memory is taken.
+pub fn row_from<M: Metric, A: Answer>(entries: &[u16], y: u16, stack: &mut Stack, answers: &mut [A])
+    requires entries { AreEntries entries.now y }
+    requires stack { length entries.now ≤ stack.old }
+    requires width { length answers.old ≡ length entries.now }
+    ensures answers { (cells : Cells) → IsBitmap cells → y < cells.height → IsRowOfTable cells y entries.now → AreRowAnswers A.told A.nothing M.distance cells y cells.width answers.new }
+    ensures stack { stack.new ≡ stack.old }
+{
+    fill_row::<M, A>(entries, y, stack, answers);
 }
 
 /// Fills a row with the obstacle of the column that is the nearest to each cell: by looking around each cell where the nearest are near by, and otherwise by the stack.
-fn fill_row<M: Metric>(entries: &[u16], y: u16, stack: &mut Stack, nears: &mut [Option<Near>])
+fn fill_row<M: Metric, A: Answer>(entries: &[u16], y: u16, stack: &mut Stack, answers: &mut [A])
     requires entries { AreEntries entries.now y }
     requires stack { length entries.now ≤ stack.old }
-    requires width { length nears.old ≡ length entries.now }
-    ensures nears { AreNearColumns M.distance entries.now y nears.new }
+    requires width { length answers.old ≡ length entries.now }
+    ensures answers { AreNearColumns A.told A.nothing M.distance entries.now y answers.new }
     ensures stack { stack.new ≡ stack.old }
 {
-    let parts = &mut stack.parts[..entries.len() + SPARE];
-    if fill_beside::<M>(entries, y, parts, nears) {
+    if try_beside::<M, A>(entries, y, stack, answers) {
         return;
     }
     let spans = &mut stack.spans[..entries.len()];
     let count = cover::<M>(entries, y, spans);
-    fill::<M>(entries, y, &spans[..count], nears);
+    fill::<M, A>(entries, y, &spans[..count], answers);
+}
+
+/// Fills a row by looking around each cell, unless the rows here go to the stack. Answers whether the row is filled.
+fn try_beside<M: Metric, A: Answer>(
+    entries: &[u16],
+    y: u16,
+    stack: &mut Stack,
+    answers: &mut [A],
+) -> bool
+    requires entries { AreEntries entries.now y }
+    requires stack { length entries.now ≤ stack.old }
+    requires width { length answers.old ≡ length entries.now }
+    ensures answers { result ≡ true → AreNearColumns A.told A.nothing M.distance entries.now y answers.new }
+    ensures stack { stack.new ≡ stack.old }
+{
+    if stack.far_rows > 0 {
+        stack.far_rows -= 1;
+        return false;
+    }
+    let parts = &mut stack.parts[..entries.len() + SPARE];
+    let found = fill_beside::<M, A>(entries, y, parts, answers);
+    if !found {
+        stack.far_rows = FAR_ROWS;
+    }
+    found
 }

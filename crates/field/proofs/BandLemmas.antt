@@ -1,5 +1,5 @@
 -- The nearest obstacles of rows that are filled one after another, and of bands that stand one behind another.
-use Rattle.std.proofs.Common.{◌≡◌, ℕ, ◌+◌, ◌-◌, ◌*◌, ◌/◌, ◌<◌, ◌≤◌, ◌⊎◌, inl, inr, List, ◌++◌, take, drop, Option, None, Result, Ok, Err, OnOk, length, slice_index_or, arith, refl, length-append}
+use Rattle.std.proofs.Common.{◌≡◌, ℕ, ◌+◌, ◌-◌, ◌*◌, ◌/◌, ◌<◌, ◌≤◌, ◌⊎◌, inl, inr, List, ◌++◌, take, drop, Option, None, Result, Ok, Err, OnOk, length, slice_index_or, arith, length-append}
 use Rattle.std.proofs.Math.Nat.{div-le_self, div-mul-le_self, mul-div_cancel_left, mul-le-mul_right}
 use Rattle.std.proofs.lemmas.Bool.{cases_lt}
 use Rattle.std.proofs.lemmas.Nat.{le-div}
@@ -7,17 +7,18 @@ use Rattle.std.proofs.lemmas.List.{get_or_append_left, get_or-append-add, take_a
 use Rattle.metric.specs.declared.near.Near.{Near}
 use Rattle.metric.specs.Nearest.{IsNear}
 use Rattle.bits.specs.Cells.{Cells, IsObstacle}
-use Rattle.field.specs.Bands.{AreFilled, HasRoom, row_behind}
+use Rattle.envelope.specs.Answer.{Reading}
+use Rattle.field.specs.Bands.{AreAnswers, AreFilled, HasRoom, row_behind}
 use Rattle.field.specs.Rows.{AreNears}
 use Rattle.column.proofs.Sweeping.{place_above}
 
 -- one row more
-pub AreFilled-more : (distance : ℕ → ℕ → ℕ) (cells : Cells) (from y : ℕ) (before after : List (Option Near)) → from ≤ y
-    → AreFilled distance cells from y before
-    → ((x : ℕ) → x < cells.width → IsNear distance (IsObstacle cells) x y (slice_index_or after ((y - from) * cells.width + x) None))
-    → ((k : ℕ) → (k < (y - from) * cells.width) ⊎ ((y - from) * cells.width + cells.width ≤ k) → slice_index_or after k None ≡ slice_index_or before k None)
-    → AreFilled distance cells from (y + 1) after
-AreFilled-more distance cells from y before after ordered filled here others = record {
+pub AreFilled-more : {T : Type 0} (told : Reading T) (nothing : T) (distance : ℕ → ℕ → ℕ) (cells : Cells) (from y : ℕ) (before after : List T) → from ≤ y
+    → AreFilled told nothing distance cells from y before
+    → ((x : ℕ) → x < cells.width → IsNear distance (IsObstacle cells) x y (told distance x y (slice_index_or after ((y - from) * cells.width + x) nothing)))
+    → ((k : ℕ) → (k < (y - from) * cells.width) ⊎ ((y - from) * cells.width + cells.width ≤ k) → slice_index_or after k nothing ≡ slice_index_or before k nothing)
+    → AreFilled told nothing distance cells from (y + 1) after
+AreFilled-more told nothing distance cells from y before after ordered filled here others = record {
   each = λ x b column low high. elim (cases_lt b y) [
     | inl above ↦
         let place : (b - from) * cells.width + x < (y - from) * cells.width = place_above (b - from) (y - from) cells.width x (omega arith) column in
@@ -29,22 +30,28 @@ AreFilled-more distance cells from y before after ordered filled here others = r
 }
 
 -- the rows of a band, and those of the bands behind it
-pub AreNears-join : (distance : ℕ → ℕ → ℕ) (cells : Cells) (from to end : ℕ) (own others : List (Option Near)) → from ≤ to → to ≤ end
-    → AreNears distance cells from to own → AreNears distance cells to end others → AreNears distance cells from end (own ++ others)
-AreNears-join distance cells from to end own others ordered within above behind = record {
+pub AreAnswers-join : {T : Type 0} (told : Reading T) (nothing : T) (distance : ℕ → ℕ → ℕ) (cells : Cells) (from to end : ℕ) (own others : List T) → from ≤ to → to ≤ end
+    → AreAnswers told nothing distance cells from to own → AreAnswers told nothing distance cells to end others → AreAnswers told nothing distance cells from end (own ++ others)
+AreAnswers-join told nothing distance cells from to end own others ordered within above behind = record {
   as_many =
       let both : end - from ≡ (to - from) + (end - to) = omega arith in
       rw (length-append own others, above.as_many, behind.as_many, both) (omega arith);
-  each = λ x b column low high. elim (cases_lt b to) [
-    | inl before ↦
-        let place : (b - from) * cells.width + x < length own = rw above.as_many (place_above (b - from) (to - from) cells.width x (omega arith) column) in
-        rw (get_or_append_left own others None ((b - from) * cells.width + x) place) (above.each x b column low before)
-    | inr beyond ↦
-        let rows : b - from ≡ (to - from) + (b - to) = omega arith in
-        let place : (b - from) * cells.width + x ≡ length own + ((b - to) * cells.width + x) = rw (rows, above.as_many) (omega arith) in
-        rw (place, get_or-append-add own others ((b - to) * cells.width + x) None) (behind.each x b column beyond high)
-  ];
+  filled = record {
+    each = λ x b column low high. elim (cases_lt b to) [
+      | inl before ↦
+          let place : (b - from) * cells.width + x < length own = rw above.as_many (place_above (b - from) (to - from) cells.width x (omega arith) column) in
+          rw (get_or_append_left own others nothing ((b - from) * cells.width + x) place) (above.filled.each x b column low before)
+      | inr beyond ↦
+          let rows : b - from ≡ (to - from) + (b - to) = omega arith in
+          let place : (b - from) * cells.width + x ≡ length own + ((b - to) * cells.width + x) = rw (rows, above.as_many) (omega arith) in
+          rw (place, get_or-append-add own others ((b - to) * cells.width + x) nothing) (behind.filled.each x b column beyond high)
+    ];
+  };
 }
+
+-- where all is kept, the answers are the nearest obstacles
+pub AreNears-answers : (distance : ℕ → ℕ → ℕ) (cells : Cells) (y0 y1 : ℕ) (nears : List (Option Near)) → AreAnswers (λ d x y near. near) None distance cells y0 y1 nears → AreNears distance cells y0 y1 nears
+AreNears-answers distance cells y0 y1 nears answers = record { as_many = answers.as_many; each = answers.filled.each }
 
 -- more bands end at no earlier row
 pub row_behind-grows : (y0 y1 count a b : ℕ) → 1 ≤ count → a ≤ b → row_behind y0 y1 count a ≤ row_behind y0 y1 count b
@@ -66,26 +73,26 @@ pub row_behind-all : (y0 y1 count : ℕ) → 1 ≤ count → y0 ≤ y1 → row_b
 row_behind-all y0 y1 count some order = rw (mul-div_cancel_left (y1 - y0) some) (omega arith)
 
 -- the room of all rows is that of all bands
-pub HasRoom-all : (cells : Cells) (y0 y1 count : ℕ) (nears : List (Option Near)) → 1 ≤ count → y0 ≤ y1 → y1 ≤ cells.height → length nears ≡ (y1 - y0) * cells.width
-    → HasRoom cells (row_behind y0 y1 count 0) (row_behind y0 y1 count count) nears
-HasRoom-all cells y0 y1 count nears some order within as_many = rw (row_behind-none y0 y1 count, row_behind-all y0 y1 count some order) (record { order = order; within = within; as_many = as_many })
+pub HasRoom-all : {T : Type 0} (cells : Cells) (y0 y1 count : ℕ) (answers : List T) → 1 ≤ count → y0 ≤ y1 → y1 ≤ cells.height → length answers ≡ (y1 - y0) * cells.width
+    → HasRoom cells (row_behind y0 y1 count 0) (row_behind y0 y1 count count) answers
+HasRoom-all cells y0 y1 count answers some order within as_many = rw (row_behind-none y0 y1 count, row_behind-all y0 y1 count some order) (record { order = order; within = within; as_many = as_many })
 
 -- the answers of all bands are those of all rows
-pub AreNears-all : (distance : ℕ → ℕ → ℕ) (cells : Cells) (y0 y1 count : ℕ) (nears : List (Option Near)) → 1 ≤ count → y0 ≤ y1
-    → AreNears distance cells (row_behind y0 y1 count 0) (row_behind y0 y1 count count) nears → AreNears distance cells y0 y1 nears
-AreNears-all distance cells y0 y1 count nears some order found = rw (row_behind-none y0 y1 count, row_behind-all y0 y1 count some order) at found
+pub AreAnswers-all : {T : Type 0} (told : Reading T) (nothing : T) (distance : ℕ → ℕ → ℕ) (cells : Cells) (y0 y1 count : ℕ) (answers : List T) → 1 ≤ count → y0 ≤ y1
+    → AreAnswers told nothing distance cells (row_behind y0 y1 count 0) (row_behind y0 y1 count count) answers → AreAnswers told nothing distance cells y0 y1 answers
+AreAnswers-all told nothing distance cells y0 y1 count answers some order found = rw (row_behind-none y0 y1 count, row_behind-all y0 y1 count some order) at found
 
 -- the upper rows lie within the room of all
-pub room_above : (cells : Cells) (from middle to : ℕ) (nears : List (Option Near)) → from ≤ middle → middle ≤ to → HasRoom cells from to nears → (middle - from) * cells.width ≤ length nears
-room_above cells from middle to nears upper lower room =
+pub room_above : {T : Type 0} (cells : Cells) (from middle to : ℕ) (answers : List T) → from ≤ middle → middle ≤ to → HasRoom cells from to answers → (middle - from) * cells.width ≤ length answers
+room_above cells from middle to answers upper lower room =
     let as_many = room.as_many in
     let part : (middle - from) * cells.width ≤ (to - from) * cells.width = mul-le-mul_right cells.width (omega arith) in
     omega (arith, as_many, part)
 
 -- the room behind the upper rows is that of the lower ones
-pub room_below : (cells : Cells) (from middle to : ℕ) (nears lower : List (Option Near)) → from ≤ middle → middle ≤ to → HasRoom cells from to nears
-    → length lower + (middle - from) * cells.width ≡ length nears → HasRoom cells middle to lower
-room_below cells from middle to nears lower above below room rest =
+pub room_below : {T : Type 0} (cells : Cells) (from middle to : ℕ) (answers lower : List T) → from ≤ middle → middle ≤ to → HasRoom cells from to answers
+    → length lower + (middle - from) * cells.width ≡ length answers → HasRoom cells middle to lower
+room_below cells from middle to answers lower above below room rest =
     let as_many = room.as_many in
     let both : to - from ≡ (middle - from) + (to - middle) = omega arith in
     let split : (to - from) * cells.width ≡ (middle - from) * cells.width + (to - middle) * cells.width = rw both (omega arith) in
@@ -97,5 +104,5 @@ on_ok_both (Ok value) both first second = both first second
 on_ok_both (Err error) both first second = first
 
 -- a list that was written over as a whole
-pub written_over : (n : ℕ) (new old : List (Option Near)) → length new ≡ n → take n (new ++ drop (length new) old) ≡ new
+pub written_over : {T : Type 0} (n : ℕ) (new old : List T) → length new ≡ n → take n (new ++ drop (length new) old) ≡ new
 written_over n new old as_many = take_at new (drop (length new) old) n as_many

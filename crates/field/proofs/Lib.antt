@@ -1,2 +1,3 @@
 mod BandLemmas
+pub mod ObstacleLemmas
 mod RowLemmas

@@ -1,8 +1,8 @@
 -- How workers share rows in bands: this project's own rule.
-use Rattle.std.specs.Prelude.{◌≡◌, ℕ, ◌+◌, ◌-◌, ◌*◌, ◌/◌, ◌<◌, ◌≤◌, List, Option, None, length, slice_index_or}
-use Rattle.metric.specs.declared.near.Near.{Near}
+use Rattle.std.specs.Prelude.{◌≡◌, ℕ, ◌+◌, ◌-◌, ◌*◌, ◌/◌, ◌<◌, ◌≤◌, List, length, slice_index_or}
 use Rattle.metric.specs.Nearest.{IsNear}
 use Rattle.bits.specs.Cells.{Cells, IsObstacle}
+use Rattle.envelope.specs.Answer.{Reading}
 
 -- so many workers as may share a computation
 pub record IsWorkers (count : ℕ) : Type 0 where
@@ -19,11 +19,16 @@ pub record AreBands (count above below : ℕ) : Type 0 where
   pub within : below ≤ count
 
 -- the rows from one to before another lie in the map, and there is room for their answers
-pub record HasRoom (cells : Cells) (from to : ℕ) (nears : List (Option Near)) : Type 0 where
+pub record HasRoom {T : Type 0} (cells : Cells) (from to : ℕ) (answers : List T) : Type 0 where
   pub order : from ≤ to
   pub within : to ≤ cells.height
-  pub as_many : length nears ≡ (to - from) * cells.width
+  pub as_many : length answers ≡ (to - from) * cells.width
 
--- the nearest obstacles of the cells of the rows from one to before another stand at the front, row by row
-pub record AreFilled (distance : ℕ → ℕ → ℕ) (cells : Cells) (from to : ℕ) (nears : List (Option Near)) : Type 0 where
-  pub each : (x y : ℕ) → x < cells.width → from ≤ y → y < to → IsNear distance (IsObstacle cells) x y (slice_index_or nears ((y - from) * cells.width + x) None)
+-- the answers at the front tell the nearest obstacles of the cells of the rows from one to before another, row by row
+pub record AreFilled {T : Type 0} (told : Reading T) (nothing : T) (distance : ℕ → ℕ → ℕ) (cells : Cells) (from to : ℕ) (answers : List T) : Type 0 where
+  pub each : (x y : ℕ) → x < cells.width → from ≤ y → y < to → IsNear distance (IsObstacle cells) x y (told distance x y (slice_index_or answers ((y - from) * cells.width + x) nothing))
+
+-- the answers are those of all cells of the rows from one to before another, and tell their nearest obstacles
+pub record AreAnswers {T : Type 0} (told : Reading T) (nothing : T) (distance : ℕ → ℕ → ℕ) (cells : Cells) (from to : ℕ) (answers : List T) : Type 0 where
+  pub as_many : length answers ≡ (to - from) * cells.width
+  pub filled : AreFilled told nothing distance cells from to answers

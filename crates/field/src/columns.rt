@@ -1,66 +1,215 @@
-//! What rows are worked from, one after another.
+//! What rows are worked from, one after another: the nearest obstacles of all columns.
+//!
+//! The rows are looked at in bands of 64. Carried from row to row is the line of the obstacles before a row; what lies behind a row is known for the rows of one band, and behind each band from one walk up the bitmap.
 
-ghost use Rattle.std.specs.Prelude.{◌≡◌, ◌<◌, ◌≤◌, IfErr, IfOk, length};
-ghost use Rattle.std.specs.Option.{ForSome};
+ghost use Rattle.std.specs.Prelude.{◌≡◌, ◌+◌, ◌<◌, ◌≤◌, IfErr, IfOk, false, true, replicate};
 ghost use Rattle.bits.specs.Cells.{IsBitmap};
+ghost use Rattle.column.specs.Columns.{IsRowOfTable};
+ghost use Rattle.field.specs.Columns.{IsReady};
 ghost use Rattle.metric.specs.declared.refusal.Refusal.TheVariants.{Memory};
-ghost use Rattle.envelope.specs.Rows.{AreRowNears};
 
 use bits::Bitmap;
-use column::ColumnTable;
-use envelope::{Stack, row, row_alone};
-use metric::{Metric, Near, Refusal};
+use column::{BAND, NONE, carry_edges, fill_band, nearest_rows, next_row};
+use metric::Refusal;
 use std::alloc::Global;
 
-/// Up to so many rows are worked one by one; for more a table of the whole bitmap is made.
+/// Up to so many rows are looked at from each one outwards; for more it is worth to walk through the bitmap once.
 const FEW_ROWS: u16 = 32;
 
-/// A bitmap, and a table of all its columns where so many rows are to be worked that it is worth one.
+/// The columns of the rows `from` to `to - 1` of a bitmap, as they are seen from one row after another.
 #[derive(Debug, Drop)]
-pub struct Columns<'a> {
-    pub bitmap: &'a Bitmap,
-    pub table: Option<ColumnTable>,
-    ghost tabled: { ForSome table (λ t. t ≡ bitmap.now) },
+pub struct Columns {
+    pub from: u16,
+    pub to: u16,
+    /// Whether each row is looked at by itself; nothing is carried then.
+    pub seeks: bool,
+    /// The first row of the band in hand, and the row behind its last one.
+    pub first: u16,
+    pub known: u16,
+    /// The obstacles before the row that comes next.
+    pub before: Vec<u16>,
+    /// For each row of the band in hand the obstacles behind it.
+    pub behind: Vec<u16>,
+    /// For each band the obstacles behind it.
+    pub edges: Vec<u16>,
+    /// The nearest obstacles of the row that was looked at last.
+    pub entries: Vec<u16>,
 }
 
-impl<'a> Columns<'a> {
-    /// What so many rows of this bitmap are worked from. Refused for want of memory alone.
-    pub fn of(alloc: Global, bitmap: &'a Bitmap, rows: u16) -> Result<Self, Refusal>
-        ensures bitmap { IfOk result (λ columns. columns.bitmap.now ≡ bitmap.now) }
+impl Columns {
+    /// The columns of these rows of the bitmap. Refused for want of memory alone.
+    pub fn of(alloc: Global, bitmap: &Bitmap, from: u16, to: u16) -> Result<Self, Refusal>
+        requires order { from ≤ to }
+        requires within { to ≤ bitmap.now.height }
+        ensures ready { IfOk result (λ columns. IsReady bitmap.now columns from) }
+        ensures to { IfOk result (λ columns. columns.to ≡ to) }
         ensures memory { IfErr result (λ refusal. refusal ≡ Memory) }
     {
-        if rows <= FEW_ROWS {
-            return Ok(Columns {
-                bitmap,
-                table: None,
-            });
+        if to - from <= FEW_ROWS {
+            Self::few(alloc, bitmap, from, to)
+        } else {
+            Self::many(alloc, bitmap, from, to)
         }
-        let table = ColumnTable::of(alloc, bitmap)?;
+    }
+
+    /// The columns of a few rows, each of which is looked at by itself.
+    fn few(alloc: Global, bitmap: &Bitmap, from: u16, to: u16) -> Result<Self, Refusal>
+        requires order { from ≤ to }
+        requires within { to ≤ bitmap.now.height }
+        ensures ready { IfOk result (λ columns. IsReady bitmap.now columns from) }
+        ensures to { IfOk result (λ columns. columns.to ≡ to) }
+        ensures memory { IfErr result (λ refusal. refusal ≡ Memory) }
+    {
+        let entries = no_obstacles(alloc, usize::from(bitmap.width()))?;
         Ok(Columns {
-            bitmap,
-            table: Some(table),
+            from,
+            to,
+            seeks: true,
+            first: from,
+            known: from,
+            before: Vec::new(alloc),
+            behind: Vec::new(alloc),
+            edges: Vec::new(alloc),
+            entries,
         })
     }
 
-    /// Fills a row with the nearest obstacle of each cell of row `y`. `entries`, the stack and the row have the map's width.
-    pub fn fill_row<M: Metric>(
-        &self,
-        y: u16,
-        entries: &mut [u16],
-        stack: &mut Stack,
-        nears: &mut [Option<Near>],
-    )
-        requires bitmap { IsBitmap self.now.bitmap.now }
-        requires row { y < self.now.bitmap.now.height }
-        requires entries { length entries.old ≡ self.now.bitmap.now.width }
-        requires stack { self.now.bitmap.now.width ≤ stack.old }
-        requires width { length nears.old ≡ self.now.bitmap.now.width }
-        ensures nears { AreRowNears M.distance self.now.bitmap.now y self.now.bitmap.now.width nears.new }
-        ensures stack { stack.new ≡ stack.old }
+    /// The columns of many rows, in bands.
+    fn many(alloc: Global, bitmap: &Bitmap, from: u16, to: u16) -> Result<Self, Refusal>
+        requires order { from ≤ to }
+        requires within { to ≤ bitmap.now.height }
+        ensures ready { IfOk result (λ columns. IsReady bitmap.now columns from) }
+        ensures to { IfOk result (λ columns. columns.to ≡ to) }
+        ensures memory { IfErr result (λ refusal. refusal ≡ Memory) }
     {
-        match &self.table {
-            Some(table) => row::<M>(table, y, stack, nears),
-            None => row_alone::<M>(self.bitmap, y, entries, stack, nears),
+        let width = usize::from(bitmap.width());
+        let bands = usize::from((to - from).div_ceil(BAND));
+        let mut before = no_obstacles(alloc, width)?;
+        let mut entries = no_obstacles(alloc, width)?;
+        let mut edges = no_obstacles(alloc, bands * width)?;
+        let behind = no_obstacles(alloc, usize::from(BAND) * width)?;
+        carry_edges(
+            bitmap,
+            from,
+            to,
+            before.as_mut_slice(),
+            entries.as_mut_slice(),
+            edges.as_mut_slice(),
+        );
+        Ok(Columns {
+            from,
+            to,
+            seeks: false,
+            first: from,
+            known: from,
+            before,
+            behind,
+            edges,
+            entries,
+        })
+    }
+
+    /// Looks at row `y`, which comes next: its entries are the row of a table of the bitmap then.
+    pub fn look(&mut self, bitmap: &Bitmap, y: u16)
+        requires bitmap { IsBitmap bitmap.now }
+        requires ready { IsReady bitmap.now self.old y }
+        requires row { y < self.old.to }
+        ensures ready { IsReady bitmap.now self.new (y + 1) }
+        ensures to { self.new.to ≡ self.old.to }
+        ensures entries { IsRowOfTable bitmap.now y self.new.entries.items }
+    {
+        if self.seeks {
+            self.seek(bitmap, y);
+        } else {
+            self.reach(bitmap, y);
+            self.pick(bitmap, y);
         }
+    }
+
+    /// Looks at row `y` by itself.
+    fn seek(&mut self, bitmap: &Bitmap, y: u16)
+        requires ready { IsReady bitmap.now self.old y }
+        requires alone { self.old.seeks ≡ true }
+        requires row { y < self.old.to }
+        ensures ready { IsReady bitmap.now self.new (y + 1) }
+        ensures to { self.new.to ≡ self.old.to }
+        ensures entries { IsRowOfTable bitmap.now y self.new.entries.items }
+    {
+        nearest_rows(bitmap, y, self.entries.as_mut_slice());
+    }
+
+    /// Begins the next band where row `y` lies behind the one in hand.
+    fn reach(&mut self, bitmap: &Bitmap, y: u16)
+        requires bitmap { IsBitmap bitmap.now }
+        requires ready { IsReady bitmap.now self.old y }
+        requires carried { self.old.seeks ≡ false }
+        requires row { y < self.old.to }
+        ensures ready { IsReady bitmap.now self.new y }
+        ensures carried { self.new.seeks ≡ false }
+        ensures to { self.new.to ≡ self.old.to }
+        ensures inside { y < self.new.known }
+    {
+        if y == self.known {
+            self.begin(bitmap, y);
+        }
+    }
+
+    /// Begins the band whose first row is `y`.
+    fn begin(&mut self, bitmap: &Bitmap, y: u16)
+        requires bitmap { IsBitmap bitmap.now }
+        requires ready { IsReady bitmap.now self.old y }
+        requires carried { self.old.seeks ≡ false }
+        requires row { y < self.old.to }
+        requires behind { y ≡ self.old.known }
+        ensures ready { IsReady bitmap.now self.new y }
+        ensures carried { self.new.seeks ≡ false }
+        ensures to { self.new.to ≡ self.old.to }
+        ensures inside { y < self.new.known }
+    {
+        let width = usize::from(bitmap.width());
+        let edge = usize::from((y - self.from) / BAND) * width;
+        let end = self.to.min(y + BAND);
+        fill_band(
+            bitmap,
+            y,
+            end,
+            &self.edges[edge..edge + width],
+            self.entries.as_mut_slice(),
+            self.behind.as_mut_slice(),
+        );
+        self.first = y;
+        self.known = end;
+    }
+
+    /// Picks the nearest obstacles of row `y`, a row of the band in hand.
+    fn pick(&mut self, bitmap: &Bitmap, y: u16)
+        requires bitmap { IsBitmap bitmap.now }
+        requires ready { IsReady bitmap.now self.old y }
+        requires carried { self.old.seeks ≡ false }
+        requires inside { y < self.old.known }
+        ensures ready { IsReady bitmap.now self.new (y + 1) }
+        ensures to { self.new.to ≡ self.old.to }
+        ensures entries { IsRowOfTable bitmap.now y self.new.entries.items }
+    {
+        let width = usize::from(bitmap.width());
+        let start = usize::from(y - self.first) * width;
+        next_row(
+            bitmap,
+            y,
+            self.before.as_mut_slice(),
+            &self.behind[start..start + width],
+            self.entries.as_mut_slice(),
+        );
+    }
+}
+
+/// So many entries that stand for no obstacle. Refused for want of memory alone.
+fn no_obstacles(alloc: Global, count: usize) -> Result<Vec<u16>, Refusal>
+    ensures count { IfOk result (λ entries. entries.items ≡ replicate count 65535) }
+    ensures memory { IfErr result (λ refusal. refusal ≡ Memory) }
+{
+    match vec![in alloc; NONE; count] {
+        Ok(entries) => Ok(entries),
+        Err(_) => Err(Refusal::Memory),
     }
 }

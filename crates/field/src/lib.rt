@@ -3,9 +3,12 @@
 
 mod bands;
 mod columns;
+mod obstacle_cell;
+mod obstacle_table;
 mod table;
 mod workers;
 
 pub use bands::rows_with;
+pub use obstacle_table::ObstacleTable;
 pub use table::rows;
 pub use workers::Workers;

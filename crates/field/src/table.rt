@@ -2,13 +2,13 @@
 
 ghost use Rattle.std.specs.Prelude.{◌≡◌, ◌≤◌, [], ◌++◌, length, IfOk, OnOk, IfErr};
 ghost use Rattle.bits.specs.Cells.{IsBitmap};
+ghost use Rattle.field.specs.Columns.{IsReady};
 ghost use Rattle.field.specs.Rows.{AreNears};
 ghost use Rattle.metric.specs.declared.refusal.Refusal.TheVariants.{Memory};
 
 use crate::columns::Columns;
 use bits::Bitmap;
-use column::NONE;
-use envelope::Stack;
+use envelope::{Stack, row_from};
 use metric::{Metric, Near, Refusal};
 use std::alloc::Global;
 
@@ -27,11 +27,8 @@ pub fn rows<M: Metric>(
     ensures memory { IfErr result (λ refusal. refusal ≡ Memory) }
 {
     let width = usize::from(bitmap.width());
-    let columns = Columns::of(alloc, bitmap, y1 - y0)?;
+    let mut columns = Columns::of(alloc, bitmap, y0, y1)?;
     let mut stack = Stack::new(alloc, bitmap.width())?;
-    let Ok(mut entries) = vec![in alloc; NONE; width] else {
-        return Err(Refusal::Memory);
-    };
     let Ok(mut line) = vec![in alloc; None; width] else {
         return Err(Refusal::Memory);
     };
@@ -39,10 +36,10 @@ pub fn rows<M: Metric>(
         return Err(Refusal::Memory);
     };
     push_rows::<M>(
-        &columns,
+        bitmap,
         y0,
         y1,
-        &mut entries,
+        &mut columns,
         &mut stack,
         &mut line,
         &mut nears,
@@ -50,28 +47,30 @@ pub fn rows<M: Metric>(
     Ok(nears)
 }
 
-/// Adds the rows `y0` to `y1 - 1`. `entries` and `line` have room for a row; `nears` has room for all.
+/// Adds the rows `y0` to `y1 - 1`, those of the columns. The stack and `line` have room for a row; `nears` has room for all.
 fn push_rows<M: Metric>(
-    columns: &Columns<'_>,
+    bitmap: &Bitmap,
     y0: u16,
     y1: u16,
-    entries: &mut [u16],
+    columns: &mut Columns,
     stack: &mut Stack,
     line: &mut [Option<Near>],
     nears: &mut Vec<Option<Near>>,
 ) -> Result<(), Refusal>
     requires order { y0 ≤ y1 }
-    requires bitmap { IsBitmap columns.now.bitmap.now }
-    requires within { y1 ≤ columns.now.bitmap.now.height }
-    requires entries { length entries.old ≡ columns.now.bitmap.now.width }
-    requires stack { columns.now.bitmap.now.width ≤ stack.old }
-    requires line { length line.old ≡ columns.now.bitmap.now.width }
+    requires bitmap { IsBitmap bitmap.now }
+    requires within { y1 ≤ bitmap.now.height }
+    requires columns { IsReady bitmap.now columns.old y0 }
+    requires to { columns.old.to ≡ y1 }
+    requires stack { bitmap.now.width ≤ stack.old }
+    requires line { length line.old ≡ bitmap.now.width }
     requires empty { nears.old.items ≡ [] }
-    ensures rows { OnOk result (AreNears M.distance columns.now.bitmap.now y0 y1 nears.new.items) }
+    ensures rows { OnOk result (AreNears M.distance bitmap.now y0 y1 nears.new.items) }
     ensures memory { IfErr result (λ refusal. refusal ≡ Memory) }
 {
     'rows: for y in y0..y1 {
-        columns.fill_row::<M>(y, entries, stack, line);
+        columns.look(bitmap, y);
+        row_from::<M, Option<Near>>(&columns.entries, y, stack, line);
         push_line(line, nears)?;
     }
     Ok(())

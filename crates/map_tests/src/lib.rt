@@ -20,11 +20,15 @@ mod images;
 #[cfg(test)]
 mod nearest;
 #[cfg(test)]
+mod obstacle_tables;
+#[cfg(test)]
 mod phases;
 #[cfg(test)]
 mod queries;
 #[cfg(test)]
 mod row_answers;
+#[cfg(test)]
+mod row_bands;
 #[cfg(test)]
 mod row_phase;
 #[cfg(test)]

@@ -1,13 +1,13 @@
 -- The cells so far are filled.
-use Rattle.std.proofs.Common.{◌≡◌, ℕ, ◌-◌, ◌+◌, ◌<◌, ◌≤◌, length, slice_index_or, None}
+use Rattle.std.proofs.Common.{◌≡◌, ℕ, ◌-◌, ◌+◌, ◌<◌, ◌≤◌, length, slice_index_or}
 use Rattle.envelope.specs.Columns.{IsNearColumn}
 use Rattle.envelope.proofs.beside.fill_beside.Given as goal
 
 abbrev pub invariant-cells : goal.invariant-cells
 invariant-cells g l = record {
-  width : length l.nears ≡ length l.entries;
+  width : length l.answers ≡ length l.entries;
   within : l.start ≤ length l.entries + 15;
-  filled : (x : ℕ) → x < l.start → x < length l.entries → IsNearColumn g.M.Metric.distance l.entries l.y x (slice_index_or l.nears x None);
+  filled : (x : ℕ) → x < l.start → x < length l.entries → IsNearColumn g.M.Metric.distance l.entries l.y x (g.A.Answer.told g.M.Metric.distance x l.y (slice_index_or l.answers x g.A.Answer.nothing));
 }
 
 abbrev pub decreases-cells : goal.decreases-cells

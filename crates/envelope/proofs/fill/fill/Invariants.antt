@@ -1,4 +1,4 @@
-use Rattle.std.proofs.Common.{◌≡◌, ℕ, ◌<◌, ◌≤◌, length, slice_index_or, None}
+use Rattle.std.proofs.Common.{◌≡◌, ℕ, ◌<◌, ◌≤◌, length, slice_index_or}
 use Rattle.envelope.specs.Columns.{IsAmong, IsNearColumn, gap_of}
 use Rattle.envelope.specs.Envelope.{IsEnvelope}
 use Rattle.envelope.proofs.fill.fill.Given as goal
@@ -8,9 +8,9 @@ abbrev pub invariant-spans : goal.invariant-spans
 invariant-spans g l = record {
   few : l.count ≤ length l.spans;
   within : l.end ≤ length l.entries;
-  width : length l.nears ≡ length l.entries;
+  width : length l.answers ≡ length l.entries;
   covered : IsEnvelope g.M.Metric.distance (gap_of l.entries l.y) (IsAmong l.entries (length l.entries)) l.spans l.count l.end;
-  filled : (x : ℕ) → l.end ≤ x → x < length l.entries → IsNearColumn g.M.Metric.distance l.entries l.y x (slice_index_or l.nears x None);
+  filled : (x : ℕ) → l.end ≤ x → x < length l.entries → IsNearColumn g.M.Metric.distance l.entries l.y x (g.A.Answer.told g.M.Metric.distance x l.y (slice_index_or l.answers x g.A.Answer.nothing));
 }
 
 abbrev pub decreases-spans : goal.decreases-spans

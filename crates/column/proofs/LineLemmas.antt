@@ -1,0 +1,185 @@
+-- Lines carried from row to row, and the nearest obstacle between two of them.
+use Rattle.std.proofs.Common.{◌≡◌, ℕ, ◌+◌, ◌-◌, ◌*◌, ◌<◌, ◌≤◌, ◌⊎◌, ◌∙◌, min, inl, inr, Bool, true, false, List, Option, Some, None, length, get_or, arith, refl, ap}
+use Rattle.std.specs.Int.{abs_diff}
+use Rattle.std.proofs.Math.Nat.{mul-le-mul_right}
+use Rattle.std.proofs.Math.ListN.{replicate}
+use Rattle.std.proofs.lemmas.List.{get_or-replicate, length-replicate}
+use Rattle.std.proofs.lemmas.Bool.{cases_lt, cases_eq}
+use Rattle.std.proofs.lemmas.Bool.Decides.{nat_tests}
+use Rattle.bits.specs.Cells.{Cells, has, IsBitmap}
+use Rattle.bits.proofs.CellsLemmas.{has-outside}
+use Rattle.column.specs.Columns.{IsNearestRow, IsRowOfTable, row_of}
+use Rattle.column.specs.Lines.{AreEdges, AreLinesBehind, IsLineBefore, IsLineFrom, IsRowBefore, IsRowFrom}
+use Rattle.column.specs.Sweeps.{marked, nearer}
+use Rattle.column.proofs.Nearest.{IsRowAtMost-by, row_of-none, row_of-some}
+
+-- past a free cell the nearest obstacle before stays
+before_free : (cells : Cells) (x y : ℕ) (row : Option ℕ) → has cells x y ≡ false → IsRowBefore cells x y row → IsRowBefore cells x (y + 1) row
+before_free cells x y None free before = λ b within black. elim (cases_eq b y) [ inl here ↦ absurd (cc) | inr apart ↦ before b (omega arith) black ]
+before_free cells x y (Some row) free before =
+    let lower = before.1 in
+    (before.0, omega arith, λ b within black. elim (cases_eq b y) [ inl here ↦ absurd (cc) | inr apart ↦ before.2 b (omega arith) black ])
+
+-- the obstacle before, one row further down
+before_marked : (cells : Cells) (x y entry : ℕ) → y < 65535 → IsRowBefore cells x y (row_of entry) → (black : Bool) → has cells x y ≡ black → IsRowBefore cells x (y + 1) (row_of (marked black y entry))
+before_marked cells x y entry small before true is = let row : row_of y ≡ Some y = row_of-some y (λ same. omega arith) in rw row (is, omega arith, λ b within black. omega arith)
+before_marked cells x y entry small before false is = before_free cells x y (row_of entry) is before
+
+-- past a free cell the nearest obstacle behind stays
+from_free : (cells : Cells) (x y : ℕ) (row : Option ℕ) → has cells x y ≡ false → IsRowFrom cells x (y + 1) row → IsRowFrom cells x y row
+from_free cells x y None free behind = λ b within black. elim (cases_eq b y) [ inl here ↦ absurd (cc) | inr apart ↦ behind b (omega arith) black ]
+from_free cells x y (Some row) free behind =
+    let upper = behind.1 in
+    (behind.0, omega arith, λ b within black. elim (cases_eq b y) [ inl here ↦ absurd (cc) | inr apart ↦ behind.2 b (omega arith) black ])
+
+-- the obstacle behind, one row further up
+from_marked : (cells : Cells) (x y entry : ℕ) → y < 65535 → IsRowFrom cells x (y + 1) (row_of entry) → (black : Bool) → has cells x y ≡ black → IsRowFrom cells x y (row_of (marked black y entry))
+from_marked cells x y entry small behind true is = let row : row_of y ≡ Some y = row_of-some y (λ same. omega arith) in rw row (is, omega arith, λ b within black. omega arith)
+from_marked cells x y entry small behind false is = from_free cells x y (row_of entry) is behind
+
+-- the rows of a map are no mark
+row_small : (cells : Cells) (y : ℕ) → IsBitmap cells → y < cells.height → y < 65535
+row_small cells y bitmap within = let few = bitmap.height_is.few in omega (arith, few)
+
+-- the line before, one row further down
+pub IsLineBefore-next : (cells : Cells) (y : ℕ) (old new : List ℕ) → IsBitmap cells → y < cells.height → length new ≡ length old
+    → ((x : ℕ) → x < cells.width → get_or new x 0 ≡ marked (has cells x y) y (get_or old x 0)) → IsLineBefore cells y old → IsLineBefore cells (y + 1) new
+IsLineBefore-next cells y old new bitmap within len marks line = record {
+  as_many = len ∙ line.as_many;
+  each = λ x column. rw (marks x column) (before_marked cells x y (get_or old x 0) (row_small cells y bitmap within) (line.each x column) (has cells x y) refl);
+}
+
+-- the line behind, one row further up
+pub IsLineFrom-next : (cells : Cells) (y : ℕ) (old new : List ℕ) → IsBitmap cells → y < cells.height → length new ≡ length old
+    → ((x : ℕ) → x < cells.width → get_or new x 0 ≡ marked (has cells x y) y (get_or old x 0)) → IsLineFrom cells (y + 1) old → IsLineFrom cells y new
+IsLineFrom-next cells y old new bitmap within len marks line = record {
+  as_many = len ∙ line.as_many;
+  each = λ x column. rw (marks x column) (from_marked cells x y (get_or old x 0) (row_small cells y bitmap within) (line.each x column) (has cells x y) refl);
+}
+
+-- where there is none behind, the nearest is the one before
+only_before : (cells : Cells) (x y : ℕ) (row : Option ℕ) → IsRowBefore cells x (y + 1) row → IsRowFrom cells x (y + 1) None → IsNearestRow cells x y row
+only_before cells x y None before behind = λ b black. elim (cases_lt y b) [ inl low ↦ behind b (omega arith) black | inr high ↦ before b (omega arith) black ]
+only_before cells x y (Some row) before behind = (
+  before.0,
+  λ b black.
+      let lower = before.1 in
+      elim (cases_lt y b) [ inl low ↦ absurd (behind b (omega arith) black) | inr high ↦ let lowest = before.2 b (omega arith) black in IsRowAtMost-by y row b (omega arith) (λ same. omega arith) ],
+)
+
+-- where there is none before, the nearest is the one behind
+only_behind : (cells : Cells) (x y row : ℕ) → IsRowBefore cells x (y + 1) None → IsRowFrom cells x (y + 1) (Some row) → IsNearestRow cells x y (Some row)
+only_behind cells x y row before behind = (
+  behind.0,
+  λ b black.
+      let upper = behind.1 in
+      elim (cases_lt y b) [ inl low ↦ let uppermost = behind.2 b (omega arith) black in IsRowAtMost-by y row b (omega arith) (λ same. omega arith) | inr high ↦ absurd (before b (omega arith) black) ],
+)
+
+-- the nearer of both is the nearest, the one before on a tie
+nearer_of_both : (cells : Cells) (x y above below row : ℕ) → IsRowBefore cells x (y + 1) (Some above) → IsRowFrom cells x (y + 1) (Some below)
+    → ((row ≡ below) × (abs_diff y below < abs_diff y above)) ⊎ ((row ≡ above) × (abs_diff y above ≤ abs_diff y below)) → IsNearestRow cells x y (Some row)
+nearer_of_both cells x y above below row before behind (inl lower) =
+    let same = lower.0 in
+    let wins = lower.1 in
+    let up = before.1 in
+    let down = behind.1 in
+    rw same (
+      behind.0,
+      λ b black. elim (cases_lt y b) [
+        | inl low ↦ let uppermost = behind.2 b (omega arith) black in IsRowAtMost-by y below b (omega arith) (λ same. omega arith)
+        | inr high ↦ let lowest = before.2 b (omega arith) black in IsRowAtMost-by y below b (omega arith) (λ same. omega arith)
+      ],
+    )
+nearer_of_both cells x y above below row before behind (inr upper) =
+    let same = upper.0 in
+    let wins = upper.1 in
+    let up = before.1 in
+    let down = behind.1 in
+    rw same (
+      before.0,
+      λ b black. elim (cases_lt y b) [
+        | inl low ↦ let uppermost = behind.2 b (omega arith) black in IsRowAtMost-by y above b (omega arith) (λ same. omega arith)
+        | inr high ↦ let lowest = before.2 b (omega arith) black in IsRowAtMost-by y above b (omega arith) (λ same. omega arith)
+      ],
+    )
+
+-- of the entries before and behind the nearer one is the nearest of all
+pub nearest_between : (cells : Cells) (x y above below : ℕ) → IsRowBefore cells x (y + 1) (row_of above) → IsRowFrom cells x (y + 1) (row_of below) → IsNearestRow cells x y (row_of (nearer y above below))
+nearest_between cells x y above below before behind =
+    elim (cases_eq below 65535) [
+      | inl none ↦
+          let result : nearer y above below ≡ above = grind (arith, nat_tests) in
+          rw result (only_before cells x y (row_of above) before (rw (row_of-none below none) at behind))
+      | inr some ↦ elim (cases_eq above 65535) [
+        | inl none ↦
+            let result : nearer y above below ≡ below = grind (arith, nat_tests) in
+            rw (result, row_of-some below some) (only_behind cells x y below (rw (row_of-none above none) at before) (rw (row_of-some below some) at behind))
+        | inr both ↦ elim (cases_lt (abs_diff y below) (abs_diff y above)) [
+          | inl lower ↦
+              let result : nearer y above below ≡ below = grind (arith, nat_tests) in
+              rw (result, row_of-some below some) (nearer_of_both cells x y above below below (rw (row_of-some above both) at before) (rw (row_of-some below some) at behind) (inl (refl, lower)))
+          | inr upper ↦
+              let result : nearer y above below ≡ above = grind (arith, nat_tests) in
+              rw (result, row_of-some above both) (nearer_of_both cells x y above below above (rw (row_of-some above both) at before) (rw (row_of-some below some) at behind) (inr (refl, upper)))
+        ]
+      ]
+    ]
+
+-- the entries between the line before and that behind are the row of the table
+pub IsRowOfTable-between : (cells : Cells) (y : ℕ) (before behind entries : List ℕ) → IsLineBefore cells (y + 1) before → IsLineFrom cells (y + 1) behind
+    → length entries ≡ cells.width → ((x : ℕ) → x < length entries → get_or entries x 0 ≡ nearer y (get_or before x 0) (get_or behind x 0)) → IsRowOfTable cells y entries
+IsRowOfTable-between cells y before behind entries above below across picked = record {
+  as_many = across;
+  each = λ x column. rw (picked x (rw across column)) (nearest_between cells x y (get_or before x 0) (get_or behind x 0) (above.each x column) (below.each x column));
+}
+
+-- a row's places end where a later row's begin
+rows_apart : (y b width x : ℕ) → y < b → y * width + width ≤ b * width + x
+rows_apart y b width x below = let rows : (y + 1) * width ≤ b * width = mul-le-mul_right width (omega arith) in omega (arith, rows)
+
+-- one row more of a band
+pub AreLinesBehind-next : (cells : Cells) (first y to : ℕ) (line old new : List ℕ) → first ≤ y → IsLineFrom cells (y + 1) line
+    → ((x : ℕ) → x < cells.width → get_or new ((y - first) * cells.width + x) 0 ≡ get_or line x 0)
+    → ((k : ℕ) → (k < (y - first) * cells.width) ⊎ ((y - first) * cells.width + cells.width ≤ k) → get_or new k 0 ≡ get_or old k 0)
+    → AreLinesBehind cells first (y + 1) to old → AreLinesBehind cells first y to new
+AreLinesBehind-next cells first y to line old new order behind copied others lines = record {
+  each = λ x b column from below. elim (cases_eq b y) [
+    | inl here ↦ rw (here, copied x column) (behind.each x column)
+    | inr apart ↦
+        let place : (y - first) * cells.width + cells.width ≤ (b - first) * cells.width + x = rows_apart (y - first) (b - first) cells.width x (omega (arith, order, from, apart)) in
+        rw (others ((b - first) * cells.width + x) (inr place)) (lines.each x b column (omega arith) below)
+  ];
+}
+
+-- one band more, from below
+pub AreEdges-next : (cells : Cells) (from to band : ℕ) (line old new : List ℕ) → IsLineFrom cells (min (from + 64 * (band + 1)) to) line
+    → ((x : ℕ) → x < cells.width → get_or new (band * cells.width + x) 0 ≡ get_or line x 0)
+    → ((k : ℕ) → (k < band * cells.width) ⊎ (band * cells.width + cells.width ≤ k) → get_or new k 0 ≡ get_or old k 0)
+    → AreEdges cells from to (band + 1) old → AreEdges cells from to band new
+AreEdges-next cells from to band line old new behind copied others edges = record {
+  each = λ x b column at_least inside. elim (cases_eq b band) [
+    | inl here ↦ rw (here, copied x column) (behind.each x column)
+    | inr apart ↦
+        let place : band * cells.width + cells.width ≤ b * cells.width + x = rows_apart band b cells.width x (omega (arith, at_least, apart)) in
+        rw (others (b * cells.width + x) (inr place)) (edges.each x b column (omega (arith, at_least, apart)) inside)
+  ];
+}
+
+-- a list of marks has none at each place
+all_marks : (count place : ℕ) (line : List ℕ) → line ≡ replicate count 65535 → place < count → row_of (get_or line place 0) ≡ None
+all_marks count place line marks inside = row_of-none (get_or line place 0) (ap (λ (xs : List ℕ). get_or xs place 0) marks ∙ get_or-replicate {A = ℕ} count place 65535 0 inside)
+
+-- before the first row there is none
+pub IsLineBefore-none : (cells : Cells) (line : List ℕ) → line ≡ replicate cells.width 65535 → IsLineBefore cells 0 line
+IsLineBefore-none cells line marks = record {
+  as_many = rw marks (length-replicate {A = ℕ} cells.width 65535);
+  each = λ x column. rw (all_marks cells.width x line marks column) (λ b before black. absurd (omega arith));
+}
+
+-- behind the last row there is none
+pub IsLineFrom-none : (cells : Cells) (line : List ℕ) → IsBitmap cells → line ≡ replicate cells.width 65535 → IsLineFrom cells cells.height line
+IsLineFrom-none cells line bitmap marks = record {
+  as_many = rw marks (length-replicate {A = ℕ} cells.width 65535);
+  each = λ x column. rw (all_marks cells.width x line marks column) (λ b behind black. let inside = (has-outside cells bitmap x b black).row in absurd (omega arith));
+}

@@ -1,0 +1,12 @@
+-- The line has been carried up to the row.
+use Rattle.std.proofs.Common.{◌≤◌}
+use Rattle.bits.specs.Cells.{IsBitmap}
+use Rattle.column.specs.Lines.{IsLineFrom}
+use Rattle.column.proofs.lines.carry_up.Given as goal
+
+abbrev pub invariant-rows : goal.invariant-rows
+invariant-rows l = record {
+  bitmap : IsBitmap l.bitmap;
+  at_least : l.from ≤ l.y;
+  line : IsLineFrom l.bitmap l.y l.line;
+}

@@ -1,0 +1,7 @@
+-- The nearest columns are the nearest obstacles.
+use Rattle.envelope.proofs.Nears.{AreRowAnswers-columns}
+use Rattle.envelope.proofs.stack.row_from.Goals as goal
+
+pub returns-clause-answers : goal.returns-clause-answers
+returns-clause-answers g c = λ cells bitmap within row.
+    AreRowAnswers-columns g.A.Answer.told g.A.Answer.nothing g.M.Metric.distance cells c.args.y c.args.entries.now c.fill_row.new.answers g.met.M.Metric.grows bitmap within row c.fill_row.ensures.answers

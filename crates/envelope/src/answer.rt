@@ -1,0 +1,47 @@
+//! What is written for a cell of a row: all that is known of its nearest obstacle, or a part from which that follows.
+
+ghost use Rattle.std.specs.Prelude.{◌≡◌, ℕ, ◌≤◌, Option, Some, None};
+ghost use Rattle.metric.specs.Distance.{distance_between};
+ghost use Rattle.metric.specs.declared.near.Near.{Near};
+
+use metric::Near;
+
+/// What is kept of a cell's nearest obstacle, or that there is none.
+pub trait Answer: Copy {
+    /// The nearest obstacle that it tells, seen from the cell of this column and row, by a metric's distance.
+    ghost told: { (ℕ → ℕ → ℕ) → ℕ → ℕ → Self → Option Near };
+
+    /// What tells that there is no obstacle.
+    ghost nothing: { Self };
+
+    /// What is kept where there is no obstacle.
+    fn none() -> Self
+        ensures { result ≡ nothing };
+
+    /// What is kept of an obstacle in a map.
+    fn some(near: Near) -> Self
+        requires column { near.cell.x ≤ 4095 }
+        requires row { near.cell.y ≤ 4095 }
+        ensures { (distance : ℕ → ℕ → ℕ) (x y : ℕ) → near.dist ≡ distance_between distance x y near.cell.x near.cell.y → told distance x y result ≡ Some near };
+
+    /// Where there is none, none is told.
+    ghost tells_nothing: { (distance : ℕ → ℕ → ℕ) (x y : ℕ) → told distance x y nothing ≡ None };
+}
+
+impl Answer for Option<Near> {
+    ghost use Rattle.std.specs.Prelude.{refl};
+
+    ghost told = { λ distance x y near. near };
+
+    ghost nothing = { None };
+
+    fn none() -> Self {
+        None
+    }
+
+    fn some(near: Near) -> Self {
+        Some(near)
+    }
+
+    ghost tells_nothing = { λ distance x y. refl };
+}

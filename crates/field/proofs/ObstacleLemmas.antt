@@ -1,0 +1,77 @@
+-- The nearest obstacles that a table tells, cell by cell and row by row.
+use Rattle.std.proofs.Common.{◌≡◌, ℕ, ◌+◌, ◌-◌, ◌*◌, ◌/◌, ◌%◌, ◌<◌, ◌≤◌, ◌∙◌, List, drop, Option, None, length, slice_index_or, arith, refl, sym}
+use Rattle.std.specs.List.{slice_range}
+use Rattle.std.proofs.Math.Nat.{mul-le-mul_right}
+use Rattle.std.proofs.lemmas.Nat.{div-mul-add, mod-mul-add}
+use Rattle.std.proofs.lemmas.List.{ext_get_or, get_or-drop, get_or-take, length-drop, length-take-le}
+use Rattle.std.proofs.lemmas.List.FromFn.{get_or-map-range_with_len, length-map-range_with_len}
+use Rattle.metric.specs.declared.cell.Cell.{Cell}
+use Rattle.metric.specs.declared.near.Near.{Near}
+use Rattle.bits.specs.Cells.{Cells}
+use Rattle.column.proofs.Sweeping.{place_above}
+use Rattle.field.specs.Bands.{AreAnswers}
+use Rattle.field.specs.Obstacles.{AreRows, Obstacles, nears_told, seen_from}
+use Rattle.field.specs.Rows.{AreNears}
+
+-- as many are told as are kept
+pub length-nears_told : (distance : ℕ → ℕ → ℕ) (table : Obstacles) → length (nears_told distance table) ≡ length table.cells
+length-nears_told distance table = length-map-range_with_len (λ k. seen_from distance (k % table.width) (table.y0 + k / table.width) (slice_index_or table.cells k None)) 0 (length table.cells)
+
+-- what a table tells of the cell in column x, so many rows behind its first
+pub told_at : (distance : ℕ → ℕ → ℕ) (table : Obstacles) (x rows : ℕ) → x < table.width → rows * table.width + x < length table.cells
+    → slice_index_or (nears_told distance table) (rows * table.width + x) None ≡ seen_from distance x (table.y0 + rows) (slice_index_or table.cells (rows * table.width + x) None)
+told_at distance table x rows inside within =
+    get_or-map-range_with_len (λ k. seen_from distance (k % table.width) (table.y0 + k / table.width) (slice_index_or table.cells k None)) 0 (length table.cells) (rows * table.width + x) (rows * table.width + x) None within (omega arith)
+    ∙ rw (div-mul-add rows table.width x inside, mod-mul-add rows table.width x inside) refl
+
+-- a cell of a row lies among those of all rows
+pub place_within : (table : Obstacles) (x y : ℕ) → AreRows table → x < table.width → table.y0 ≤ y → y < table.y1 → (y - table.y0) * table.width + x < length table.cells
+place_within table x y rows inside from to =
+    let as_many = rows.as_many in
+    let place = place_above (y - table.y0) (table.y1 - table.y0) table.width x (omega (arith, from, to)) inside in
+    omega (arith, as_many, place)
+
+-- what a table tells of the cell in column x and row y
+pub told_here : (distance : ℕ → ℕ → ℕ) (table : Obstacles) (x y : ℕ) → AreRows table → x < table.width → table.y0 ≤ y → y < table.y1
+    → slice_index_or (nears_told distance table) ((y - table.y0) * table.width + x) None ≡ seen_from distance x y (slice_index_or table.cells ((y - table.y0) * table.width + x) None)
+told_here distance table x y rows inside from to =
+    let sum : table.y0 + (y - table.y0) ≡ y = omega (arith, from) in
+    told_at distance table x (y - table.y0) inside (place_within table x y rows inside from to) ∙ rw sum refl
+
+-- where what is kept of some rows tells their nearest obstacles, so does the table
+pub AreNears-told : (distance : ℕ → ℕ → ℕ) (cells : Cells) (table : Obstacles) → AreRows table → table.width ≡ cells.width
+    → AreAnswers seen_from None distance cells table.y0 table.y1 table.cells → AreNears distance cells table.y0 table.y1 (nears_told distance table)
+AreNears-told distance cells table rows across answers = record {
+  as_many = length-nears_told distance table ∙ answers.as_many;
+  each = λ x y inside from to.
+      let column : x < table.width = rw across inside in
+      rw (← across, told_here distance table x y rows column from to, across) (answers.filled.each x y inside from to);
+}
+
+-- a row ends among those of all rows
+row_within : (table : Obstacles) (y : ℕ) → AreRows table → table.y0 ≤ y → y < table.y1 → (y - table.y0) * table.width + table.width ≤ length table.cells
+row_within table y rows from to =
+    let as_many = rows.as_many in
+    let through : (y - table.y0 + 1) * table.width ≤ (table.y1 - table.y0) * table.width = mul-le-mul_right table.width (omega (arith, from, to)) in
+    omega (arith, as_many, through)
+
+-- the line of a row is its part of what is told
+pub line_told : (distance : ℕ → ℕ → ℕ) (table : Obstacles) (y : ℕ) (kept : List (Option Cell)) (line : List (Option Near)) → AreRows table → table.y0 ≤ y → y < table.y1
+    → length line ≡ table.width → kept ≡ slice_range table.cells ((y - table.y0) * table.width) ((y - table.y0) * table.width + table.width)
+    → ((x : ℕ) → x < table.width → slice_index_or line x None ≡ seen_from distance x y (slice_index_or kept x None))
+    → line ≡ slice_range (nears_told distance table) ((y - table.y0) * table.width) ((y - table.y0) * table.width + table.width)
+line_told distance table y kept line rows from to across part seen =
+    let start : ℕ = (y - table.y0) * table.width in
+    let all : List (Option Near) = nears_told distance table in
+    let many = length-nears_told distance table in
+    let within = row_within table y rows from to in
+    let width : start + table.width - start ≡ table.width = omega arith in
+    let long : length (slice_range all start (start + table.width)) ≡ table.width = rw width (length-take-le table.width (drop start all) (rw (length-drop start all) (omega (arith, many, within)))) in
+    ext_get_or None line (slice_range all start (start + table.width)) (across ∙ sym long)
+    (λ x inside.
+    let column : x < table.width = rw across at inside in
+    let here : slice_index_or kept x None ≡ slice_index_or table.cells (start + x) None =
+    rw (part, width) (get_or-take table.width (drop start table.cells) x None column ∙ get_or-drop start table.cells x None) in
+    let there : slice_index_or (slice_range all start (start + table.width)) x None ≡ slice_index_or all (start + x) None =
+    rw width (get_or-take table.width (drop start all) x None column ∙ get_or-drop start all x None) in
+    seen x column ∙ rw (here, there) (sym (told_here distance table x y rows column from to)))

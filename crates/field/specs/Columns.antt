@@ -1,0 +1,25 @@
+-- What is known of the columns while rows are worked one after another: this project's own rule.
+use Rattle.std.specs.Prelude.{◌≡◌, ℕ, ◌+◌, ◌-◌, ◌*◌, ◌/◌, ◌%◌, ◌≤◌, ◌⊎◌, false, length}
+use Rattle.bits.specs.Cells.{Cells}
+use Rattle.column.specs.Lines.{AreEdges, AreLinesBehind, IsLineBefore}
+use Rattle.field.specs.declared.columns.Columns.{Columns}
+
+-- the rows of one band are looked at, from its first on; what lies before the row y and behind each row of the band and each band is known
+pub record IsCarried (cells : Cells) (columns : Columns) (y : ℕ) : Type 0 where
+  pub before : IsLineBefore cells y columns.before.items
+  pub edges : AreEdges cells columns.from columns.to 0 columns.edges.items
+  pub behind : AreLinesBehind cells columns.first columns.first columns.known columns.behind.items
+  pub edges_room : (columns.to - columns.from + 63) / 64 * cells.width ≤ length columns.edges.items
+  pub behind_room : 64 * cells.width ≤ length columns.behind.items
+  pub reached : columns.first ≤ y
+  pub left : y ≤ columns.known
+  pub few : columns.known ≤ columns.first + 64
+  pub inside : columns.known ≤ columns.to
+  pub aligned : ((columns.known - columns.from) % 64 ≡ 0) ⊎ (columns.known ≡ columns.to)
+
+-- the row y comes next
+pub record IsReady (cells : Cells) (columns : Columns) (y : ℕ) : Type 0 where
+  pub from : columns.from ≤ y
+  pub within : columns.to ≤ cells.height
+  pub width : length columns.entries.items ≡ cells.width
+  pub carried : columns.seeks ≡ false → IsCarried cells columns y

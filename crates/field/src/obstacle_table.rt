@@ -1,0 +1,130 @@
+//! The nearest obstacles of all cells of some rows in a third of the room: only where each is, since how far away it is follows.
+
+ghost use Rattle.std.specs.Prelude.{◌≡◌, ◌↔◌, ℕ, ◌+◌, ◌-◌, ◌*◌, ◌<◌, ◌≤◌, true, IfErr, IfOk, None, length, slice_index_or, slice_range};
+ghost use Rattle.field.specs.Obstacles.{nears_told, seen_from};
+ghost use Rattle.field.specs.Rows.{AreNears};
+ghost use Rattle.metric.specs.declared.refusal.Refusal.TheVariants.{Memory};
+
+use crate::bands::answer_rows;
+use crate::obstacle_cell::ObstacleCell;
+use crate::workers::Workers;
+use bits::Bitmap;
+use metric::{Gate, Metric, Near, Refusal};
+use std::alloc::Global;
+use std::marker::Model;
+use std::thread::Threads;
+
+/// The nearest obstacles of the cells of some rows, 4 bytes a cell. Contracts see it as these obstacles, row by row.
+///
+/// It serves the metric that it was made by: by another one what it tells is an obstacle and its distance, but not the nearest.
+#[derive(Debug, Drop)]
+pub struct ObstacleTable {
+    width: u16,
+    y0: u16,
+    y1: u16,
+    cells: Vec<ObstacleCell>,
+}
+
+impl Model for ObstacleTable {
+    ghost use Rattle.field.specs.Obstacles.{AreRows, Obstacles};
+
+    ghost Value = { Obstacles };
+
+    ghost view = { λ t. record { width = t.width; y0 = t.y0; y1 = t.y1; cells = t.cells.items } };
+
+    ghost invariant = { λ t. AreRows (record { width = t.width; y0 = t.y0; y1 = t.y1; cells = t.cells.items }) };
+}
+
+impl ObstacleTable {
+    /// The nearest obstacles of the cells of rows `y0` to `y1 - 1`, the same as `rows` has them, worked in bands as by `rows_with`. Refused for want of memory alone.
+    pub fn of<M: Metric + Sync, G: Gate + Sync, R: Threads + Sync>(
+        rt: &R,
+        alloc: Global,
+        bitmap: &Bitmap,
+        y0: u16,
+        y1: u16,
+        workers: Workers,
+        gate: &G,
+    ) -> Result<Self, Refusal>
+        requires order { y0 ≤ y1 }
+        requires within { y1 ≤ bitmap.now.height }
+        ensures width { IfOk result (λ table. table.width ≡ bitmap.now.width) }
+        ensures from { IfOk result (λ table. table.y0 ≡ y0) }
+        ensures to { IfOk result (λ table. table.y1 ≡ y1) }
+        ensures rows { IfOk result (λ table. AreNears M.distance bitmap.now y0 y1 (nears_told M.distance table)) }
+        ensures memory { IfErr result (λ refusal. refusal ≡ Memory) }
+    {
+        let width = bitmap.width();
+        let cells = answer_rows::<M, ObstacleCell, G, R>(rt, alloc, bitmap, y0, y1, workers, gate)?;
+        Ok(ObstacleTable {
+            width,
+            y0,
+            y1,
+            cells,
+        })
+    }
+
+    /// How many cells a row has.
+    pub fn width(&self) -> u16
+        ensures { result ≡ self.now.width }
+    {
+        self.width
+    }
+
+    /// Whether this is one of its rows.
+    pub fn has_row(&self, y: u16) -> bool
+        ensures { (result ≡ true) ↔ ((self.now.y0 ≤ y) × (y < self.now.y1)) }
+    {
+        self.y0 <= y && y < self.y1
+    }
+
+    /// The nearest obstacle of the cell in column `x` and row `y`, by the metric that the table was made by; `None` where the bitmap has no obstacle.
+    pub fn near<M: Metric>(&self, x: u16, y: u16) -> Option<Near>
+        requires column { x < self.now.width }
+        requires from { self.now.y0 ≤ y }
+        requires to { y < self.now.y1 }
+        ensures { result ≡ slice_index_or (nears_told M.distance self.now) ((y - self.now.y0) * self.now.width + x) None }
+    {
+        let place = usize::from(y - self.y0) * usize::from(self.width) + usize::from(x);
+        near_from::<M>(x, y, self.cells[place])
+    }
+
+    /// Fills a line with the nearest obstacles of the cells of row `y`, from the left, by the metric that the table was made by.
+    pub fn fill_row<M: Metric>(&self, y: u16, nears: &mut [Option<Near>])
+        requires from { self.now.y0 ≤ y }
+        requires to { y < self.now.y1 }
+        requires width { length nears.old ≡ self.now.width }
+        ensures { nears.new ≡ slice_range (nears_told M.distance self.now) ((y - self.now.y0) * self.now.width) ((y - self.now.y0) * self.now.width + self.now.width) }
+    {
+        let width = usize::from(self.width);
+        let start = usize::from(y - self.y0) * width;
+        fill_line::<M>(y, &self.cells[start..start + width], nears);
+    }
+}
+
+/// Fills a line with these obstacles, as the cells of row `y` see them.
+fn fill_line<M: Metric>(y: u16, cells: &[ObstacleCell], nears: &mut [Option<Near>])
+    requires row { y ≤ 4095 }
+    requires few { length cells.now ≤ 4096 }
+    requires width { length nears.old ≡ length cells.now }
+    ensures len { length nears.new ≡ length cells.now }
+    ensures seen { (x : ℕ) → x < length cells.now → slice_index_or nears.new x None ≡ seen_from M.distance x y (slice_index_or cells.now x None) }
+{
+    for x in 0..nears.len() {
+        nears[x] = near_from::<M>(x as u16, y, cells[x]);
+    }
+}
+
+/// The obstacle of this cell, or none, as the cell in column `x` and row `y` sees it.
+#[inline(always)]
+fn near_from<M: Metric>(x: u16, y: u16, kept: ObstacleCell) -> Option<Near>
+    requires column { x ≤ 4095 }
+    requires row { y ≤ 4095 }
+    ensures { result ≡ seen_from M.distance x y kept }
+{
+    let cell = kept.cell()?;
+    Some(Near {
+        dist: M::of(x.abs_diff(cell.x), y.abs_diff(cell.y)),
+        cell,
+    })
+}

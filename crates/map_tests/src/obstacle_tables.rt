@@ -1,0 +1,88 @@
+//! The table that keeps of each cell's nearest obstacle only where it is: that it finds memory, and that it tells what the rows have, for each number of workers.
+
+use crate::compare::{holds, same};
+use crate::draws::Draws;
+use bits::Bitmap;
+use field::{ObstacleTable, Workers, rows};
+use metric::{Chess, City, Euclid2, Gate, Metric, Near};
+use std::alloc::Global;
+use std::process::Abort;
+use std::test::Fail;
+use std::thread::Threads;
+
+/// A gate that all workers pass.
+struct Open;
+
+impl Gate for Open {
+    fn enter(&self, _band: u8) {}
+}
+
+/// Compares a row of the table, as a line and cell by cell.
+fn compare_row<M: Metric>(
+    rt: &impl Abort,
+    alloc: Global,
+    table: &ObstacleTable,
+    y: u16,
+    want: &[Option<Near>],
+) -> Result<(), Fail> {
+    let width = table.width();
+    let mut line = vec![in alloc; None; usize::from(width)]?;
+    assert!(rt; table.has_row(y));
+    assert!(rt; line.len() == usize::from(width));
+    table.fill_row::<M>(y, line.as_mut_slice());
+    same(rt, line.as_slice(), want, ("line", y));
+    for (x, near) in (0..width).zip(want.iter()) {
+        assert!(rt; x < width);
+        same(rt, table.near::<M>(x, y), *near, (x, y));
+    }
+    Ok(())
+}
+
+/// Compares the table of the rows from one on, worked by so many workers, with what one thread answers.
+fn compare<M: Metric + Sync>(
+    rt: &(impl Abort + Threads + Sync),
+    alloc: Global,
+    bitmap: &Bitmap,
+    count: u8,
+    y0: u16,
+) -> Result<(), Fail> {
+    let workers = Workers::new(count).ok_or("no workers")?;
+    let (width, y1) = (usize::from(bitmap.width()), bitmap.height());
+    assert!(rt; y0 <= y1);
+    let table = ObstacleTable::of::<M, _, _>(rt, alloc, bitmap, y0, y1, workers, &Open)?;
+    let nears = rows::<M>(alloc, bitmap, y0, y1)?;
+    same(rt, usize::from(table.width()), width, "width");
+    for (y, want) in (y0..y1).zip(nears.as_slice().chunks_exact(width)) {
+        compare_row::<M>(rt, alloc, &table, y, want)?;
+    }
+    holds(rt, !table.has_row(y1), "a row behind the last");
+    holds(
+        rt,
+        y0 == 0 || !table.has_row(y0 - 1),
+        "a row before the first",
+    );
+    Ok(())
+}
+
+#[test]
+fn tells_what_the_rows_have(rt: HostRuntime) -> Result<(), Fail> {
+    let mut draws = Draws::new(20261124);
+    for (width, height) in [(12, 12), (130, 3), (40, 90)] {
+        for count in [1, 2, 16] {
+            for rare in [2, 20, 2000] {
+                let (width, height) = (draws.side(width), draws.side(height));
+                let bitmap = draws.map(rt.alloc(), width, height, rare)?;
+                compare::<Euclid2>(&rt, rt.alloc(), &bitmap, count, 0)?;
+                compare::<City>(&rt, rt.alloc(), &bitmap, count, height / 3)?;
+                compare::<Chess>(&rt, rt.alloc(), &bitmap, count, height / 2)?;
+            }
+        }
+    }
+    Ok(())
+}
+
+#[test]
+fn no_obstacle_is_told(rt: HostRuntime) -> Result<(), Fail> {
+    let bitmap = Bitmap::blank(rt.alloc(), 70, 3)?;
+    compare::<Chess>(&rt, rt.alloc(), &bitmap, 4, 0)
+}

@@ -1,0 +1,69 @@
+//! Rows that are worked from bands of 64 rows with carried lines, beside rows of a table of the whole bitmap, and beside the plain minimum.
+
+use crate::compare::same;
+use crate::draws::Draws;
+use crate::nearest::nearest_obstacle;
+use bits::Bitmap;
+use column::ColumnTable;
+use envelope::{Stack, row};
+use field::rows;
+use metric::{Cell, Chess, City, Euclid2, Metric, Near};
+use std::alloc::Global;
+use std::process::Abort;
+use std::test::Fail;
+
+/// Compares a row's answers with those of the table, and the first with the plain minimum.
+fn compare_row<M: Metric>(
+    rt: &impl Abort,
+    alloc: Global,
+    bitmap: &Bitmap,
+    table: &ColumnTable,
+    y: u16,
+    got: &[Option<Near>],
+) -> Result<(), Fail> {
+    let mut stack = Stack::new(alloc, table.width())?;
+    let mut line = vec![in alloc; None; usize::from(table.width())]?;
+    assert!(rt; y < table.height());
+    assert!(rt; line.len() == usize::from(table.width()));
+    row::<M>(table, y, &mut stack, line.as_mut_slice());
+    same(rt, got, line.as_slice(), ("row", y));
+    let first = Cell { x: 0, y };
+    assert!(rt; bitmap.holds(first));
+    let least = nearest_obstacle::<M>(bitmap, first);
+    same(rt, got.first().copied().flatten(), least, ("first", y));
+    Ok(())
+}
+
+/// Compares the rows from one to before another.
+fn compare<M: Metric>(
+    rt: &impl Abort,
+    alloc: Global,
+    bitmap: &Bitmap,
+    y0: u16,
+    y1: u16,
+) -> Result<(), Fail> {
+    let table = ColumnTable::of(alloc, bitmap)?;
+    assert!(rt; y0 <= y1);
+    assert!(rt; y1 <= bitmap.height());
+    let nears = rows::<M>(alloc, bitmap, y0, y1)?;
+    let width = usize::from(bitmap.width());
+    for (y, got) in (y0..y1).zip(nears.as_slice().chunks_exact(width)) {
+        compare_row::<M>(rt, alloc, bitmap, &table, y, got)?;
+    }
+    Ok(())
+}
+
+#[test]
+fn bands_have_the_rows_of_the_table(rt: HostRuntime) -> Result<(), Fail> {
+    let mut draws = Draws::new(20261125);
+    for rare in [2, 30, 700] {
+        for _ in 0..2 {
+            let (width, height) = (draws.side(20), draws.side(140));
+            let bitmap = draws.map(rt.alloc(), width, height, rare)?;
+            compare::<Euclid2>(&rt, rt.alloc(), &bitmap, 0, height)?;
+            compare::<City>(&rt, rt.alloc(), &bitmap, height / 5, height)?;
+            compare::<Chess>(&rt, rt.alloc(), &bitmap, 0, height - height / 7)?;
+        }
+    }
+    Ok(())
+}
