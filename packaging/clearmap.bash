@@ -9,7 +9,7 @@ _clearmap() {
         words='AT RECT PATH CLEAROF'
     else
         case $command in
-            dist) words='--metric --nearest --query --help' ;;
+            dist) words='--metric --nearest --query --workers --help' ;;
             steps) words='--help' ;;
             serve) words='--connections --port --blocks --versions --log --workers --help' ;;
             ask) words='--port --help' ;;

@@ -3,15 +3,19 @@
 
 Six maps (one obstacle; 0.1, 1 and 20 per cent of the cells at random; obstacles alone; a floor plan of rooms with doors) in
 several sizes, each with a fixed seed, are written as raw PBM. For each map the programs run in turn, round by round: `dist`,
-`dist --nearest`, and `scipy_dist.py`, which reads the same file and writes the same lines. All read from and write to files
-in memory. The distances of the three are compared, and each obstacle that `--nearest` names is looked up in the map.
+`dist --workers 4`, `dist --nearest`, and `scipy_dist.py`, which reads the same file and writes the same lines. All read from and
+write to files in memory. What four workers write is compared byte by byte with what one writes, the distances of the others are
+compared, and each obstacle that `--nearest` names is looked up in the map.
 
-Printed is a Markdown table, the least and the median time of each program. The program has to be built before.
+Printed is a Markdown table: the least and the median time of each program and of its processors, how many times as
+fast `dist` is as the script (the least of each), and the time of four workers beside that of one. The program has to be built before.
 """
 import argparse
 import datetime
+import filecmp
 import pathlib
 import random
+import resource
 import statistics
 import subprocess
 import sys
@@ -104,21 +108,28 @@ MAPS = (
 def commands(program):
     return (
         ("dist", [str(program), "dist"]),
+        ("dist --workers 4", [str(program), "dist", "--workers", "4"]),
         ("dist --nearest", [str(program), "dist", "--nearest"]),
         ("scipy", [PYTHON, SCIPY_DIST]),
     )
 
 
+def processor_seconds():
+    """The processor's seconds of all programs that were run."""
+    used = resource.getrusage(resource.RUSAGE_CHILDREN)
+    return used.ru_utime + used.ru_stime
+
+
 def timed(command, source, target):
-    """The seconds of one run, and those that the command tells of its own work, if it does."""
+    """The seconds of one run, its processor's, and those that the command tells of its own work, if it does."""
     with open(source, "rb") as given, open(target, "wb") as taken:
-        start = time.perf_counter()
+        start, used = time.perf_counter(), processor_seconds()
         run = subprocess.run(command, stdin=given, stdout=taken, stderr=subprocess.PIPE)
-        seconds = time.perf_counter() - start
+        seconds, worked = time.perf_counter() - start, processor_seconds() - used
     if run.returncode != 0:
         sys.exit(f"{' '.join(command)}: status {run.returncode}, {run.stderr[:400]!r}")
     told = run.stderr.decode().split()
-    return seconds, float(told[-1]) if told else None
+    return seconds, worked, float(told[-1]) if told else None
 
 
 def measure(program, rounds, source, folder):
@@ -126,14 +137,17 @@ def measure(program, rounds, source, folder):
     times = {}
     for _ in range(rounds):
         for name, command in commands(program):
-            seconds, own = timed(command, source, folder / f"{name}.txt")
+            seconds, worked, own = timed(command, source, folder / f"{name}.txt")
             times.setdefault(name, []).append(seconds)
+            times.setdefault(f"{name}, processor", []).append(worked)
             if own is not None:
                 times.setdefault(f"{name}, without its start", []).append(own)
     return times
 
 
 def check(source, folder):
+    if not filecmp.cmp(folder / "dist.txt", folder / "dist --workers 4.txt", shallow=False):
+        return "WRONG: four workers write another text"
     texts = [str(folder / f"{name}.txt") for name in ("dist", "dist --nearest", "scipy")]
     run = subprocess.run([PYTHON, CHECK, str(source)] + texts, capture_output=True)
     return run.stdout.decode().strip() if run.returncode == 0 else f"WRONG: {run.stderr.decode()[-300:]}"
@@ -141,6 +155,11 @@ def check(source, folder):
 
 def cell(times):
     return f"{min(times):.3f} / {statistics.median(times):.3f}"
+
+
+def ratios(times):
+    """How many times as fast `dist` is as the script, and the time of four workers beside that of one."""
+    return f"{min(times['scipy']) / min(times['dist']):.1f} | {min(times['dist --workers 4']) / min(times['dist']):.2f}"
 
 
 def processor():
@@ -173,11 +192,11 @@ def main():
                 times = measure(options.program, options.rounds, source, folder)
                 if header is None:
                     header = list(times)
-                    print("| Map | Cells a side | " + " | ".join(header) + " | Compared |")
-                    print("|---" * (len(header) + 3) + "|")
+                    print("| Map | Cells a side | " + " | ".join(header) + " | times as fast | four workers | Compared |")
+                    print("|---" * (len(header) + 5) + "|")
                 said = check(source, folder)
                 wrong = wrong or said.startswith("WRONG")
-                print(f"| {name} | {side} | " + " | ".join(cell(times[each]) for each in header) + f" | {said} |", flush=True)
+                print(f"| {name} | {side} | " + " | ".join(cell(times[each]) for each in header) + f" | {ratios(times)} | {said} |", flush=True)
     return 1 if wrong else 0
 
 

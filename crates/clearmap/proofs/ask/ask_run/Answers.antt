@@ -1,5 +1,0 @@
-use Rattle.clearmap.proofs.Gathering.{EndsEarly-line}
-use Rattle.clearmap.proofs.ask.ask_run.Goals as goal
-
-pub returns-clause-ended : goal.returns-clause-ended
-returns-clause-ended g c = λ other. (EndsEarly-line _ _ _ _ _ c.in-Err.ensures.cut c.end.ensures.line, c.end.ensures.status)

@@ -1,5 +1,0 @@
-use Rattle.clearmap.proofs.Gathering.{taken_behind}
-use Rattle.clearmap.proofs.ask.request.read_whole.Goals as goal
-
-pub returns-clause-taken : goal.returns-clause-taken
-returns-clause-taken g c = taken_behind _ _ _ _ _ c.in_ok-read_line.ensures.all c.read_count.ensures.taken

@@ -1,4 +1,0 @@
-use Rattle.clearmap.proofs.serve.accepted.AcceptedStreams.next.Given as goal
-
-abbrev pub decreases-connections : goal.decreases-connections
-decreases-connections l = l.self.left

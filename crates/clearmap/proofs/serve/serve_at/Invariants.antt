@@ -1,5 +1,0 @@
--- The store that was just made has the name.
-use Rattle.clearmap.proofs.serve.serve_at.Given as goal
-
-abbrev pub ghosts-serve_blank : goal.ghosts-serve_blank
-ghosts-serve_blank g a = record { store = a.blank }

@@ -1,5 +1,0 @@
-use Rattle.clearmap.proofs.Keeping.{Keeps-more}
-use Rattle.clearmap.proofs.steps.run.keep.Goals as goal
-
-pub steps-preserved : goal.steps-preserved
-steps-preserved c = Keeps-more _ _ _ _ _ _ c.steps.invariant c.step-answer-in-steps.ensures

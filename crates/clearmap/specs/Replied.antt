@@ -1,8 +1,0 @@
--- What a reply in memory is of an image and a line: this project's own rule.
-use Rattle.std.specs.Prelude.{ℕ, List}
-use Rattle.clearmap.specs.Dist.{IsReply}
-use Rattle.clearmap.specs.declared.reply.Reply.{Reply}
-
--- the bytes read as an image, and this is the reply to the line
-abbrev pub IsReplyOf : List ℕ → List ℕ → Reply → Type 0
-IsReplyOf line bytes reply = IsReply line bytes reply.text reply.status

@@ -1,0 +1,222 @@
+//! A server and its clients over loopback, in one process.
+
+use crate::compare::same;
+use bits::Bitmap;
+use crossbeam_channel::{Receiver, Sender, bounded};
+use engines::arguments::{AskOptions, ServeOptions};
+use engines::net::ask;
+use engines::{Socket, ask_run, serve_run};
+use metric::{MemorySink, MemorySource};
+use std::alloc::Global;
+use std::io::Write;
+use std::net::{Ipv4Addr, Net, SocketAddr, SocketAddrV4, TcpListener, TcpStream};
+use std::process::Abort;
+use std::sync::Wait;
+use std::test::Fail;
+use std::thread;
+use std::thread::Threads;
+
+/// The worked map of three columns and two rows.
+const ROOM: &[u8] = b"P1\n3 2\n100\n000\n";
+
+/// How so many connections are served by two workers.
+fn two_workers(connections: u32) -> ServeOptions {
+    ServeOptions {
+        connections,
+        port: 0,
+        blocks: 16384,
+        versions: 8,
+        log: 100000,
+        workers: 2,
+    }
+}
+
+/// The worked map.
+fn room(alloc: Global) -> Result<Bitmap, Fail> {
+    match pbm::read_image(alloc, ROOM) {
+        Ok((map, _)) => Ok(map),
+        Err(_) => Err(Fail::from("the worked map is an image")),
+    }
+}
+
+/// A port of this machine.
+fn local(port: u16) -> SocketAddr {
+    SocketAddr::V4(SocketAddrV4::new(Ipv4Addr::LOCALHOST, port))
+}
+
+/// Asks lines of a server, and gives what is printed and the status.
+fn ask_at<R: Net<Listener = TcpListener, Stream = TcpStream>>(
+    rt: &R,
+    alloc: Global,
+    port: u16,
+    lines: &[u8],
+) -> (MemorySink, u8) {
+    let mut reader = MemorySource::new(lines);
+    let mut writer = MemorySink::new(alloc);
+    let mut status = 9;
+    if let Ok(stream) = TcpStream::connect(rt, local(port))
+        && let Some(mut socket) = Socket::new(alloc, stream)
+    {
+        status = ask_run(alloc, &mut socket, &mut reader, &mut writer);
+    }
+    (writer, status)
+}
+
+/// What a server writes at this port.
+fn told(alloc: Global, port: u16, end: &str) -> Result<String, Fail> {
+    Ok(format!(in alloc; "LISTENING {port}\n{end}")?)
+}
+
+#[test]
+fn two_clients_are_served(rt: HostRuntime) -> Result<(), Fail> {
+    let alloc = rt.alloc();
+    let map = room(alloc)?;
+    let listener = TcpListener::bind(&rt, local(0))?;
+    let port = listener.local_addr()?.port();
+    let (sender, receiver): (Sender<u8>, Receiver<u8>) = bounded(alloc, 1)?;
+    let (served, asked) = thread::join(
+        &rt,
+        || {
+            let mut writer = MemorySink::new(alloc);
+            let status = serve_run(&rt, alloc, listener, map, &two_workers(2), &mut writer);
+            (writer, status)
+        },
+        || {
+            thread::join(
+                &rt,
+                || {
+                    let first = ask_at(&rt, alloc, port, b"PAINT 1 0 2 1\nPUBLISH\nQUIT\n");
+                    let _ = sender.send(&rt, 1);
+                    first
+                },
+                || {
+                    let _ = receiver.recv(&rt);
+                    ask_at(&rt, alloc, port, b"PIN\nAT city 2 1\nQUIT\n")
+                },
+            )
+        },
+    );
+    let (first, second) = asked;
+    same(
+        &rt,
+        first.0.bytes(),
+        b"OK 1 1\nOK 2 1\nBYE\n".as_slice(),
+        "bytes",
+    );
+    same(
+        &rt,
+        second.0.bytes(),
+        b"OK 1\nOK 2 1 0\nBYE\n".as_slice(),
+        "bytes",
+    );
+    same(
+        &rt,
+        served.0.bytes(),
+        told(alloc, port, "SERVED 2 2\n")?.as_bytes(),
+        "bytes",
+    );
+    assert!(rt; first.1 == 0 && second.1 == 0 && served.1 == 0);
+    Ok(())
+}
+
+/// Sends bytes and lets the connection go.
+fn break_off<R: Net<Listener = TcpListener, Stream = TcpStream>>(rt: &R, port: u16, bytes: &[u8]) {
+    if let Ok(mut stream) = TcpStream::connect(rt, local(port)) {
+        let _ = stream.write_all(bytes);
+    }
+}
+
+#[test]
+fn a_broken_connection_counts(rt: HostRuntime) -> Result<(), Fail> {
+    let alloc = rt.alloc();
+    let map = room(alloc)?;
+    let listener = TcpListener::bind(&rt, local(0))?;
+    let port = listener.local_addr()?.port();
+    let (served, asked) = thread::join(
+        &rt,
+        || {
+            let mut writer = MemorySink::new(alloc);
+            let status = serve_run(&rt, alloc, listener, map, &two_workers(5), &mut writer);
+            (writer, status)
+        },
+        || {
+            break_off(&rt, port, b"");
+            break_off(&rt, port, b"PIN\nUNP");
+            break_off(&rt, port, b"STAMP 0 0 11\nP1\n2 2\n100");
+            break_off(&rt, port, b"PAINT 0 0 3 2\n");
+            ask_at(&rt, alloc, port, b"PIN\nDUMP\nCOLLECT\nNO\nQUIT\n")
+        },
+    );
+    assert!(rt;
+        asked
+            .0
+            .bytes()
+            .starts_with(b"OK 0\nOK 15\nP1\n3 2\n100\n000\nOK ")
+    );
+    assert!(rt;
+        asked
+            .0
+            .bytes()
+            .ends_with(b" 0 0\nERR 11 UnknownCommand\nBYE\n")
+    );
+    same(
+        &rt,
+        served.0.bytes(),
+        told(alloc, port, "SERVED 5 2\n")?.as_bytes(),
+        "bytes",
+    );
+    assert!(rt; asked.1 == 0 && served.1 == 0);
+    Ok(())
+}
+
+#[test]
+fn a_bad_setting_is_told(rt: HostRuntime) -> Result<(), Fail> {
+    let alloc = rt.alloc();
+    let rows = [
+        (
+            ServeOptions {
+                blocks: 0,
+                versions: 1,
+                ..two_workers(1)
+            },
+            "ERR 16 BadSetting Blocks\n",
+        ),
+        (
+            ServeOptions {
+                versions: 65,
+                log: 0,
+                ..two_workers(1)
+            },
+            "ERR 16 BadSetting Versions\n",
+        ),
+        (
+            ServeOptions {
+                log: 0,
+                ..two_workers(1)
+            },
+            "ERR 16 BadSetting Log\n",
+        ),
+    ];
+    for (options, want) in rows {
+        let listener = TcpListener::bind(&rt, local(0))?;
+        let mut writer = MemorySink::new(alloc);
+        let status = serve_run(&rt, alloc, listener, room(alloc)?, &options, &mut writer);
+        same(&rt, status, 1, "status");
+        same(&rt, writer.bytes(), want.as_bytes(), "bytes");
+    }
+    Ok(())
+}
+
+#[test]
+fn no_server_is_told(rt: HostRuntime) -> Result<(), Fail> {
+    let alloc = rt.alloc();
+    let listener = TcpListener::bind(&rt, local(0))?;
+    let port = listener.local_addr()?.port();
+    drop(listener);
+    let mut reader = MemorySource::new(b"PIN\n");
+    let mut writer = MemorySink::new(alloc);
+    let status = ask(&rt, alloc, &AskOptions { port }, &mut reader, &mut writer);
+    same(&rt, status, 1, "status");
+    same(&rt, writer.bytes(), b"FAULT net\n".as_slice(), "bytes");
+    Ok(())
+}

@@ -1,0 +1,148 @@
+-- What the words `dist` and `steps` alone say.
+use Rattle.std.proofs.Common.{◌≡◌, ℕ, List, [], ◌∷◌, Option, Some, None, Bool, refl, ap, ap₂, sym, subst, inl, inr, ◌∙◌, true, false, codes}
+use Rattle.std.specs.Prelude.{option_map, option_and_then, is_some, IsSome}
+use Rattle.std.specs.Borrow.{Bor}
+use Rattle.std.proofs.lemmas.Bool.{false≢true}
+use Rattle.clap.specs.Words.{HasMatchesOf, Row, Text, first_of, one_of, is_simple, takes, subcommand_of, subcommand_rows_of}
+use Rattle.clap.specs.Matches.{subcommand_name_of}
+use Rattle.clap.specs.declared.parser.matches.ArgMatches.{ArgMatches}
+use Rattle.clap.proofs.OnLiterals.{clap_on_literals}
+use Rattle.metric.specs.Digits.{value_from}
+use Rattle.metric.specs.Kind.{metric_named}
+use Rattle.metric.specs.declared.kind.MetricKind.{MetricKind}
+use Rattle.metric.specs.declared.kind.MetricKind.TheVariants.{Euclid2}
+use Rattle.engines.specs.declared.arguments.DistOptions.{DistOptions}
+use Rattle.engines.specs.CommandLine.{AreDistOptions, AreNoDistOptions, AreTaken, default_options, program_app}
+use Rattle.proto.specs.Numbers.{number}
+use Rattle.engines.specs.ServeLine.{in_range}
+use Rattle.clearance.proofs.Refusals.{map_none}
+
+-- what the words say of the subcommand and its flags
+abbrev pub read_of : Option (Text × List Row) → Option (Text × Option Text × Option Text × Option Text × Option Text)
+read_of found = option_map (λ p. (p.0, first_of (codes "metric") p.1, one_of (codes "nearest") p.1, first_of (codes "query") p.1, first_of (codes "workers") p.1)) found
+
+-- the words are taken, whatever the program is called
+pub takes_dist : (name : List ℕ) → takes program_app (name ∷ codes "dist" ∷ []) ≡ true
+unfolding clap_on_literals
+takes_dist name = refl
+
+-- they name the subcommand `dist`, and its flags have their defaults
+pub read_of_dist : (name : List ℕ) → read_of (subcommand_of program_app (name ∷ codes "dist" ∷ [])) ≡ Some (codes "dist", Some (codes "euclid2"), Some (codes "false"), None, Some (codes "1"))
+unfolding clap_on_literals
+read_of_dist name = refl
+
+-- the program's commands and flags are simple ones
+pub program_is_simple : is_simple program_app ≡ true
+unfolding clap_on_literals
+program_is_simple = refl
+
+-- of pairs made from an option's value, the first part
+first_of_pair : {X A B : Type 0} (f : X → A) (g : X → B) (o : Option X) → option_map f o ≡ option_map (λ (p : A × B). p.0) (option_map (λ b. (f b, g b)) o)
+first_of_pair f g None = refl
+first_of_pair f g (Some x) = refl
+
+-- the first part of what is read is the subcommand's name
+name_of_read : (found : Option (Text × List Row)) (name : Text) (metric nearest query workers : Option Text) → read_of found ≡ Some (name, metric, nearest, query, workers) → option_map (λ (p : Text × List Row). p.0) found ≡ Some name
+name_of_read None name metric nearest query workers e = absurd (cc)
+name_of_read (Some p) name metric nearest query workers e = let same : read_of (Some p) ≡ Some (name, metric, nearest, query, workers) = e in ap (option_map (λ (t : Text × Option Text × Option Text × Option Text × Option Text). t.0)) same
+
+-- a parse whose words name the subcommand `dist` has met it
+pub named_dist : (name : List ℕ) (texts : List (List ℕ)) (matches : ArgMatches) → texts ≡ name ∷ codes "dist" ∷ [] → HasMatchesOf program_app texts matches → subcommand_name_of matches ≡ Some (codes "dist")
+named_dist name texts matches words found =
+    let met : subcommand_rows_of matches ≡ subcommand_of program_app (name ∷ codes "dist" ∷ []) = (found program_is_simple).1 ∙ ap (subcommand_of program_app) words in
+    first_of_pair _ _ _ ∙ (ap (option_map (λ (p : Text × List Row). p.0)) met
+    ∙ name_of_read (subcommand_of program_app (name ∷ codes "dist" ∷ [])) (codes "dist") (Some (codes "euclid2")) (Some (codes "false")) None (Some (codes "1")) (read_of_dist name))
+
+-- the flags that were read are those of the subcommand's rows
+read_rows : (found : Option (Text × List Row)) (rows : List Row) (name : Text) (metric nearest query workers : Option Text) → option_map (λ (p : Text × List Row). p.1) found ≡ Some rows
+    → read_of found ≡ Some (name, metric, nearest, query, workers) → (first_of (codes "metric") rows ≡ metric) × (one_of (codes "nearest") rows ≡ nearest) × (first_of (codes "query") rows ≡ query) × (first_of (codes "workers") rows ≡ workers)
+read_rows None rows name metric nearest query workers these read = absurd (cc)
+read_rows (Some p) rows name metric nearest query workers these read =
+    let same : p.1 ≡ rows = cc in
+    let first : Some (first_of (codes "metric") p.1) ≡ Some metric = ap (option_map (λ (t : Text × Option Text × Option Text × Option Text × Option Text). t.1)) read in
+    let second : Some (one_of (codes "nearest") p.1) ≡ Some nearest = ap (option_map (λ (t : Text × Option Text × Option Text × Option Text × Option Text). t.2)) read in
+    let third : Some (first_of (codes "query") p.1) ≡ Some query = ap (option_map (λ (t : Text × Option Text × Option Text × Option Text × Option Text). t.3)) read in
+    let fourth : Some (first_of (codes "workers") p.1) ≡ Some workers = ap (option_map (λ (t : Text × Option Text × Option Text × Option Text × Option Text). t.4)) read in
+    (rw (← same) (cc), rw (← same) (cc), rw (← same) (cc), rw (← same) (cc))
+
+-- the words `steps` alone are taken, whatever the program is called
+pub takes_steps : (name : List ℕ) → takes program_app (name ∷ codes "steps" ∷ []) ≡ true
+unfolding clap_on_literals
+takes_steps name = refl
+
+-- they name the subcommand `steps`
+name_of_steps : (name : List ℕ) → option_map (λ (p : Text × List Row). p.0) (subcommand_of program_app (name ∷ codes "steps" ∷ [])) ≡ Some (codes "steps")
+unfolding clap_on_literals
+name_of_steps name = refl
+
+-- a parse whose words name the subcommand `steps` has met it
+pub named_steps : (name : List ℕ) (texts : List (List ℕ)) (matches : ArgMatches) → texts ≡ name ∷ codes "steps" ∷ [] → HasMatchesOf program_app texts matches → subcommand_name_of matches ≡ Some (codes "steps")
+named_steps name texts matches words found =
+    let met : subcommand_rows_of matches ≡ subcommand_of program_app (name ∷ codes "steps" ∷ []) = (found program_is_simple).1 ∙ ap (subcommand_of program_app) words in
+    first_of_pair _ _ _ ∙ (ap (option_map (λ (p : Text × List Row). p.0)) met ∙ name_of_steps name)
+
+-- a parse whose words name a subcommand has met it
+pub named_so : (name : Text) (rows : List Row) (texts : List (List ℕ)) (matches : ArgMatches) → HasMatchesOf program_app texts matches → subcommand_of program_app texts ≡ Some (name, rows) → subcommand_name_of matches ≡ Some name
+named_so name rows texts matches found named = first_of_pair _ _ _ ∙ ap (option_map (λ (p : Text × List Row). p.0)) ((found program_is_simple).1 ∙ named)
+
+-- and its flags are those that the words give
+rows_so : (name : Text) (given rows : List Row) (texts : List (List ℕ)) (matches : ArgMatches) → HasMatchesOf program_app texts matches → subcommand_of program_app texts ≡ Some (name, given)
+    → option_map (λ (p : Text × List Row). p.1) (subcommand_rows_of matches) ≡ Some rows → given ≡ rows
+rows_so name given rows texts matches found named these =
+    let same : Some given ≡ Some rows = sym (ap (option_map (λ (p : Text × List Row). p.1)) ((found program_is_simple).1 ∙ named)) ∙ these in cc
+
+-- no subcommand has both names
+pub one_name : (name : Option Text) → name ≡ Some (codes "dist") → name ≡ Some (codes "steps") → ⊥
+one_name name dist steps = let same : Some (codes "dist") ≡ Some (codes "steps") = sym dist ∙ steps in cc
+
+-- where the words are `dist` alone its flags have their defaults
+pub dist_defaults : (name : List ℕ) (texts : List (List ℕ)) (matches : ArgMatches) (rows : List Row) → texts ≡ name ∷ codes "dist" ∷ [] → HasMatchesOf program_app texts matches
+    → option_map (λ (p : Text × List Row). p.1) (subcommand_rows_of matches) ≡ Some rows
+    → (first_of (codes "metric") rows ≡ Some (codes "euclid2")) × (one_of (codes "nearest") rows ≡ Some (codes "false")) × (first_of (codes "query") rows ≡ None) × (first_of (codes "workers") rows ≡ Some (codes "1"))
+dist_defaults name texts matches rows words found these =
+    let met : subcommand_rows_of matches ≡ subcommand_of program_app (name ∷ codes "dist" ∷ []) = (found program_is_simple).1 ∙ ap (subcommand_of program_app) words in
+    read_rows (subcommand_of program_app (name ∷ codes "dist" ∷ [])) rows (codes "dist") (Some (codes "euclid2")) (Some (codes "false")) None (Some (codes "1"))
+    (rw (← met) these) (read_of_dist name)
+
+-- the default number of workers is one
+one_worker : in_range 1 16 (Some (codes "1")) ≡ Some 1
+unfolding number value_from
+one_worker = refl
+
+-- flags with their defaults are the default options
+pub default_options-read : (rows : List Row) (options : DistOptions) → AreDistOptions rows options → first_of (codes "metric") rows ≡ Some (codes "euclid2") → one_of (codes "nearest") rows ≡ Some (codes "false")
+    → first_of (codes "query") rows ≡ None → first_of (codes "workers") rows ≡ Some (codes "1") → options ≡ default_options
+default_options-read rows options are metric nearest query workers =
+    let named : Some Euclid2 ≡ Some options.metric = ap (option_and_then metric_named) (sym metric) ∙ are.metric in
+    let euclid : options.metric ≡ Euclid2 = cc in
+    let plain : options.nearest ≡ false = are.unset nearest in
+    let unasked : options.query ≡ None = map_none _ options.query (are.query ∙ query) in
+    let counted : Some 1 ≡ Some options.workers = sym one_worker ∙ (ap (in_range 1 16) (sym workers) ∙ are.workers) in
+    let one : options.workers ≡ 1 = cc in
+    ap₂ (λ (m : MetricKind) (n : Bool). record { metric = m; nearest = n; query = options.query; workers = options.workers }) euclid plain
+    ∙ ap₂ (λ (q : Option (Bor (List ℕ))) (w : ℕ). record { metric = Euclid2; nearest = false; query = q; workers = w }) unasked one
+
+-- flags with their defaults are no mistake
+pub defaults_are_known : (rows : List Row) → first_of (codes "metric") rows ≡ Some (codes "euclid2") → first_of (codes "workers") rows ≡ Some (codes "1") → AreNoDistOptions rows → ⊥
+defaults_are_known rows metric workers (inl unknown) = let named : Some Euclid2 ≡ None = ap (option_and_then metric_named) (sym metric) ∙ unknown in cc
+defaults_are_known rows metric workers (inr unknown) =
+    let counted = sym one_worker ∙ (ap (in_range 1 16) (sym workers) ∙ unknown) in
+    false≢true (sym (ap is_some counted))
+
+-- where the words are to be taken the metric and the number of workers are known
+pub flags_are_known : (rows : List Row) (texts : List (List ℕ)) (matches : ArgMatches) → AreTaken texts → HasMatchesOf program_app texts matches → subcommand_name_of matches ≡ Some (codes "dist")
+    → option_map (λ (p : Text × List Row). p.1) (subcommand_rows_of matches) ≡ Some rows → AreNoDistOptions rows → ⊥
+flags_are_known rows texts matches (takes, inl dist) found met these (inl unknown) =
+    let same = rows_so (codes "dist") dist.rows rows texts matches found dist.named these in
+    let known = subst (λ (r : List Row). IsSome (option_and_then metric_named (first_of (codes "metric") r))) same dist.metric in
+    false≢true (sym (ap is_some unknown) ∙ known)
+flags_are_known rows texts matches (takes, inl dist) found met these (inr unknown) =
+    let same = rows_so (codes "dist") dist.rows rows texts matches found dist.named these in
+    let known = subst (λ (r : List Row). IsSome (in_range 1 16 (first_of (codes "workers") r))) same dist.workers in
+    false≢true (sym (ap is_some unknown) ∙ known)
+flags_are_known rows texts matches (takes, inr steps) found met these unknown = one_name _ met (named_so (codes "steps") steps.rows texts matches found steps.named)
+
+-- where the words are to be taken a subcommand is named
+pub command_is_named : (texts : List (List ℕ)) (matches : ArgMatches) → AreTaken texts → HasMatchesOf program_app texts matches → (subcommand_name_of matches ≡ Some (codes "dist") → ⊥) → (subcommand_name_of matches ≡ Some (codes "steps") → ⊥) → ⊥
+command_is_named texts matches (takes, inl dist) found no_dist no_steps = no_dist (named_so (codes "dist") dist.rows texts matches found dist.named)
+command_is_named texts matches (takes, inr steps) found no_dist no_steps = no_steps (named_so (codes "steps") steps.rows texts matches found steps.named)

@@ -1,0 +1,98 @@
+-- Bytes that are taken from a stream, and put into a buffer or written to another stream.
+use Rattle.std.proofs.Common.{◌≡◌, ℕ, List, [], ◌∷◌, ◌++◌, Option, Some, None, Result, Ok, Err, OnOk, OnErr, refl, sym, ap, subst, ◌∙◌, append_assoc}
+use Rattle.std.proofs.lemmas.List.{append-nil}
+use Rattle.metric.specs.Stream.{Takes, TakesByte, Appends, AppendsFront}
+use Rattle.metric.proofs.Appending.{Appends-nothing, Appends-more, AppendsFront-whole}
+use Rattle.metric.proofs.Taking.{Takes-nothing, Takes-more}
+use Rattle.engines.specs.Passing.{Gathers, PassesOn, PassesFront, EndsEarly, WritesEnd}
+use Rattle.engines.proofs.RefusalLines.{front_second}
+
+-- bytes taken behind others, where the stream tells them
+takes_behind : (told left first second : List ℕ) (new : Option (List ℕ)) → told ≡ first ++ left → Takes (Some left) second new → Takes (Some told) (first ++ second) new
+takes_behind told left first second new split (rest, is, next) = (rest, is, split ∙ (ap (λ t. first ++ t) next ∙ sym (append_assoc first second rest)))
+
+-- bytes taken, and then others
+pub Takes-both : (old between new : Option (List ℕ)) (first second : List ℕ) → Takes old first between → Takes between second new → Takes old (first ++ second) new
+Takes-both None between new first second one two = let told : Takes None second new = subst (λ r. Takes r second new) one two in told
+Takes-both (Some told) between new first second (left, is, split) two = takes_behind told left first second new split (subst (λ r. Takes r second new) is two)
+
+-- a byte that was met is one that was taken
+pub Takes-byte : (old new : Option (List ℕ)) (byte : ℕ) → TakesByte old (Some byte) new → Takes old (byte ∷ []) new
+Takes-byte old new byte next = Takes-more old old new [] byte (Takes-nothing old) next
+
+-- the end that was met takes nothing
+pub Takes-end : (old new : Option (List ℕ)) → TakesByte old None new → Takes old [] new
+Takes-end None new next = next
+Takes-end (Some []) new (none, same) = ([], same, refl)
+Takes-end (Some (b ∷ bytes)) new (none, same) = absurd (cc)
+
+-- nothing is gathered at first
+pub Gathers-nothing : (rest : Option (List ℕ)) (buffer : List ℕ) → Gathers rest buffer buffer rest
+Gathers-nothing rest buffer = record { bytes = []; taken = Takes-nothing rest; after_is = sym (append-nil buffer) }
+
+-- one part is gathered behind another
+pub Gathers-both : (old between new : Option (List ℕ)) (before middle after : List ℕ) → Gathers old before middle between → Gathers between middle after new → Gathers old before after new
+Gathers-both old between new before middle after one two = record {
+  bytes = one.bytes ++ two.bytes;
+  taken = Takes-both old between new one.bytes two.bytes one.taken two.taken;
+  after_is = two.after_is ∙ (ap (λ t. t ++ two.bytes) one.after_is ∙ append_assoc before one.bytes two.bytes);
+}
+
+-- what was gathered, and more that was taken, was taken
+pub taken_behind : (old between new : Option (List ℕ)) (before after : List ℕ) → Gathers old before after between → ((bytes : List ℕ) × Takes between bytes new) → (bytes : List ℕ) × Takes old bytes new
+taken_behind old between new before after one (bytes, two) = (one.bytes ++ bytes, Takes-both old between new one.bytes bytes one.taken two)
+
+-- what is gathered in an empty buffer is what was taken
+pub Gathers-taken : (unread left : Option (List ℕ)) (before after : List ℕ) → before ≡ [] → Gathers unread before after left → Takes unread after left
+Gathers-taken unread left before after empty all =
+    let same : after ≡ all.bytes = all.after_is ∙ ap (λ t. t ++ all.bytes) empty in rw same all.taken
+
+-- nothing written is a beginning of anything
+pub front_nothing : (held : Option (List ℕ)) (bytes : List ℕ) → AppendsFront held bytes held
+front_nothing held bytes = record { front = []; back = bytes; whole = refl; appended = Appends-nothing held }
+
+-- nothing passes at first
+pub PassesOn-nothing : (unread held : Option (List ℕ)) → PassesOn unread unread held held
+PassesOn-nothing unread held = record { bytes = []; taken = Takes-nothing unread; written = Appends-nothing held }
+
+-- what was read, of which nothing was written
+pub PassesFront-read : (unread left held : Option (List ℕ)) → ((bytes : List ℕ) × Takes unread bytes left) → PassesFront unread left held held
+PassesFront-read unread left held (bytes, taken) = record { bytes = bytes; taken = taken; written = front_nothing held bytes }
+
+-- what passed whole passed as a beginning of itself
+pub PassesFront-whole : (unread left before after : Option (List ℕ)) → PassesOn unread left before after → PassesFront unread left before after
+PassesFront-whole unread left before after whole = record { bytes = whole.bytes; taken = whole.taken; written = AppendsFront-whole before after whole.bytes whole.written }
+
+-- one part passes behind another
+pub PassesOn-both : (unread between left before middle after : Option (List ℕ)) → PassesOn unread between before middle → PassesOn between left middle after → PassesOn unread left before after
+PassesOn-both unread between left before middle after one two = record {
+  bytes = one.bytes ++ two.bytes;
+  taken = Takes-both unread between left one.bytes two.bytes one.taken two.taken;
+  written = Appends-more before middle after one.bytes two.bytes one.written two.written;
+}
+
+-- a part passes behind another in part
+pub PassesFront-both : (unread between left before middle after : Option (List ℕ)) → PassesOn unread between before middle → PassesFront between left middle after → PassesFront unread left before after
+PassesFront-both unread between left before middle after one two = record {
+  bytes = one.bytes ++ two.bytes;
+  taken = Takes-both unread between left one.bytes two.bytes one.taken two.taken;
+  written = front_second before middle after one.bytes two.bytes one.written two.written;
+}
+
+-- a beginning, and the line that tells why it ended
+pub EndsEarly-line : (unread left before middle after : Option (List ℕ)) → PassesFront unread left before middle → WritesEnd middle after → EndsEarly unread left before after
+EndsEarly-line unread left before middle after part last = record {
+  bytes = part.bytes;
+  front = part.written.front;
+  back = part.written.back;
+  line = last.line;
+  taken = part.taken;
+  bytes_are = part.written.whole;
+  line_is = last.line_is;
+  written = front_second before middle after part.written.front last.line part.written.appended last.written;
+}
+
+-- a text that was written whole or in part was written in part
+pub written_either : {T E : Type 0} (before after : Option (List ℕ)) (text : List ℕ) (result : Result T E) → OnOk result (Appends before text after) → OnErr result (AppendsFront before text after) → AppendsFront before text after
+written_either before after text (Ok value) whole front = AppendsFront-whole before after text whole
+written_either before after text (Err fault) whole front = front

@@ -1,0 +1,22 @@
+-- Steps of the keeper, one after another.
+use Rattle.std.proofs.Common.{ℕ, ◌+◌, [], ◌∷◌, ◌++◌, Result, refl}
+use Rattle.std.specs.Prelude.{replicate}
+use Rattle.std.proofs.lemmas.List.{replicate_more}
+use Rattle.map_core.specs.declared.event.Event.TheVariants as events
+use Rattle.map_core.specs.declared.event.NotEnabled.{NotEnabled}
+use Rattle.map_core.specs.declared.event.StepReply.{StepReply}
+use Rattle.map_core.specs.Runs.{SafeStep}
+use Rattle.map_core.specs.Views.{State}
+use Rattle.engines.specs.Steps.{Keeps}
+use Rattle.map_core.proofs.RunLemmas.{run-push}
+
+-- one step
+pub Keeps-one : (old new : State) (answer : Result StepReply NotEnabled) → SafeStep old events.Keep answer new → Keeps 1 old answer new
+Keeps-one old new answer step = record { before = []; run = (new, step, refl) }
+
+-- one step more
+pub Keeps-more : (count : ℕ) (old mid new : State) (first second : Result StepReply NotEnabled) → Keeps count old first mid → SafeStep mid events.Keep second new → Keeps (count + 1) old second new
+Keeps-more count old mid new first second kept step = record {
+  before = kept.before ++ first ∷ [];
+  run = rw (← replicate_more count events.Keep) (run-push old mid new (replicate count events.Keep) (kept.before ++ first ∷ []) events.Keep second kept.run step);
+}

@@ -1,0 +1,16 @@
+pub mod Answering
+pub mod CommandLines
+pub mod Lines
+pub mod RefusalLines
+pub mod PartLemmas
+pub mod PuttingLemmas
+pub mod QuadLemmas
+pub mod RowLemmas
+pub mod Telling
+pub mod Gathering
+pub mod Hearing
+pub mod Keeping
+pub mod LineSplitting
+pub mod OpeningLemmas
+pub mod ServingLemmas
+pub mod StepAnswering

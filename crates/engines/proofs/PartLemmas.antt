@@ -1,0 +1,53 @@
+-- The lines of rows that stand in parts, one part's behind another's.
+use Rattle.std.proofs.Common.{◌≡◌, ℕ, ◌+◌, ◌-◌, ◌*◌, ◌<◌, ◌≤◌, List, ◌++◌, Bool, Option, min, refl, arith}
+use Rattle.metric.specs.Stream.{Appends, AppendsFront}
+use Rattle.metric.proofs.Appending.{Appends-more, AppendsFront-more}
+use Rattle.metric.specs.declared.near.Near.{Near}
+use Rattle.engines.specs.Table.{rows_text, table_text}
+use Rattle.engines.proofs.RowLemmas.{rows_text-all, rows_text-append}
+
+-- the lines of the rows between two
+abbrev pub rows_between : Bool → ℕ → List (Option Near) → ℕ → ℕ → List ℕ
+rows_between nearest width nears from to = rows_text nearest width from (to - from) nears
+
+-- the lines of a table are those of all its rows
+pub table_text-between : (nearest : Bool) (width height : ℕ) (nears : List (Option Near)) → table_text nearest width height nears ≡ rows_between nearest width nears 0 height
+table_text-between nearest width height nears =
+    let all : height - 0 ≡ height = omega arith in
+    rw all (rows_text-all nearest width height nears)
+
+-- the lines of some rows and of those behind them
+pub rows_between-join : (nearest : Bool) (width : ℕ) (nears : List (Option Near)) (from middle to : ℕ) → from ≤ middle → middle ≤ to
+    → rows_between nearest width nears from to ≡ rows_between nearest width nears from middle ++ rows_between nearest width nears middle to
+rows_between-join nearest width nears from middle to above below =
+    let both : to - from ≡ (middle - from) + (to - middle) = omega arith in
+    let on : from + (middle - from) ≡ middle = omega arith in
+    rw (both, rows_text-append nearest width from (middle - from) (to - middle) nears, on) refl
+
+-- a beginning of the lines in the middle, behind all those above them, is a beginning of all
+pub AppendsFront-rows : (nearest : Bool) (width : ℕ) (nears : List (Option Near)) (from middle next to : ℕ) (before between after : Option (List ℕ)) → from ≤ middle → middle ≤ next → next ≤ to
+    → Appends before (rows_between nearest width nears from middle) between → AppendsFront between (rows_between nearest width nears middle next) after
+    → AppendsFront before (rows_between nearest width nears from to) after
+AppendsFront-rows nearest width nears from middle next to before between after one two three above line =
+    rw (rows_between-join nearest width nears from middle to one (omega arith), rows_between-join nearest width nears middle next to two three)
+    (AppendsFront-more before between after (rows_between nearest width nears from middle) (rows_between nearest width nears middle next) (rows_between nearest width nears next to) above line)
+
+-- one part more is written
+pub Appends-part : (nearest : Bool) (width height : ℕ) (nears : List (Option Near)) (from k : ℕ) (text : List ℕ) (before between after : Option (List ℕ))
+    → Appends before (rows_between nearest width nears (min height from) (min height (from + 16 * k))) between
+    → text ≡ rows_between nearest width nears (min height (from + 16 * k)) (min height (from + 16 * k + 16)) → Appends between text after
+    → Appends before (rows_between nearest width nears (min height from) (min height (from + 16 * (k + 1)))) after
+Appends-part nearest width height nears from k text before between after above is here =
+    let next : from + 16 * (k + 1) ≡ from + 16 * k + 16 = omega arith in
+    rw (next, rows_between-join nearest width nears (min height from) (min height (from + 16 * k)) (min height (from + 16 * k + 16)) (omega arith) (omega arith))
+    (Appends-more before between after (rows_between nearest width nears (min height from) (min height (from + 16 * k))) (rows_between nearest width nears (min height (from + 16 * k)) (min height (from + 16 * k + 16))) above
+    (rw is at here))
+
+-- one part is written in part
+pub AppendsFront-part : (nearest : Bool) (width height : ℕ) (nears : List (Option Near)) (from k count : ℕ) (text : List ℕ) (before between after : Option (List ℕ)) → k < count
+    → Appends before (rows_between nearest width nears (min height from) (min height (from + 16 * k))) between
+    → text ≡ rows_between nearest width nears (min height (from + 16 * k)) (min height (from + 16 * k + 16)) → AppendsFront between text after
+    → AppendsFront before (rows_between nearest width nears (min height from) (min height (from + 16 * count))) after
+AppendsFront-part nearest width height nears from k count text before between after below above is here =
+    AppendsFront-rows nearest width nears (min height from) (min height (from + 16 * k)) (min height (from + 16 * k + 16)) (min height (from + 16 * count)) before between after
+    (omega arith) (omega arith) (omega arith) above (rw is at here)

@@ -1,0 +1,5 @@
+use Rattle.engines.proofs.Gathering.{EndsEarly-line}
+use Rattle.engines.proofs.ask.ask_run.Goals as goal
+
+pub returns-clause-ended : goal.returns-clause-ended
+returns-clause-ended g c = λ other. (EndsEarly-line _ _ _ _ _ c.in-Err.ensures.cut c.end.ensures.line, c.end.ensures.status)

@@ -1,0 +1,11 @@
+use Rattle.std.proofs.Common.{◌≡◌}
+use Rattle.engines.specs.Passing.{Gathers}
+use Rattle.engines.proofs.gather.read_line.Given as goal
+
+-- what was read so far stands in the buffer, and no read has failed
+abbrev pub invariant-bytes : goal.invariant-bytes
+invariant-bytes g l = record {
+  gathered : Gathers (g.R.Source.rest l.fn.reader) l.fn.bytes.items l.bytes.items (g.R.Source.rest l.reader);
+  none_failed : g.R.Source.failed_reads l.reader ≡ g.R.Source.failed_reads l.fn.reader;
+  written : g.R.Source.written l.reader ≡ g.R.Source.written l.fn.reader;
+}

@@ -1,0 +1,12 @@
+use Rattle.std.proofs.Common.{◌+◌, ◌*◌, ◌≤◌, ◌∷◌, take}
+use Rattle.std.specs.List.{flat_map}
+use Rattle.engines.specs.Putting.{Puts}
+use Rattle.engines.specs.Table.{entry_text}
+use Rattle.engines.proofs.line.put_others.Given as goal
+
+-- the entries so far are put, each behind a blank
+abbrev pub invariant-entries : goal.invariant-entries
+invariant-entries l = record {
+  text : Puts l.fn.text l.at (flat_map (λ near. 32 ∷ entry_text l.nearest near) (take l.near-index l.nears)) l.text l.end;
+  end : l.end ≤ l.at + 23 * l.near-index;
+}

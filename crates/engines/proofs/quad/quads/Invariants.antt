@@ -1,0 +1,11 @@
+use Rattle.std.proofs.Common.{◌≡◌, ◌≤◌, vec_len, vec_capacity}
+use Rattle.engines.specs.Putting.{AreQuads}
+use Rattle.engines.proofs.quad.quads.Given as goal
+
+-- the digits of all numbers so far
+abbrev pub invariant-numbers : goal.invariant-numbers
+invariant-numbers l = record {
+  each : AreQuads l.number l.quads.items;
+  many : vec_len l.quads ≡ l.number;
+  room : 10000 ≤ vec_capacity l.quads;
+}

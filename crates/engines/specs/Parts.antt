@@ -1,0 +1,20 @@
+-- The rows that workers put side by side: this project's own rule.
+use Rattle.std.specs.Prelude.{◌≡◌, ℕ, ◌+◌, ◌-◌, ◌*◌, ◌<◌, ◌≤◌, List, Bool, Option, length, min, slice_index_or, take, vec_len}
+use Rattle.metric.specs.declared.near.Near.{Near}
+use Rattle.engines.specs.declared.parts.Part.{Part}
+use Rattle.engines.specs.Table.{rows_text}
+
+-- where a worker puts rows of this width: there is room for sixteen
+pub record IsPart (width : ℕ) (part : Part) : Type 0 where
+  pub row : vec_len part.nears ≡ width
+  pub room : 16 * (23 * width + 1) + 3 ≤ vec_len part.text
+
+-- what a worker has put are the lines of the sixteen rows from this one on, or of those of them that there are
+pub record HasRows (nearest : Bool) (width height : ℕ) (nears : List (Option Near)) (from : ℕ) (part : Part) : Type 0 where
+  pub kept : IsPart width part
+  pub within : part.end ≤ vec_len part.text
+  pub text : take part.end part.text.items ≡ rows_text nearest width (min height from) (min height (from + 16) - min height from) nears
+
+-- each part has sixteen rows, one part's behind another's
+abbrev pub HaveRows : Bool → ℕ → ℕ → List (Option Near) → ℕ → List Part → Type 0
+HaveRows nearest width height nears from parts = (k : ℕ) (other : Part) → k < length parts → HasRows nearest width height nears (from + 16 * k) (slice_index_or parts k other)

@@ -1,0 +1,28 @@
+-- Bytes that are put into a buffer one after another: this project's own rule.
+use Rattle.std.specs.Prelude.{◌≡◌, ℕ, ◌+◌, ◌/◌, ◌%◌, ◌<◌, ◌≤◌, List, [], ◌++◌, length, take, slice_index_or}
+use Rattle.std.specs.Fmt.{decimal}
+use Rattle.metric.specs.Digits.{two_digits}
+use Rattle.engines.specs.declared.quad.Quad.{Quad}
+
+-- these bytes stand behind the first `at` of a buffer, as far as `end`, and the first are as they were
+pub record Puts (old : List ℕ) (at : ℕ) (bytes new : List ℕ) (end : ℕ) : Type 0 where
+  pub end_is : end ≡ at + length bytes
+  pub text : take end new ≡ take at old ++ bytes
+
+-- the four digits of a number below 10,000, zeros in front included
+abbrev pub four_digits : ℕ → List ℕ
+four_digits n = two_digits (n / 100) ++ two_digits (n % 100)
+
+-- the digits of this number below 10,000: without zeros in front at the beginning of four bytes, and with them
+pub record IsQuad (n : ℕ) (quad : Quad) : Type 0 where
+  pub few : quad.count ≤ 4
+  pub short : take quad.count quad.short ≡ decimal n
+  pub padded : quad.padded ≡ four_digits n
+
+-- what stands for no number
+abbrev pub no_quad : Quad
+no_quad = record { short = []; padded = []; count = 0 }
+
+-- the digits of the first numbers, in their order
+abbrev pub AreQuads : ℕ → List Quad → Type 0
+AreQuads count quads = (n : ℕ) → n < count → IsQuad n (slice_index_or quads n no_quad)

@@ -1,0 +1,25 @@
+-- What `serve` writes: this project's own rule.
+use Rattle.std.specs.Prelude.{◌≡◌, ℕ, ◌⊎◌, List, [], ◌∷◌, ◌++◌, Option, codes}
+use Rattle.std.specs.Fmt.{decimal}
+use Rattle.metric.specs.Stream.{AppendsFront}
+use Rattle.map_core.specs.declared.setting.Setting.{Setting}
+use Rattle.engines.specs.Refusals.{net_text}
+use Rattle.engines.specs.declared.arguments.ServeOptions.{ServeOptions}
+
+-- the setting of the store that the options ask for: a session for each worker
+abbrev pub setting_of : ServeOptions → Setting
+setting_of options = record { blocks = options.blocks; versions = options.versions; sessions = options.workers; log = options.log }
+
+-- the line that tells the port
+abbrev pub listening_text : ℕ → List ℕ
+listening_text port = codes "LISTENING " ++ (decimal port ++ 10 ∷ [])
+
+-- the line that tells how many connections were served, and how long the log is
+abbrev pub served_text : ℕ → ℕ → List ℕ
+served_text connections log = codes "SERVED " ++ (decimal connections ++ (32 ∷ (decimal log ++ 10 ∷ [])))
+
+-- this line alone was written, or that of the network's fault; in part where a write failed
+pub record WritesOnly (line : List ℕ) (held_before held_after : Option (List ℕ)) : Type 0 where
+  pub text : List ℕ
+  pub text_is : (text ≡ line) ⊎ (text ≡ net_text)
+  pub written : AppendsFront held_before text held_after

@@ -1,0 +1,133 @@
+-- What steps answers to a text: this project's own rule. The first line opens a world; each line behind it is done in that world, and gets one answer line.
+use Rattle.std.specs.Prelude.{◌≡◌, ◌≤◌, ℕ, ◌⊎◌, List, [], ◌∷◌, ◌++◌, replicate, codes, Option, Result, Ok, Err, IsErr, IsOk}
+use Rattle.std.specs.Fmt.{decimal}
+use Rattle.std.specs.List.{flat_map}
+use Rattle.metric.specs.Refusal.{refusal_text}
+use Rattle.metric.specs.Stream.{AreAll, Appends, AppendsFront}
+use Rattle.metric.specs.declared.refusal.Refusal.{Refusal}
+use Rattle.metric.specs.declared.refusal.Refusal.TheVariants as refusals
+use Rattle.map_core.specs.Runs.{IsOpened, IsRun, SafeStep}
+use Rattle.map_core.specs.Steps.{steps_left}
+use Rattle.map_core.specs.Views.{State}
+use Rattle.map_core.specs.Words.{tiles}
+use Rattle.map_core.specs.declared.event.Event.{Event}
+use Rattle.map_core.specs.declared.event.Event.TheVariants as events
+use Rattle.map_core.specs.declared.event.NotEnabled.{NotEnabled}
+use Rattle.map_core.specs.declared.event.StepReply.{StepReply}
+use Rattle.engines.specs.declared.steps.opening.Opening.{Opening}
+use Rattle.engines.specs.Opening.{base_of, later_lines, opened_by}
+use Rattle.engines.specs.StepAnswers.{step_text}
+use Rattle.engines.specs.StepLines.{Said, ToldEvent, bad, event, keeps, refused, said, told_event}
+use Rattle.engines.specs.TextLines.{lines_of}
+
+-- so many steps of the command in hand are to be done, one at least
+pub record CanKeep (count : ℕ) (w : State) : Type 0 where
+  pub some : 1 ≤ count
+  pub left : count ≤ steps_left w w.keeper.hand
+
+-- so many steps of the keeper, one after another, of which the last has this answer
+pub record Keeps (count : ℕ) (old : State) (answer : Result StepReply NotEnabled) (new : State) : Type 0 where
+  pub before : List (Result StepReply NotEnabled)
+  pub run : IsRun old (replicate count events.Keep) (before ++ answer ∷ []) new
+
+-- not all of so many steps are enabled, and none is done
+pub record KeepsNone (count : ℕ) (old : State) (answer : Result StepReply NotEnabled) (new : State) : Type 0 where
+  pub cannot : CanKeep count old → ⊥
+  pub answer_is : IsErr answer
+  pub same : new ≡ old
+
+-- so many steps of the keeper, done only where all of them are enabled
+abbrev pub KeepsAll : ℕ → State → Result StepReply NotEnabled → State → Type 0
+KeepsAll count old answer new = (CanKeep count old × Keeps count old answer new) ⊎ KeepsNone count old answer new
+
+-- an event as it is told, and the text of its answer
+pub record IsStepText (told : ToldEvent) (old : State) (text : List ℕ) (new : State) : Type 0 where
+  pub done : Event
+  pub answer : Result StepReply NotEnabled
+  pub told_is : told_event done ≡ told
+  pub step : SafeStep old done answer new
+  pub text_is : text ≡ step_text answer
+
+-- so many steps of the keeper, and the text of the last one's answer
+pub record IsKeepsText (count : ℕ) (old : State) (text : List ℕ) (new : State) : Type 0 where
+  pub answer : Result StepReply NotEnabled
+  pub steps : KeepsAll count old answer new
+  pub text_is : text ≡ step_text answer
+
+-- what a line that says this is answered, and the state after it
+abbrev pub IsAnswered : Said → State → List ℕ → State → Type 0
+IsAnswered (event told) old text new = IsStepText told old text new
+IsAnswered (keeps count) old text new = IsKeepsText count old text new
+IsAnswered (refused refusal) old text new = (text ≡ refusal_text refusal) × (new ≡ old)
+IsAnswered bad old text new = (text ≡ codes "BAD LINE") × (new ≡ old)
+
+-- lines, one after another, with the text of each one's answer
+abbrev pub AreAnswered : State → List (List ℕ) → List (List ℕ) → State → Type 0
+AreAnswered old [] [] new = new ≡ old
+AreAnswered old [] (text ∷ texts) new = ⊥
+AreAnswered old (line ∷ lines) [] new = ⊥
+AreAnswered old (line ∷ lines) (text ∷ texts) new = (mid : State) × IsAnswered (said line) old text mid × AreAnswered mid lines texts new
+
+-- lines as they are written, each ended by LF
+unfoldable pub written_lines : List (List ℕ) → List ℕ
+written_lines lines = flat_map (λ line. line ++ 10 ∷ []) lines
+
+-- the text of a world with so many positions that does these lines: first how many positions, then an answer line for each line, in their order
+pub record IsWorldText (start : State) (positions : ℕ) (lines : List (List ℕ)) (text : List ℕ) : Type 0 where
+  pub last : State
+  pub answers : List (List ℕ)
+  pub answered : AreAnswered start lines answers last
+  pub text_is : text ≡ written_lines ((codes "OPENED " ++ decimal positions) ∷ answers)
+
+-- a world was opened so, and the text is its own
+pub record AreSteps (opening : Opening) (lines : List (List ℕ)) (text : List ℕ) (status : ℕ) : Type 0 where
+  pub start : State
+  pub opened : IsOpened (base_of opening) start
+  pub text_is : IsWorldText start (tiles (base_of opening)) lines text
+  pub status_is : status ≡ 0
+
+-- the one line of a refusal
+pub record IsOneRefusal (refusal : Refusal) (text : List ℕ) (status : ℕ) : Type 0 where
+  pub text_is : text ≡ refusal_text refusal ++ 10 ∷ []
+  pub status_is : status ≡ 1
+
+-- an answer to what the first line opens, or why it doesn't, and to these lines behind it
+abbrev pub IsAnswerOf : Result Opening Refusal → List (List ℕ) → List ℕ → ℕ → Type 0
+IsAnswerOf (Ok opening) lines text status = AreSteps opening lines text status
+IsAnswerOf (Err refusal) lines text status = IsOneRefusal refusal text status
+
+-- an answer to a text, of which these lines behind the first are heard; or want of memory for opening a world that its first line tells
+abbrev pub IsStepsAnswer : List ℕ → List (List ℕ) → List ℕ → ℕ → Type 0
+IsStepsAnswer bytes heard text status = IsAnswerOf (opened_by (lines_of bytes)) heard text status ⊎ (IsOk (opened_by (lines_of bytes)) × IsOneRefusal refusals.Memory text status)
+
+-- an answer to these bytes was written whole
+pub record IsWritten (bytes : List ℕ) (held_before held_after : Option (List ℕ)) (status : ℕ) : Type 0 where
+  pub text : List ℕ
+  pub answer : IsStepsAnswer bytes (later_lines (lines_of bytes)) text status
+  pub written : Appends held_before text held_after
+
+-- a beginning of an answer to these bytes was written; the lines for which it was made are a beginning of those behind the first
+pub record IsBegun (bytes : List ℕ) (held_before held_after : Option (List ℕ)) : Type 0 where
+  pub heard : List (List ℕ)
+  pub unheard : List (List ℕ)
+  pub text : List ℕ
+  pub status : ℕ
+  pub lines_are : later_lines (lines_of bytes) ≡ heard ++ unheard
+  pub answer : IsStepsAnswer bytes heard text status
+  pub written : AppendsFront held_before text held_after
+
+-- the line of want of memory
+abbrev pub memory_line : List ℕ
+memory_line = refusal_text refusals.Memory ++ 10 ∷ []
+
+-- an answer to all bytes that the reader had was written whole, or that there is no memory for reading them
+pub record Answers (unread held_before held_after : Option (List ℕ)) (status : ℕ) : Type 0 where
+  pub bytes : List ℕ
+  pub all : AreAll unread bytes
+  pub whole : IsWritten bytes held_before held_after status ⊎ (Appends held_before memory_line held_after × (status ≡ 1))
+
+-- a beginning of an answer to all bytes that the reader had was written, or of the line of want of memory for reading them
+pub record BeginsToAnswer (unread held_before held_after : Option (List ℕ)) : Type 0 where
+  pub bytes : List ℕ
+  pub all : AreAll unread bytes
+  pub begun : IsBegun bytes held_before held_after ⊎ AppendsFront held_before memory_line held_after

@@ -1,0 +1,23 @@
+-- The text of a table of distances: this project's own rule.
+use Rattle.std.specs.Prelude.{ℕ, ◌+◌, ◌*◌, List, [], ◌∷◌, ◌++◌, map, Bool, true, false, Option, Some, None}
+use Rattle.metric.specs.declared.near.Near.{Near}
+use Rattle.std.specs.Fmt.{decimal}
+use Rattle.std.specs.List.{range_with_len, join_with_byte, slice_range, flat_map}
+
+-- what is printed for a cell: its distance, with `/x/y` of its nearest obstacle behind it where that is asked for; `-` where there is none
+abbrev pub entry_text : Bool → Option Near → List ℕ
+entry_text nearest None = 45 ∷ []
+entry_text false (Some near) = decimal near.dist
+entry_text true (Some near) = decimal near.dist ++ (47 ∷ (decimal near.cell.x ++ (47 ∷ decimal near.cell.y)))
+
+-- the line of a row: its entries, one blank between two, and LF
+abbrev pub row_line : Bool → List (Option Near) → List ℕ
+row_line nearest nears = join_with_byte 32 (map (entry_text nearest) nears) ++ 10 ∷ []
+
+-- the lines of all rows of this width, which lie one after another
+unfoldable pub table_text : Bool → ℕ → ℕ → List (Option Near) → List ℕ
+table_text nearest width height nears = flat_map (λ y. row_line nearest (slice_range nears (y * width) (y * width + width))) (range_with_len 0 height)
+
+-- the lines of so many rows from this one on
+unfoldable pub rows_text : Bool → ℕ → ℕ → ℕ → List (Option Near) → List ℕ
+rows_text nearest width from count nears = flat_map (λ y. row_line nearest (slice_range nears (y * width) (y * width + width))) (range_with_len from count)

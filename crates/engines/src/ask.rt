@@ -1,0 +1,151 @@
+//! The command `ask`: lines to a server, and its replies.
+
+ghost use Rattle.std.specs.Prelude.{◌≡◌, ◌≢◌, OnOk, OnErr, IfErr, Err, Ok, true};
+ghost use Rattle.metric.specs.Stream.{Appends, AppendsFront, CanFail};
+ghost use Rattle.engines.specs.Passing.{EndsEarly, PassesFront, PassesOn, WritesEnd};
+ghost use Rattle.engines.specs.declared.ask.Stop.TheVariants.{Standard};
+
+mod exchange;
+mod request;
+
+use crate::output::{write_net_fault, write_refusal, write_text};
+use crate::{DONE, REFUSED};
+use exchange::exchange;
+use metric::{Refusal, Sink, Source, Stream, WriteFault};
+use request::read_request;
+use std::alloc::Global;
+
+/// Why a run of `ask` ended early.
+#[derive(Clone, Copy, PartialEq, Eq)]
+pub enum Stop {
+    /// A standard stream failed.
+    Standard,
+    /// The connection failed, or the server ended it before the end of a reply that was due.
+    Net,
+    /// There was no memory for a line or a reply.
+    Memory,
+}
+
+/// Sends the reader's lines to the stream, each with the bytes that it counts, and writes each reply before the next line is sent, with the bytes that it counts. Answers the status.
+///
+/// It ends after `BYE`, or at the reader's end; a last line without its LF, or without all bytes that it counts, isn't sent. Where the stream fails, or ends before the end of a reply that is due, it writes `FAULT net`, and where there is no memory `ERR 5 Memory`, with status 1. Where a call of the reader or the writer fails nothing more is written, and the status is 1.
+pub fn ask_run<S: Stream, R: Source, W: Sink>(
+    alloc: Global,
+    stream: &mut S,
+    reader: &mut R,
+    writer: &mut W,
+) -> u8
+    requires stream_reads { CanFail (S.failed_reads stream.old) }
+    requires stream_writes { CanFail (S.failed_writes stream.old) }
+    requires reader { CanFail (R.failed_reads reader.old) }
+    requires writer { CanFail (W.failed_writes writer.old) }
+
+    // What was sent is a beginning of what was read.
+    ensures sent { PassesFront (R.rest reader.old) (R.rest reader.new) (S.held stream.old) (S.held stream.new) }
+
+    // A run that is done has written all that the server said, and nothing else.
+    ensures printed { result ≡ 0 → PassesOn (S.rest stream.old) (S.rest stream.new) (W.held writer.old) (W.held writer.new) }
+    ensures well { result ≡ 0 → (R.failed_reads reader.new ≡ R.failed_reads reader.old) × (W.failed_writes writer.new ≡ W.failed_writes writer.old) }
+
+    // Any other has written a beginning of it, and behind that why it ended.
+    ensures ended { result ≢ 0 → EndsEarly (S.rest stream.old) (S.rest stream.new) (W.held writer.old) (W.held writer.new) × (result ≡ 1) }
+{
+    let mut request = Vec::new(alloc);
+    let mut reply = Vec::new(alloc);
+    match ask_lines(alloc, stream, reader, writer, &mut request, &mut reply) {
+        Ok(()) => DONE,
+        Err(stop) => end(writer, stop),
+    }
+}
+
+/// Ends a run early, and answers its status.
+fn end<W: Sink>(writer: &mut W, stop: Stop) -> u8
+    requires { stop ≢ Standard → CanFail (W.failed_writes writer.old) }
+    ensures status { result ≡ 1 }
+    ensures line { WritesEnd (W.held writer.old) (W.held writer.new) }
+{
+    let _ = write_end(writer, stop);
+    REFUSED
+}
+
+/// Writes why a run ended early; nothing where a standard stream failed.
+fn write_end<W: Sink>(writer: &mut W, stop: Stop) -> Result<u8, WriteFault>
+    requires { stop ≢ Standard → CanFail (W.failed_writes writer.old) }
+    ensures { WritesEnd (W.held writer.old) (W.held writer.new) }
+{
+    match stop {
+        Stop::Standard => Ok(REFUSED),
+        Stop::Net => write_net_fault(writer),
+        Stop::Memory => write_refusal(writer, Refusal::Memory),
+    }
+}
+
+/// Writes a reply, and passes it on.
+fn print<W: Sink>(writer: &mut W, reply: &[u8]) -> Result<(), Stop>
+    requires { CanFail (W.failed_writes writer.old) }
+    ensures all { OnOk result (Appends (W.held writer.old) reply.now (W.held writer.new)) }
+    ensures front { AppendsFront (W.held writer.old) reply.now (W.held writer.new) }
+    ensures counts { OnOk result (W.failed_writes writer.new ≡ W.failed_writes writer.old) }
+    ensures stop { IfErr result (λ stop. stop ≡ Standard) }
+{
+    match write_text(writer, reply, DONE) {
+        Ok(_) => Ok(()),
+        Err(_) => Err(Stop::Standard),
+    }
+}
+
+/// Asks line after line.
+fn ask_lines<S: Stream, R: Source, W: Sink>(
+    alloc: Global,
+    stream: &mut S,
+    reader: &mut R,
+    writer: &mut W,
+    request: &mut Vec<u8>,
+    reply: &mut Vec<u8>,
+) -> Result<(), Stop>
+    requires stream_reads { CanFail (S.failed_reads stream.old) }
+    requires stream_writes { CanFail (S.failed_writes stream.old) }
+    requires reader { CanFail (R.failed_reads reader.old) }
+    requires writer { CanFail (W.failed_writes writer.old) }
+    ensures sent { PassesFront (R.rest reader.old) (R.rest reader.new) (S.held stream.old) (S.held stream.new) }
+    ensures printed { OnOk result (PassesOn (S.rest stream.old) (S.rest stream.new) (W.held writer.old) (W.held writer.new)) }
+    ensures cut { OnErr result (PassesFront (S.rest stream.old) (S.rest stream.new) (W.held writer.old) (W.held writer.new)) }
+    ensures reader { OnOk result (R.failed_reads reader.new ≡ R.failed_reads reader.old) }
+    ensures writer { result ≢ Err Standard → W.failed_writes writer.new ≡ W.failed_writes writer.old }
+{
+    'lines: for _ in 0..u64::MAX {
+        if !ask_line(alloc, stream, reader, writer, request, reply)? {
+            return Ok(());
+        }
+    }
+    Ok(())
+}
+
+/// Asks one line, and says whether another may follow. The buffers are for the line and its reply.
+fn ask_line<S: Stream, R: Source, W: Sink>(
+    alloc: Global,
+    stream: &mut S,
+    reader: &mut R,
+    writer: &mut W,
+    request: &mut Vec<u8>,
+    reply: &mut Vec<u8>,
+) -> Result<bool, Stop>
+    requires stream_reads { CanFail (S.failed_reads stream.old) }
+    requires stream_writes { CanFail (S.failed_writes stream.old) }
+    requires reader { CanFail (R.failed_reads reader.old) }
+    requires writer { CanFail (W.failed_writes writer.old) }
+    ensures went { result ≡ Ok true → PassesOn (R.rest reader.old) (R.rest reader.new) (S.held stream.old) (S.held stream.new) }
+    ensures sent { PassesFront (R.rest reader.old) (R.rest reader.new) (S.held stream.old) (S.held stream.new) }
+    ensures printed { OnOk result (PassesOn (S.rest stream.old) (S.rest stream.new) (W.held writer.old) (W.held writer.new)) }
+    ensures cut { OnErr result (PassesFront (S.rest stream.old) (S.rest stream.new) (W.held writer.old) (W.held writer.new)) }
+    ensures stream { OnOk result ((S.failed_reads stream.new ≡ S.failed_reads stream.old) × (S.failed_writes stream.new ≡ S.failed_writes stream.old)) }
+    ensures reader { OnOk result (R.failed_reads reader.new ≡ R.failed_reads reader.old) }
+    ensures writer { result ≢ Err Standard → W.failed_writes writer.new ≡ W.failed_writes writer.old }
+{
+    if !read_request(alloc, reader, request)? {
+        return Ok(false);
+    }
+    exchange(stream, request.as_slice(), reply)?;
+    print(writer, reply.as_slice())?;
+    Ok(reply.as_slice() != b"BYE\n".as_slice())
+}

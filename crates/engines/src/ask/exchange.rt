@@ -1,0 +1,86 @@
+//! A line that is sent, and its reply.
+
+ghost use Rattle.std.specs.Prelude.{◌≡◌, ◌≢◌, ℕ, List, OnOk, IfErr, Err};
+ghost use Rattle.metric.specs.Stream.{Appends, AppendsFront, CanFail, Takes};
+ghost use Rattle.engines.specs.Passing.{Gathers};
+ghost use Rattle.engines.specs.declared.ask.Stop.TheVariants.{Net, Standard};
+
+use crate::ask::Stop;
+use crate::ask::request::without_end;
+use crate::gather::{Cut, read_count, read_line};
+use metric::Stream;
+use proto::{Verb, only_number, split_word, verb_of};
+
+/// Sends a line with the bytes that it counts, and reads its reply, with the bytes that it counts, over what the buffer held.
+pub fn exchange<S: Stream>(stream: &mut S, request: &[u8], reply: &mut Vec<u8>) -> Result<(), Stop>
+    requires reads { CanFail (S.failed_reads stream.old) }
+    requires writes { CanFail (S.failed_writes stream.old) }
+    ensures sent { OnOk result (Appends (S.held stream.old) request.now (S.held stream.new)) }
+    ensures front { AppendsFront (S.held stream.old) request.now (S.held stream.new) }
+    ensures all { OnOk result (Takes (S.rest stream.old) reply.new.items (S.rest stream.new)) }
+    ensures taken { (taken : List ℕ) × Takes (S.rest stream.old) taken (S.rest stream.new) }
+    ensures counts { OnOk result ((S.failed_reads stream.new ≡ S.failed_reads stream.old) × (S.failed_writes stream.new ≡ S.failed_writes stream.old)) }
+    ensures net { result ≢ Err Standard }
+{
+    send(stream, request)?;
+    reply.clear();
+    read_reply(stream, asks_for_bytes(request), reply)
+}
+
+/// Whether a good reply to the line is followed by bytes.
+fn asks_for_bytes(request: &[u8]) -> bool {
+    verb_of(without_end(request)) == Some(Verb::Dump)
+}
+
+/// Sends a line.
+fn send<S: Stream>(stream: &mut S, request: &[u8]) -> Result<(), Stop>
+    requires { CanFail (S.failed_writes stream.old) }
+    ensures all { OnOk result (Appends (S.held stream.old) request.now (S.held stream.new)) }
+    ensures front { AppendsFront (S.held stream.old) request.now (S.held stream.new) }
+    ensures unread { S.unread stream.new ≡ S.unread stream.old }
+    ensures writes { OnOk result (S.failed_writes stream.new ≡ S.failed_writes stream.old) }
+    ensures net { IfErr result (λ stop. stop ≡ Net) }
+{
+    if stream.write_all(request).is_err() || stream.flush().is_err() {
+        return Err(Stop::Net);
+    }
+    Ok(())
+}
+
+/// Reads a reply behind what the buffer holds, with the bytes that it counts where they are asked for.
+fn read_reply<S: Stream>(stream: &mut S, dump: bool, reply: &mut Vec<u8>) -> Result<(), Stop>
+    requires { CanFail (S.failed_reads stream.old) }
+    ensures all { OnOk result (Gathers (S.rest stream.old) reply.old.items reply.new.items (S.rest stream.new)) }
+    ensures taken { (taken : List ℕ) × Takes (S.rest stream.old) taken (S.rest stream.new) }
+    ensures written { S.written stream.new ≡ S.written stream.old }
+    ensures reads { OnOk result (S.failed_reads stream.new ≡ S.failed_reads stream.old) }
+    ensures net { result ≢ Err Standard }
+{
+    match read_whole(stream, dump, reply) {
+        Ok(()) => Ok(()),
+        Err(Cut::Memory) => Err(Stop::Memory),
+        Err(Cut::Ended | Cut::Failed) => Err(Stop::Net),
+    }
+}
+
+/// Reads a line behind what the buffer holds, which is nothing, and the bytes that it counts where they are asked for.
+fn read_whole<S: Stream>(stream: &mut S, dump: bool, reply: &mut Vec<u8>) -> Result<(), Cut>
+    requires { CanFail (S.failed_reads stream.old) }
+    ensures all { OnOk result (Gathers (S.rest stream.old) reply.old.items reply.new.items (S.rest stream.new)) }
+    ensures taken { (taken : List ℕ) × Takes (S.rest stream.old) taken (S.rest stream.new) }
+    ensures written { S.written stream.new ≡ S.written stream.old }
+    ensures reads { OnOk result (S.failed_reads stream.new ≡ S.failed_reads stream.old) }
+{
+    read_line(stream, reply)?;
+    let count = if dump { counted(reply.as_slice()) } else { 0 };
+    read_count(stream, reply, count)
+}
+
+/// How many bytes follow a line that is `OK` and a number; none follow another one.
+fn counted(line: &[u8]) -> u32 {
+    let (word, rest) = split_word(without_end(line));
+    if word != b"OK".as_slice() {
+        return 0;
+    }
+    only_number(rest).unwrap_or(0)
+}

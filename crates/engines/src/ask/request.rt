@@ -1,0 +1,67 @@
+//! A line of `ask`, with the bytes that it counts.
+
+ghost use Rattle.std.specs.Prelude.{◌≡◌, ◌≢◌, ℕ, List, OnOk, Ok, Err, true};
+ghost use Rattle.metric.specs.Stream.{CanFail, Takes};
+ghost use Rattle.proto.specs.Said.{said, verb_in};
+ghost use Rattle.engines.specs.Asking.{bytes_behind};
+ghost use Rattle.engines.specs.Passing.{Gathers};
+ghost use Rattle.engines.specs.declared.gather.Cut.TheVariants.{Failed};
+
+use crate::ask::Stop;
+use crate::gather::{Cut, read_count, read_line};
+use metric::Source;
+use proto::{Line, MOST_COUNTED, Verb, parse_line, verb_of, without_cr};
+use std::alloc::Global;
+
+/// Reads a line and the bytes that it counts over what the buffer held. `false` where the reader ends before all of them.
+pub fn read_request<R: Source>(
+    alloc: Global,
+    reader: &mut R,
+    request: &mut Vec<u8>,
+) -> Result<bool, Stop>
+    requires { CanFail (R.failed_reads reader.old) }
+    ensures all { result ≡ Ok true → Takes (R.rest reader.old) request.new.items (R.rest reader.new) }
+    ensures taken { (taken : List ℕ) × Takes (R.rest reader.old) taken (R.rest reader.new) }
+    ensures counts { OnOk result (R.failed_reads reader.new ≡ R.failed_reads reader.old) }
+{
+    request.clear();
+    match read_whole(alloc, reader, request) {
+        Ok(()) => Ok(true),
+        Err(Cut::Ended) => Ok(false),
+        Err(Cut::Failed) => Err(Stop::Standard),
+        Err(Cut::Memory) => Err(Stop::Memory),
+    }
+}
+
+/// Reads a line and the bytes that it counts behind what the buffer holds, which is nothing.
+fn read_whole<R: Source>(alloc: Global, reader: &mut R, request: &mut Vec<u8>) -> Result<(), Cut>
+    requires { CanFail (R.failed_reads reader.old) }
+    ensures all { OnOk result (Gathers (R.rest reader.old) request.old.items request.new.items (R.rest reader.new)) }
+    ensures taken { (taken : List ℕ) × Takes (R.rest reader.old) taken (R.rest reader.new) }
+    ensures counts { result ≢ Err Failed → R.failed_reads reader.new ≡ R.failed_reads reader.old }
+{
+    read_line(reader, request)?;
+    let count = counted(alloc, without_end(request.as_slice()));
+    read_count(reader, request, count)
+}
+
+/// A line without its LF and the CR before it.
+pub fn without_end(line: &[u8]) -> &[u8] {
+    match line.split_last() {
+        Some((_, line)) => without_cr(line),
+        None => line,
+    }
+}
+
+/// How many bytes a server reads behind a line.
+fn counted(alloc: Global, line: &[u8]) -> u32
+    ensures { result ≡ bytes_behind (verb_in line.now) (said line.now) }
+{
+    let Some(Verb::Stamp) = verb_of(line) else {
+        return 0;
+    };
+    match parse_line(alloc, line) {
+        Ok(Line::Stamp { length, .. }) if length <= MOST_COUNTED => length,
+        _ => 0,
+    }
+}

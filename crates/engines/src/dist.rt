@@ -1,0 +1,110 @@
+//! The command `dist`: from the bytes of an image to the text of its distances.
+
+ghost use Rattle.std.specs.Prelude.{◌≡◌, ◌≢◌, ℕ, ◌+◌, ◌≤◌, ◌∷◌, ◌++◌, [], List, IfOk, OnOk, OnErr};
+ghost use Rattle.metric.specs.Refusal.{image_text};
+ghost use Rattle.metric.specs.Stream.{Appends, AppendsFront, Counts, CanFail};
+ghost use Rattle.engines.specs.Dist.{Answers, BeginsToAnswer, IsImageAnswer};
+ghost use Rattle.engines.specs.Table.{table_text};
+ghost use Rattle.engines.specs.Tabled.{nears_of};
+
+use crate::arguments::DistOptions;
+use crate::input::{InputStop, read_to_end};
+use crate::output::{write_refusal, write_text};
+use crate::print::{Print, write_table};
+use crate::reply::Reply;
+use crate::{DONE, REFUSED};
+use metric::{PbmFault, Refusal, Sink, Source, WriteFault};
+use std::alloc::Global;
+use std::thread::Threads;
+
+/// Reads an image to the end of the reader, and writes its cells' distances to their nearest obstacles, a line a row, as the options ask. Answers the status.
+///
+/// The rows are shared by as many workers as the options say; the text is the same for each number. A refused image, or want of memory, is one line instead, with status 1. All is computed before the first byte is written. Where a call of the reader or the writer fails, neither is called again, and the status is 1.
+pub fn dist_run<R: Source, W: Sink, T: Threads + Sync>(
+    rt: &T,
+    alloc: Global,
+    options: &DistOptions<'_>,
+    reader: &mut R,
+    writer: &mut W,
+) -> u8
+    requires reader { CanFail (R.failed_reads reader.old) }
+    requires writer { CanFail (W.failed_writes writer.old) }
+
+    // Where no call failed, the answer is whole.
+    ensures answers { R.failed_reads reader.new ≡ R.failed_reads reader.old → W.failed_writes writer.new ≡ W.failed_writes writer.old
+        → Answers options.now (R.rest reader.old) (W.held writer.old) (W.held writer.new) result }
+
+    // Where a read failed, nothing was written.
+    ensures failed_read { R.failed_reads reader.new ≢ R.failed_reads reader.old
+        → (W.held writer.new ≡ W.held writer.old) × (W.failed_writes writer.new ≡ W.failed_writes writer.old) × (result ≡ 1) }
+
+    // Where a write failed, a beginning of the answer was written.
+    ensures failed_write { W.failed_writes writer.new ≢ W.failed_writes writer.old
+        → BeginsToAnswer options.now (R.rest reader.old) (W.held writer.old) (W.held writer.new) × (result ≡ 1) }
+    ensures one_failure { R.failed_reads reader.new + W.failed_writes writer.new ≤ R.failed_reads reader.old + W.failed_writes writer.old + 1 }
+{
+    match read_to_end(alloc, reader) {
+        Ok(bytes) => write_answer(rt, alloc, options, bytes.as_slice(), writer).unwrap_or(REFUSED),
+        Err(InputStop::Memory) => write_fault(writer, PbmFault::Memory).unwrap_or(REFUSED),
+        Err(InputStop::Failed) => REFUSED,
+    }
+}
+
+/// Writes the answer to these bytes.
+fn write_answer<W: Sink, T: Threads + Sync>(
+    rt: &T,
+    alloc: Global,
+    options: &DistOptions<'_>,
+    bytes: &[u8],
+    writer: &mut W,
+) -> Result<u8, WriteFault>
+    requires { CanFail (W.failed_writes writer.old) }
+    ensures whole { IfOk result (λ status. (text : List ℕ) × IsImageAnswer options.now bytes.now text status × Appends (W.held writer.old) text (W.held writer.new)) }
+    ensures front { OnErr result ((text : List ℕ) × (status : ℕ) × IsImageAnswer options.now bytes.now text status × AppendsFront (W.held writer.old) text (W.held writer.new)) }
+    ensures counts { Counts (W.failed_writes writer.old) result (W.failed_writes writer.new) }
+{
+    match options.query {
+        Some(line) => match Reply::of(alloc, bytes, line.as_bytes()) {
+            Ok(reply) => write_text(writer, reply.text.as_bytes(), reply.status),
+            Err(fault) => write_fault(writer, fault),
+        },
+        None => match Print::of(rt, alloc, bytes, options.metric, options.workers) {
+            Ok(print) => write_rows(rt, writer, print, options.nearest),
+            Err(fault) => write_fault(writer, fault),
+        },
+    }
+}
+
+/// Writes the table's lines.
+fn write_rows<W: Sink, T: Threads + Sync>(
+    rt: &T,
+    writer: &mut W,
+    print: Print,
+    nearest: bool,
+) -> Result<u8, WriteFault>
+    requires { CanFail (W.failed_writes writer.old) }
+    ensures status { IfOk result (λ status. status ≡ 0) }
+    ensures whole { OnOk result (Appends (W.held writer.old) (table_text nearest print.table.width print.table.height (nears_of print.table)) (W.held writer.new)) }
+    ensures front { OnErr result (AppendsFront (W.held writer.old) (table_text nearest print.table.width print.table.height (nears_of print.table)) (W.held writer.new)) }
+    ensures counts { Counts (W.failed_writes writer.old) result (W.failed_writes writer.new) }
+{
+    let Print {
+        table,
+        decimals,
+        mut parts,
+    } = print;
+    write_table(rt, writer, &decimals, &table, parts.as_mut_slice(), nearest)?;
+    writer.flush()?;
+    Ok(DONE)
+}
+
+/// Writes the line of a refused image.
+fn write_fault<W: Sink>(writer: &mut W, fault: PbmFault) -> Result<u8, WriteFault>
+    requires { CanFail (W.failed_writes writer.old) }
+    ensures status { IfOk result (λ status. status ≡ 1) }
+    ensures whole { OnOk result (Appends (W.held writer.old) (image_text fault ++ 10 ∷ []) (W.held writer.new)) }
+    ensures front { OnErr result (AppendsFront (W.held writer.old) (image_text fault ++ 10 ∷ []) (W.held writer.new)) }
+    ensures counts { Counts (W.failed_writes writer.old) result (W.failed_writes writer.new) }
+{
+    write_refusal(writer, Refusal::BadImage(fault))
+}

@@ -1,0 +1,71 @@
+//! From words and streams to the engine that the words name, and the status of the run.
+
+ghost use Rattle.std.specs.Prelude.{◌≡◌, ◌≢◌, ◌+◌, ◌≤◌};
+ghost use Rattle.metric.specs.Stream.{CanFail};
+ghost use Rattle.engines.specs.CommandLine.{texts_of};
+ghost use Rattle.engines.specs.Runs.{AnswersAs, BeginsAs, IsRunOf};
+
+use crate::REFUSED;
+use crate::arguments::Options;
+use crate::dist::dist_run;
+use crate::refusing::tell;
+use crate::steps::steps_run;
+use crate::words::options;
+use metric::{Sink, Source};
+use std::alloc::Global;
+use std::thread::Threads;
+
+/// Runs what the words name, of which the first is the program's name. Answers the status.
+///
+/// `serve` and `ask` need the network, and are left to the caller: nothing is written then, and the status is 1. Words that are refused are told on `errors`, with status 2. Help and the version go to the writer, with status 0, and so does want of memory, with status 1. Where a call of a stream fails, none is called again, and the status is 1.
+pub fn run_words<R: Source, W: Sink, E: Sink, T: Threads + Sync>(
+    rt: &T,
+    alloc: Global,
+    words: &[&str],
+    reader: &mut R,
+    writer: &mut W,
+    errors: &mut E,
+) -> u8
+    requires reader { CanFail (R.failed_reads reader.old) }
+    requires writer { CanFail (W.failed_writes writer.old) }
+    requires errors { CanFail (E.failed_writes errors.old) }
+
+    // Where no call failed, the words are done, or told why they aren't.
+    ensures done { R.failed_reads reader.new ≡ R.failed_reads reader.old → W.failed_writes writer.new ≡ W.failed_writes writer.old → E.failed_writes errors.new ≡ E.failed_writes errors.old
+        → IsRunOf (texts_of words.entry.now) (R.rest reader.old) (W.held writer.old) (W.held writer.new) (E.held errors.old) (E.held errors.new) result }
+
+    // Where a read failed, nothing was written.
+    ensures failed_read { R.failed_reads reader.new ≢ R.failed_reads reader.old
+        → (W.held writer.new ≡ W.held writer.old) × (E.held errors.new ≡ E.held errors.old) × (result ≡ 1) }
+    ensures failed_write { W.failed_writes writer.new ≢ W.failed_writes writer.old → result ≡ 1 }
+    ensures failed_error { E.failed_writes errors.new ≢ E.failed_writes errors.old → result ≡ 1 }
+{
+    match options(alloc, words) {
+        Ok(options) => run_engine(rt, alloc, &options, reader, writer),
+        Err(fault) => tell(alloc, &fault, writer, errors),
+    }
+}
+
+/// Runs the engine that the options name. Answers the status.
+fn run_engine<R: Source, W: Sink, T: Threads + Sync>(
+    rt: &T,
+    alloc: Global,
+    options: &Options<'_>,
+    reader: &mut R,
+    writer: &mut W,
+) -> u8
+    requires reader { CanFail (R.failed_reads reader.old) }
+    requires writer { CanFail (W.failed_writes writer.old) }
+    ensures answers { R.failed_reads reader.new ≡ R.failed_reads reader.old → W.failed_writes writer.new ≡ W.failed_writes writer.old
+        → AnswersAs options.now (R.rest reader.old) (W.held writer.old) (W.held writer.new) result }
+    ensures failed_read { R.failed_reads reader.new ≢ R.failed_reads reader.old
+        → (W.held writer.new ≡ W.held writer.old) × (W.failed_writes writer.new ≡ W.failed_writes writer.old) × (result ≡ 1) }
+    ensures failed_write { W.failed_writes writer.new ≢ W.failed_writes writer.old
+        → BeginsAs options.now (R.rest reader.old) (W.held writer.old) (W.held writer.new) × (result ≡ 1) }
+{
+    match options {
+        Options::Dist(options) => dist_run(rt, alloc, options, reader, writer),
+        Options::Steps => steps_run(alloc, reader, writer),
+        Options::Serve(_) | Options::Ask(_) => REFUSED,
+    }
+}

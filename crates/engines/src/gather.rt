@@ -1,0 +1,73 @@
+//! Reading a line, or so many bytes, into a buffer.
+
+ghost use Rattle.std.specs.Prelude.{◌≡◌, ◌≢◌, ◌+◌, ℕ, List, OnOk, OnErr, Err};
+ghost use Rattle.metric.specs.Stream.{CanFail, Takes};
+ghost use Rattle.engines.specs.Passing.{Gathers};
+ghost use Rattle.engines.specs.declared.gather.Cut.{Cut};
+ghost use Rattle.engines.specs.declared.gather.Cut.TheVariants.{Failed};
+
+use metric::Source;
+
+/// Why not all was read.
+#[derive(Clone, Copy)]
+pub enum Cut {
+    /// The stream ended before.
+    Ended,
+    /// A read failed.
+    Failed,
+    /// There was no memory for what was read.
+    Memory,
+}
+
+/// Reads a line with its LF behind what the buffer holds.
+pub fn read_line<R: Source>(reader: &mut R, bytes: &mut Vec<u8>) -> Result<(), Cut>
+    requires { CanFail (R.failed_reads reader.old) }
+    ensures all { OnOk result (Gathers (R.rest reader.old) bytes.old.items bytes.new.items (R.rest reader.new)) }
+    ensures taken { (taken : List ℕ) × Takes (R.rest reader.old) taken (R.rest reader.new) }
+    ensures counts { result ≢ Err Failed → R.failed_reads reader.new ≡ R.failed_reads reader.old }
+    ensures failed { result ≡ Err Failed → R.failed_reads reader.new ≡ R.failed_reads reader.old + 1 }
+    ensures written { R.written reader.new ≡ R.written reader.old }
+{
+    'bytes: for _ in 0..u64::MAX {
+        if read_byte(reader, bytes)? == b'\n' {
+            return Ok(());
+        }
+    }
+    Ok(())
+}
+
+/// Reads so many bytes behind what the buffer holds.
+pub fn read_count<R: Source>(reader: &mut R, bytes: &mut Vec<u8>, count: u32) -> Result<(), Cut>
+    requires { CanFail (R.failed_reads reader.old) }
+    ensures all { OnOk result (Gathers (R.rest reader.old) bytes.old.items bytes.new.items (R.rest reader.new)) }
+    ensures taken { (taken : List ℕ) × Takes (R.rest reader.old) taken (R.rest reader.new) }
+    ensures counts { result ≢ Err Failed → R.failed_reads reader.new ≡ R.failed_reads reader.old }
+    ensures failed { result ≡ Err Failed → R.failed_reads reader.new ≡ R.failed_reads reader.old + 1 }
+    ensures written { R.written reader.new ≡ R.written reader.old }
+{
+    'bytes: for _ in 0..count {
+        read_byte(reader, bytes)?;
+    }
+    Ok(())
+}
+
+/// Reads one byte behind what the buffer holds.
+fn read_byte<R: Source>(reader: &mut R, bytes: &mut Vec<u8>) -> Result<u8, Cut>
+    requires { CanFail (R.failed_reads reader.old) }
+    ensures all { OnOk result (Gathers (R.rest reader.old) bytes.old.items bytes.new.items (R.rest reader.new)) }
+    ensures taken { (taken : List ℕ) × Takes (R.rest reader.old) taken (R.rest reader.new) }
+    ensures counts { result ≢ Err Failed → R.failed_reads reader.new ≡ R.failed_reads reader.old }
+    ensures failed { result ≡ Err Failed → R.failed_reads reader.new ≡ R.failed_reads reader.old + 1 }
+    ensures written { R.written reader.new ≡ R.written reader.old }
+{
+    match reader.next_byte() {
+        Ok(Some(byte)) => {
+            if bytes.push(byte).is_err() {
+                return Err(Cut::Memory);
+            }
+            Ok(byte)
+        }
+        Ok(None) => Err(Cut::Ended),
+        Err(_) => Err(Cut::Failed),
+    }
+}

@@ -1,0 +1,93 @@
+//! The commands `serve` and `ask` on the network.
+
+ghost use Rattle.std.specs.Prelude.{◌≡◌, ◌≢◌, IfOk, IfErr, IfSome};
+ghost use Rattle.metric.specs.Stream.{CanFail};
+ghost use Rattle.engines.specs.Refusals.{HasWordsAlone};
+
+use crate::REFUSED;
+use crate::arguments::{AskOptions, ServeOptions};
+use crate::ask::ask_run;
+use crate::input::{InputStop, read_to_end};
+use crate::output::{write_net_fault, write_refusal};
+use crate::serve::serve_run;
+use crate::socket::Socket;
+use bits::Bitmap;
+use metric::{Refusal, Sink, Source};
+use std::alloc::Global;
+use std::net::{Ipv4Addr, Net, SocketAddr, SocketAddrV4, TcpListener, TcpStream};
+use std::sync::Wait;
+use std::thread::Threads;
+
+/// A port of this machine, which no other machine reaches.
+fn local(port: u16) -> SocketAddr {
+    SocketAddr::V4(SocketAddrV4::new(Ipv4Addr::LOCALHOST, port))
+}
+
+/// The map at the front of what the reader has. An error is the refusal of its image, or want of memory; none where a read failed.
+fn read_map<R: Source>(alloc: Global, reader: &mut R) -> Result<Bitmap, Option<Refusal>>
+    requires { CanFail (R.failed_reads reader.old) }
+    ensures { IfErr result (λ refusal. IfSome refusal HasWordsAlone) }
+{
+    match read_to_end(alloc, reader) {
+        Ok(bytes) => match pbm::read_image(alloc, bytes.as_slice()) {
+            Ok((map, _)) => Ok(map),
+            Err(fault) => Err(Some(Refusal::BadImage(fault))),
+        },
+        Err(InputStop::Memory) => Err(Some(Refusal::Memory)),
+        Err(InputStop::Failed) => Err(None),
+    }
+}
+
+/// Reads the map and listens on the port, and then serves. Answers the status.
+///
+/// Refused, in this order and with one line each: the image (`ERR 15 ..`, `ERR 5 Memory`), the port (`FAULT net`), and what `serve_run` refuses.
+pub fn serve<N, R, W>(
+    rt: &N,
+    alloc: Global,
+    options: &ServeOptions,
+    reader: &mut R,
+    writer: &mut W,
+) -> u8
+where
+    N: Net<Listener = TcpListener, Stream = TcpStream> + Wait + Threads + Sync,
+    R: Source,
+    W: Sink,
+    requires reader { CanFail (R.failed_reads reader.old) }
+    requires writer { CanFail (W.failed_writes writer.old) }
+{
+    let map = match read_map(alloc, reader) {
+        Ok(map) => map,
+        Err(Some(refusal)) => return write_refusal(writer, refusal).unwrap_or(REFUSED),
+        Err(None) => return REFUSED,
+    };
+    match TcpListener::bind(rt, local(options.port)) {
+        Ok(listener) => serve_run(rt, alloc, listener, map, options, writer),
+        Err(_) => write_net_fault(writer).unwrap_or(REFUSED),
+    }
+}
+
+/// Connects to the server, and asks it the reader's lines. Answers the status.
+///
+/// Without a server it writes `FAULT net`, with status 1.
+pub fn ask<N, R, W>(
+    rt: &N,
+    alloc: Global,
+    options: &AskOptions,
+    reader: &mut R,
+    writer: &mut W,
+) -> u8
+where
+    N: Net<Listener = TcpListener, Stream = TcpStream>,
+    R: Source,
+    W: Sink,
+    requires reader { CanFail (R.failed_reads reader.old) }
+    requires writer { CanFail (W.failed_writes writer.old) }
+{
+    let Ok(stream) = TcpStream::connect(rt, local(options.port)) else {
+        return write_net_fault(writer).unwrap_or(REFUSED);
+    };
+    match Socket::new(alloc, stream) {
+        Some(mut socket) => ask_run(alloc, &mut socket, reader, writer),
+        None => write_net_fault(writer).unwrap_or(REFUSED),
+    }
+}

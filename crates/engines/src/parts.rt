@@ -1,0 +1,107 @@
+//! The lines of a table's rows, put by workers side by side.
+
+ghost use Rattle.std.specs.Prelude.{◌≡◌, ◌+◌, ◌-◌, ◌*◌, ◌<◌, ◌≤◌, All, IfOk, length, min, take, vec_len};
+ghost use Rattle.engines.specs.Putting.{Puts};
+ghost use Rattle.engines.specs.Table.{rows_text};
+ghost use Rattle.engines.specs.Tabled.{nears_of};
+
+use crate::decimals::Decimals;
+use crate::line::{ENTRY_ROOM, SPARE_ROOM, put_row};
+use crate::table::Table;
+use metric::Near;
+use std::alloc::{AllocError, Global};
+
+/// How many rows a worker puts at a time.
+pub const ROWS: u32 = 16;
+
+/// The same as a count of lines.
+const ROOM_ROWS: usize = 16;
+
+/// Where a worker puts the lines of its rows, and one row of the table.
+#[derive(Drop)]
+pub struct Part {
+    pub nears: Vec<Option<Near>>,
+    pub text: Vec<u8>,
+    pub end: usize,
+}
+
+/// Puts the lines of the rows `from` to `to - 1`, and answers where they end.
+fn put_rows(
+    decimals: &Decimals,
+    table: &Table,
+    from: u16,
+    to: u16,
+    nears: &mut [Option<Near>],
+    text: &mut [u8],
+    nearest: bool,
+) -> usize
+    requires order { from ≤ to }
+    requires few { to ≤ from + 16 }
+    requires within { to ≤ table.now.height }
+    requires width { length nears.old ≡ table.now.width }
+    requires room { 16 * (23 * table.now.width + 1) + 3 ≤ length text.old }
+    ensures text { Puts text.old 0 (rows_text nearest table.now.width from (to - from) (nears_of table.now)) text.new result }
+    ensures end { result ≤ 16 * (23 * table.now.width + 1) }
+{
+    let mut end = 0;
+    'rows: for y in from..to {
+        table.fill_row(y, nears);
+        end = put_row(decimals, text, end, nears, nearest);
+    }
+    end
+}
+
+impl Part {
+    ghost use Rattle.engines.specs.Parts.{HasRows, IsPart};
+
+    /// A place for the lines of rows of this width.
+    pub fn new(alloc: Global, width: u16) -> Result<Self, AllocError>
+        ensures { IfOk result (IsPart width) }
+    {
+        let across = usize::from(width);
+        Ok(Part {
+            nears: vec![in alloc; None; across]?,
+            text: vec![in alloc; 0; ROOM_ROWS * (ENTRY_ROOM * across + 1) + SPARE_ROOM]?,
+            end: 0,
+        })
+    }
+
+    /// Puts the lines of the sixteen rows from this one on, or of those of them that there are.
+    pub fn put(&mut self, decimals: &Decimals, table: &Table, from: u32, nearest: bool)
+        requires part { IsPart table.now.width self.old }
+        requires from { from < 1000000 }
+        ensures { HasRows nearest table.now.width table.now.height (nears_of table.now) from self.new }
+    {
+        let height = u32::from(table.height);
+        let to = height.min(from + ROWS) as u16;
+        let from = height.min(from) as u16;
+        self.end = put_rows(
+            decimals,
+            table,
+            from,
+            to,
+            self.nears.as_mut_slice(),
+            self.text.as_mut_slice(),
+            nearest,
+        );
+    }
+    /// What was put.
+    pub fn text(&self) -> &[u8]
+        requires { self.now.end ≤ vec_len self.now.text }
+        ensures { result.now ≡ take self.now.end self.now.text.items }
+    {
+        &self.text[..self.end]
+    }
+
+    /// So many places for the lines of rows of this width.
+    pub fn several(alloc: Global, width: u16, count: u8) -> Result<Vec<Self>, AllocError>
+        ensures many { IfOk result (λ parts. vec_len parts ≡ count) }
+        ensures each { IfOk result (λ parts. All (IsPart width) parts.items) }
+    {
+        let mut parts = Vec::with_capacity(alloc, usize::from(count))?;
+        'parts: for _made in 0..count {
+            parts.push_reserved(Part::new(alloc, width)?);
+        }
+        Ok(parts)
+    }
+}

@@ -1,0 +1,96 @@
+//! From the process's words and standard streams to a run.
+
+ghost use Rattle.std.specs.Prelude.{◌≡◌};
+
+use crate::REFUSED;
+use crate::arguments::{Fault, Options};
+use crate::engine::run_words;
+use crate::errors::ErrorSink;
+use crate::net::{ask, serve};
+use crate::refusing::tell;
+use crate::words::options;
+use metric::{ReaderSource, Refusal, WriterSink};
+use std::net::{Net, TcpListener, TcpStream};
+use std::rt::Env;
+use std::sync::Wait;
+use std::thread::Threads;
+use std::{env, io};
+
+/// Runs what the process's words name, on the standard streams. Answers the exit status.
+pub fn run_process<R>(rt: &R) -> u8
+where
+    R: Env
+        + Input
+        + Print
+        + Eprint
+        + AllocGlobal
+        + Net<Listener = TcpListener, Stream = TcpStream>
+        + Wait
+        + Threads
+        + Sync,
+{
+    match words_of(rt) {
+        Ok(words) => run_texts(rt, words.as_slice()),
+        Err(fault) => tell_fault(rt, &fault),
+    }
+}
+
+/// The process's words.
+fn words_of<R: Env + AllocGlobal>(rt: &R) -> Result<Vec<String>, Fault<'static>> {
+    Ok(env::args(rt)?.collect(rt.alloc())?)
+}
+
+/// Runs what these words name.
+fn run_texts<R>(rt: &R, words: &[String]) -> u8
+where
+    R: Input
+        + Print
+        + Eprint
+        + AllocGlobal
+        + Net<Listener = TcpListener, Stream = TcpStream>
+        + Wait
+        + Threads
+        + Sync,
+{
+    let alloc = rt.alloc();
+    let texts = words
+        .iter()
+        .map(|word| word.as_str())
+        .collect::<Vec<&str>>(alloc);
+    let (Ok(texts), Ok(mut reader), Ok(mut writer)) = (
+        texts,
+        ReaderSource::new(alloc, rt.reader()),
+        WriterSink::new(alloc, io::writer(rt)),
+    ) else {
+        return refuse(rt);
+    };
+    match options(alloc, texts.as_slice()) {
+        Ok(Options::Serve(options)) => serve(rt, alloc, &options, &mut reader, &mut writer),
+        Ok(Options::Ask(options)) => ask(rt, alloc, &options, &mut reader, &mut writer),
+        _ => run_words(
+            rt,
+            alloc,
+            texts.as_slice(),
+            &mut reader,
+            &mut writer,
+            &mut ErrorSink::new(rt),
+        ),
+    }
+}
+
+/// Tells why the process's words can't be had.
+fn tell_fault<R: Print + Eprint + AllocGlobal>(rt: &R, fault: &Fault<'_>) -> u8 {
+    let alloc = rt.alloc();
+    let Ok(mut writer) = WriterSink::new(alloc, io::writer(rt)) else {
+        return refuse(rt);
+    };
+    tell(alloc, fault, &mut writer, &mut ErrorSink::new(rt))
+}
+
+/// Tells want of memory where there is none for a stream either.
+fn refuse(rt: &impl Print) -> u8
+    ensures { result ≡ 1 }
+{
+    let _ = rt.println(Refusal::Memory);
+    REFUSED
+}

@@ -1,0 +1,169 @@
+//! The command `serve`: a store of one map, and its sessions for the connections of a listener.
+
+ghost use Rattle.std.specs.Prelude.{◌≡◌, ◌≤◌, ◌+◌, ◌++◌, ◌∷◌, [], IfOk, IfSome};
+ghost use Rattle.metric.specs.Refusal.{refusal_text};
+ghost use Rattle.metric.specs.Stream.{CanFail, Counts};
+ghost use Rattle.metric.specs.declared.refusal.Refusal.TheVariants.{BadSetting};
+ghost use Rattle.bits.specs.Tiles.{tile_count};
+ghost use Rattle.map_core.specs.Setting.{bad_field};
+ghost use Rattle.engines.specs.Serving.{WritesOnly, setting_of};
+
+mod accepted;
+mod lines;
+
+use crate::arguments::ServeOptions;
+use crate::output::{write_net_fault, write_refusal, write_text};
+use crate::{DONE, REFUSED};
+use accepted::Accepted;
+use bits::Bitmap;
+use lines::{listening_line, served_line};
+use map_core::Setting;
+use metric::{Refusal, Sink, WriteFault};
+use proto::{Text, pool};
+use session::{Blank, Session, Store};
+use shelf::StoreName;
+use std::alloc::Global;
+use std::marker::Brand;
+use std::net::TcpListener;
+use std::sync::Wait;
+use std::thread::Threads;
+
+/// Where connections come from, and how many are served.
+#[derive(Drop)]
+struct Place {
+    listener: TcpListener,
+    port: u16,
+    connections: u32,
+}
+
+impl Place {
+    /// The connections, one after another.
+    fn accepted(self, alloc: Global) -> Accepted {
+        Accepted {
+            alloc,
+            listener: self.listener,
+            left: self.connections,
+        }
+    }
+}
+
+impl ServeOptions {
+    /// The setting of the store: a session for each worker.
+    fn setting(&self) -> Setting
+        ensures { result ≡ setting_of self.now }
+    {
+        Setting {
+            blocks: self.blocks,
+            versions: self.versions,
+            sessions: self.workers,
+            log: self.log,
+        }
+    }
+}
+
+/// Serves the map to the connections that the listener accepts, and answers the status once there were so many. The line `LISTENING <port>` is written before the first is accepted, and `SERVED <connections> <log length>` behind the last.
+///
+/// In place of these it writes one line, with status 1: `FAULT net` where the listener has no port, `ERR 16 ..` for the first of blocks, versions, workers (as `Sessions`) and log that is out of its limits for this map, and `ERR 5 Memory`. A connection that can't be accepted, or fails, counts as served. Where a write fails nothing more is written, and the status is 1.
+pub fn serve_run<R: Wait + Threads + Sync, W: Sink>(
+    rt: &R,
+    alloc: Global,
+    listener: TcpListener,
+    map: Bitmap,
+    options: &ServeOptions,
+    writer: &mut W,
+) -> u8
+    requires { CanFail (W.failed_writes writer.old) }
+
+    // Where the setting is out of its limits nothing is served, and one line says so.
+    ensures setting { IfSome (bad_field (tile_count map) (setting_of options.now)) (λ field.
+        WritesOnly (refusal_text (BadSetting field) ++ 10 ∷ []) (W.held writer.old) (W.held writer.new) × (result ≡ 1)) }
+    ensures one_failure { W.failed_writes writer.new ≤ W.failed_writes writer.old + 1 }
+{
+    match listener.local_addr() {
+        Ok(address) => {
+            let place = Place {
+                listener,
+                port: address.port(),
+                connections: options.connections,
+            };
+            serve_at(rt, alloc, place, map, options.setting(), writer).unwrap_or(REFUSED)
+        }
+        Err(_) => write_net_fault(writer).unwrap_or(REFUSED),
+    }
+}
+
+/// Serves the map with a store of this setting.
+fn serve_at<R: Wait + Threads + Sync, W: Sink>(
+    rt: &R,
+    alloc: Global,
+    place: Place,
+    map: Bitmap,
+    setting: Setting,
+    writer: &mut W,
+) -> Result<u8, WriteFault>
+    requires { CanFail (W.failed_writes writer.old) }
+    ensures setting { IfSome (bad_field (tile_count map) setting) (λ field.
+        WritesOnly (refusal_text (BadSetting field) ++ 10 ∷ []) (W.held writer.old) (W.held writer.new) × IfOk result (λ status. status ≡ 1)) }
+    ensures counts { Counts (W.failed_writes writer.old) result (W.failed_writes writer.new) }
+{
+    match Blank::of(alloc, setting, map) {
+        Ok(blank) => serve_blank::<Brand, _, _>(rt, alloc, place, blank, writer),
+        Err((_, refusal)) => write_refusal(writer, refusal),
+    }
+}
+
+/// Serves a store that this opens.
+fn serve_blank<Id: StoreName + Send + Sync, R: Wait + Threads + Sync, W: Sink>(
+    rt: &R,
+    alloc: Global,
+    place: Place,
+    blank: Blank,
+    writer: &mut W,
+) -> Result<u8, WriteFault>
+    requires name { blank ≡ Id.store }
+    requires writer { CanFail (W.failed_writes writer.old) }
+    ensures counts { Counts (W.failed_writes writer.old) result (W.failed_writes writer.new) }
+{
+    match Store::<Id>::open(alloc, blank) {
+        Ok((store, sessions)) => serve_store(rt, alloc, place, store, sessions, writer),
+        Err((blank, refusal)) => {
+            blank.discard();
+            write_refusal(writer, refusal)
+        }
+    }
+}
+
+/// Serves a store that is open, and closes it.
+fn serve_store<Id: StoreName + Send + Sync, R: Wait + Threads + Sync, W: Sink>(
+    rt: &R,
+    alloc: Global,
+    place: Place,
+    store: Store<Id>,
+    sessions: Vec<Session<Id>>,
+    writer: &mut W,
+) -> Result<u8, WriteFault>
+    requires { CanFail (W.failed_writes writer.old) }
+    ensures counts { Counts (W.failed_writes writer.old) result (W.failed_writes writer.new) }
+{
+    let Ok(mut text) = Text::new(alloc) else {
+        store.close(sessions);
+        return write_refusal(writer, Refusal::Memory);
+    };
+    listening_line(place.port, &mut text);
+    if let Err(fault) = write_text(writer, text.as_bytes(), DONE) {
+        store.close(sessions);
+        return Err(fault);
+    }
+    let connections = place.connections;
+    match pool(rt, alloc, &store, sessions, place.accepted(alloc)) {
+        Ok(sessions) => {
+            let log = store.close(sessions).len() as u64;
+            served_line(connections, log, &mut text);
+            write_text(writer, text.as_bytes(), DONE)
+        }
+        Err((sessions, refusal)) => {
+            store.close(sessions);
+            write_refusal(writer, refusal)
+        }
+    }
+}

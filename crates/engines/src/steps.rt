@@ -1,0 +1,45 @@
+//! The command `steps`: a world that does the events of a text, one a line, and answers each.
+
+ghost use Rattle.std.specs.Prelude.{◌≡◌, ◌≢◌, ◌+◌, ◌≤◌};
+ghost use Rattle.metric.specs.Stream.{CanFail};
+ghost use Rattle.engines.specs.Steps.{Answers, BeginsToAnswer};
+
+mod answer;
+mod line;
+mod opening;
+mod run;
+pub mod text;
+
+use crate::REFUSED;
+use crate::input::{InputStop, read_to_end};
+use metric::{Sink, Source};
+use opening::NotOpened;
+use run::{write_steps, write_stop};
+use std::alloc::Global;
+
+/// Reads a text to the end of the reader, opens the world that its first line tells, and writes one answer line for it and for each line behind it. Answers the status.
+///
+/// A first line that opens no world, or want of memory for reading or opening, is one line alone, with status 1. Where a call of the reader or the writer fails, neither is called again, and the status is 1.
+pub fn steps_run<R: Source, W: Sink>(alloc: Global, reader: &mut R, writer: &mut W) -> u8
+    requires reader { CanFail (R.failed_reads reader.old) }
+    requires writer { CanFail (W.failed_writes writer.old) }
+
+    // Where no call failed, each line has its answer.
+    ensures answers { R.failed_reads reader.new ≡ R.failed_reads reader.old → W.failed_writes writer.new ≡ W.failed_writes writer.old
+        → Answers (R.rest reader.old) (W.held writer.old) (W.held writer.new) result }
+
+    // Where a read failed, nothing was written.
+    ensures failed_read { R.failed_reads reader.new ≢ R.failed_reads reader.old
+        → (W.held writer.new ≡ W.held writer.old) × (W.failed_writes writer.new ≡ W.failed_writes writer.old) × (result ≡ 1) }
+
+    // Where a write failed, a beginning of the answers to a beginning of the lines was written.
+    ensures failed_write { W.failed_writes writer.new ≢ W.failed_writes writer.old
+        → BeginsToAnswer (R.rest reader.old) (W.held writer.old) (W.held writer.new) × (result ≡ 1) }
+    ensures one_failure { R.failed_reads reader.new + W.failed_writes writer.new ≤ R.failed_reads reader.old + W.failed_writes writer.old + 1 }
+{
+    match read_to_end(alloc, reader) {
+        Ok(bytes) => write_steps(alloc, bytes.as_slice(), writer).unwrap_or(REFUSED),
+        Err(InputStop::Memory) => write_stop(writer, NotOpened::Memory).unwrap_or(REFUSED),
+        Err(InputStop::Failed) => REFUSED,
+    }
+}

@@ -1,0 +1,137 @@
+//! The first line of steps, and the world that it opens.
+
+ghost use Rattle.std.specs.Prelude.{◌≡◌, ◌≢◌, ◌∷◌, ◌++◌, [], Ok, Err, true, false, option_and_then, IfOk, IfErr, IfSome, IsOk, MatchOption};
+ghost use Rattle.bits.specs.Cells.{IsSide};
+ghost use Rattle.map_core.specs.Runs.{IsOpened};
+ghost use Rattle.map_core.specs.Words.{tiles};
+ghost use Rattle.proto.specs.Numbers.{numbers};
+ghost use Rattle.proto.specs.Words.{words_left};
+ghost use Rattle.engines.specs.Opening.{base_of, is_side, judged, opening_told, refusal_of, setting_of};
+
+use bits::Bitmap;
+use map_core::{Setting, World};
+use metric::{Field, Refusal};
+use proto::{Text, next_number, number_triple, split_word};
+use std::alloc::Global;
+
+/// What a first line tells: a blank map, and the room of its world.
+#[derive(Clone, Copy)]
+pub struct Opening {
+    /// Columns, 1 to 4096.
+    pub width: u16,
+    /// Rows, 1 to 4096.
+    pub height: u16,
+    pub setting: Setting,
+}
+
+/// Why no world was opened.
+#[derive(Clone, Copy)]
+pub enum NotOpened {
+    /// The line has another form, or a side that no map has.
+    BadArguments,
+    /// The setting is out of its limits: this field first.
+    BadSetting(Field),
+    /// There was no memory.
+    Memory,
+}
+
+/// A world that a first line opened, how many positions its map has, and the room of the answers.
+#[derive(Drop)]
+pub struct Opened {
+    pub world: World,
+    pub tiles: u16,
+    pub text: Text,
+}
+
+impl NotOpened {
+    /// The refusal that tells it.
+    pub fn refusal(self) -> Refusal
+        ensures { result ≡ refusal_of self }
+    {
+        match self {
+            NotOpened::BadArguments => Refusal::BadArguments,
+            NotOpened::BadSetting(field) => Refusal::BadSetting(field),
+            NotOpened::Memory => Refusal::Memory,
+        }
+    }
+}
+
+/// A side of a map, if the number is one.
+fn side(number: u32) -> Option<u16>
+    ensures { MatchOption result (is_side number ≡ false) (λ side. (side ≡ number) × (is_side number ≡ true)) }
+{
+    if 1 <= number && number <= 4096 {
+        Some(number as u16)
+    } else {
+        None
+    }
+}
+
+/// The setting that is left of a line.
+fn read_setting(rest: Option<&[u8]>) -> Option<Setting>
+    ensures { result ≡ option_and_then setting_of (numbers (words_left rest.entry)) }
+{
+    let (blocks, rest) = next_number(rest)?;
+    let (versions, sessions, log) = number_triple(rest)?;
+    Some(Setting {
+        blocks,
+        versions,
+        sessions,
+        log,
+    })
+}
+
+impl Opening {
+    /// What a first line tells, without its LF and the CR before it.
+    #[tactic(auto, unfolding(crate::specs::Opening::opening_told))]
+    pub fn parse(line: &[u8]) -> Option<Opening>
+        ensures told { result ≡ opening_told line.now }
+        ensures width { IfSome result (λ opening. IsSide opening.width) }
+        ensures height { IfSome result (λ opening. IsSide opening.height) }
+    {
+        let (word, rest) = split_word(line);
+        if word != b"OPEN".as_slice() {
+            return None;
+        }
+        let (width, rest) = next_number(rest)?;
+        let (height, rest) = next_number(rest)?;
+        let setting = read_setting(rest)?;
+        let width = side(width)?;
+        let height = side(height)?;
+        Some(Opening {
+            width,
+            height,
+            setting,
+        })
+    }
+}
+
+impl Opened {
+    /// The world that a first line opens. Memory can be wanting for a map and a setting alone that are good.
+    pub fn of(alloc: Global, line: &[u8]) -> Result<Self, NotOpened>
+        ensures opened { IfOk result (λ opened. (opening : Opening) × (judged (opening_told line.now) ≡ Ok opening) × IsOpened (base_of opening) opened.world × (opened.tiles ≡ tiles (base_of opening))) }
+        ensures refusal { IfErr result (λ stop. stop ≢ NotOpened.Memory → judged (opening_told line.now) ≡ Err (refusal_of stop)) }
+        ensures memory { result ≡ Err NotOpened.Memory → IsOk (judged (opening_told line.now)) }
+    {
+        let Some(opening) = Opening::parse(line) else {
+            return Err(NotOpened::BadArguments);
+        };
+        if let Err(Refusal::BadSetting(field)) = opening
+            .setting
+            .fits_size(opening.width, opening.height)
+        {
+            return Err(NotOpened::BadSetting(field));
+        }
+        let Ok(map) = Bitmap::blank(alloc, opening.width, opening.height) else {
+            return Err(NotOpened::Memory);
+        };
+        let Ok(world) = World::open(alloc, opening.setting, &map) else {
+            return Err(NotOpened::Memory);
+        };
+        let Ok(text) = Text::new(alloc) else {
+            return Err(NotOpened::Memory);
+        };
+        let tiles = map.tiles();
+        Ok(Opened { world, tiles, text })
+    }
+}

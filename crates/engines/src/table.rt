@@ -1,0 +1,96 @@
+//! The nearest obstacles of one image's cells, found by workers.
+
+ghost use Rattle.std.specs.Prelude.{◌≡◌, ◌+◌, ◌*◌, ◌<◌, ◌≤◌, IfOk, length, slice_range};
+ghost use Rattle.metric.specs.Kind.{distance_of};
+ghost use Rattle.field.specs.Obstacles.{nears_told};
+ghost use Rattle.field.specs.Rows.{AreNears};
+
+use bits::Bitmap;
+use field::{ObstacleTable, Workers};
+use metric::{Chess, City, Euclid2, Gate, MetricKind, Near, Refusal};
+use std::alloc::Global;
+use std::thread::Threads;
+
+/// The nearest obstacles of all cells by one metric, four bytes a cell.
+#[derive(Drop)]
+pub struct Table {
+    pub width: u16,
+    pub height: u16,
+    pub metric: MetricKind,
+    pub obstacles: ObstacleTable,
+    ghost across: { obstacles.width ≡ width },
+    ghost from: { obstacles.y0 ≡ 0 },
+    ghost to: { obstacles.y1 ≡ height },
+}
+
+impl Table {
+    ghost use Rattle.engines.specs.Tabled.{nears_of};
+
+    /// The nearest obstacles of this bitmap's cells, found by so many workers.
+    pub fn of<T: Threads + Sync>(
+        rt: &T,
+        alloc: Global,
+        bitmap: &Bitmap,
+        metric: MetricKind,
+        workers: Workers,
+    ) -> Result<Self, Refusal>
+        ensures width { IfOk result (λ table. table.width ≡ bitmap.now.width) }
+        ensures height { IfOk result (λ table. table.height ≡ bitmap.now.height) }
+        ensures rows { IfOk result (λ table. AreNears (distance_of metric) bitmap.now 0 bitmap.now.height (nears_of table)) }
+    {
+        let obstacles = obstacles_of(rt, alloc, bitmap, metric, workers)?;
+        Ok(Table {
+            width: bitmap.width(),
+            height: bitmap.height(),
+            metric,
+            obstacles,
+        })
+    }
+
+    /// Fills a line with the nearest obstacles of row `y`.
+    pub fn fill_row(&self, y: u16, nears: &mut [Option<Near>])
+        requires row { y < self.now.height }
+        requires width { length nears.old ≡ self.now.width }
+        ensures { nears.new ≡ slice_range (nears_of self.now) (y * self.now.width) (y * self.now.width + self.now.width) }
+    {
+        match self.metric {
+            MetricKind::Euclid2 => self.obstacles.fill_row::<Euclid2>(y, nears),
+            MetricKind::City => self.obstacles.fill_row::<City>(y, nears),
+            MetricKind::Chess => self.obstacles.fill_row::<Chess>(y, nears),
+        }
+    }
+}
+
+/// The obstacles by the metric of this name.
+fn obstacles_of<T: Threads + Sync>(
+    rt: &T,
+    alloc: Global,
+    bitmap: &Bitmap,
+    metric: MetricKind,
+    workers: Workers,
+) -> Result<ObstacleTable, Refusal>
+    ensures width { IfOk result (λ table. table.width ≡ bitmap.now.width) }
+    ensures from { IfOk result (λ table. table.y0 ≡ 0) }
+    ensures to { IfOk result (λ table. table.y1 ≡ bitmap.now.height) }
+    ensures rows { IfOk result (λ table. AreNears (distance_of metric) bitmap.now 0 bitmap.now.height (nears_told (distance_of metric) table)) }
+{
+    let height = bitmap.height();
+    match metric {
+        MetricKind::Euclid2 => {
+            ObstacleTable::of::<Euclid2, Open, T>(rt, alloc, bitmap, 0, height, workers, &Open)
+        }
+        MetricKind::City => {
+            ObstacleTable::of::<City, Open, T>(rt, alloc, bitmap, 0, height, workers, &Open)
+        }
+        MetricKind::Chess => {
+            ObstacleTable::of::<Chess, Open, T>(rt, alloc, bitmap, 0, height, workers, &Open)
+        }
+    }
+}
+
+/// A gate that each worker passes at once.
+struct Open;
+
+impl Gate for Open {
+    fn enter(&self, _band: u8) {}
+}
