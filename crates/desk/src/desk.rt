@@ -32,21 +32,3 @@ impl<Id: StoreName> Model for Desk<Id> {
 
     ghost invariant = { λ d. IsDesk Id.store record { log = d.log.items } d.keeper d.holding d.announced.items };
 }
-
-#[cfg(test)]
-impl<Id: StoreName> Desk<Id> {
-    ghost use Rattle.std.specs.Prelude.{◌≡◌};
-    ghost use Rattle.map_core.specs.Words.{tiles};
-
-    /// How many blocks are free.
-    pub fn free_blocks(&self) -> u32 {
-        self.holding.arena.free_len()
-    }
-
-    /// How many positions the map has.
-    pub fn tiles(&self) -> u16
-        ensures { result ≡ tiles Id.store.base }
-    {
-        self.keeper.plan().tiles
-    }
-}

@@ -4,7 +4,5 @@
 mod carry;
 mod desk;
 mod holding;
-#[cfg(test)]
-mod tests;
 
 pub use desk::{Desk, FreshDesk};

@@ -13,8 +13,6 @@ mod room;
 mod session;
 mod sessions;
 mod store;
-#[cfg(test)]
-mod tests;
 
 pub use blank::Blank;
 pub use pinned::Pinned;

@@ -1,4 +1,4 @@
-//! Tests of the crates that keep a store and speak its protocol: what no clause says of blocks, tiles, events, lines and served streams.
+//! Tests of the crates that keep a store and speak its protocol: what no clause says of blocks, tiles, events, sessions, lines and served streams.
 #![tactic(auto)]
 
 #[cfg(test)]
@@ -16,10 +16,14 @@ mod floors;
 #[cfg(test)]
 mod lines;
 #[cfg(test)]
+mod opened;
+#[cfg(test)]
 mod opened_worlds;
 #[cfg(test)]
 mod script;
 #[cfg(test)]
 mod served;
+#[cfg(test)]
+mod sessions;
 #[cfg(test)]
 mod tiles;

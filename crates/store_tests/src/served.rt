@@ -10,6 +10,7 @@ mod pooled;
 mod worked;
 
 use crate::compare::{holds, same};
+use crate::opened::{hand_back, open};
 use bits::Bitmap;
 use map_core::{Reply, Setting};
 use metric::{MemorySink, MemorySource, MemoryStream, Stream};
@@ -43,27 +44,6 @@ fn drawn(alloc: Global, image: &[u8]) -> Result<Bitmap, Fail> {
     match read_image(alloc, image) {
         Ok((bitmap, _)) => Ok(bitmap),
         Err(fault) => Err(Fail::from(fault)),
-    }
-}
-
-/// What a store is opened from.
-fn blank(setting: Setting, map: Bitmap, alloc: Global) -> Result<Blank, Fail> {
-    match Blank::of(alloc, setting, map) {
-        Ok(blank) => Ok(blank),
-        Err((_, refusal)) => Err(Fail::from(refusal)),
-    }
-}
-
-/// Opens a store.
-fn open<Id: StoreName>(alloc: Global, blank: Blank) -> Result<(Store<Id>, Vec<Session<Id>>), Fail>
-    requires { blank ≡ Id.store }
-{
-    match Store::<Id>::open(alloc, blank) {
-        Ok(opened) => Ok(opened),
-        Err((blank, refusal)) => {
-            blank.discard();
-            Err(Fail::from(refusal))
-        }
     }
 }
 
@@ -126,18 +106,6 @@ fn publish_and_collect<Id: StoreName, R: Wait + Abort>(
             place
         }
         _ => panic!(rt; "no publish and no collect"),
-    }
-}
-
-/// Puts a session back among the others.
-fn hand_back<Id: StoreName>(
-    rt: &impl Abort,
-    sessions: &mut Vec<Session<Id>>,
-    session: Session<Id>,
-) {
-    match sessions.push(session) {
-        Ok(()) => {}
-        Err(_) => panic!(rt; "no room for a session"),
     }
 }
 

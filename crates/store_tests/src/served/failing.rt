@@ -2,8 +2,9 @@
 
 ghost use Rattle.std.specs.Prelude.{◌≡◌, None};
 
-use super::{Input, Run, blank, look, serve, serve_over, setting, square};
+use super::{Input, Run, look, serve, serve_over, setting, square};
 use crate::compare::{holds, same};
+use crate::opened::blank;
 use metric::{ReadFault, Sink, Source, Stream, WriteFault};
 use proto::End;
 use std::alloc::Global;

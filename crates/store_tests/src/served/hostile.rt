@@ -1,7 +1,8 @@
 //! Lines that no client should send.
 
-use super::{Input, blank, look, serve, setting, square};
+use super::{Input, look, serve, setting, square};
 use crate::compare::same;
+use crate::opened::blank;
 use proto::End;
 use std::alloc::Global;
 use std::test::Fail;

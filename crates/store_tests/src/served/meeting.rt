@@ -2,8 +2,9 @@
 
 ghost use Rattle.std.specs.Prelude.{◌≡◌, None, IfSome};
 
-use super::{blank, open, setting, square};
+use super::{setting, square};
 use crate::compare::same;
+use crate::opened::{blank, open};
 use metric::{ReadFault, Sink, Source, Stream, WriteFault};
 use proto::{Streams, pool};
 use session::Blank;

@@ -2,8 +2,9 @@
 
 ghost use Rattle.std.specs.Prelude.{◌≡◌};
 
-use super::{Input, blank, open, setting, square, stream_of};
+use super::{Input, setting, square, stream_of};
 use crate::compare::same;
+use crate::opened::{blank, open};
 use map_core::Reply;
 use metric::MemoryStream;
 use proto::{Streams, pool};

@@ -1,7 +1,8 @@
 //! Worked streams: what is read, and what is written.
 
-use super::{Input, blank, drawn, look, serve, setting, square};
+use super::{Input, drawn, look, serve, setting, square};
 use crate::compare::same;
+use crate::opened::blank;
 use bits::Bitmap;
 use metric::Cell;
 use proto::End;

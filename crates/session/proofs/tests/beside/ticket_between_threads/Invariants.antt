@@ -1,5 +1,0 @@
--- The store that was just made has the name.
-use Rattle.session.proofs.tests.beside.ticket_between_threads.Given as goal
-
-abbrev pub ghosts-hands_a_ticket_over : goal.ghosts-hands_a_ticket_over
-ghosts-hands_a_ticket_over g a = record { store = a.blank }

@@ -1,5 +1,0 @@
--- The store that was just made has the name.
-use Rattle.session.proofs.tests.busy.planners_beside_a_painter.Given as goal
-
-abbrev pub ghosts-paints_and_plans : goal.ghosts-paints_and_plans
-ghosts-paints_and_plans g a = record { store = a.blank }

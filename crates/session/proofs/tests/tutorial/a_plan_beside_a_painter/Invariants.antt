@@ -1,5 +1,0 @@
--- The store that was just made has the name.
-use Rattle.session.proofs.tests.tutorial.a_plan_beside_a_painter.Given as goal
-
-abbrev pub ghosts-paint_and_plan : goal.ghosts-paint_and_plan
-ghosts-paint_and_plan g a = record { store = a.blank }

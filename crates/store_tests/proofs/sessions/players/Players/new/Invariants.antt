@@ -1,0 +1,5 @@
+-- Fewer are left after each.
+use Rattle.store_tests.proofs.sessions.players.Players.new.Given as goal
+
+abbrev pub decreases-sessions : goal.decreases-sessions
+decreases-sessions g l = goal.left-sessions g l

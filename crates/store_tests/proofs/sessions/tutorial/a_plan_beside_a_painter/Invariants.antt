@@ -1,0 +1,5 @@
+-- The store that was just made has the name.
+use Rattle.store_tests.proofs.sessions.tutorial.a_plan_beside_a_painter.Given as goal
+
+abbrev pub ghosts-paint_and_plan : goal.ghosts-paint_and_plan
+ghosts-paint_and_plan g a = record { store = a.blank }

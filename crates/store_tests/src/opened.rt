@@ -1,0 +1,76 @@
+//! Stores that tests open.
+
+ghost use Rattle.std.specs.Prelude.{◌≡◌};
+
+use bits::Bitmap;
+use map_core::Setting;
+use metric::Rect;
+use session::{Blank, Pinned, Session, Store};
+use shelf::StoreName;
+use std::alloc::Global;
+use std::process::Abort;
+use std::test::Fail;
+
+/// What a store is opened from.
+pub fn blank(setting: Setting, map: Bitmap, alloc: Global) -> Result<Blank, Fail> {
+    match Blank::of(alloc, setting, map) {
+        Ok(blank) => Ok(blank),
+        Err((_, refusal)) => Err(Fail::from(refusal)),
+    }
+}
+
+/// What a store on a map of this size without an obstacle is opened from.
+pub fn free(alloc: Global, setting: Setting, size: [u16; 2]) -> Result<Blank, Fail> {
+    let [width, height] = size;
+    if width == 0 || 4096 < width || height == 0 || 4096 < height {
+        return Err(Fail::from("a side that no map has"));
+    }
+    blank(setting, Bitmap::blank(alloc, width, height)?, alloc)
+}
+
+/// Opens a store.
+pub fn open<Id: StoreName>(
+    alloc: Global,
+    blank: Blank,
+) -> Result<(Store<Id>, Vec<Session<Id>>), Fail>
+    requires { blank ≡ Id.store }
+{
+    match Store::<Id>::open(alloc, blank) {
+        Ok(opened) => Ok(opened),
+        Err((blank, refusal)) => {
+            blank.discard();
+            Err(Fail::from(refusal))
+        }
+    }
+}
+
+/// The rectangle with these corners.
+pub fn rect(rt: &impl Abort, corners: [u16; 4]) -> Rect {
+    let [x0, y0, x1, y1] = corners;
+    Rect::new(x0, y0, x1, y1).expect(rt, "a rectangle")
+}
+
+/// The last of the sessions that are left.
+pub fn next<Id: StoreName>(rt: &impl Abort, sessions: &mut Vec<Session<Id>>) -> Session<Id> {
+    sessions.pop().expect(rt, "a session")
+}
+
+/// Puts a session back among the others.
+pub fn hand_back<Id: StoreName>(
+    rt: &impl Abort,
+    sessions: &mut Vec<Session<Id>>,
+    session: Session<Id>,
+) {
+    match sessions.push(session) {
+        Ok(()) => {}
+        Err(_) => panic!(rt; "no room for a session"),
+    }
+}
+
+/// Pins the newest version.
+pub fn pin<Id: StoreName>(rt: &impl Abort, alloc: Global, session: Session<Id>) -> Pinned<Id> {
+    match session.pin(alloc) {
+        Ok(pinned) => pinned,
+        Err(_) => panic!(rt; "no memory for a pin"),
+    }
+}

@@ -1,0 +1,13 @@
+//! Stores and their sessions, what no clause says: that memory is found, and worked runs with answers from outside.
+
+mod acts;
+mod beside;
+mod busy;
+mod closing;
+mod counted;
+mod limits;
+mod pins;
+mod players;
+mod seat;
+mod tutorial;
+mod worked;

@@ -1,0 +1,87 @@
+//! What sessions do in a table of rows, and what they are told.
+
+use map_core::Reply;
+use metric::Refusal;
+
+/// What a session does, with its pin where it has one.
+#[derive(Clone, Copy)]
+pub enum Act {
+    /// Paints the cells of the rectangle with these corners.
+    Paint([u16; 4]),
+    /// Clears them.
+    Clear([u16; 4]),
+    /// Stamps a row of three obstacles, whose first cell is here.
+    Stamp(u16, u16),
+    Publish,
+    Revert,
+    Collect,
+    Pin,
+    Unpin,
+    /// Asks its pin how far the nearest obstacle of a cell is.
+    Near([u16; 2]),
+    /// Asks its pin each query.
+    Ask,
+    /// Lays a ticket of the log into the tray.
+    Ticket,
+    /// Learns the ticket that lies in the tray.
+    Learn,
+    /// Discards it.
+    Discard,
+    /// Counts its accepted commands.
+    Count,
+    /// Looks whose the log's last entry is.
+    LookAtLast,
+}
+
+/// What it is told.
+#[derive(Clone, Copy, PartialEq, Debug)]
+pub enum Told {
+    /// The command's place, and how many cells changed.
+    Painted(u32, u32),
+    /// Its place, and the version.
+    Published(u32, u32),
+    /// Its place.
+    Reverted(u32),
+    /// Its place, the floor, and how many blocks came back.
+    Collected(u32, u32, u32),
+    /// How many blocks it needs, and how many are free.
+    Full(u32, u32),
+    Refused(Refusal),
+    /// The version that its pin holds.
+    Version(u32),
+    /// The version that its pin holds, how far the nearest obstacle is, and where.
+    Near(u32, u32, [u16; 2]),
+    /// The version that its pin holds, where there is no obstacle.
+    Free(u32),
+    /// How many commands, or which session.
+    Number(u32),
+    Nothing,
+}
+
+/// Which session acts, what it does, and what it is told.
+pub type Row = (usize, Act, Told);
+
+/// The first session, the second one and the third one.
+pub const A: usize = 0;
+
+pub const B: usize = 1;
+
+pub const C: usize = 2;
+
+/// What a command is answered.
+pub fn answered(answer: Result<Reply, Refusal>) -> Told {
+    match answer {
+        Ok(Reply::Painted { place, changed }) => Told::Painted(place, changed),
+        Ok(Reply::Published { place, version }) => Told::Published(place, version),
+        Ok(Reply::Reverted { place }) => Told::Reverted(place),
+        Ok(
+            Reply::Collected {
+                place,
+                floor,
+                freed,
+            },
+        ) => Told::Collected(place, floor, freed),
+        Err(Refusal::BlocksFull { needed, free }) => Told::Full(needed, free),
+        Err(refusal) => Told::Refused(refusal),
+    }
+}
