@@ -5,13 +5,12 @@ use Rattle.std.proofs.Math.Nat.{mul-le-mul_right}
 use Rattle.std.proofs.Math.ListN.{replicate}
 use Rattle.std.proofs.lemmas.List.{get_or-replicate, length-replicate}
 use Rattle.std.proofs.lemmas.Bool.{cases_lt, cases_eq}
-use Rattle.std.proofs.lemmas.Bool.Decides.{nat_tests}
 use Rattle.bits.specs.Cells.{Cells, has, IsBitmap}
 use Rattle.bits.proofs.CellsLemmas.{has-outside}
 use Rattle.column.specs.Columns.{IsNearestRow, IsRowOfTable, row_of}
 use Rattle.column.specs.Lines.{AreEdges, AreLinesBehind, IsLineBefore, IsLineFrom, IsRowBefore, IsRowFrom}
 use Rattle.column.specs.Sweeps.{marked, nearer}
-use Rattle.column.proofs.Nearest.{IsRowAtMost-by, row_of-none, row_of-some}
+use Rattle.column.proofs.Nearest.{IsRowAtMost-by, nearer_by, row_of-none, row_of-some}
 
 -- past a free cell the nearest obstacle before stays
 before_free : (cells : Cells) (x y : ℕ) (row : Option ℕ) → has cells x y ≡ false → IsRowBefore cells x y row → IsRowBefore cells x (y + 1) row
@@ -76,27 +75,23 @@ only_behind cells x y row before behind = (
       elim (cases_lt y b) [ inl low ↦ let uppermost = behind.2 b (omega arith) black in IsRowAtMost-by y row b (omega arith) (λ same. omega arith) | inr high ↦ absurd (before b (omega arith) black) ],
 )
 
--- the nearer of both is the nearest, the one before on a tie
-nearer_of_both : (cells : Cells) (x y above below row : ℕ) → IsRowBefore cells x (y + 1) (Some above) → IsRowFrom cells x (y + 1) (Some below)
-    → ((row ≡ below) × (abs_diff y below < abs_diff y above)) ⊎ ((row ≡ above) × (abs_diff y above ≤ abs_diff y below)) → IsNearestRow cells x y (Some row)
-nearer_of_both cells x y above below row before behind (inl lower) =
-    let same = lower.0 in
-    let wins = lower.1 in
+-- the one behind is the nearest where it is nearer than the one before
+behind_wins : (cells : Cells) (x y above below : ℕ) → abs_diff y below < abs_diff y above → IsRowBefore cells x (y + 1) (Some above) → IsRowFrom cells x (y + 1) (Some below) → IsNearestRow cells x y (Some below)
+behind_wins cells x y above below wins before behind =
     let up = before.1 in
-    let down = behind.1 in
-    rw same (
+    let down = behind.1 in (
       behind.0,
       λ b black. elim (cases_lt y b) [
         | inl low ↦ let uppermost = behind.2 b (omega arith) black in IsRowAtMost-by y below b (omega arith) (λ same. omega arith)
         | inr high ↦ let lowest = before.2 b (omega arith) black in IsRowAtMost-by y below b (omega arith) (λ same. omega arith)
       ],
     )
-nearer_of_both cells x y above below row before behind (inr upper) =
-    let same = upper.0 in
-    let wins = upper.1 in
+
+-- and otherwise the one before
+before_wins : (cells : Cells) (x y above below : ℕ) → abs_diff y above ≤ abs_diff y below → IsRowBefore cells x (y + 1) (Some above) → IsRowFrom cells x (y + 1) (Some below) → IsNearestRow cells x y (Some above)
+before_wins cells x y above below wins before behind =
     let up = before.1 in
-    let down = behind.1 in
-    rw same (
+    let down = behind.1 in (
       before.0,
       λ b black. elim (cases_lt y b) [
         | inl low ↦ let uppermost = behind.2 b (omega arith) black in IsRowAtMost-by y above b (omega arith) (λ same. omega arith)
@@ -105,26 +100,13 @@ nearer_of_both cells x y above below row before behind (inr upper) =
     )
 
 -- of the entries before and behind the nearer one is the nearest of all
-pub nearest_between : (cells : Cells) (x y above below : ℕ) → IsRowBefore cells x (y + 1) (row_of above) → IsRowFrom cells x (y + 1) (row_of below) → IsNearestRow cells x y (row_of (nearer y above below))
+nearest_between : (cells : Cells) (x y above below : ℕ) → IsRowBefore cells x (y + 1) (row_of above) → IsRowFrom cells x (y + 1) (row_of below) → IsNearestRow cells x y (row_of (nearer y above below))
 nearest_between cells x y above below before behind =
-    elim (cases_eq below 65535) [
-      | inl none ↦
-          let result : nearer y above below ≡ above = grind (arith, nat_tests) in
-          rw result (only_before cells x y (row_of above) before (rw (row_of-none below none) at behind))
-      | inr some ↦ elim (cases_eq above 65535) [
-        | inl none ↦
-            let result : nearer y above below ≡ below = grind (arith, nat_tests) in
-            rw (result, row_of-some below some) (only_behind cells x y below (rw (row_of-none above none) at before) (rw (row_of-some below some) at behind))
-        | inr both ↦ elim (cases_lt (abs_diff y below) (abs_diff y above)) [
-          | inl lower ↦
-              let result : nearer y above below ≡ below = grind (arith, nat_tests) in
-              rw (result, row_of-some below some) (nearer_of_both cells x y above below below (rw (row_of-some above both) at before) (rw (row_of-some below some) at behind) (inl (refl, lower)))
-          | inr upper ↦
-              let result : nearer y above below ≡ above = grind (arith, nat_tests) in
-              rw (result, row_of-some above both) (nearer_of_both cells x y above below above (rw (row_of-some above both) at before) (rw (row_of-some below some) at behind) (inr (refl, upper)))
-        ]
-      ]
-    ]
+    nearer_by (IsNearestRow cells x y) y above below
+    (λ none. only_before cells x y (row_of above) before (rw (row_of-none below none) at behind))
+    (λ some none. only_behind cells x y below (rw (row_of-none above none) at before) (rw (row_of-some below some) at behind))
+    (λ some both less. behind_wins cells x y above below less (rw (row_of-some above both) at before) (rw (row_of-some below some) at behind))
+    (λ some both more. before_wins cells x y above below more (rw (row_of-some above both) at before) (rw (row_of-some below some) at behind))
 
 -- the entries between the line before and that behind are the row of the table
 pub IsRowOfTable-between : (cells : Cells) (y : ℕ) (before behind entries : List ℕ) → IsLineBefore cells (y + 1) before → IsLineFrom cells (y + 1) behind

@@ -1,11 +1,16 @@
 -- Which entries still stand for no row, as masks of bits tell it.
-use Rattle.std.proofs.Common.{false, ◌≡◌, ℕ, ◌+◌, ◌-◌, ◌*◌, ◌/◌, ◌%◌, ◌^◌, ◌<◌, ◌==◌, ◌∙◌, min, arith, refl, sym, ap, ◌≤◌, not}
+use Rattle.std.proofs.Common.{false, zero, suc, eqb, cond, List, [], ◌∷◌, get_or, replicate, ap₂, ◌≡◌, ℕ, ◌+◌, ◌-◌, ◌*◌, ◌/◌, ◌%◌, ◌^◌, ◌<◌, ◌==◌, ◌∙◌, min, arith, refl, sym, ap, ◌≤◌, not}
 use Rattle.std.specs.Int.{bit_at, w64}
+use mathlib.Core.Logic.{inl, inr}
+use Rattle.std.proofs.lemmas.Bool.{cases_lt}
 use Rattle.std.proofs.lemmas.Nat.{div-add-mod', mod_below, pow_pos}
 use lib.Bits.{bit_and}
 use Rattle.std.specs.Int.RustNames.{bit_or}
 use Rattle.std.proofs.lemmas.Bool.Decides.{nat_tests}
-use Rattle.std.proofs.lemmas.Nat.Bits.{bit_at_and, bit_at_not, bit_at-lt, bit_at-zero, bit_at_cat_high, bit_at_ones, bit_at_or, same_from_bits}
+use Rattle.std.proofs.lemmas.Nat.Bits.{bit_at_and, bit_at_not, bit_at-lt, bit_at-zero, and_pow, bit_at_cat_high, bit_at_ones, bit_at_or, same_from_bits}
+use Rattle.std.specs.Simd.Lanes.{zip2}
+use Rattle.std.proofs.lemmas.List.{get_or-replicate}
+use Rattle.std.proofs.lemmas.Simd.{get_or-zip2}
 use Rattle.column.specs.Sweeps.{marked, first_marked}
 
 -- one bit: a column is missing where it was, and the word has no obstacle there
@@ -55,15 +60,50 @@ joined_none word new none less = same_from_bits word 0 (λ i.
 pub zero_from_test : (n : ℕ) → not (n == 0) ≡ false → n ≡ 0
 zero_from_test n test = grind (arith, nat_tests)
 
--- a bit of sixteen, cut out of a word
-pub bit_of_part : (word part i : ℕ) → i < 16 → bit_at (bit_and (word / 2 ^ (16 * part)) 65535) i ≡ bit_at word (16 * part + i)
+-- a bit of eight, cut out of a word
+pub bit_of_part : (word part i : ℕ) → i < 8 → bit_at (bit_and (word / 2 ^ (8 * part)) 255) i ≡ bit_at word (8 * part + i)
 bit_of_part word part i within =
-    let ones : bit_at 65535 i ≡ 1 = bit_at_ones 16 i within in
-    let bit = bit_at-lt (word / 2 ^ (16 * part)) i in
-    let cut : bit_at (bit_and (word / 2 ^ (16 * part)) 65535) i ≡ bit_at (word / 2 ^ (16 * part)) i = rw (bit_at_and (word / 2 ^ (16 * part)) 65535 i, ones) (omega (arith, bit)) in
-    let back : 16 * part + i - 16 * part ≡ i = omega arith in
-    let whole : bit_at word (16 * part + i) ≡ bit_at (word / 2 ^ (16 * part)) i =
-    ap (λ (n : ℕ). bit_at n (16 * part + i)) (sym (div-add-mod' word (2 ^ (16 * part))))
-    ∙ (bit_at_cat_high (word / 2 ^ (16 * part)) (16 * part) (word % 2 ^ (16 * part)) (16 * part + i) (mod_below word (2 ^ (16 * part)) (pow_pos (16 * part))) (omega arith)
-    ∙ ap (bit_at (word / 2 ^ (16 * part))) back) in
+    let ones : bit_at 255 i ≡ 1 = bit_at_ones 8 i within in
+    let bit = bit_at-lt (word / 2 ^ (8 * part)) i in
+    let cut : bit_at (bit_and (word / 2 ^ (8 * part)) 255) i ≡ bit_at (word / 2 ^ (8 * part)) i = rw (bit_at_and (word / 2 ^ (8 * part)) 255 i, ones) (omega (arith, bit)) in
+    let back : 8 * part + i - 8 * part ≡ i = omega arith in
+    let whole : bit_at word (8 * part + i) ≡ bit_at (word / 2 ^ (8 * part)) i =
+    ap (λ (n : ℕ). bit_at n (8 * part + i)) (sym (div-add-mod' word (2 ^ (8 * part))))
+    ∙ (bit_at_cat_high (word / 2 ^ (8 * part)) (8 * part) (word % 2 ^ (8 * part)) (8 * part + i) (mod_below word (2 ^ (8 * part)) (pow_pos (8 * part))) (omega arith)
+    ∙ ap (bit_at (word / 2 ^ (8 * part))) back) in
     cut ∙ sym whole
+
+-- a bit times a number that isn't none is the number where the bit is set
+by_bit : (b n : ℕ) → b < 2 → 0 < n → (b * n == n) ≡ (b == 1)
+by_bit b n few some = elim (cases_lt b 1) [
+  | inl less ↦ let none : b ≡ 0 = omega arith in rw none (grind (arith, nat_tests))
+  | inr set ↦ let one : b ≡ 1 = omega arith in rw one (grind (arith, nat_tests))
+]
+
+-- a bit alone, cut out of some bits, is itself where they have it
+pub has_place : (bits i : ℕ) → (bit_and bits (2 ^ i) == 2 ^ i) ≡ (bit_at bits i == 1)
+has_place bits i = rw (and_pow bits i) (by_bit (bit_at bits i) (2 ^ i) (bit_at-lt bits i) (pow_pos i))
+
+-- the lowest eight bits, each alone
+abbrev pub places : List ℕ
+places = 1 ∷ 2 ∷ 4 ∷ 8 ∷ 16 ∷ 32 ∷ 64 ∷ 128 ∷ []
+
+-- each of them is a power of 2
+place_at : (i : ℕ) → i < 8 → get_or places i 0 ≡ 2 ^ i
+place_at zero within = refl
+place_at (suc zero) within = refl
+place_at (suc (suc zero)) within = refl
+place_at (suc (suc (suc zero))) within = refl
+place_at (suc (suc (suc (suc zero)))) within = refl
+place_at (suc (suc (suc (suc (suc zero))))) within = refl
+place_at (suc (suc (suc (suc (suc (suc zero)))))) within = refl
+place_at (suc (suc (suc (suc (suc (suc (suc zero))))))) within = refl
+place_at (suc (suc (suc (suc (suc (suc (suc (suc i)))))))) within = absurd (omega arith)
+
+-- of eight entries, by the test of each place's bit, the marked one
+pub lane_marked : (bits y i : ℕ) (entries : List ℕ) → i < 8
+    → cond (eqb (get_or (zip2 bit_and (replicate 8 bits) places) i 0) (get_or places i 0)) (get_or (replicate 8 y) i 0) (get_or entries i 0) ≡ marked (bit_at bits i == 1) y (get_or entries i 0)
+lane_marked bits y i entries within =
+    let cut : get_or (zip2 bit_and (replicate 8 bits) places) i 0 ≡ bit_and bits (2 ^ i) =
+    get_or-zip2 bit_and (replicate 8 bits) places i 0 0 0 within within ∙ ap₂ bit_and (get_or-replicate {A = ℕ} 8 i bits 0 within) (place_at i within) in
+    rw (cut, place_at i within, get_or-replicate {A = ℕ} 8 i y 0 within, has_place bits i) refl

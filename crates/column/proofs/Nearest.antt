@@ -109,24 +109,34 @@ upper_wins cells x y above below wins up down = (
       ],
 )
 
--- of the two entries the nearer one is the nearest of all
-pub IsNearestRow-nearer : (cells : Cells) (x y above below : ℕ) → IsRowAbove cells x y (row_of above) → IsNearestRow cells x (y + 1) (row_of below) → IsNearestRow cells x y (row_of (nearer y above below))
-IsNearestRow-nearer cells x y above below up down =
+-- what the nearer of two entries tells, by what either of them stands for
+pub nearer_by : (P : Option ℕ → Type 0) (y above below : ℕ) → (below ≡ 65535 → P (row_of above)) → (below ≢ 65535 → above ≡ 65535 → P (Some below))
+    → (below ≢ 65535 → above ≢ 65535 → abs_diff y below < abs_diff y above → P (Some below)) → (below ≢ 65535 → above ≢ 65535 → abs_diff y above ≤ abs_diff y below → P (Some above)) → P (row_of (nearer y above below))
+nearer_by P y above below none_below none_above lower upper =
     elim (cases_eq below 65535) [
       | inl none ↦
           let result : nearer y above below ≡ above = grind (arith, nat_tests) in
-          rw result (nearest_none cells x y (row_of above) up (rw (row_of-none below none) at down))
+          rw result (none_below none)
       | inr some ↦ elim (cases_eq above 65535) [
         | inl none ↦
             let result : nearer y above below ≡ below = grind (arith, nat_tests) in
-            rw (result, row_of-some below some) (nearest_below cells x y below (rw (row_of-none above none) at up) (rw (row_of-some below some) at down))
+            rw (result, row_of-some below some) (none_above some none)
         | inr both ↦ elim (cases_lt (abs_diff y below) (abs_diff y above)) [
-          | inl lower ↦
+          | inl less ↦
               let result : nearer y above below ≡ below = grind (arith, nat_tests) in
-              rw (result, row_of-some below some) (lower_wins cells x y above below lower (rw (row_of-some above both) at up) (rw (row_of-some below some) at down))
-          | inr upper ↦
+              rw (result, row_of-some below some) (lower some both less)
+          | inr more ↦
               let result : nearer y above below ≡ above = grind (arith, nat_tests) in
-              rw (result, row_of-some above both) (upper_wins cells x y above below upper (rw (row_of-some above both) at up) (rw (row_of-some below some) at down))
+              rw (result, row_of-some above both) (upper some both more)
         ]
       ]
     ]
+
+-- of the two entries the nearer one is the nearest of all
+pub IsNearestRow-nearer : (cells : Cells) (x y above below : ℕ) → IsRowAbove cells x y (row_of above) → IsNearestRow cells x (y + 1) (row_of below) → IsNearestRow cells x y (row_of (nearer y above below))
+IsNearestRow-nearer cells x y above below up down =
+    nearer_by (IsNearestRow cells x y) y above below
+    (λ none. nearest_none cells x y (row_of above) up (rw (row_of-none below none) at down))
+    (λ some none. nearest_below cells x y below (rw (row_of-none above none) at up) (rw (row_of-some below some) at down))
+    (λ some both less. lower_wins cells x y above below less (rw (row_of-some above both) at up) (rw (row_of-some below some) at down))
+    (λ some both more. upper_wins cells x y above below more (rw (row_of-some above both) at up) (rw (row_of-some below some) at down))

@@ -5,6 +5,10 @@ ghost use Rattle.std.specs.Int.{bit_at};
 ghost use Rattle.column.specs.Sweeps.{is_marked, marked, nearer};
 
 use crate::NONE;
+use std::simd::prelude::*;
+
+/// The lowest eight bits, each alone.
+const PLACES: [u16; 8] = [1, 2, 4, 8, 16, 32, 64, 128];
 
 /// How many cells a word of a bitmap's row holds.
 pub const WORD_BITS: usize = 64;
@@ -31,48 +35,57 @@ pub fn mark_word(word: u64, y: u16, first: usize, row: &mut [u16])
     ensures marked { (i : ℕ) → i < 64 → first + i < length row.old → slice_index row.new (first + i) ≡ marked (bit_at word i == 1) y (slice_index row.old (first + i)) }
     ensures others { (x : ℕ) → (x < first) ⊎ (first + 64 ≤ x) → slice_index row.new x ≡ slice_index row.old x }
 {
-    'parts: for part in 0..4 {
-        let start = first + 16 * part;
-        let bits = ((word >> (16 * part)) & 0xffff) as u16;
+    'parts: for part in 0..8 {
+        let start = first + 8 * part;
+        let bits = ((word >> (8 * part)) & 0xff) as u16;
         mark_part(bits, y, start, row);
     }
 }
 
-/// Writes the row `y` into the entries of the obstacles of sixteen cells, as far as the row has them.
+/// Writes the row `y` into the entries of the obstacles of eight cells, as far as the row has them.
 #[inline(always)]
 fn mark_part(bits: u16, y: u16, first: usize, row: &mut [u16])
-    requires { first ≤ length row.old + 48 }
+    requires { first ≤ length row.old + 56 }
     ensures len { length row.new ≡ length row.old }
-    ensures marked { (i : ℕ) → i < 16 → first + i < length row.old → slice_index row.new (first + i) ≡ marked (bit_at bits i == 1) y (slice_index row.old (first + i)) }
-    ensures others { (x : ℕ) → (x < first) ⊎ (first + 16 ≤ x) → slice_index row.new x ≡ slice_index row.old x }
+    ensures marked { (i : ℕ) → i < 8 → first + i < length row.old → slice_index row.new (first + i) ≡ marked (bit_at bits i == 1) y (slice_index row.old (first + i)) }
+    ensures others { (x : ℕ) → (x < first) ⊎ (first + 8 ≤ x) → slice_index row.new x ≡ slice_index row.old x }
 {
-    if first + 16 <= row.len() {
-        mark_sixteen(bits, y, first, row);
+    if first + 8 <= row.len() {
+        mark_eight(bits, y, first, row);
     } else if first < row.len() {
         mark_last(bits, y, first, row);
     }
 }
 
-/// Writes the row `y` into the entries of the obstacles of sixteen cells.
+/// Writes the row `y` into the entries of the obstacles of eight cells.
 #[inline(always)]
-fn mark_sixteen(bits: u16, y: u16, first: usize, row: &mut [u16])
-    requires { first + 16 ≤ length row.old }
+fn mark_eight(bits: u16, y: u16, first: usize, row: &mut [u16])
+    requires { first + 8 ≤ length row.old }
     ensures len { length row.new ≡ length row.old }
-    ensures marked { (i : ℕ) → i < 16 → slice_index row.new (first + i) ≡ marked (bit_at bits i == 1) y (slice_index row.old (first + i)) }
-    ensures others { (x : ℕ) → (x < first) ⊎ (first + 16 ≤ x) → slice_index row.new x ≡ slice_index row.old x }
+    ensures marked { (i : ℕ) → i < 8 → slice_index row.new (first + i) ≡ marked (bit_at bits i == 1) y (slice_index row.old (first + i)) }
+    ensures others { (x : ℕ) → (x < first) ⊎ (first + 8 ≤ x) → slice_index row.new x ≡ slice_index row.old x }
 {
-    'bits: for place in 0..16 {
-        let entry = row[first + place];
-        row[first + place] = if (bits >> place) & 1 == 1 { y } else { entry };
-    }
+    let entries = u16x8::from_slice(&row[first..]);
+    let marked = marked_lanes(bits, y, entries).to_array();
+    row[first..first + 8].copy_from_slice(&marked);
 }
 
-/// Writes the row `y` into the entries of the obstacles of the row's last cells, fewer than sixteen.
+/// Eight entries, of which those of obstacles are the row `y`.
+#[inline(always)]
+fn marked_lanes(bits: u16, y: u16, entries: u16x8) -> u16x8
+    ensures { (i : ℕ) → i < 8 → slice_index result i ≡ marked (bit_at bits i == 1) y (slice_index entries i) }
+{
+    let places = u16x8::from_array(PLACES);
+    let obstacles = u16x8::splat(bits) & places;
+    obstacles.simd_eq(places).select(u16x8::splat(y), entries)
+}
+
+/// Writes the row `y` into the entries of the obstacles of the row's last cells, fewer than eight.
 fn mark_last(bits: u16, y: u16, first: usize, row: &mut [u16])
     requires some { first ≤ length row.old }
-    requires few { length row.old < first + 16 }
+    requires few { length row.old < first + 8 }
     ensures len { length row.new ≡ length row.old }
-    ensures marked { (i : ℕ) → i < 16 → first + i < length row.old → slice_index row.new (first + i) ≡ marked (bit_at bits i == 1) y (slice_index row.old (first + i)) }
+    ensures marked { (i : ℕ) → i < 8 → first + i < length row.old → slice_index row.new (first + i) ≡ marked (bit_at bits i == 1) y (slice_index row.old (first + i)) }
     ensures others { (x : ℕ) → x < first → slice_index row.new x ≡ slice_index row.old x }
 {
     'bits: for place in 0..row.len() - first {

@@ -12,16 +12,16 @@ parts-preserved c =
     let first = c.args.first in
     record {
       len = c.mark_part.ensures.len ∙ len;
-      marked = λ i below inside. elim (cases_lt i (16 * part)) [
+      marked = λ i below inside. elim (cases_lt i (8 * part)) [
         | inl before ↦ c.mark_part.ensures.others (first + i) (inl (omega (arith, before))) ∙ c.parts.invariant.marked i before inside
         | inr here ↦
-            let j : ℕ = i - 16 * c.parts.part in
-            let place : c.args.first + 16 * c.parts.part + (i - 16 * c.parts.part) ≡ c.args.first + i = omega (arith, here) in
-            let sum : 16 * c.parts.part + (i - 16 * c.parts.part) ≡ i = omega (arith, here) in
-            let bit : bit_at (bit_and (c.args.word / 2 ^ (16 * c.parts.part)) 65535) (i - 16 * c.parts.part) ≡ bit_at c.args.word i =
-            bit_of_part c.args.word c.parts.part (i - 16 * c.parts.part) (omega (arith, below, here)) ∙ ap (bit_at c.args.word) sum in
+            let j : ℕ = i - 8 * c.parts.part in
+            let place : c.args.first + 8 * c.parts.part + (i - 8 * c.parts.part) ≡ c.args.first + i = omega (arith, here) in
+            let sum : 8 * c.parts.part + (i - 8 * c.parts.part) ≡ i = omega (arith, here) in
+            let bit : bit_at (bit_and (c.args.word / 2 ^ (8 * c.parts.part)) 255) (i - 8 * c.parts.part) ≡ bit_at c.args.word i =
+            bit_of_part c.args.word c.parts.part (i - 8 * c.parts.part) (omega (arith, below, here)) ∙ ap (bit_at c.args.word) sum in
             let old : get_or c.parts.row (c.args.first + i) 0 ≡ get_or c.args.row.now (c.args.first + i) 0 = c.parts.invariant.later (c.args.first + i) (omega (arith, here)) in
-            let new = rw (place, bit, old) at (c.mark_part.ensures.marked (i - 16 * c.parts.part) (omega (arith, below, here)) (omega (arith, here, inside, len))) in
+            let new = rw (place, bit, old) at (c.mark_part.ensures.marked (i - 8 * c.parts.part) (omega (arith, below, here)) (omega (arith, here, inside, len))) in
             new
       ];
       later = λ k behind. c.mark_part.ensures.others k (inr (omega (arith, behind))) ∙ c.parts.invariant.later k (omega (arith, behind));
