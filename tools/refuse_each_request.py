@@ -69,7 +69,7 @@ def try_tests(crate):
 
 
 def main():
-    crates = sys.argv[1:] or ["bits", "pbm", "field", "clearance", "map_core", "proto"]
+    crates = sys.argv[1:] or ["map_tests", "store_tests"]
     wrong = []
     for words, given, answer, partly in RUNS:
         met, others = try_program(words, given, answer, partly)
