@@ -5,6 +5,9 @@
 //! Each planner is a thread with a connection: `PIN`, `AT euclid2` of a random cell, `UNPIN`, each once the reply before is there. The publisher
 //! paints or clears a cell, publishes and collects every millisecond; where old pins leave no slot the publish is refused. Printed: the least cycles a second of a planner, the 50th and 99th percentile of a cycle in
 //! microseconds, and how many versions were published.
+mod random;
+
+use random::below;
 use std::io::{BufRead, BufReader, Write};
 use std::net::TcpStream;
 use std::time::{Duration, Instant};
@@ -38,14 +41,6 @@ impl Client {
     }
 }
 
-/// A number below a limit, by a xorshift generator.
-fn below(random: &mut u64, limit: u64) -> u64 {
-    *random ^= *random << 13;
-    *random ^= *random >> 7;
-    *random ^= *random << 17;
-    *random % limit
-}
-
 /// The cycles of one planner, in microseconds each. The versions that it pins never go down.
 fn plan(port: u16, side: u64, end: Instant, seed: u64) -> Vec<u128> {
     let mut client = Client::new(port);
@@ -56,7 +51,7 @@ fn plan(port: u16, side: u64, end: Instant, seed: u64) -> Vec<u128> {
         let version: u64 = client.ask_well("PIN\n")[3..].trim().parse().expect("a version");
         assert!(newest <= version, "version {version} after {newest}");
         newest = version;
-        let (x, y) = (below(&mut random, side), below(&mut random, side));
+        let (x, y) = (below(&mut random, side as usize), below(&mut random, side as usize));
         client.ask_well(&format!("AT euclid2 {x} {y}\n"));
         client.ask_well("UNPIN\n");
         cycles.push(begun.elapsed().as_micros());

@@ -5,6 +5,9 @@
 //! TABLE is what `clearmap dist --nearest` writes of the served map: each reply is compared with it. A connection is a thread.
 //! Printed: requests a second of all connections, the 50th and 99th percentile of a write's latency in microseconds, how many
 //! replies came, and how many of them were wrong.
+mod random;
+
+use random::below;
 use std::io::{BufRead, BufReader, Write};
 use std::net::TcpStream;
 use std::sync::{Arc, Barrier};
@@ -47,14 +50,6 @@ fn reply_of(entry: &str) -> String {
         "-" => "NONE\n".into(),
         some => format!("OK {}\n", some.replace('/', " ")),
     }
-}
-
-/// A number below a limit, by a xorshift generator.
-fn below(random: &mut u64, limit: usize) -> usize {
-    *random ^= *random << 13;
-    *random ^= *random >> 7;
-    *random ^= *random << 17;
-    (*random % limit as u64) as usize
 }
 
 /// What one connection saw: the latency of each write, its replies, and how many were wrong.
