@@ -1,14 +1,15 @@
-//! The nearest obstacles of all cells of some rows.
+//! The nearest obstacles of all cells of some rows, one row after another.
 
 ghost use Rattle.std.specs.Prelude.{◌≡◌, ◌≤◌, [], ◌++◌, length, IfOk, OnOk, IfErr};
 ghost use Rattle.bits.specs.Cells.{IsBitmap};
+ghost use Rattle.field.specs.Bands.{AreAnswers};
 ghost use Rattle.field.specs.Columns.{IsReady};
 ghost use Rattle.field.specs.Rows.{AreNears};
 ghost use Rattle.metric.specs.declared.refusal.Refusal.TheVariants.{Memory};
 
 use crate::columns::Columns;
 use bits::Bitmap;
-use envelope::{Stack, row_from};
+use envelope::{Answer, Stack, row_from};
 use metric::{Metric, Near, Refusal};
 use std::alloc::Global;
 
@@ -26,36 +27,51 @@ pub fn rows<M: Metric>(
     ensures rows { IfOk result (λ nears. AreNears M.distance bitmap.now y0 y1 nears.items) }
     ensures memory { IfErr result (λ refusal. refusal ≡ Memory) }
 {
+    answers::<M, Option<Near>>(alloc, bitmap, y0, y1)
+}
+
+/// What is kept of the nearest obstacles of the cells of rows `y0` to `y1 - 1`. Refused for want of memory alone.
+pub fn answers<M: Metric, A: Answer>(
+    alloc: Global,
+    bitmap: &Bitmap,
+    y0: u16,
+    y1: u16,
+) -> Result<Vec<A>, Refusal>
+    requires order { y0 ≤ y1 }
+    requires within { y1 ≤ bitmap.now.height }
+    ensures rows { IfOk result (λ answers. AreAnswers A.told A.nothing M.distance bitmap.now y0 y1 answers.items) }
+    ensures memory { IfErr result (λ refusal. refusal ≡ Memory) }
+{
     let width = usize::from(bitmap.width());
     let mut columns = Columns::of(alloc, bitmap, y0, y1)?;
     let mut stack = Stack::new(alloc, bitmap.width())?;
-    let Ok(mut line) = vec![in alloc; None; width] else {
+    let Ok(mut line) = vec![in alloc; A::none(); width] else {
         return Err(Refusal::Memory);
     };
-    let Ok(mut nears) = Vec::with_capacity(alloc, usize::from(y1 - y0) * width) else {
+    let Ok(mut answers) = Vec::with_capacity(alloc, usize::from(y1 - y0) * width) else {
         return Err(Refusal::Memory);
     };
-    push_rows::<M>(
+    push_rows::<M, A>(
         bitmap,
         y0,
         y1,
         &mut columns,
         &mut stack,
         &mut line,
-        &mut nears,
+        &mut answers,
     )?;
-    Ok(nears)
+    Ok(answers)
 }
 
-/// Adds the rows `y0` to `y1 - 1`, those of the columns. The stack and `line` have room for a row; `nears` has room for all.
-fn push_rows<M: Metric>(
+/// Adds the rows `y0` to `y1 - 1`, those of the columns. The stack and `line` have room for a row; `answers` has room for all.
+fn push_rows<M: Metric, A: Answer>(
     bitmap: &Bitmap,
     y0: u16,
     y1: u16,
     columns: &mut Columns,
     stack: &mut Stack,
-    line: &mut [Option<Near>],
-    nears: &mut Vec<Option<Near>>,
+    line: &mut [A],
+    answers: &mut Vec<A>,
 ) -> Result<(), Refusal>
     requires order { y0 ≤ y1 }
     requires bitmap { IsBitmap bitmap.now }
@@ -64,24 +80,24 @@ fn push_rows<M: Metric>(
     requires to { columns.old.to ≡ y1 }
     requires stack { bitmap.now.width ≤ stack.old }
     requires line { length line.old ≡ bitmap.now.width }
-    requires empty { nears.old.items ≡ [] }
-    ensures rows { OnOk result (AreNears M.distance bitmap.now y0 y1 nears.new.items) }
+    requires empty { answers.old.items ≡ [] }
+    ensures rows { OnOk result (AreAnswers A.told A.nothing M.distance bitmap.now y0 y1 answers.new.items) }
     ensures memory { IfErr result (λ refusal. refusal ≡ Memory) }
 {
     'rows: for y in y0..y1 {
         columns.look(bitmap, y);
-        row_from::<M, Option<Near>>(&columns.entries, y, stack, line);
-        push_line(line, nears)?;
+        row_from::<M, A>(&columns.entries, y, stack, line);
+        push_line(line, answers)?;
     }
     Ok(())
 }
 
 /// Adds one row's answers. Refused where there is no room for them.
-fn push_line(line: &[Option<Near>], nears: &mut Vec<Option<Near>>) -> Result<(), Refusal>
-    ensures items { OnOk result (nears.new.items ≡ nears.old.items ++ line.now) }
+fn push_line<A: Answer>(line: &[A], answers: &mut Vec<A>) -> Result<(), Refusal>
+    ensures items { OnOk result (answers.new.items ≡ answers.old.items ++ line.now) }
     ensures memory { IfErr result (λ refusal. refusal ≡ Memory) }
 {
-    match nears.extend_from_slice(line) {
+    match answers.extend_from_slice(line) {
         Ok(()) => Ok(()),
         Err(_) => Err(Refusal::Memory),
     }

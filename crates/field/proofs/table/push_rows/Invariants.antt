@@ -1,12 +1,12 @@
--- The nearest obstacles of the rows so far stand in order.
+-- The answers of the rows so far stand in order.
 use Rattle.std.proofs.Common.{◌≡◌, ◌≤◌, length}
+use Rattle.field.specs.Bands.{AreAnswers}
 use Rattle.field.specs.Columns.{IsReady}
-use Rattle.field.specs.Rows.{AreNears}
 use Rattle.field.proofs.table.push_rows.Given as goal
 
 abbrev pub invariant-rows : goal.invariant-rows
 invariant-rows g l = record {
-  nears : AreNears g.M.Metric.distance l.bitmap l.y0 l.y l.nears.items;
+  answers : AreAnswers g.A.Answer.told g.A.Answer.nothing g.M.Metric.distance l.bitmap l.y0 l.y l.answers.items;
   columns : IsReady l.bitmap l.columns l.y;
   last : l.columns.to ≡ l.y1;
   stack : l.bitmap.width ≤ l.stack;
