@@ -1,3 +1,4 @@
 mod BandLemmas
 pub mod ObstacleLemmas
 mod RowLemmas
+pub mod StripLemmas

@@ -55,6 +55,18 @@ row_within table y rows from to =
     let through : (y - table.y0 + 1) * table.width ≤ (table.y1 - table.y0) * table.width = mul-le-mul_right table.width (omega (arith, from, to)) in
     omega (arith, as_many, through)
 
+-- a line of this width among others is as long
+pub length-line : {T : Type 0} (all : List T) (start width : ℕ) → start + width ≤ length all → length (slice_range all start (start + width)) ≡ width
+length-line all start width within =
+    let across : start + width - start ≡ width = omega arith in
+    rw across (length-take-le width (drop start all) (rw (length-drop start all) (omega (arith, within))))
+
+-- what stands in a line stands among all
+pub line_at : {T : Type 0} (all : List T) (start width x : ℕ) (other : T) → x < width → slice_index_or (slice_range all start (start + width)) x other ≡ slice_index_or all (start + x) other
+line_at all start width x other inside =
+    let across : start + width - start ≡ width = omega arith in
+    rw across (get_or-take width (drop start all) x other inside ∙ get_or-drop start all x other)
+
 -- the line of a row is its part of what is told
 pub line_told : (distance : ℕ → ℕ → ℕ) (table : Obstacles) (y : ℕ) (kept : List (Option Cell)) (line : List (Option Near)) → AreRows table → table.y0 ≤ y → y < table.y1
     → length line ≡ table.width → kept ≡ slice_range table.cells ((y - table.y0) * table.width) ((y - table.y0) * table.width + table.width)
@@ -65,13 +77,8 @@ line_told distance table y kept line rows from to across part seen =
     let all : List (Option Near) = nears_told distance table in
     let many = length-nears_told distance table in
     let within = row_within table y rows from to in
-    let width : start + table.width - start ≡ table.width = omega arith in
-    let long : length (slice_range all start (start + table.width)) ≡ table.width = rw width (length-take-le table.width (drop start all) (rw (length-drop start all) (omega (arith, many, within)))) in
-    ext_get_or None line (slice_range all start (start + table.width)) (across ∙ sym long)
+    ext_get_or None line (slice_range all start (start + table.width)) (across ∙ sym (length-line all start table.width (omega (arith, many, within))))
     (λ x inside.
     let column : x < table.width = rw across at inside in
-    let here : slice_index_or kept x None ≡ slice_index_or table.cells (start + x) None =
-    rw (part, width) (get_or-take table.width (drop start table.cells) x None column ∙ get_or-drop start table.cells x None) in
-    let there : slice_index_or (slice_range all start (start + table.width)) x None ≡ slice_index_or all (start + x) None =
-    rw width (get_or-take table.width (drop start all) x None column ∙ get_or-drop start all x None) in
-    seen x column ∙ rw (here, there) (sym (told_here distance table x y rows column from to)))
+    let here : slice_index_or kept x None ≡ slice_index_or table.cells (start + x) None = rw part (line_at table.cells start table.width x None column) in
+    seen x column ∙ rw (here, line_at all start table.width x None column) (sym (told_here distance table x y rows column from to)))

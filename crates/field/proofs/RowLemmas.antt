@@ -1,5 +1,5 @@
 -- The answers of one row are those of rows.
-use Rattle.std.proofs.Common.{◌≡◌, ℕ, ◌+◌, ◌-◌, ◌*◌, ◌<◌, ◌≤◌, List, ◌++◌, length, arith}
+use Rattle.std.proofs.Common.{◌≡◌, ℕ, ◌+◌, ◌-◌, ◌*◌, ◌≤◌, List, ◌++◌, arith}
 use Rattle.bits.specs.Cells.{Cells}
 use Rattle.envelope.specs.Answer.{Reading}
 use Rattle.envelope.specs.Rows.{AreRowAnswers}

@@ -1,9 +1,11 @@
 -- A table that keeps of each cell's nearest obstacle only where it is: this project's own rule. How far away it is follows.
-use Rattle.std.specs.Prelude.{◌≡◌, ◌≢◌, ℕ, ◌+◌, ◌-◌, ◌*◌, ◌/◌, ◌%◌, ◌≤◌, ◌==◌, List, length, map, slice_index_or, Option, Some, None, if◌then◌else◌}
+use Rattle.std.specs.Prelude.{◌≡◌, ◌≢◌, ℕ, ◌+◌, ◌-◌, ◌*◌, ◌/◌, ◌%◌, ◌<◌, ◌≤◌, ◌==◌, [], List, length, map, min, slice_index_or, Option, Some, None, if◌then◌else◌}
 use Rattle.std.specs.List.{range_with_len}
 use Rattle.metric.specs.declared.cell.Cell.{Cell}
 use Rattle.metric.specs.declared.near.Near.{Near}
 use Rattle.metric.specs.Distance.{distance_between}
+use Rattle.bits.specs.Cells.{Cells}
+use Rattle.field.specs.Bands.{AreAnswers}
 
 -- the cell of this column and row, or none where the column is the mark that stands for none
 abbrev pub cell_kept : ℕ → ℕ → Option Cell
@@ -32,6 +34,39 @@ pub record AreRows (table : Obstacles) : Type 0 where
   pub order : table.y0 ≤ table.y1
   pub within : table.y1 ≤ 4096
   pub as_many : length table.cells ≡ (table.y1 - table.y0) * table.width
+
+-- how many of so many rows stand before a strip, where they stand in strips of equal height, the last of which may have fewer
+abbrev pub rows_before : ℕ → ℕ → ℕ → ℕ
+rows_before rows height strip = min rows (strip * height)
+
+-- the cell so many places behind the first one, row by row, of rows of this width in strips of this height
+abbrev pub cell_in : ℕ → ℕ → List (List (Option Cell)) → ℕ → Option Cell
+cell_in width height strips place = slice_index_or (slice_index_or strips (place / (height * width)) []) (place % (height * width)) None
+
+-- the cells of so many rows in strips, row by row
+abbrev pub cells_in : ℕ → ℕ → ℕ → List (List (Option Cell)) → List (Option Cell)
+cells_in width height rows strips = map (cell_in width height strips) (range_with_len 0 (rows * width))
+
+-- so many rows of this width stand in strips of this height
+pub record AreStrips (width height rows : ℕ) (strips : List (List (Option Cell))) : Type 0 where
+  pub some : 1 ≤ height
+  pub enough : rows ≤ length strips * height
+  pub each : (strip : ℕ) → strip < length strips → length (slice_index_or strips strip []) ≡ (rows_before rows height (strip + 1) - rows_before rows height strip) * width
+
+-- the rows y0 to y1 - 1 as they stand in strips of this height
+abbrev pub in_strips : ℕ → ℕ → ℕ → ℕ → List (List (Option Cell)) → Obstacles
+in_strips width y0 y1 height strips = record { width = width; y0 = y0; y1 = y1; cells = cells_in width height (y1 - y0) strips }
+
+-- the strips have the rows y0 to y1 - 1 of a map
+pub record HaveRows (width y0 y1 height : ℕ) (strips : List (List (Option Cell))) : Type 0 where
+  pub across : width ≤ 4096
+  pub order : y0 ≤ y1
+  pub within : y1 ≤ 4096
+  pub placed : AreStrips width height (y1 - y0) strips
+
+-- each strip tells the nearest obstacles of its rows, of the rows y0 to y1 - 1
+pub record AreStripAnswers (distance : ℕ → ℕ → ℕ) (cells : Cells) (y0 y1 height : ℕ) (strips : List (List (Option Cell))) : Type 0 where
+  pub each : (strip : ℕ) → strip < length strips → AreAnswers seen_from None distance cells (y0 + rows_before (y1 - y0) height strip) (y0 + rows_before (y1 - y0) height (strip + 1)) (slice_index_or strips strip [])
 
 -- the nearest obstacles that a table tells, row by row, by this distance
 abbrev pub nears_told : (ℕ → ℕ → ℕ) → Obstacles → List (Option Near)

@@ -5,6 +5,7 @@ mod bands;
 mod columns;
 mod obstacle_cell;
 mod obstacle_table;
+mod strips;
 mod table;
 mod workers;
 

@@ -5,8 +5,8 @@ ghost use Rattle.field.specs.Obstacles.{nears_told, seen_from};
 ghost use Rattle.field.specs.Rows.{AreNears};
 ghost use Rattle.metric.specs.declared.refusal.Refusal.TheVariants.{Memory};
 
-use crate::bands::answer_rows;
 use crate::obstacle_cell::ObstacleCell;
+use crate::strips::{Strips, work_strips};
 use crate::workers::Workers;
 use bits::Bitmap;
 use metric::{Gate, Metric, Near, Refusal};
@@ -22,21 +22,24 @@ pub struct ObstacleTable {
     width: u16,
     y0: u16,
     y1: u16,
-    cells: Vec<ObstacleCell>,
+    /// How many rows a strip has; the last one may have fewer.
+    height: u16,
+    strips: Vec<Vec<ObstacleCell>>,
 }
 
 impl Model for ObstacleTable {
-    ghost use Rattle.field.specs.Obstacles.{AreRows, Obstacles};
+    ghost use Rattle.std.specs.Prelude.{map};
+    ghost use Rattle.field.specs.Obstacles.{HaveRows, Obstacles, in_strips};
 
     ghost Value = { Obstacles };
 
-    ghost view = { λ t. record { width = t.width; y0 = t.y0; y1 = t.y1; cells = t.cells.items } };
+    ghost view = { λ t. in_strips t.width t.y0 t.y1 t.height (map (λ strip. strip.items) t.strips.items) };
 
-    ghost invariant = { λ t. AreRows (record { width = t.width; y0 = t.y0; y1 = t.y1; cells = t.cells.items }) };
+    ghost invariant = { λ t. HaveRows t.width t.y0 t.y1 t.height (map (λ strip. strip.items) t.strips.items) };
 }
 
 impl ObstacleTable {
-    /// The nearest obstacles of the cells of rows `y0` to `y1 - 1`, the same as `rows` has them, worked in bands as by `rows_with`. Refused for want of memory alone.
+    /// The nearest obstacles of the cells of rows `y0` to `y1 - 1`, the same as `rows` has them, each worker in a strip of its own: all strips have equally many rows, but for the last ones, which may have fewer, or none. Each strip is worked by a thread of its own, which enters the gate first with the strip's number from 1; where a thread can't be started, the calling thread works that strip. Refused for want of memory alone.
     pub fn of<M: Metric + Sync, G: Gate + Sync, R: Threads + Sync>(
         rt: &R,
         alloc: Global,
@@ -54,13 +57,21 @@ impl ObstacleTable {
         ensures rows { IfOk result (λ table. AreNears M.distance bitmap.now y0 y1 (nears_told M.distance table)) }
         ensures memory { IfErr result (λ refusal. refusal ≡ Memory) }
     {
-        let width = bitmap.width();
-        let cells = answer_rows::<M, ObstacleCell, G, R>(rt, alloc, bitmap, y0, y1, workers, gate)?;
-        Ok(ObstacleTable {
-            width,
+        let count = workers.count;
+        let height = (y1 - y0).div_ceil(u16::from(count)).max(1);
+        let shared = Strips {
+            bitmap,
             y0,
             y1,
-            cells,
+            height,
+        };
+        let strips = work_strips::<M, G, R>(rt, alloc, &shared, count, gate)?;
+        Ok(ObstacleTable {
+            width: bitmap.width(),
+            y0,
+            y1,
+            height,
+            strips,
         })
     }
 
@@ -85,8 +96,7 @@ impl ObstacleTable {
         requires to { y < self.now.y1 }
         ensures { result ≡ slice_index_or (nears_told M.distance self.now) ((y - self.now.y0) * self.now.width + x) None }
     {
-        let place = usize::from(y - self.y0) * usize::from(self.width) + usize::from(x);
-        near_from::<M>(x, y, self.cells[place])
+        near_from::<M>(x, y, self.line(y - self.y0)[usize::from(x)])
     }
 
     /// Fills a line with the nearest obstacles of the cells of row `y`, from the left, by the metric that the table was made by.
@@ -96,9 +106,19 @@ impl ObstacleTable {
         requires width { length nears.old ≡ self.now.width }
         ensures { nears.new ≡ slice_range (nears_told M.distance self.now) ((y - self.now.y0) * self.now.width) ((y - self.now.y0) * self.now.width + self.now.width) }
     {
+        fill_line::<M>(y, self.line(y - self.y0), nears);
+    }
+
+    /// The cells of the row so many rows behind the first one.
+    fn line(&self, row: u16) -> &[ObstacleCell]
+        requires row { row < self.now.y1 - self.now.y0 }
+        ensures len { length result.now ≡ self.now.width }
+        ensures line { result.now ≡ slice_range self.now.cells (row * self.now.width) (row * self.now.width + self.now.width) }
+    {
         let width = usize::from(self.width);
-        let start = usize::from(y - self.y0) * width;
-        fill_line::<M>(y, &self.cells[start..start + width], nears);
+        let strip = &self.strips[usize::from(row / self.height)];
+        let start = usize::from(row % self.height) * width;
+        &strip[start..start + width]
     }
 }
 

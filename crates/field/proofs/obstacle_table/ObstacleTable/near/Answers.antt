@@ -1,19 +1,27 @@
 -- What is told of the cell.
-use Rattle.std.proofs.Common.{◌≡◌, ◌+◌, ◌-◌, ◌*◌, None, ap, slice_index_or, refl, sym, ◌∙◌}
+use Rattle.std.proofs.Common.{◌≡◌, ◌+◌, ◌-◌, ◌*◌, List, None, Option, ap, arith, map, slice_index_or, sym, ◌∙◌}
 use Rattle.std.proofs.lemmas.List.{get_or_default}
-use Rattle.field.specs.Obstacles.{Obstacles, seen_from}
-use Rattle.field.proofs.ObstacleLemmas.{place_within, told_here}
+use Rattle.metric.specs.declared.cell.Cell.{Cell}
+use Rattle.field.specs.Obstacles.{Obstacles, in_strips, seen_from}
+use Rattle.field.proofs.ObstacleLemmas.{line_at, told_here}
+use Rattle.field.proofs.StripLemmas.{AreRows-strips}
 use Rattle.field.proofs.obstacle_table.ObstacleTable.near.Goals as goal
 
 pub returns : goal.returns
 returns g c =
-    let table : Obstacles = record { width = c.self.inside.width; y0 = c.self.inside.y0; y1 = c.self.inside.y1; cells = c.self.inside.cells.items } in
+    let inside = c.self.inside in
+    let strips : List (List (Option Cell)) = map (λ strip. strip.items) inside.strips.items in
+    let table : Obstacles = in_strips inside.width inside.y0 inside.y1 inside.height strips in
+    let rows = AreRows-strips inside.width inside.y0 inside.y1 inside.height strips c.self.invariant in
     let column = rw (← c.self.view_is) at c.requires.column in
     let from = rw (← c.self.view_is) at c.requires.from in
     let to = rw (← c.self.view_is) at c.requires.to in
-    let place : c.from.result * c.from-2.result + c.from-3.result ≡ (c.args.y - table.y0) * table.width + c.args.x = rw (c.from.ensures, c.from-2.ensures, c.from-3.ensures) refl in
-    let kept : c.index.result.now ≡ slice_index_or table.cells ((c.args.y - table.y0) * table.width + c.args.x) None =
-    rw place at c.index.ensures ∙ get_or_default table.cells ((c.args.y - table.y0) * table.width + c.args.x) c.index.result.now None (place_within table c.args.x c.args.y c.self.invariant column from to) in
+    let line = rw (← c.self.view_is) at c.line.ensures.line in
+    let len = rw (← c.self.view_is) at c.line.ensures.len in
+    let read : c.index-line-from.result ≡ slice_index_or c.line.result.now c.args.x c.index-line-from.result = rw c.from.ensures at c.index-line-from.is in
+    let kept : c.index-line-from.result ≡ slice_index_or table.cells ((c.args.y - table.y0) * table.width + c.args.x) None =
+    read ∙ get_or_default c.line.result.now c.args.x c.index-line-from.result None (omega (arith, column, len))
+    ∙ rw line (line_at table.cells ((c.args.y - table.y0) * table.width) table.width c.args.x None column) in
     rw (← c.self.view_is)
     (c.near_from.ensures ∙ (ap (seen_from g.M.Metric.distance c.args.x c.args.y) kept
-    ∙ sym (told_here g.M.Metric.distance table c.args.x c.args.y c.self.invariant column from to)))
+    ∙ sym (told_here g.M.Metric.distance table c.args.x c.args.y rows column from to)))

@@ -1,13 +1,31 @@
--- What is kept of the rows tells their nearest obstacles.
-use Rattle.std.proofs.Common.{arith}
+-- The strips tell the nearest obstacles of all rows.
+use Rattle.std.proofs.Common.{◌≡◌, ℕ, ◌-◌, ◌*◌, ◌≤◌, List, Option, arith, length, map, refl, rules, sym, ◌∙◌}
+use Rattle.std.proofs.Math.Nat.{mul-le-mul_right}
+use Rattle.std.proofs.lemmas.Grind.{div_ceil_times}
+use Rattle.std.proofs.lemmas.List.{length-map}
+use Rattle.metric.specs.declared.cell.Cell.{Cell}
+use Rattle.field.specs.Obstacles.{in_strips}
 use Rattle.field.proofs.ObstacleLemmas.{AreNears-told}
+use Rattle.field.proofs.StripLemmas.{AreAnswers-strips, AreRows-strips, AreStrips-answers}
 use Rattle.field.proofs.obstacle_table.ObstacleTable.of.Goals as goal
 
 pub returns-clause-rows : goal.returns-clause-rows
 returns-clause-rows g c =
-    let bitmap = c.width-width.ensures.bitmap in
-    let across = bitmap.width_is.few in
-    let down = bitmap.height_is.few in
-    AreNears-told g.M.Metric.distance c.args.bitmap.now (record { width = c.width-width.result; y0 = c.args.y0; y1 = c.args.y1; cells = c.in_ok-cells.cells.items })
-    (record { across = omega (arith, across, c.width-width.ensures.width); order = c.requires.order; within = omega (arith, down, c.requires.within); as_many = rw (c.width-width.ensures.width) c.in_ok-cells.ensures.rows.as_many })
-    c.width-width.ensures.width c.in_ok-cells.ensures.rows
+    let strips : List (List (Option Cell)) = map (λ strip. strip.items) c.in_ok-strips.strips.items in
+    let count = c.args.workers.count in
+    let rows : ℕ = c.args.y1 - c.args.y0 in
+    let height = c.max-height.result in
+    let some : 1 ≤ height = search rules in
+    let all : rows ≤ c.div_ceil.result * count = rw (c.div_ceil.ensures, c.from.ensures) (div_ceil_times rows count c.args.workers.few.some).0 in
+    let grown : c.div_ceil.result * count ≤ height * count = mul-le-mul_right count (search rules) in
+    let many : length strips ≡ count = length-map c.in_ok-strips.strips.items (λ strip. strip.items) ∙ (sym c.in_ok-strips.strips.ok.0 ∙ c.in_ok-strips.ensures.count) in
+    let enough : rows ≤ length strips * height = rw many (omega (arith, all, grown)) in
+    let cells = c.args.bitmap.now in
+    let found = c.in_ok-strips.ensures.each in
+    let across = c.width.ensures.bitmap.width_is.few in
+    let down = c.width.ensures.bitmap.height_is.few in
+    let have = AreStrips-answers g.M.Metric.distance cells c.args.y0 c.args.y1 height strips some enough found in
+    rw c.width.ensures.width
+    (AreNears-told g.M.Metric.distance cells (in_strips cells.width c.args.y0 c.args.y1 height strips)
+    (AreRows-strips cells.width c.args.y0 c.args.y1 height strips (record { across = across; order = c.requires.order; within = omega (arith, down, c.requires.within); placed = have })) refl
+    (AreAnswers-strips g.M.Metric.distance cells c.args.y0 c.args.y1 height strips some c.requires.order enough found))
