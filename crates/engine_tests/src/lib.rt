@@ -4,8 +4,6 @@
 #[cfg(test)]
 mod asking;
 #[cfg(test)]
-mod compare;
-#[cfg(test)]
 mod dist;
 #[cfg(test)]
 mod limits;

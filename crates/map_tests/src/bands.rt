@@ -2,93 +2,24 @@
 
 use crate::compare::{holds, same};
 use crate::draws::Draws;
+use crate::gates::{Counts, Meeting};
 use bits::Bitmap;
 use field::{Workers, rows, rows_with};
-use metric::{Chess, City, Euclid2, Gate, Metric};
+use metric::{Chess, City, Euclid2, Metric};
 use std::alloc::Global;
 use std::process::Abort;
-use std::sync::atomic::{AtomicBool, AtomicU64, Ordering};
 use std::test::Fail;
-use std::thread;
 use std::thread::Threads;
-
-/// How often a band looks whether the other one has entered.
-const MOST_TURNS: u32 = 50_000_000;
-
-/// Counts for each band how often it entered.
-#[derive(Drop)]
-struct Counts {
-    bands: [AtomicU64; 17],
-}
-
-impl Counts {
-    fn new() -> Self {
-        Counts {
-            bands: std::array::from_fn(|_| AtomicU64::new(0)),
-        }
-    }
-
-    /// How often this band entered.
-    fn of(&self, band: usize) -> u64 {
-        self.bands
-            .get(band)
-            .map_or(0, |count| count.load(Ordering::SeqCst))
-    }
-}
-
-impl Gate for Counts {
-    fn enter(&self, band: u8) {
-        if let Some(count) = self.bands.get(usize::from(band)) {
-            count.fetch_add(1, Ordering::SeqCst);
-        }
-    }
-}
-
-/// In which each of two bands waits until the other has entered.
-#[derive(Drop)]
-struct Meeting {
-    entered: [AtomicBool; 2],
-    alone: AtomicBool,
-}
-
-impl Gate for Meeting {
-    fn enter(&self, band: u8) {
-        let (own, other) = if band == 1 { (0, 1) } else { (1, 0) };
-        self.entered[own].store(true, Ordering::SeqCst);
-        if !is_seen(&self.entered[other]) {
-            self.alone.store(true, Ordering::SeqCst);
-        }
-    }
-}
-
-/// Waits for this, but not forever.
-fn is_seen(signal: &AtomicBool) -> bool {
-    for _ in 0..MOST_TURNS {
-        if signal.load(Ordering::SeqCst) {
-            return true;
-        }
-        thread::yield_now();
-    }
-    false
-}
 
 #[test]
 fn bands_meet(rt: HostRuntime) -> Result<(), Fail> {
     let bitmap = Bitmap::blank(rt.alloc(), 8, 4)?;
     let workers = Workers::new(2).ok_or("no workers")?;
-    let gate = Meeting {
-        entered: [AtomicBool::new(false), AtomicBool::new(false)],
-        alone: AtomicBool::new(false),
-    };
+    let gate = Meeting::new();
     assert!(rt; bitmap.height() == 4);
     let nears = rows_with::<City, _, _>(&rt, rt.alloc(), &bitmap, 0, 4, workers, &gate)?;
     same(&rt, nears.len(), 32, "answers");
-    same(
-        &rt,
-        gate.alone.load(Ordering::SeqCst),
-        false,
-        "a band is alone",
-    );
+    holds(&rt, !gate.was_alone(), "both bands enter");
     Ok(())
 }
 

@@ -1,4 +1,4 @@
-//! Tests of the crates that work on maps: what no clause says of streams, bitmaps, images, rows and queries.
+//! Tests of the crates that work on maps: what no clause says of streams, bitmaps, images, rows and queries. Other crates of tests compare by what stands here.
 #![tactic(auto)]
 
 #[cfg(test)]
@@ -9,10 +9,11 @@ mod bitmap_limits;
 mod bitmaps;
 #[cfg(test)]
 mod columns;
-#[cfg(test)]
-mod compare;
+pub mod compare;
 #[cfg(test)]
 mod draws;
+#[cfg(test)]
+mod gates;
 #[cfg(test)]
 mod image_limits;
 #[cfg(test)]

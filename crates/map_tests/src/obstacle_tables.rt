@@ -2,20 +2,14 @@
 
 use crate::compare::{holds, same};
 use crate::draws::Draws;
+use crate::gates::{Counts, Meeting, Open};
 use bits::Bitmap;
 use field::{ObstacleTable, Workers, rows};
-use metric::{Chess, City, Euclid2, Gate, Metric, Near};
+use metric::{Chess, City, Euclid2, Metric, Near};
 use std::alloc::Global;
 use std::process::Abort;
 use std::test::Fail;
 use std::thread::Threads;
-
-/// A gate that all workers pass.
-struct Open;
-
-impl Gate for Open {
-    fn enter(&self, _band: u8) {}
-}
 
 /// Compares a row of the table, as a line and cell by cell.
 fn compare_row<M: Metric>(
@@ -85,4 +79,34 @@ fn tells_what_the_rows_have(rt: HostRuntime) -> Result<(), Fail> {
 fn no_obstacle_is_told(rt: HostRuntime) -> Result<(), Fail> {
     let bitmap = Bitmap::blank(rt.alloc(), 70, 3)?;
     compare::<Chess>(&rt, rt.alloc(), &bitmap, 4, 0)
+}
+
+#[test]
+fn strips_meet(rt: HostRuntime) -> Result<(), Fail> {
+    let bitmap = Bitmap::blank(rt.alloc(), 8, 4)?;
+    let workers = Workers::new(2).ok_or("no workers")?;
+    let gate = Meeting::new();
+    assert!(rt; bitmap.height() == 4);
+    ObstacleTable::of::<City, _, _>(&rt, rt.alloc(), &bitmap, 0, 4, workers, &gate)?;
+    holds(&rt, !gate.was_alone(), "both strips enter");
+    Ok(())
+}
+
+#[test]
+fn each_strip_enters_once(rt: HostRuntime) -> Result<(), Fail> {
+    let workers = Workers::new(4).ok_or("no workers")?;
+    let bitmap = Bitmap::blank(rt.alloc(), 5, 3)?;
+    let gate = Counts::new();
+    assert!(rt; bitmap.height() == 3);
+    ObstacleTable::of::<Chess, _, _>(&rt, rt.alloc(), &bitmap, 0, 3, workers, &gate)?;
+    for strip in 0..17 {
+        let once = u64::from(1 <= strip && strip <= 4);
+        same(
+            &rt,
+            gate.of(strip),
+            once,
+            ("how often strip entered", strip),
+        );
+    }
+    Ok(())
 }
