@@ -1,9 +1,13 @@
 -- The lines of rows that stand in parts, one part's behind another's.
-use Rattle.std.proofs.Common.{◌≡◌, ℕ, ◌+◌, ◌-◌, ◌*◌, ◌<◌, ◌≤◌, List, ◌++◌, Bool, Option, min, refl, arith}
+use Rattle.std.proofs.Common.{◌≡◌, ℕ, ◌+◌, ◌-◌, ◌*◌, ◌<◌, ◌≤◌, List, ◌++◌, Bool, Option, length, min, refl, arith}
 use Rattle.metric.specs.Stream.{Appends, AppendsFront}
 use Rattle.metric.proofs.Appending.{Appends-more, AppendsFront-more}
 use Rattle.metric.specs.declared.near.Near.{Near}
+use Rattle.engines.specs.declared.parts.Part.{Part}
+use Rattle.engines.specs.declared.table.Table.{Table}
+use Rattle.engines.specs.Parts.{AreParts, HaveRows, parts_text}
 use Rattle.engines.specs.Table.{rows_text, table_text}
+use Rattle.engines.specs.Tabled.{nears_of}
 use Rattle.engines.proofs.RowLemmas.{rows_text-all, rows_text-append}
 
 -- the lines of the rows between two
@@ -51,3 +55,24 @@ pub AppendsFront-part : (nearest : Bool) (width height : ℕ) (nears : List (Opt
 AppendsFront-part nearest width height nears from k count text before between after below above is here =
     AppendsFront-rows nearest width nears (min height from) (min height (from + 16 * k)) (min height (from + 16 * k + 16)) (min height (from + 16 * count)) before between after
     (omega arith) (omega arith) (omega arith) above (rw is at here)
+
+-- the lines of some parts are written behind those of the rows above
+pub Appends-parts : (nearest : Bool) (table : Table) (from count : ℕ) (before between after : Option (List ℕ))
+    → Appends before (rows_between nearest table.width (nears_of table) 0 (min table.height from)) between → Appends between (parts_text nearest table from count) after
+    → Appends before (rows_between nearest table.width (nears_of table) 0 (min table.height (from + 16 * count))) after
+Appends-parts nearest table from count before between after above here =
+    rw (rows_between-join nearest table.width (nears_of table) 0 (min table.height from) (min table.height (from + 16 * count)) (omega arith) (omega arith))
+    (Appends-more before between after (rows_between nearest table.width (nears_of table) 0 (min table.height from)) (rows_between nearest table.width (nears_of table) (min table.height from) (min table.height (from + 16 * count))) above here)
+
+-- a beginning of the lines of some parts, behind those of the rows above, is a beginning of the table
+pub AppendsFront-parts : (nearest : Bool) (table : Table) (from count : ℕ) (before between after : Option (List ℕ))
+    → Appends before (rows_between nearest table.width (nears_of table) 0 (min table.height from)) between → AppendsFront between (parts_text nearest table from count) after
+    → AppendsFront before (table_text nearest table.width table.height (nears_of table)) after
+AppendsFront-parts nearest table from count before between after above here =
+    rw (table_text-between nearest table.width table.height (nears_of table))
+    (AppendsFront-rows nearest table.width (nears_of table) 0 (min table.height from) (min table.height (from + 16 * count)) table.height before between after (omega arith) (omega arith) (omega arith) above here)
+
+-- a set of parts into which rows were put is one still
+pub AreParts-put : (nearest : Bool) (width height from : ℕ) (nears : List (Option Near)) (old new : List Part) → AreParts width old → length new ≡ length old
+    → HaveRows nearest width height nears from new → AreParts width new
+AreParts-put nearest width height from nears old new parts many have = record { some = omega (arith, parts.some); few = omega (arith, parts.few); places = λ k other below. (have k other below).kept }

@@ -91,9 +91,11 @@ fn write_rows<W: Sink, T: Threads + Sync>(
     let Print {
         table,
         decimals,
-        mut parts,
+        mut even,
+        mut odd,
     } = print;
-    write_table(rt, writer, &decimals, &table, parts.as_mut_slice(), nearest)?;
+    let (even, odd) = (even.as_mut_slice(), odd.as_mut_slice());
+    write_table(rt, writer, &decimals, &table, even, odd, nearest)?;
     writer.flush()?;
     Ok(DONE)
 }

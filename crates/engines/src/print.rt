@@ -1,11 +1,12 @@
 //! Writing the lines of a table, which workers put side by side.
 
-ghost use Rattle.std.specs.Prelude.{◌≡◌, ◌≢◌, ◌+◌, ◌-◌, ◌*◌, ◌<◌, ◌≤◌, All, Err, IfErr, IfOk, IsOk, OnOk, OnErr, length, min, vec_len};
+ghost use Rattle.std.specs.Prelude.{◌≡◌, ◌≢◌, ◌+◌, ◌*◌, ◌<◌, ◌≤◌, Err, IfErr, IfOk, IsOk, OnOk, OnErr, length, vec_len};
+ghost use Rattle.std.specs.Thread.{IsSync};
 ghost use Rattle.metric.specs.Stream.{Appends, AppendsFront, Counts, CanFail};
 ghost use Rattle.pbm.specs.Faults.{header};
 ghost use Rattle.engines.specs.Dist.{IsRefused};
-ghost use Rattle.engines.specs.Parts.{HaveRows, IsPart, HasRows};
-ghost use Rattle.engines.specs.Table.{rows_text, table_text};
+ghost use Rattle.engines.specs.Parts.{AreParts, HaveRows, IsPart, HasRows, parts_text};
+ghost use Rattle.engines.specs.Table.{table_text};
 ghost use Rattle.engines.specs.Tabled.{IsTableOf, nears_of};
 
 use crate::decimals::Decimals;
@@ -14,21 +15,21 @@ use crate::table::Table;
 use field::Workers;
 use metric::{MetricKind, PbmFault, Sink, WriteFault};
 use std::alloc::Global;
-use std::thread::{Threads, for_each_mut};
+use std::thread::{Threads, for_each_mut, join_mut};
 
-/// A table, and all that is needed to write it.
+/// A table, and all that is needed to write it: a set of parts for the even half turns, and one for the odd ones.
 #[derive(Drop)]
 pub struct Print {
     pub table: Table,
     pub decimals: Decimals,
-    pub parts: Vec<Part>,
-    ghost some: { 1 ≤ vec_len parts },
-    ghost few: { vec_len parts ≤ 16 },
-    ghost places: { All (IsPart table.width) parts.items },
+    pub even: Vec<Part>,
+    pub odd: Vec<Part>,
+    ghost even_parts: { AreParts table.width even.items },
+    ghost odd_parts: { AreParts table.width odd.items },
 }
 
 impl Print {
-    /// The table of the image at the front of the bytes, by this metric, with a part for each of so many workers; a number that is no number of workers is one. Everything that takes memory is done here.
+    /// The table of the image at the front of the bytes, by this metric, with a part in each set for each of so many workers; a number that is no number of workers is one. Everything that takes memory is done here.
     pub fn of<T: Threads + Sync>(
         rt: &T,
         alloc: Global,
@@ -37,15 +38,16 @@ impl Print {
         workers: u32,
     ) -> Result<Self, PbmFault>
         ensures table { IfOk result (λ print. IsTableOf metric bytes.now print.table) }
-        ensures workers { (1 ≤ workers) × (workers ≤ 16) → IfOk result (λ print. vec_len print.parts ≡ workers) }
+        ensures workers { (1 ≤ workers) × (workers ≤ 16) → IfOk result (λ print. (vec_len print.even ≡ workers) × (vec_len print.odd ≡ workers)) }
         ensures fault { IfErr result (λ fault. fault ≢ PbmFault.Memory → IsRefused bytes.now fault) }
         ensures memory { result ≡ Err PbmFault.Memory → IsOk (header bytes.now) }
     {
         let (bitmap, _) = pbm::read_image(alloc, bytes)?;
         let workers = workers_of(workers);
-        let (Ok(table), Ok(decimals), Ok(parts)) = (
+        let (Ok(table), Ok(decimals), Ok(even), Ok(odd)) = (
             Table::of(rt, alloc, &bitmap, metric, workers),
             Decimals::new(alloc),
+            Part::several(alloc, bitmap.width(), workers.count),
             Part::several(alloc, bitmap.width(), workers.count),
         ) else {
             return Err(PbmFault::Memory);
@@ -53,7 +55,8 @@ impl Print {
         Ok(Print {
             table,
             decimals,
-            parts,
+            even,
+            odd,
         })
     }
 }
@@ -68,32 +71,98 @@ fn workers_of(count: u32) -> Workers
     Workers { count: 1 }
 }
 
-/// Writes the lines of all rows. In each turn each part gets sixteen rows from a worker of its own, and then the parts are written in their order.
+/// Writes the lines of all rows. In each half turn what one set of parts holds is written, beside which the workers put the rows behind those into the other set, sixteen in each part.
 pub fn write_table<W: Sink, R: Threads + Sync>(
     rt: &R,
     writer: &mut W,
     decimals: &Decimals,
     table: &Table,
-    parts: &mut [Part],
+    even: &mut [Part],
+    odd: &mut [Part],
     nearest: bool,
 ) -> Result<(), WriteFault>
     requires can_fail { CanFail (W.failed_writes writer.old) }
-    requires some { 1 ≤ length parts.old }
-    requires few { length parts.old ≤ 16 }
-    requires parts { All (IsPart table.now.width) parts.old }
+    requires even { AreParts table.now.width even.old }
+    requires odd { AreParts table.now.width odd.old }
     ensures all { OnOk result (Appends (W.held writer.old) (table_text nearest table.now.width table.now.height (nears_of table.now)) (W.held writer.new)) }
     ensures front { OnErr result (AppendsFront (W.held writer.old) (table_text nearest table.now.width table.now.height (nears_of table.now)) (W.held writer.new)) }
     ensures counts { Counts (W.failed_writes writer.old) result (W.failed_writes writer.new) }
 {
     let height = u32::from(table.height);
-    let step = ROWS * parts.len() as u32;
+    put_parts(rt, decimals, table, even, 0, nearest);
     let mut from = 0;
     'turns: while from < height {
-        put_parts(rt, decimals, table, parts, from, nearest);
-        write_parts(writer, table, parts, from, nearest)?;
-        from += step;
+        write_and_put(rt, writer, decimals, table, even, odd, from, nearest)?;
+        let middle = from + ROWS * even.len() as u32;
+        write_and_put(rt, writer, decimals, table, odd, even, middle, nearest)?;
+        from = middle + ROWS * odd.len() as u32;
     }
     Ok(())
+}
+
+/// Writes what the full parts hold, the rows from this one on, and puts the rows behind those into the free ones: side by side, or one after the other where there is one worker.
+fn write_and_put<W: Sink, R: Threads + Sync>(
+    rt: &R,
+    writer: &mut W,
+    decimals: &Decimals,
+    table: &Table,
+    full: &[Part],
+    free: &mut [Part],
+    from: u32,
+    nearest: bool,
+) -> Result<(), WriteFault>
+    requires can_fail { CanFail (W.failed_writes writer.old) }
+    requires from { from < 70000 }
+    requires few { length full.now ≤ 16 }
+    requires rows { HaveRows nearest table.now.width table.now.height (nears_of table.now) from full.now }
+    requires free { AreParts table.now.width free.old }
+    ensures all { OnOk result (Appends (W.held writer.old) (parts_text nearest table.now from (length full.now)) (W.held writer.new)) }
+    ensures front { OnErr result (AppendsFront (W.held writer.old) (parts_text nearest table.now from (length full.now)) (W.held writer.new)) }
+    ensures counts { Counts (W.failed_writes writer.old) result (W.failed_writes writer.new) }
+    ensures next { HaveRows nearest table.now.width table.now.height (nears_of table.now) (from + 16 * length full.now) free.new }
+{
+    let next = from + ROWS * full.len() as u32;
+    if free.len() == 1 {
+        let written = write_parts(writer, table, full, from, nearest);
+        put_parts(rt, decimals, table, free, next, nearest);
+        return written;
+    }
+    write_beside(rt, writer, decimals, table, full, free, from, next, nearest)
+}
+
+/// Writes what the full parts hold in the calling thread, beside which the workers put the rows from `next` on into the free ones.
+fn write_beside<W: Sink, R: Threads + Sync>(
+    rt: &R,
+    writer: &mut W,
+    decimals: &Decimals,
+    table: &Table,
+    full: &[Part],
+    free: &mut [Part],
+    from: u32,
+    next: u32,
+    nearest: bool,
+) -> Result<(), WriteFault>
+    requires can_fail { CanFail (W.failed_writes writer.old) }
+    requires rows { HaveRows nearest table.now.width table.now.height (nears_of table.now) from full.now }
+    requires next { next < 80000 }
+    requires free { AreParts table.now.width free.old }
+    ensures all { OnOk result (Appends (W.held writer.old) (parts_text nearest table.now from (length full.now)) (W.held writer.new)) }
+    ensures front { OnErr result (AppendsFront (W.held writer.old) (parts_text nearest table.now from (length full.now)) (W.held writer.new)) }
+    ensures counts { Counts (W.failed_writes writer.old) result (W.failed_writes writer.new) }
+    ensures next { HaveRows nearest table.now.width table.now.height (nears_of table.now) next free.new }
+{
+    let mut put = move ||
+        requires { IsSync R.row × (next < 80000) × AreParts table.now.width free.now }
+        ensures { HaveRows nearest table.entry.now.width table.entry.now.height (nears_of table.entry.now) next free.exit.now }
+    { put_parts(rt, decimals, table, free, next, nearest) };
+    let mut write = move || -> Result<(), WriteFault>
+        requires { CanFail (W.failed_writes writer.now) × HaveRows nearest table.now.width table.now.height (nears_of table.now) from full.now }
+        ensures all { OnOk result (Appends (W.held writer.entry.now) (parts_text nearest table.entry.now from (length full.entry.now)) (W.held writer.exit.now)) }
+        ensures front { OnErr result (AppendsFront (W.held writer.entry.now) (parts_text nearest table.entry.now from (length full.entry.now)) (W.held writer.exit.now)) }
+        ensures counts { Counts (W.failed_writes writer.entry.now) result (W.failed_writes writer.exit.now) }
+    { write_parts(writer, table, full, from, nearest) };
+    let (_, written) = join_mut(rt, &mut put, &mut write);
+    written
 }
 
 /// Puts the lines of the rows from this one on, sixteen in each part.
@@ -105,10 +174,8 @@ fn put_parts<R: Threads + Sync>(
     from: u32,
     nearest: bool,
 )
-    requires some { 1 ≤ length parts.old }
-    requires few { length parts.old ≤ 16 }
-    requires from { from < 65536 }
-    requires parts { All (IsPart table.now.width) parts.old }
+    requires from { from < 80000 }
+    requires parts { AreParts table.now.width parts.old }
     ensures { HaveRows nearest table.now.width table.now.height (nears_of table.now) from parts.new }
 {
     let count = parts.len();
@@ -117,7 +184,7 @@ fn put_parts<R: Threads + Sync>(
         parts,
         count,
         &|place, part: &mut Part|
-            requires { (place < 16) × (from < 65536) × IsPart table.now.width part.now }
+            requires { (place < 16) × (from < 80000) × IsPart table.now.width part.now }
             ensures { HasRows nearest table.entry.now.width table.entry.now.height (nears_of table.entry.now) (from + 16 * place) part.exit.now }
         { part.put(decimals, table, from + ROWS * place as u32, nearest) },
     );
@@ -133,8 +200,8 @@ fn write_parts<W: Sink>(
 ) -> Result<(), WriteFault>
     requires can_fail { CanFail (W.failed_writes writer.old) }
     requires rows { HaveRows nearest table.now.width table.now.height (nears_of table.now) from parts.now }
-    ensures all { OnOk result (Appends (W.held writer.old) (rows_text nearest table.now.width (min table.now.height from) (min table.now.height (from + 16 * length parts.now) - min table.now.height from) (nears_of table.now)) (W.held writer.new)) }
-    ensures front { OnErr result (AppendsFront (W.held writer.old) (rows_text nearest table.now.width (min table.now.height from) (min table.now.height (from + 16 * length parts.now) - min table.now.height from) (nears_of table.now)) (W.held writer.new)) }
+    ensures all { OnOk result (Appends (W.held writer.old) (parts_text nearest table.now from (length parts.now)) (W.held writer.new)) }
+    ensures front { OnErr result (AppendsFront (W.held writer.old) (parts_text nearest table.now from (length parts.now)) (W.held writer.new)) }
     ensures counts { Counts (W.failed_writes writer.old) result (W.failed_writes writer.new) }
 {
     'parts: for part in parts {

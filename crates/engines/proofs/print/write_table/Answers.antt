@@ -1,46 +1,51 @@
 use Rattle.std.proofs.Common.{◌≡◌, ◌+◌, ◌*◌, ◌∙◌, refl, length, min, arith, rules}
 use Rattle.std.proofs.lemmas.Result.{err_from_is_err_and}
-use Rattle.metric.proofs.Appending.{Appends-nothing, Appends-more}
+use Rattle.metric.proofs.Appending.{Appends-nothing}
 use Rattle.engines.specs.Tabled.{nears_of}
 use Rattle.engines.proofs.RowLemmas.{rows_text-none}
-use Rattle.engines.proofs.PartLemmas.{AppendsFront-rows, rows_between, rows_between-join, table_text-between}
+use Rattle.engines.proofs.PartLemmas.{Appends-parts, AppendsFront-parts, AreParts-put, table_text-between}
 use Rattle.engines.proofs.print.write_table.Goals as goal
 
 pub turns-init : goal.turns-init
 turns-init g c =
-    let none : min c.args.table.now.height 0 ≡ 0 = omega arith in
+    let table = c.args.table.now in
+    let none : min table.height 0 ≡ 0 = omega arith in
     record {
-      written = rw (none, rows_text-none c.args.nearest c.args.table.now.width 0 (nears_of c.args.table.now)) (Appends-nothing _);
+      written = rw (none, rows_text-none c.args.nearest table.width 0 (nears_of table)) (Appends-nothing _);
       none_failed = refl;
-      parts = c.requires.parts;
-      many = refl;
+      put = c.put_parts.ensures;
+      even = AreParts-put c.args.nearest table.width table.height 0 (nears_of table) c.args.even.now c.put_parts.new.parts c.requires.even c.put_parts.auto.parts c.put_parts.ensures;
+      odd = c.requires.odd;
       height_is = search rules;
-      step_is = refl;
+      from = omega arith;
     }
 
-pub returns-in_err-write_parts-clause-front : goal.returns-in_err-write_parts-clause-front
-returns-in_err-write_parts-clause-front g c =
-    let table = c.args.table.now in
+pub returns-in_err-write_and_put-clause-front : goal.returns-in_err-write_and_put-clause-front
+returns-in_err-write_and_put-clause-front g c =
     let p = err_from_is_err_and c.from_residual.result c.from_residual.ensures.1 in
-    rw (p.1, table_text-between c.args.nearest table.width table.height (nears_of table))
-    (AppendsFront-rows c.args.nearest table.width (nears_of table) 0 (min table.height c.turns.from) (min table.height (c.turns.from + 16 * length c.put_parts.new.parts)) table.height _ _ _
-    (omega arith) (omega arith) (omega arith) c.turns.invariant.written c.in_err-write_parts.ensures.front)
+    rw p.1 (AppendsFront-parts c.args.nearest c.args.table.now c.turns.from (length c.turns.even) _ _ _ c.turns.invariant.written c.in_err-write_and_put.ensures.front)
+
+pub returns-in_err-write_and_put-2-clause-front : goal.returns-in_err-write_and_put-2-clause-front
+returns-in_err-write_and_put-2-clause-front g c =
+    let p = err_from_is_err_and c.from_residual-in_err-write_and_put-2.result c.from_residual-in_err-write_and_put-2.ensures.1 in
+    let above = Appends-parts c.args.nearest c.args.table.now c.turns.from (length c.turns.even) _ _ _ c.turns.invariant.written c.in_ok-write_and_put.ensures.all in
+    rw p.1 (AppendsFront-parts c.args.nearest c.args.table.now (c.turns.from + 16 * length c.turns.even) (length c.write_and_put.new.free) _ _ _ above c.in_err-write_and_put-2.ensures.front)
 
 pub turns-preserved : goal.turns-preserved
 turns-preserved g c =
     let table = c.args.table.now in
-    let many : length c.put_parts.new.parts ≡ length c.args.parts.now = c.put_parts.auto.parts ∙ c.turns.invariant.many in
-    let last = min table.height (c.turns.from + 16 * length c.args.parts.now) in
+    let nears = nears_of table in
+    let middle = c.turns.from + 16 * length c.turns.even in
+    let last = middle + 16 * length c.write_and_put.new.free in
+    let above = Appends-parts c.args.nearest table c.turns.from (length c.turns.even) _ _ _ c.turns.invariant.written c.in_ok-write_and_put.ensures.all in
     record {
-      written =
-          rw (rows_between-join c.args.nearest table.width (nears_of table) 0 (min table.height c.turns.from) last (omega arith) (omega arith))
-          (Appends-more (g.W.Sink.held c.args.writer.now) (g.W.Sink.held c.turns.writer) (g.W.Sink.held c.write_parts.new.writer) (rows_between c.args.nearest table.width (nears_of table) 0 (min table.height c.turns.from))
-          (rows_between c.args.nearest table.width (nears_of table) (min table.height c.turns.from) last) c.turns.invariant.written (rw many at c.in_ok-write_parts.ensures.all));
-      none_failed = c.in_ok-write_parts.ensures.counts ∙ c.turns.invariant.none_failed;
-      parts = λ k d below. (c.put_parts.ensures k d below).kept;
-      many = many;
+      written = Appends-parts c.args.nearest table middle (length c.write_and_put.new.free) _ _ _ above c.in_ok-write_and_put-2.ensures.all;
+      none_failed = c.in_ok-write_and_put-2.ensures.counts ∙ c.in_ok-write_and_put.ensures.counts ∙ c.turns.invariant.none_failed;
+      put = c.write_and_put-in-turns.ensures.next;
+      even = AreParts-put c.args.nearest table.width table.height last nears c.turns.even c.write_and_put-in-turns.new.free c.turns.invariant.even c.write_and_put-in-turns.auto.free c.write_and_put-in-turns.ensures.next;
+      odd = AreParts-put c.args.nearest table.width table.height middle nears c.turns.odd c.write_and_put.new.free c.turns.invariant.odd c.write_and_put.auto.free c.write_and_put.ensures.next;
       height_is = c.turns.invariant.height_is;
-      step_is = rw many refl;
+      from = omega arith;
     }
 
 pub returns-clause-all : goal.returns-clause-all
