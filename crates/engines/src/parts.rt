@@ -10,6 +10,7 @@ use crate::line::{ENTRY_ROOM, SPARE_ROOM, put_row};
 use crate::table::Table;
 use metric::Near;
 use std::alloc::{AllocError, Global};
+use std::thread::{Threads, map_indices};
 
 /// How many rows a worker puts at a time.
 pub const ROWS: u32 = 16;
@@ -93,14 +94,27 @@ impl Part {
         &self.text[..self.end]
     }
 
-    /// So many places for the lines of rows of this width.
-    pub fn several(alloc: Global, width: u16, count: u8) -> Result<Vec<Self>, AllocError>
+    /// So many places for the lines of rows of this width, each made by a worker of its own, so that whoever fills it is the first to touch its memory.
+    pub fn several<R: Threads + Sync>(
+        rt: &R,
+        alloc: Global,
+        width: u16,
+        count: u8,
+    ) -> Result<Vec<Self>, AllocError>
         ensures many { IfOk result (λ parts. vec_len parts ≡ count) }
         ensures each { IfOk result (λ parts. All (IsPart width) parts.items) }
     {
+        let made = map_indices(
+            rt,
+            alloc,
+            usize::from(count),
+            &|_place| -> Result<Part, AllocError>
+                ensures { IfOk result (IsPart width) }
+            { Part::new(alloc, width) },
+        )?;
         let mut parts = Vec::with_capacity(alloc, usize::from(count))?;
-        'parts: for _made in 0..count {
-            parts.push_reserved(Part::new(alloc, width)?);
+        'parts: for part in made {
+            parts.push_reserved(part?);
         }
         Ok(parts)
     }

@@ -47,8 +47,8 @@ impl Print {
         let (Ok(table), Ok(decimals), Ok(even), Ok(odd)) = (
             Table::of(rt, alloc, &bitmap, metric, workers),
             Decimals::new(alloc),
-            Part::several(alloc, bitmap.width(), workers.count),
-            Part::several(alloc, bitmap.width(), workers.count),
+            Part::several(rt, alloc, bitmap.width(), workers.count),
+            Part::several(rt, alloc, bitmap.width(), workers.count),
         ) else {
             return Err(PbmFault::Memory);
         };
