@@ -100,7 +100,7 @@ pub fn write_table<W: Sink, R: Threads + Sync>(
     Ok(())
 }
 
-/// Writes what the full parts hold, the rows from this one on, and puts the rows behind those into the free ones: side by side, or one after the other where there is one worker.
+/// Writes what the full parts hold, the rows from this one on, and puts the rows behind those into the free ones: side by side, or one after the other where one thread does.
 fn write_and_put<W: Sink, R: Threads + Sync>(
     rt: &R,
     writer: &mut W,
@@ -122,7 +122,7 @@ fn write_and_put<W: Sink, R: Threads + Sync>(
     ensures next { HaveRows nearest table.now.width table.now.height (nears_of table.now) (from + 16 * length full.now) free.new }
 {
     let next = from + ROWS * full.len() as u32;
-    if free.len() == 1 {
+    if threads_for(table, free.len(), next) == 1 {
         let written = write_parts(writer, table, full, from, nearest);
         put_parts(rt, decimals, table, free, next, nearest);
         return written;
@@ -165,6 +165,17 @@ fn write_beside<W: Sink, R: Threads + Sync>(
     written
 }
 
+/// How many threads put the rows from this one on into so many parts: one each, or one in all where there are no such rows.
+fn threads_for(table: &Table, parts: usize, from: u32) -> usize
+    requires { 1 ≤ parts }
+    ensures { 1 ≤ result }
+{
+    if from < u32::from(table.height) {
+        return parts;
+    }
+    1
+}
+
 /// Puts the lines of the rows from this one on, sixteen in each part.
 fn put_parts<R: Threads + Sync>(
     rt: &R,
@@ -178,11 +189,11 @@ fn put_parts<R: Threads + Sync>(
     requires parts { AreParts table.now.width parts.old }
     ensures { HaveRows nearest table.now.width table.now.height (nears_of table.now) from parts.new }
 {
-    let count = parts.len();
+    let threads = threads_for(table, parts.len(), from);
     for_each_mut(
         rt,
         parts,
-        count,
+        threads,
         &|place, part: &mut Part|
             requires { (place < 16) × (from < 80000) × IsPart table.now.width part.now }
             ensures { HasRows nearest table.entry.now.width table.entry.now.height (nears_of table.entry.now) (from + 16 * place) part.exit.now }
