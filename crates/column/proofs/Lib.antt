@@ -1,3 +1,4 @@
+pub mod EdgeLemmas
 pub mod Marking
 pub mod Nearest
 pub mod Seeking

@@ -1,12 +1,9 @@
 -- Lines carried from row to row, and the nearest obstacle between two of them.
-use Rattle.std.proofs.Common.{◌≡◌, ℕ, ◌+◌, ◌-◌, ◌*◌, ◌<◌, ◌≤◌, ◌⊎◌, ◌∙◌, min, inl, inr, Bool, true, false, List, Option, Some, None, length, get_or, arith, refl, ap}
+use Rattle.std.proofs.Common.{◌≡◌, ℕ, ◌+◌, ◌-◌, ◌*◌, ◌<◌, ◌≤◌, ◌⊎◌, ◌∙◌, min, inl, inr, Bool, true, false, List, Option, Some, None, length, get_or, arith, refl}
 use Rattle.std.specs.Int.{abs_diff}
 use Rattle.std.proofs.Math.Nat.{mul-le-mul_right}
-use Rattle.std.proofs.Math.ListN.{replicate}
-use Rattle.std.proofs.lemmas.List.{get_or-replicate, length-replicate}
 use Rattle.std.proofs.lemmas.Bool.{cases_lt, cases_eq}
 use Rattle.bits.specs.Cells.{Cells, has, IsBitmap}
-use Rattle.bits.proofs.CellsLemmas.{has-outside}
 use Rattle.column.specs.Columns.{IsNearestRow, IsRowOfTable, row_of}
 use Rattle.column.specs.Lines.{AreEdges, AreLinesBehind, IsLineBefore, IsLineFrom, IsRowBefore, IsRowFrom}
 use Rattle.column.specs.Sweeps.{marked, nearer}
@@ -146,22 +143,4 @@ AreEdges-next cells from to band line old new behind copied others edges = recor
         let place : band * cells.width + cells.width ≤ b * cells.width + x = rows_apart band b cells.width x (omega (arith, at_least, apart)) in
         rw (others (b * cells.width + x) (inr place)) (edges.each x b column (omega (arith, at_least, apart)) inside)
   ];
-}
-
--- a list of marks has none at each place
-all_marks : (count place : ℕ) (line : List ℕ) → line ≡ replicate count 65535 → place < count → row_of (get_or line place 0) ≡ None
-all_marks count place line marks inside = row_of-none (get_or line place 0) (ap (λ (xs : List ℕ). get_or xs place 0) marks ∙ get_or-replicate {A = ℕ} count place 65535 0 inside)
-
--- before the first row there is none
-pub IsLineBefore-none : (cells : Cells) (line : List ℕ) → line ≡ replicate cells.width 65535 → IsLineBefore cells 0 line
-IsLineBefore-none cells line marks = record {
-  as_many = rw marks (length-replicate {A = ℕ} cells.width 65535);
-  each = λ x column. rw (all_marks cells.width x line marks column) (λ b before black. absurd (omega arith));
-}
-
--- behind the last row there is none
-pub IsLineFrom-none : (cells : Cells) (line : List ℕ) → IsBitmap cells → line ≡ replicate cells.width 65535 → IsLineFrom cells cells.height line
-IsLineFrom-none cells line bitmap marks = record {
-  as_many = rw marks (length-replicate {A = ℕ} cells.width 65535);
-  each = λ x column. rw (all_marks cells.width x line marks column) (λ b behind black. let inside = (has-outside cells bitmap x b black).row in absurd (omega arith));
 }

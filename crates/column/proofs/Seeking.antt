@@ -17,15 +17,15 @@ all_ones : (mask i entry : ℕ) → mask ≡ 18446744073709551615 → i < 64 →
 all_ones mask i entry ones place none = let one = bit_at_ones 64 i place in rw (ones, none, one) refl
 
 -- an entry that stands for a row stays
-first_marked-some : (black : Bool) (y entry : ℕ) → entry ≢ 65535 → first_marked black y entry ≡ entry
+pub first_marked-some : (black : Bool) (y entry : ℕ) → entry ≢ 65535 → first_marked black y entry ≡ entry
 first_marked-some black y entry some = grind (arith, nat_tests)
 
 -- an entry that stands for none stays at a free cell
-first_marked-free : (black : Bool) (y entry : ℕ) → black ≡ false → first_marked black y entry ≡ entry
+pub first_marked-free : (black : Bool) (y entry : ℕ) → black ≡ false → first_marked black y entry ≡ entry
 first_marked-free black y entry free = grind (arith, nat_tests)
 
 -- and becomes the row of an obstacle
-first_marked-black : (black : Bool) (y entry : ℕ) → entry ≡ 65535 → black ≡ true → first_marked black y entry ≡ y
+pub first_marked-black : (black : Bool) (y entry : ℕ) → entry ≡ 65535 → black ≡ true → first_marked black y entry ≡ y
 first_marked-black black y entry none is = grind (arith, nat_tests)
 
 -- the first obstacle that is met above is the nearest

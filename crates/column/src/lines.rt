@@ -6,24 +6,12 @@ ghost use Rattle.column.specs.Columns.{IsRowOfTable};
 ghost use Rattle.column.specs.Lines.{AreEdges, AreLinesBehind, IsLineBefore, IsLineFrom};
 ghost use Rattle.column.specs.Sweeps.{marked, nearer};
 
+use crate::edge::{seek_before, seek_from};
 use crate::row::{mark_row, nearer};
 use bits::Bitmap;
 
 /// How many rows a band has.
 pub const BAND: u16 = 64;
-
-/// Carries the line of the obstacles before row `from` down to row `to`.
-fn carry_down(bitmap: &Bitmap, from: u16, to: u16, line: &mut [u16])
-    requires bitmap { IsBitmap bitmap.now }
-    requires order { from ≤ to }
-    requires within { to ≤ bitmap.now.height }
-    requires line { IsLineBefore bitmap.now from line.old }
-    ensures { IsLineBefore bitmap.now to line.new }
-{
-    'rows: for y in from..to {
-        mark_line(bitmap, y, line);
-    }
-}
 
 /// Carries the line of the obstacles from row `to` on up to row `from`.
 fn carry_up(bitmap: &Bitmap, from: u16, to: u16, line: &mut [u16])
@@ -64,7 +52,7 @@ pub fn fill_band(
     }
 }
 
-/// Carries a line of no obstacles down from the top to row `from`, and another one up from the bottom, which leaves for each band of the rows `from` to `to - 1` the line of the obstacles behind it.
+/// Seeks the line of the obstacles before row `from`, and leaves for each band of the rows `from` to `to - 1` the line of the obstacles behind it. `line` is room for a line.
 pub fn carry_edges(
     bitmap: &Bitmap,
     from: u16,
@@ -77,13 +65,13 @@ pub fn carry_edges(
     requires order { from ≤ to }
     requires within { to ≤ bitmap.now.height }
     requires room { (to - from + 63) / 64 * bitmap.now.width ≤ length edges.old }
-    requires before { IsLineBefore bitmap.now 0 before.old }
-    requires line { IsLineFrom bitmap.now bitmap.now.height line.old }
+    requires before { length before.old ≡ bitmap.now.width }
+    requires line { length line.old ≡ bitmap.now.width }
     ensures before { IsLineBefore bitmap.now from before.new }
     ensures edges { AreEdges bitmap.now from to 0 edges.new }
 {
-    carry_down(bitmap, 0, from, before);
-    carry_up(bitmap, to, bitmap.height(), line);
+    seek_before(bitmap, from, before);
+    seek_from(bitmap, to, line);
     fill_edges(bitmap, from, to, line, edges);
 }
 

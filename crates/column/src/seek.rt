@@ -11,7 +11,7 @@ use crate::row::{WORD_BITS, mark_word};
 use bits::Bitmap;
 
 /// How many words the widest row takes.
-const MOST_WORDS: usize = 64;
+pub const MOST_WORDS: usize = 64;
 
 /// Fills `entries` as the table of the bitmap has them in row `y`. No memory is taken.
 ///
@@ -57,7 +57,7 @@ fn look_above(bitmap: &Bitmap, y: u16, away: u16, missing: &mut [u64], entries: 
     ensures none { y < away → entries.new ≡ entries.old }
 {
     if away <= y {
-        mark_missing(bitmap.row_words(y - away), y - away, missing, entries);
+        look_at(bitmap, y - away, missing, entries);
     }
 }
 
@@ -75,8 +75,23 @@ fn look_below(bitmap: &Bitmap, y: u16, away: u16, missing: &mut [u64], entries: 
     ensures none { bitmap.now.height ≤ y + away → entries.new ≡ entries.old }
 {
     if away < bitmap.height() - y {
-        mark_missing(bitmap.row_words(y + away), y + away, missing, entries);
+        look_at(bitmap, y + away, missing, entries);
     }
+}
+
+/// Looks at row `y`: it becomes the entry of each column of an obstacle that had none.
+pub fn look_at(bitmap: &Bitmap, y: u16, missing: &mut [u64], entries: &mut [u16])
+    requires bitmap { IsBitmap bitmap.now }
+    requires row { y < bitmap.now.height }
+    requires width { length entries.old ≡ bitmap.now.width }
+    requires room { length missing.old ≡ 64 }
+    requires missing { AreMissing missing.old entries.old }
+    ensures len { length entries.new ≡ length entries.old }
+    ensures room { length missing.new ≡ length missing.old }
+    ensures missing { AreMissing missing.new entries.new }
+    ensures seen { (x : ℕ) → x < bitmap.now.width → slice_index entries.new x ≡ first_marked (has bitmap.now x y) y (slice_index entries.old x) }
+{
+    mark_missing(bitmap.row_words(y), y, missing, entries);
 }
 
 /// Writes the row `y` into the entries of those of its obstacles whose columns are missing.
