@@ -1,7 +1,7 @@
 //! Lines that are asked: what is sent, what is printed, and servers that end early.
 
+use crate::compare::{holds, same};
 use engines::ask_run;
-use map_tests::compare::{holds, same};
 use metric::{MemorySink, MemorySource, MemoryStream, Sink, Source};
 use std::process::Abort;
 

@@ -1,8 +1,8 @@
 //! The worked rows through `dist`, and streams that fail.
 
+use crate::compare::same;
 use engines::arguments::DistOptions;
 use engines::dist_run;
-use map_tests::compare::same;
 use metric::{MemorySink, MemorySource, MetricKind, Sink, Source};
 use std::process::Abort;
 use std::thread::Threads;

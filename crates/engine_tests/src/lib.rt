@@ -4,6 +4,8 @@
 #[cfg(test)]
 mod asking;
 #[cfg(test)]
+mod compare;
+#[cfg(test)]
 mod dist;
 #[cfg(test)]
 mod limits;

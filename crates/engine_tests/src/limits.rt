@@ -2,9 +2,9 @@
 
 ghost use Rattle.std.specs.Prelude.{◌<◌};
 
+use crate::compare::same;
 use engines::arguments::DistOptions;
 use engines::dist_run;
-use map_tests::compare::same;
 use metric::{MemorySink, MemorySource, MetricKind};
 use std::alloc::Global;
 use std::process::Abort;

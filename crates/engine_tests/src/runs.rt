@@ -1,7 +1,7 @@
 //! Whole runs by their words: which stream a text goes to, its status, and streams that fail.
 
+use crate::compare::{holds, same};
 use engines::run_words;
-use map_tests::compare::{holds, same};
 use metric::{MemorySink, MemorySource, Sink, Source};
 use std::process::Abort;
 use std::thread::Threads;

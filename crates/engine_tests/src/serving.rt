@@ -1,11 +1,11 @@
 //! A server and its clients over loopback, in one process.
 
+use crate::compare::same;
 use bits::Bitmap;
 use crossbeam_channel::{Receiver, Sender, bounded};
 use engines::arguments::{AskOptions, ServeOptions};
 use engines::net::ask;
 use engines::{Socket, ask_run, serve_run};
-use map_tests::compare::same;
 use metric::{MemorySink, MemorySource};
 use std::alloc::Global;
 use std::io::Write;

@@ -1,7 +1,7 @@
 //! Worked texts through the engine, lines of other forms, and streams that fail.
 
+use crate::compare::{holds, same};
 use engines::steps_run;
-use map_tests::compare::{holds, same};
 use metric::{MemorySink, MemorySource, Sink, Source};
 use std::alloc::Global;
 use std::process::Abort;

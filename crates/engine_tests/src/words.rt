@@ -1,8 +1,8 @@
 //! The words of the command line, and what they say.
 
+use crate::compare::{holds, same};
 use engines::arguments::{AskOptions, DistOptions, Fault, Options, ServeOptions};
 use engines::options;
-use map_tests::compare::{holds, same};
 use metric::MetricKind;
 use std::process::Abort;
 

@@ -1,4 +1,4 @@
-//! Tests of the crates that work on maps: what no clause says of streams, bitmaps, images, rows and queries. Other crates of tests compare by what stands here.
+//! Tests of the crates that work on maps: what no clause says of streams, bitmaps, images, rows and queries.
 #![tactic(auto)]
 
 #[cfg(test)]
@@ -9,7 +9,8 @@ mod bitmap_limits;
 mod bitmaps;
 #[cfg(test)]
 mod columns;
-pub mod compare;
+#[cfg(test)]
+mod compare;
 #[cfg(test)]
 mod draws;
 #[cfg(test)]

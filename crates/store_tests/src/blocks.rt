@@ -2,8 +2,8 @@
 
 ghost use Rattle.std.specs.Prelude.{◌≡◌, ◌∷◌};
 
+use crate::compare::{holds, same};
 use arena::{Arena, Tile};
-use map_tests::compare::{holds, same};
 use std::process::Abort;
 use std::test::Fail;
 

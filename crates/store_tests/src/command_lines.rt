@@ -1,8 +1,8 @@
 //! Lines of commands, what no clause says: that commands from outside are what is meant by them, and the text of their replies.
 
+use crate::compare::{holds, same};
 use bits::Bitmap;
 use map_core::{Command, Reply};
-use map_tests::compare::{holds, same};
 use metric::{Cell, Rect, Refusal};
 use proto::{
     Answer, Line, Order, QueryKind, Text, Verb, answer_query, parse_line, reply_text, verb_of,

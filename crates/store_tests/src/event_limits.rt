@@ -1,9 +1,9 @@
 //! Worlds at their limits: a log of a thousand entries, and the largest map with the most readers.
 
+use crate::compare::same;
 use crate::events::SMALL;
 use bits::Bitmap;
 use map_core::{Command, Event, Reply, Setting, StepReply, World};
-use map_tests::compare::same;
 use metric::{Rect, Refusal};
 use std::test::Fail;
 

@@ -1,9 +1,9 @@
 //! The core over events, what no clause says: that memory is found, and worked runs of events with answers from outside.
 
+use crate::compare::same;
 use crate::script::Script;
 use bits::Bitmap;
 use map_core::{Command, Event, NotEnabled, Reply, Setting, StepReply, World, run};
-use map_tests::compare::same;
 use metric::{Cell, Field, Rect, Refusal};
 use std::test::Fail;
 

@@ -1,7 +1,7 @@
 //! The floor of a collect, at values from outside.
 
+use crate::compare::same;
 use epoch::floor_after;
-use map_tests::compare::same;
 
 /// The old floor, the newest version, what three readers have announced, and the new floor.
 const FLOORS: [(u32, u32, [Option<u32>; 3], u32); 8] = [

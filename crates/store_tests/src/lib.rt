@@ -6,6 +6,8 @@ mod blocks;
 #[cfg(test)]
 mod command_lines;
 #[cfg(test)]
+mod compare;
+#[cfg(test)]
 mod event_limits;
 #[cfg(test)]
 mod events;

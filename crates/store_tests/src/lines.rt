@@ -1,6 +1,6 @@
 //! Lines and replies, what no clause says: that lines from outside are what is meant by them, and the text of the replies.
 
-use map_tests::compare::{holds, same};
+use crate::compare::{holds, same};
 use metric::{Cell, MetricKind, Near, Refusal};
 use proto::{Answer, Line, Query, Text, parse_line, reply_text};
 use std::test::Fail;

@@ -1,8 +1,8 @@
 //! Opened worlds, what no clause says: that one finds memory, and what a worked map looks like once it is opened.
 
+use crate::compare::same;
 use bits::Bitmap;
 use map_core::{Command, Event, Setting, StepReply, World};
-use map_tests::compare::same;
 use metric::{Cell, Field, Refusal};
 use std::test::Fail;
 

@@ -9,10 +9,10 @@ mod meeting;
 mod pooled;
 mod worked;
 
+use crate::compare::{holds, same};
 use crate::opened::{hand_back, open};
 use bits::Bitmap;
 use map_core::{Reply, Setting};
-use map_tests::compare::{holds, same};
 use metric::{MemorySink, MemorySource, MemoryStream, Stream};
 use pbm::read_image;
 use proto::{End, serve_stream};

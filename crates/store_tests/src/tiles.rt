@@ -4,10 +4,10 @@ ghost use Rattle.std.specs.Prelude.{◌≡◌, ◌≤◌, length, [], IfOk, OnEr
 ghost use Rattle.map_core.specs.Blocks.{own_list};
 ghost use Rattle.grid.specs.Grids.{own_blocks};
 
+use crate::compare::{holds, same};
 use arena::Arena;
 use bits::Bitmap;
 use grid::Grid;
-use map_tests::compare::{holds, same};
 use metric::{Cell, Rect, Refusal};
 use std::alloc::Global;
 use std::process::Abort;

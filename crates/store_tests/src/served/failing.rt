@@ -3,8 +3,8 @@
 ghost use Rattle.std.specs.Prelude.{◌≡◌, None};
 
 use super::{Input, Run, look, serve, serve_over, setting, square};
+use crate::compare::{holds, same};
 use crate::opened::blank;
-use map_tests::compare::{holds, same};
 use metric::{ReadFault, Sink, Source, Stream, WriteFault};
 use proto::End;
 use std::alloc::Global;

@@ -1,8 +1,8 @@
 //! Lines that no client should send.
 
 use super::{Input, look, serve, setting, square};
+use crate::compare::same;
 use crate::opened::blank;
-use map_tests::compare::same;
 use proto::End;
 use std::alloc::Global;
 use std::test::Fail;

@@ -3,8 +3,8 @@
 ghost use Rattle.std.specs.Prelude.{◌≡◌, None, IfSome};
 
 use super::{setting, square};
+use crate::compare::same;
 use crate::opened::{blank, open};
-use map_tests::compare::same;
 use metric::{ReadFault, Sink, Source, Stream, WriteFault};
 use proto::{Streams, pool};
 use session::Blank;

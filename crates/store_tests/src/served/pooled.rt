@@ -3,9 +3,9 @@
 ghost use Rattle.std.specs.Prelude.{◌≡◌};
 
 use super::{Input, setting, square, stream_of};
+use crate::compare::same;
 use crate::opened::{blank, open};
 use map_core::Reply;
-use map_tests::compare::same;
 use metric::MemoryStream;
 use proto::{Streams, pool};
 use session::Blank;

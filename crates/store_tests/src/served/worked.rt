@@ -1,9 +1,9 @@
 //! Worked streams: what is read, and what is written.
 
 use super::{Input, drawn, look, serve, setting, square};
+use crate::compare::same;
 use crate::opened::blank;
 use bits::Bitmap;
-use map_tests::compare::same;
 use metric::Cell;
 use proto::End;
 use std::test::Fail;

@@ -2,9 +2,9 @@
 
 ghost use Rattle.std.specs.Prelude.{◌≡◌};
 
+use crate::compare::{holds, same};
 use crate::opened::{free, hand_back, next, open, pin, rect};
 use map_core::Setting;
-use map_tests::compare::{holds, same};
 use metric::{Cell, City, Near};
 use session::{Blank, Session, Store};
 use shelf::{StoreName, Ticket};

@@ -3,10 +3,10 @@
 
 ghost use Rattle.std.specs.Prelude.{◌≡◌, ◌<◌};
 
+use crate::compare::{holds, same};
 use crate::opened::{free, hand_back, next, open, pin, rect};
 use bits::Bitmap;
 use map_core::Setting;
-use map_tests::compare::{holds, same};
 use metric::{Cell, Chess, Refusal};
 use session::{Blank, Session, Store};
 use shelf::StoreName;

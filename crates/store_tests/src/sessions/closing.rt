@@ -2,11 +2,11 @@
 
 ghost use Rattle.std.specs.Prelude.{◌≡◌};
 
+use crate::compare::same;
 use crate::opened::{free, open};
 use crate::sessions::acts::{A, Act, B, Row, Told};
 use crate::sessions::players::Players;
 use map_core::Setting;
-use map_tests::compare::same;
 use session::Blank;
 use shelf::StoreName;
 use std::alloc::Global;

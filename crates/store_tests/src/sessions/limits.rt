@@ -2,12 +2,12 @@
 
 ghost use Rattle.std.specs.Prelude.{◌≡◌};
 
+use crate::compare::same;
 use crate::opened::{free, hand_back, next, open, pin, rect};
 use crate::sessions::acts::{A, Act, Told};
 use crate::sessions::players::Players;
 use bits::Bitmap;
 use map_core::{Reply, Setting};
-use map_tests::compare::same;
 use metric::{Cell, Chess, City, Euclid2, Near, Refusal};
 use session::{Blank, Pinned, Session, Store};
 use shelf::StoreName;

@@ -1,10 +1,10 @@
 //! What a pin answers: its commands and its queries, and a ticket that it learns.
 
+use crate::compare::same;
 use crate::opened::rect;
 use crate::sessions::acts::{A, Act, B, Row, Told};
 use crate::sessions::players::{Game, play};
 use map_core::Setting;
-use map_tests::compare::same;
 use metric::{Cell, Chess, City, Near, Refusal};
 use session::Pinned;
 use shelf::StoreName;

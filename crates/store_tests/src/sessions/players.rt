@@ -2,11 +2,11 @@
 
 ghost use Rattle.std.specs.Prelude.{◌≡◌};
 
+use crate::compare::same;
 use crate::opened::{free, hand_back, open};
 use crate::sessions::acts::{A, Act, Row, Told};
 use crate::sessions::seat::Seat;
 use map_core::Setting;
-use map_tests::compare::same;
 use session::{Blank, Session, Store};
 use shelf::{StoreName, Ticket};
 use std::alloc::Global;

@@ -2,13 +2,13 @@
 
 ghost use Rattle.std.specs.Prelude.{◌≡◌};
 
+use crate::compare::holds;
 use crate::opened::{pin, rect};
 use crate::sessions::acts::{Act, Told, answered};
 use crate::sessions::pins::ask;
 use bits::Bitmap;
 use desk::Desk;
 use map_core::Reply;
-use map_tests::compare::holds;
 use metric::{Cell, Euclid2, Refusal};
 use session::{Pinned, Session, Store};
 use shelf::{StoreName, Ticket};

@@ -1,10 +1,10 @@
 //! Worked runs of sessions, row by row, with answers from outside.
 
+use crate::compare::{holds, same};
 use crate::sessions::acts::{A, Act, B, C, Row, Told};
 use crate::sessions::players::{Game, play};
 use bits::Bitmap;
 use map_core::Setting;
-use map_tests::compare::{holds, same};
 use metric::{Field, Rect, Refusal};
 use session::Blank;
 use std::test::Fail;
