@@ -13,6 +13,7 @@ fast `dist` is as the script (the least of each), and the time of four workers b
 import argparse
 import datetime
 import filecmp
+import os
 import pathlib
 import random
 import resource
@@ -173,12 +174,20 @@ def first_line(command):
     return subprocess.run(command, capture_output=True).stdout.decode().strip().splitlines()[0]
 
 
+def ask_for_huge_pages():
+    """Has the programs that are run from now on ask for huge pages, where the C library gives them large memory."""
+    os.environ["GLIBC_TUNABLES"] = "glibc.malloc.hugetlb=1"
+
+
 def main():
     parser = argparse.ArgumentParser(description=__doc__.splitlines()[0])
+    parser.add_argument("--huge-pages", action="store_true", help="ask for huge pages in all programs that are measured")
     parser.add_argument("--program", type=pathlib.Path, default=PROGRAM)
     parser.add_argument("--sizes", type=int, nargs="+", default=SIZES)
     parser.add_argument("--rounds", type=int, default=5)
     options = parser.parse_args()
+    if options.huge_pages:
+        ask_for_huge_pages()
     print(f"{datetime.date.today()}, {processor()}, {first_line([str(options.program), '--version'])}, {first_line([PYTHON, SCIPY_DIST, '--version'])}. ", end="")
     print(f"Seconds, the least and the median of {options.rounds} runs in turn.\n")
     header = None

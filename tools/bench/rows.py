@@ -124,11 +124,14 @@ def main():
     parser.add_argument("--sizes", type=int, nargs="+", default=[512, 1024, 4096])
     parser.add_argument("--rounds", type=int, default=2, help="how often the program and OpenCV run in turn")
     parser.add_argument("--before", type=pathlib.Path)
+    parser.add_argument("--huge-pages", action="store_true", help="ask for huge pages in all programs that are measured")
     given = parser.parse_args()
     with tempfile.TemporaryDirectory() as work:
         work = pathlib.Path(work)
         program = build(work / "now", program_text(ROOT), USES)
         before = build(work / "before", program_text(given.before), USES, given.before) if given.before else None
+        if given.huge_pages:
+            bench.ask_for_huge_pages()
         ratios, cells = {}, {}
         print("| Map | Cells a side | Metric | rows, 1 worker, ms | 2 | 4 | table, 1 worker, ms | 2 | 4 | rows before, ms | OpenCV, ms | rows / OpenCV | table / OpenCV |")
         print("|" + "---|" * 13)

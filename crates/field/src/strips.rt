@@ -1,8 +1,6 @@
 //! The nearest obstacles of some rows in strips of equal height, each of which a thread of its own works into room of its own.
 
-ghost use Rattle.std.specs.Prelude.{◌≡◌, ◌+◌, ◌-◌, ◌*◌, ◌<◌, ◌≤◌, All, IfErr, IfOk, None, Ok, map, vec_len};
-ghost use Rattle.std.specs.Thread.{IsSync};
-ghost use Rattle.bits.specs.Cells.{IsBitmap};
+ghost use Rattle.std.specs.Prelude.{◌≡◌, ◌+◌, ◌-◌, ◌<◌, ◌≤◌, All, IfErr, IfOk, None, Ok, map, vec_len};
 ghost use Rattle.field.specs.Bands.{AreAnswers, IsWorkers};
 ghost use Rattle.field.specs.Obstacles.{AreStripAnswers, rows_before, seen_from};
 ghost use Rattle.metric.specs.declared.refusal.Refusal.TheVariants.{Memory};
