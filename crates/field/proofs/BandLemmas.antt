@@ -53,6 +53,16 @@ AreAnswers-join told nothing distance cells from to end own others ordered withi
 pub AreNears-answers : (distance : ℕ → ℕ → ℕ) (cells : Cells) (y0 y1 : ℕ) (nears : List (Option Near)) → AreAnswers (λ d x y near. near) None distance cells y0 y1 nears → AreNears distance cells y0 y1 nears
 AreNears-answers distance cells y0 y1 nears answers = record { as_many = answers.as_many; each = answers.filled.each }
 
+-- the nearest obstacles of the rows of a band, and those of the bands behind it
+pub AreNears-join : (distance : ℕ → ℕ → ℕ) (cells : Cells) (from to end : ℕ) (own others : List (Option Near)) → from ≤ to → to ≤ end
+    → AreNears distance cells from to own → AreNears distance cells to end others → AreNears distance cells from end (own ++ others)
+AreNears-join distance cells from to end own others ordered within above behind =
+    AreNears-answers distance cells from end (own ++ others)
+    (AreAnswers-join (λ d x y near. near) None distance cells from to end own others ordered within (answers_of above) (answers_of behind))
+  where
+    answers_of : {y0 y1 : ℕ} {nears : List (Option Near)} → AreNears distance cells y0 y1 nears → AreAnswers (λ d x y near. near) None distance cells y0 y1 nears
+    answers_of found = record { as_many = found.as_many; filled = record { each = found.each } }
+
 -- more bands end at no earlier row
 pub row_behind-grows : (y0 y1 count a b : ℕ) → 1 ≤ count → a ≤ b → row_behind y0 y1 count a ≤ row_behind y0 y1 count b
 row_behind-grows y0 y1 count a b some order =
@@ -77,10 +87,10 @@ pub HasRoom-all : {T : Type 0} (cells : Cells) (y0 y1 count : ℕ) (answers : Li
     → HasRoom cells (row_behind y0 y1 count 0) (row_behind y0 y1 count count) answers
 HasRoom-all cells y0 y1 count answers some order within as_many = rw (row_behind-none y0 y1 count, row_behind-all y0 y1 count some order) (record { order = order; within = within; as_many = as_many })
 
--- the answers of all bands are those of all rows
-pub AreAnswers-all : {T : Type 0} (told : Reading T) (nothing : T) (distance : ℕ → ℕ → ℕ) (cells : Cells) (y0 y1 count : ℕ) (answers : List T) → 1 ≤ count → y0 ≤ y1
-    → AreAnswers told nothing distance cells (row_behind y0 y1 count 0) (row_behind y0 y1 count count) answers → AreAnswers told nothing distance cells y0 y1 answers
-AreAnswers-all told nothing distance cells y0 y1 count answers some order found = rw (row_behind-none y0 y1 count, row_behind-all y0 y1 count some order) at found
+-- the nearest obstacles of all bands are those of all rows
+pub AreNears-all : (distance : ℕ → ℕ → ℕ) (cells : Cells) (y0 y1 count : ℕ) (nears : List (Option Near)) → 1 ≤ count → y0 ≤ y1
+    → AreNears distance cells (row_behind y0 y1 count 0) (row_behind y0 y1 count count) nears → AreNears distance cells y0 y1 nears
+AreNears-all distance cells y0 y1 count nears some order found = rw (row_behind-none y0 y1 count, row_behind-all y0 y1 count some order) at found
 
 -- the upper rows lie within the room of all
 pub room_above : {T : Type 0} (cells : Cells) (from middle to : ℕ) (answers : List T) → from ≤ middle → middle ≤ to → HasRoom cells from to answers → (middle - from) * cells.width ≤ length answers

@@ -1,18 +1,18 @@
 //! The nearest obstacles of all cells of some rows, worked in bands by threads.
 
-ghost use Rattle.std.specs.Prelude.{◌≡◌, ◌<◌, ◌≤◌, ◌+◌, ◌-◌, ◌⊎◌, ℕ, IfErr, IfOk, OnOk, length, slice_index_or};
+ghost use Rattle.std.specs.Prelude.{◌≡◌, ◌<◌, ◌≤◌, ◌+◌, ◌-◌, ◌⊎◌, ℕ, IfErr, IfOk, None, OnOk, length, slice_index_or};
 ghost use Rattle.std.specs.Thread.{IsSync};
 ghost use Rattle.bits.specs.Cells.{IsBitmap, IsObstacle};
 ghost use Rattle.metric.specs.Nearest.{IsNear};
 ghost use Rattle.metric.specs.declared.refusal.Refusal.TheVariants.{Memory};
-ghost use Rattle.field.specs.Bands.{AreAnswers, AreBands, HasRoom, row_behind};
+ghost use Rattle.field.specs.Bands.{AreBands, HasRoom, row_behind};
 ghost use Rattle.field.specs.Columns.{IsReady};
 ghost use Rattle.field.specs.Rows.{AreNears};
 
 use crate::columns::Columns;
 use crate::workers::Workers;
 use bits::Bitmap;
-use envelope::{Answer, Stack, row_from};
+use envelope::{Stack, row_from};
 use metric::{Gate, Metric, Near, Refusal};
 use std::alloc::Global;
 use std::thread::{Threads, join_mut};
@@ -45,26 +45,8 @@ pub fn rows_with<M: Metric + Sync, G: Gate + Sync, R: Threads + Sync>(
     ensures rows { IfOk result (λ nears. AreNears M.distance bitmap.now y0 y1 nears.items) }
     ensures memory { IfErr result (λ refusal. refusal ≡ Memory) }
 {
-    answer_rows::<M, Option<Near>, G, R>(rt, alloc, bitmap, y0, y1, workers, gate)
-}
-
-/// What is kept of the nearest obstacles of the rows `y0` to `y1 - 1`, worked in bands. Refused for want of memory alone.
-pub fn answer_rows<M: Metric + Sync, A: Answer + Send + Sync, G: Gate + Sync, R: Threads + Sync>(
-    rt: &R,
-    alloc: Global,
-    bitmap: &Bitmap,
-    y0: u16,
-    y1: u16,
-    workers: Workers,
-    gate: &G,
-) -> Result<Vec<A>, Refusal>
-    requires order { y0 ≤ y1 }
-    requires within { y1 ≤ bitmap.now.height }
-    ensures rows { IfOk result (λ answers. AreAnswers A.told A.nothing M.distance bitmap.now y0 y1 answers.items) }
-    ensures memory { IfErr result (λ refusal. refusal ≡ Memory) }
-{
     let cells = usize::from(y1 - y0) * usize::from(bitmap.width());
-    let Ok(mut answers) = vec![in alloc; A::none(); cells] else {
+    let Ok(mut nears) = vec![in alloc; None; cells] else {
         return Err(Refusal::Memory);
     };
     let shared = Shared {
@@ -74,41 +56,41 @@ pub fn answer_rows<M: Metric + Sync, A: Answer + Send + Sync, G: Gate + Sync, R:
         workers,
     };
     let count = workers.count;
-    work_bands::<M, A, G, R>(rt, alloc, &shared, gate, 0, count, answers.as_mut_slice())?;
-    Ok(answers)
+    work_bands::<M, G, R>(rt, alloc, &shared, gate, 0, count, nears.as_mut_slice())?;
+    Ok(nears)
 }
 
 /// Works the bands behind `above` from the top, as far as `below`, each in a thread of its own.
 #[cycle(bands)]
-fn work_bands<M: Metric + Sync, A: Answer + Send + Sync, G: Gate + Sync, R: Threads + Sync>(
+fn work_bands<M: Metric + Sync, G: Gate + Sync, R: Threads + Sync>(
     rt: &R,
     alloc: Global,
     shared: &Shared<'_>,
     gate: &G,
     above: u8,
     below: u8,
-    answers: &mut [A],
+    nears: &mut [Option<Near>],
 ) -> Result<(), Refusal>
     requires bands { AreBands shared.now.workers.count above below }
-    requires room { HasRoom shared.now.bitmap.now (row_behind shared.now.y0 shared.now.y1 shared.now.workers.count above) (row_behind shared.now.y0 shared.now.y1 shared.now.workers.count below) answers.old }
-    ensures rows { OnOk result (AreAnswers A.told A.nothing M.distance shared.now.bitmap.now (row_behind shared.now.y0 shared.now.y1 shared.now.workers.count above) (row_behind shared.now.y0 shared.now.y1 shared.now.workers.count below) answers.new) }
+    requires room { HasRoom shared.now.bitmap.now (row_behind shared.now.y0 shared.now.y1 shared.now.workers.count above) (row_behind shared.now.y0 shared.now.y1 shared.now.workers.count below) nears.old }
+    ensures rows { OnOk result (AreNears M.distance shared.now.bitmap.now (row_behind shared.now.y0 shared.now.y1 shared.now.workers.count above) (row_behind shared.now.y0 shared.now.y1 shared.now.workers.count below) nears.new) }
     ensures memory { IfErr result (λ refusal. refusal ≡ Memory) }
 {
     if below - above == 1 {
-        return work_band::<M, A, G>(alloc, shared, gate, below, answers);
+        return work_band::<M, G>(alloc, shared, gate, below, nears);
     }
     let middle = above + (below - above) / 2;
     let (from, to) = shared
         .workers
         .rows_between(shared.y0, shared.y1, above, middle);
     let cells = usize::from(to - from) * usize::from(shared.bitmap.width());
-    let (upper, lower) = answers.split_at_mut(cells);
-    work_beside::<M, A, G, R>(rt, alloc, shared, gate, above, middle, below, upper, lower)
+    let (upper, lower) = nears.split_at_mut(cells);
+    work_beside::<M, G, R>(rt, alloc, shared, gate, above, middle, below, upper, lower)
 }
 
 /// Works the upper bands beside the lower ones.
 #[cycle(bands)]
-fn work_beside<M: Metric + Sync, A: Answer + Send + Sync, G: Gate + Sync, R: Threads + Sync>(
+fn work_beside<M: Metric + Sync, G: Gate + Sync, R: Threads + Sync>(
     rt: &R,
     alloc: Global,
     shared: &Shared<'_>,
@@ -116,103 +98,98 @@ fn work_beside<M: Metric + Sync, A: Answer + Send + Sync, G: Gate + Sync, R: Thr
     above: u8,
     middle: u8,
     below: u8,
-    upper: &mut [A],
-    lower: &mut [A],
+    upper: &mut [Option<Near>],
+    lower: &mut [Option<Near>],
 ) -> Result<(), Refusal>
     requires upper_bands { AreBands shared.now.workers.count above middle }
     requires lower_bands { AreBands shared.now.workers.count middle below }
     requires upper { HasRoom shared.now.bitmap.now (row_behind shared.now.y0 shared.now.y1 shared.now.workers.count above) (row_behind shared.now.y0 shared.now.y1 shared.now.workers.count middle) upper.old }
     requires lower { HasRoom shared.now.bitmap.now (row_behind shared.now.y0 shared.now.y1 shared.now.workers.count middle) (row_behind shared.now.y0 shared.now.y1 shared.now.workers.count below) lower.old }
-    ensures upper { OnOk result (AreAnswers A.told A.nothing M.distance shared.now.bitmap.now (row_behind shared.now.y0 shared.now.y1 shared.now.workers.count above) (row_behind shared.now.y0 shared.now.y1 shared.now.workers.count middle) upper.new) }
-    ensures lower { OnOk result (AreAnswers A.told A.nothing M.distance shared.now.bitmap.now (row_behind shared.now.y0 shared.now.y1 shared.now.workers.count middle) (row_behind shared.now.y0 shared.now.y1 shared.now.workers.count below) lower.new) }
+    ensures upper { OnOk result (AreNears M.distance shared.now.bitmap.now (row_behind shared.now.y0 shared.now.y1 shared.now.workers.count above) (row_behind shared.now.y0 shared.now.y1 shared.now.workers.count middle) upper.new) }
+    ensures lower { OnOk result (AreNears M.distance shared.now.bitmap.now (row_behind shared.now.y0 shared.now.y1 shared.now.workers.count middle) (row_behind shared.now.y0 shared.now.y1 shared.now.workers.count below) lower.new) }
     ensures memory { IfErr result (λ refusal. refusal ≡ Memory) }
 {
     let mut first = move || -> Result<(), Refusal>
         requires { IsSync R.row × IsSync G.row × IsSync M.row × AreBands shared.now.workers.count above middle × HasRoom shared.now.bitmap.now (row_behind shared.now.y0 shared.now.y1 shared.now.workers.count above) (row_behind shared.now.y0 shared.now.y1 shared.now.workers.count middle) upper.now }
-        ensures rows { OnOk result (AreAnswers A.told A.nothing M.distance shared.entry.now.bitmap.now (row_behind shared.entry.now.y0 shared.entry.now.y1 shared.entry.now.workers.count above) (row_behind shared.entry.now.y0 shared.entry.now.y1 shared.entry.now.workers.count middle) upper.exit.now) }
+        ensures rows { OnOk result (AreNears M.distance shared.entry.now.bitmap.now (row_behind shared.entry.now.y0 shared.entry.now.y1 shared.entry.now.workers.count above) (row_behind shared.entry.now.y0 shared.entry.now.y1 shared.entry.now.workers.count middle) upper.exit.now) }
         ensures memory { IfErr result (λ refusal. refusal ≡ Memory) }
-    { work_bands::<M, A, G, R>(rt, alloc, shared, gate, above, middle, upper) };
+    { work_bands::<M, G, R>(rt, alloc, shared, gate, above, middle, upper) };
     let mut second = move || -> Result<(), Refusal>
         requires { IsSync R.row × IsSync G.row × IsSync M.row × AreBands shared.now.workers.count middle below × HasRoom shared.now.bitmap.now (row_behind shared.now.y0 shared.now.y1 shared.now.workers.count middle) (row_behind shared.now.y0 shared.now.y1 shared.now.workers.count below) lower.now }
-        ensures rows { OnOk result (AreAnswers A.told A.nothing M.distance shared.entry.now.bitmap.now (row_behind shared.entry.now.y0 shared.entry.now.y1 shared.entry.now.workers.count middle) (row_behind shared.entry.now.y0 shared.entry.now.y1 shared.entry.now.workers.count below) lower.exit.now) }
+        ensures rows { OnOk result (AreNears M.distance shared.entry.now.bitmap.now (row_behind shared.entry.now.y0 shared.entry.now.y1 shared.entry.now.workers.count middle) (row_behind shared.entry.now.y0 shared.entry.now.y1 shared.entry.now.workers.count below) lower.exit.now) }
         ensures memory { IfErr result (λ refusal. refusal ≡ Memory) }
-    { work_bands::<M, A, G, R>(rt, alloc, shared, gate, middle, below, lower) };
+    { work_bands::<M, G, R>(rt, alloc, shared, gate, middle, below, lower) };
     let (above_worked, below_worked) = join_mut(rt, &mut first, &mut second);
     above_worked?;
     below_worked
 }
 
 /// Enters the gate, and works the rows of one band, counted from 1.
-fn work_band<M: Metric, A: Answer, G: Gate>(
+fn work_band<M: Metric, G: Gate>(
     alloc: Global,
     shared: &Shared<'_>,
     gate: &G,
     band: u8,
-    answers: &mut [A],
+    nears: &mut [Option<Near>],
 ) -> Result<(), Refusal>
     requires first { 1 ≤ band }
     requires last { band ≤ shared.now.workers.count }
-    requires room { HasRoom shared.now.bitmap.now (row_behind shared.now.y0 shared.now.y1 shared.now.workers.count (band - 1)) (row_behind shared.now.y0 shared.now.y1 shared.now.workers.count band) answers.old }
-    ensures rows { OnOk result (AreAnswers A.told A.nothing M.distance shared.now.bitmap.now (row_behind shared.now.y0 shared.now.y1 shared.now.workers.count (band - 1)) (row_behind shared.now.y0 shared.now.y1 shared.now.workers.count band) answers.new) }
+    requires room { HasRoom shared.now.bitmap.now (row_behind shared.now.y0 shared.now.y1 shared.now.workers.count (band - 1)) (row_behind shared.now.y0 shared.now.y1 shared.now.workers.count band) nears.old }
+    ensures rows { OnOk result (AreNears M.distance shared.now.bitmap.now (row_behind shared.now.y0 shared.now.y1 shared.now.workers.count (band - 1)) (row_behind shared.now.y0 shared.now.y1 shared.now.workers.count band) nears.new) }
     ensures memory { IfErr result (λ refusal. refusal ≡ Memory) }
 {
     gate.enter(band);
     let (from, to) = shared.workers.band_rows(shared.y0, shared.y1, band);
     let mut columns = Columns::of(alloc, shared.bitmap, from, to)?;
     let mut stack = Stack::new(alloc, shared.bitmap.width())?;
-    fill_rows::<M, A>(shared.bitmap, from, to, &mut columns, &mut stack, answers);
+    fill_rows::<M>(shared.bitmap, from, to, &mut columns, &mut stack, nears);
     Ok(())
 }
 
 /// Fills the rows `from` to `to - 1`, those of the columns. The stack has room for a row.
-fn fill_rows<M: Metric, A: Answer>(
+fn fill_rows<M: Metric>(
     bitmap: &Bitmap,
     from: u16,
     to: u16,
     columns: &mut Columns,
     stack: &mut Stack,
-    answers: &mut [A],
+    nears: &mut [Option<Near>],
 )
     requires bitmap { IsBitmap bitmap.now }
-    requires room { HasRoom bitmap.now from to answers.old }
+    requires room { HasRoom bitmap.now from to nears.old }
     requires columns { IsReady bitmap.now columns.old from }
     requires to { columns.old.to ≡ to }
     requires stack { bitmap.now.width ≤ stack.old }
-    ensures { AreAnswers A.told A.nothing M.distance bitmap.now from to answers.new }
+    ensures { AreNears M.distance bitmap.now from to nears.new }
 {
     let width = usize::from(bitmap.width());
     'rows: for y in from..to {
         let start = usize::from(y - from) * width;
-        fill_row_at::<M, A>(bitmap, y, start, columns, stack, answers);
+        fill_row_at::<M>(bitmap, y, start, columns, stack, nears);
     }
 }
 
 /// Fills row `y`, which comes next, and whose first cell lies at `start`.
-fn fill_row_at<M: Metric, A: Answer>(
+fn fill_row_at<M: Metric>(
     bitmap: &Bitmap,
     y: u16,
     start: usize,
     columns: &mut Columns,
     stack: &mut Stack,
-    answers: &mut [A],
+    nears: &mut [Option<Near>],
 )
     requires bitmap { IsBitmap bitmap.now }
     requires columns { IsReady bitmap.now columns.old y }
     requires row { y < columns.old.to }
-    requires room { start + bitmap.now.width ≤ length answers.old }
+    requires room { start + bitmap.now.width ≤ length nears.old }
     requires stack { bitmap.now.width ≤ stack.old }
-    ensures row { (x : ℕ) → x < bitmap.now.width → IsNear M.distance (IsObstacle bitmap.now) x y (A.told M.distance x y (slice_index_or answers.new (start + x) A.nothing)) }
-    ensures others { (k : ℕ) → (k < start) ⊎ (start + bitmap.now.width ≤ k) → slice_index_or answers.new k A.nothing ≡ slice_index_or answers.old k A.nothing }
+    ensures row { (x : ℕ) → x < bitmap.now.width → IsNear M.distance (IsObstacle bitmap.now) x y (slice_index_or nears.new (start + x) None) }
+    ensures others { (k : ℕ) → (k < start) ⊎ (start + bitmap.now.width ≤ k) → slice_index_or nears.new k None ≡ slice_index_or nears.old k None }
     ensures columns { IsReady bitmap.now columns.new (y + 1) }
     ensures to { columns.new.to ≡ columns.old.to }
     ensures stack { stack.new ≡ stack.old }
 {
     let width = usize::from(bitmap.width());
     columns.look(bitmap, y);
-    row_from::<M, A>(
-        &columns.entries,
-        y,
-        stack,
-        &mut answers[start..start + width],
-    );
+    row_from::<M, Option<Near>>(&columns.entries, y, stack, &mut nears[start..start + width]);
 }
