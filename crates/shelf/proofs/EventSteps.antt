@@ -41,12 +41,11 @@ use Rattle.shelf.proofs.KeeperSteps.{keeper_knows, fits-task, fits-committed}
 -- an event after which words and seats agree again
 event_at : (z : Base) (s : State Asked Role) (r : Agrees z s) (e : Event) (answer : StepReply) (stored : Option ℕ) (words : List ℕ) (views : List Role) (k : KeeperView) (readers : List Reader)
     → does (core_of z s.words r.k r.readers) e ≡ Some record { state = core_of z words k readers; answer = answer; stored = stored } → AreSeats z k readers views
-    → IsEvent z s record { words = words; homes = s.homes; views = views } e answer
+    → IsEvent z s r record { words = words; homes = s.homes; views = views } e answer
 event_at z s r e answer stored words views k readers done seats =
     let keeps = does-keeps (core_of z s.words r.k r.readers) e _ r.whole done in
     record {
-      before = core_of z s.words r.k r.readers;
-      after = core_of z words k readers;
+      after = record { k = k; readers = readers; whole = keeps.whole; seats = seats };
       stored = stored;
       was = core_at z s r.k r.readers r.whole r.seats;
       is = core_at z record { words = words; homes = s.homes; views = views } k readers keeps.whole seats;
@@ -56,7 +55,7 @@ event_at z s r e answer stored words views k readers done seats =
 
 -- an announcement
 announce_event : (z : Base) (s : State Asked Role) (r : Agrees z s) (id : ℕ) (x : ReaderView) → get_elem? s.views id ≡ some (reading x) → x.announced ≡ None
-    → IsEvent z s (after_step s (pin_at x.number) (pin_word (Some (newest_seen z (as_reader x)))) id (reading (announcing z x))) (Announce x.number) (says.Announced (newest_seen z (as_reader x)))
+    → IsEvent z s r (after_step s (pin_at x.number) (pin_word (Some (newest_seen z (as_reader x)))) id (reading (announcing z x))) (Announce x.number) (says.Announced (newest_seen z (as_reader x)))
 announce_event z s r id x at quiet =
     let mine = reader_knows z s r id (reading x) x at refl in
     let f = mine.1 in
@@ -68,7 +67,7 @@ announce_event z s r id x at quiet =
 
 -- a leave
 leave_event : (z : Base) (s : State Asked Role) (r : Agrees z s) (id : ℕ) (x : ReaderView) → get_elem? s.views id ≡ some (reading x) → is_some x.announced ≡ true
-    → IsEvent z s (after_step s (pin_at x.number) (pin_word None) id (reading (leaving x))) (Leave x.number) says.Left
+    → IsEvent z s r (after_step s (pin_at x.number) (pin_word None) id (reading (leaving x))) (Leave x.number) says.Left
 leave_event z s r id x at there =
     let mine = reader_knows z s r id (reading x) x at refl in
     let f = mine.1 in
@@ -80,7 +79,7 @@ leave_event z s r id x at there =
 
 -- a step of a scan
 scan_event : (z : Base) (s : State Asked Role) (r : Agrees z s) (id : ℕ) (t : Task) → get_elem? s.views id ≡ some (keeping r.k) → r.k.task ≡ Some t → t.hand.command ≡ Collect → t.hand.done < z.setting.sessions
-    → IsEvent z s (after_step s (pin_at t.hand.done) (get_or s.words (pin_at t.hand.done) 0) id (keeping (scanned r.k t (get_or s.words (pin_at t.hand.done) 0)))) Keep
+    → IsEvent z s r (after_step s (pin_at t.hand.done) (get_or s.words (pin_at t.hand.done) 0) id (keeping (scanned r.k t (get_or s.words (pin_at t.hand.done) 0)))) Keep
     (says.Scanned t.hand.done (get_or s.words (pin_at t.hand.done) 0))
 unfolding steps_before
 scan_event z s r id t at task collect more =
@@ -89,7 +88,7 @@ scan_event z s r id t at task collect more =
     let u = scanned r.k t n in
     let w = core_of z s.words r.k r.readers in
     let same : set s.words (pin_at t.hand.done) n ≡ s.words = set_get s.words (pin_at t.hand.done) in
-    subst (λ (ws : List ℕ). IsEvent z s record { words = ws; homes = s.homes; views = set s.views id (keeping u) } Keep (says.Scanned t.hand.done n)) (sym same)
+    subst (λ (ws : List ℕ). IsEvent z s r record { words = ws; homes = s.homes; views = set s.views id (keeping u) } Keep (says.Scanned t.hand.done n)) (sym same)
     (event_at z s r Keep (says.Scanned t.hand.done n) None s.words (set s.views id (keeping u)) u r.readers
     (does_scan w t.hand (ap (option_map (λ v. v.hand)) task) collect more)
     (seats_keeper z r.k u r.readers r.readers s.views r.seats id (keeping u) mine.0 r.seats.few r.seats.callers r.seats.fresh r.seats.left
@@ -98,7 +97,7 @@ scan_event z s r id t at task collect more =
 
 -- a commit
 commit_event : (z : Base) (s : State Asked Role) (r : Agrees z s) (id : ℕ) (may : MayCommit z r.k) → get_elem? s.views id ≡ some (keeping r.k)
-    → IsEvent z s (after_step s now_at (now_of (story z (entries (committed z r.k may.task).log))) id (keeping (committed z r.k may.task))) Keep (says.Committed (signed_of z r.k may.task).entry.reply)
+    → IsEvent z s r (after_step s now_at (now_of (story z (entries (committed z r.k may.task).log))) id (keeping (committed z r.k may.task))) Keep (says.Committed (signed_of z r.k may.task).entry.reply)
 commit_event z s r id may at =
     let mine = keeper_knows z s r id (keeping r.k) r.k at refl in
     let t = may.task in
@@ -129,36 +128,36 @@ load_does z s r x f =
 -- a load, whatever else stands in the reader's seat
 load_event : (z : Base) (s : State Asked Role) (r : Agrees z s) (id : ℕ) (x : ReaderView) (old : Role) → get_elem? s.views id ≡ some old → ((q : ℕ) → HasReader q old → x.number ≡ q) → (HasKeeper old → ⊥)
     → r.seats.owner x.number ≡ id → Fits z r.k r.readers x
-    → IsEvent z s (after_step s now_at (get_or s.words now_at 0) id (reading (loaded z r.k.log x))) (Load x.number) (says.Now (place_told (get_or s.words now_at 0)) (version_told (get_or s.words now_at 0)))
+    → IsEvent z s r (after_step s now_at (get_or s.words now_at 0) id (reading (loaded z r.k.log x))) (Load x.number) (says.Now (place_told (get_or s.words now_at 0)) (version_told (get_or s.words now_at 0)))
 load_event z s r id x old at same other own f =
     let y = loaded z r.k.log x in
     let n = get_or s.words now_at 0 in
-    subst (λ (ws : List ℕ). IsEvent z s record { words = ws; homes = s.homes; views = set s.views id (reading y) } (Load x.number) (says.Now (place_told n) (version_told n))) (sym (set_get s.words now_at))
+    subst (λ (ws : List ℕ). IsEvent z s r record { words = ws; homes = s.homes; views = set s.views id (reading y) } (Load x.number) (says.Now (place_told n) (version_told n))) (sym (set_get s.words now_at))
     (event_at z s r (Load x.number) (says.Now (place_told n) (version_told n)) None s.words (set s.views id (reading y)) r.k (set r.readers x.number (as_reader y))
     (load_does z s r x f) (seats_loaded z s r id x old at same other own f))
 
 -- the load of a meeting
 meet_event : (z : Base) (s : State Asked Role) (r : Agrees z s) (id : ℕ) (x : ReaderView) → get_elem? s.views id ≡ some (meeting r.k x) → (r.k.unmet ≡ None) ⊎ (r.k.unmet ≡ Some x.number)
-    → IsEvent z s (after_step s now_at (get_or s.words now_at 0) id (meeting (met r.k) (met_by z r.k x))) (Load x.number) (says.Now (place_told (get_or s.words now_at 0)) (version_told (get_or s.words now_at 0)))
+    → IsEvent z s r (after_step s now_at (get_or s.words now_at 0) id (meeting (met r.k) (met_by z r.k x))) (Load x.number) (says.Now (place_told (get_or s.words now_at 0)) (version_told (get_or s.words now_at 0)))
 meet_event z s r id x at unmet =
     let mine : (id ≡ r.seats.keeper) × (r.k ≡ r.k) × (r.seats.owner x.number ≡ id) × Fits z r.k r.readers x = r.seats.each_seat id (meeting r.k x) at in
     let n = get_or s.words now_at 0 in
     let u = meeting (met r.k) (met_by z r.k x) in
-    subst (λ (ws : List ℕ). IsEvent z s record { words = ws; homes = s.homes; views = set s.views id u } (Load x.number) (says.Now (place_told n) (version_told n))) (sym (set_get s.words now_at))
+    subst (λ (ws : List ℕ). IsEvent z s r record { words = ws; homes = s.homes; views = set s.views id u } (Load x.number) (says.Now (place_told n) (version_told n))) (sym (set_get s.words now_at))
     (event_at z s r (Load x.number) (says.Now (place_told n) (version_told n)) None s.words (set s.views id u) (met r.k) (set r.readers x.number (as_reader (loaded z r.k.log x)))
     (load_does z s r x mine.3) (met_seats z s r id x at unmet))
 
 -- an event that leaves words and seats as they are, where a word is loaded
 look_event : (z : Base) (s : State Asked Role) (r : Agrees z s) (id i : ℕ) (x : ReaderView) (e : Event) (answer : StepReply) → get_elem? s.views id ≡ some (reading x)
     → does (core_of z s.words r.k r.readers) e ≡ Some record { state = core_of z s.words r.k r.readers; answer = answer; stored = None }
-    → IsEvent z s (after_step s i (get_or s.words i 0) id (reading x)) e answer
+    → IsEvent z s r (after_step s i (get_or s.words i 0) id (reading x)) e answer
 look_event z s r id i x e answer at done =
-    subst (λ (q : List ℕ × List Role). IsEvent z s record { words = q.0; homes = s.homes; views = q.1 } e answer) (λ j. (sym (set_get s.words i) j, sym (set_again s.views id (reading x) at) j))
+    subst (λ (q : List ℕ × List Role). IsEvent z s r record { words = q.0; homes = s.homes; views = q.1 } e answer) (λ j. (sym (set_get s.words i) j, sym (set_again s.views id (reading x) at) j))
     (event_at z s r e answer None s.words s.views r.k r.readers done r.seats)
 
 -- a look at a position
 map_event : (z : Base) (s : State Asked Role) (r : Agrees z s) (id : ℕ) (x : ReaderView) (v p : ℕ) → get_elem? s.views id ≡ some (reading x) → x.holds ≡ Some v → p < tiles z
-    → let i = map_at z (slot_of z (story z (entries x.seen)) v) p in IsEvent z s (after_step s i (get_or s.words i 0) id (reading x)) (LookMap x.number p) (says.Block (get_or s.words i 0))
+    → let i = map_at z (slot_of z (story z (entries x.seen)) v) p in IsEvent z s r (after_step s i (get_or s.words i 0) id (reading x)) (LookMap x.number p) (says.Block (get_or s.words i 0))
 unfolding slot_of
 map_event z s r id x v p at held inside =
     let f = (reader_knows z s r id (reading x) x at refl).1 in
@@ -169,7 +168,7 @@ map_event z s r id x v p at held inside =
 -- a look at a row
 tile_event : (z : Base) (s : State Asked Role) (r : Agrees z s) (id : ℕ) (x : ReaderView) (v p b i : ℕ) → get_elem? s.views id ≡ some (reading x) → x.holds ≡ Some v → p < tiles z
     → b ≡ get_or (directory_of (blocks z (entries x.seen)) v) p 0 → i < 64
-    → IsEvent z s (after_step s (tile_at z b i) (get_or s.words (tile_at z b i) 0) id (reading x)) (LookTile x.number b i) (says.Word (get_or s.words (tile_at z b i) 0))
+    → IsEvent z s r (after_step s (tile_at z b i) (get_or s.words (tile_at z b i) 0) id (reading x)) (LookTile x.number b i) (says.Word (get_or s.words (tile_at z b i) 0))
 unfolding slot_of
 tile_event z s r id x v p b i at held inside is row =
     let f = (reader_knows z s r id (reading x) x at refl).1 in
@@ -187,12 +186,12 @@ tile_event z s r id x v p b i at held inside is row =
 
 -- an order
 order_event : (z : Base) (s : State Asked Role) (r : Agrees z s) (id by : ℕ) (c : Command) → get_elem? s.views id ≡ some (keeping r.k) → r.k.task ≡ None → refused z.setting (story z (entries r.k.log)) c ≡ None
-    → IsEvent z s (after_step s now_at (get_or s.words now_at 0) id (keeping (ordered r.k by c))) (Order c) (says.Ordered (steps_before z (blocks z (entries r.k.log)) c + 1))
+    → IsEvent z s r (after_step s now_at (get_or s.words now_at 0) id (keeping (ordered r.k by c))) (Order c) (says.Ordered (steps_before z (blocks z (entries r.k.log)) c + 1))
 order_event z s r id by c at none accepted =
     let mine = keeper_knows z s r id (keeping r.k) r.k at refl in
     let u = ordered r.k by c in
     let answer = says.Ordered (steps_before z (blocks z (entries r.k.log)) c + 1) in
-    subst (λ (ws : List ℕ). IsEvent z s record { words = ws; homes = s.homes; views = set s.views id (keeping u) } (Order c) answer) (sym (set_get s.words now_at))
+    subst (λ (ws : List ℕ). IsEvent z s r record { words = ws; homes = s.homes; views = set s.views id (keeping u) } (Order c) answer) (sym (set_get s.words now_at))
     (event_at z s r (Order c) answer None s.words (set s.views id (keeping u)) u r.readers
     (does_order (core_of z s.words r.k r.readers) c (ap (option_map (λ v. v.hand)) none) accepted)
     (seats_keeper z r.k u r.readers r.readers s.views r.seats id (keeping u) mine.0 r.seats.few r.seats.callers r.seats.fresh r.seats.left
@@ -202,7 +201,7 @@ order_event z s r id by c at none accepted =
 -- a step of a publish
 write_event : (z : Base) (s : State Asked Role) (r : Agrees z s) (id : ℕ) (t : Task) → get_elem? s.views id ≡ some (keeping r.k) → r.k.task ≡ Some t → t.hand.command ≡ Publish
     → t.hand.done < steps_before z (blocks z (entries r.k.log)) Publish
-    → let next = write_of z (story z (entries r.k.log)) (blocks z (entries r.k.log)) t.hand.done in IsEvent z s (after_step s next.at next.word id (keeping (wrote r.k t))) Keep says.Written
+    → let next = write_of z (story z (entries r.k.log)) (blocks z (entries r.k.log)) t.hand.done in IsEvent z s r (after_step s next.at next.word id (keeping (wrote r.k t))) Keep says.Written
 write_event z s r id t at task publish more =
     let mine = keeper_knows z s r id (keeping r.k) r.k at refl in
     let u = wrote r.k t in
@@ -214,37 +213,37 @@ write_event z s r id t at task publish more =
     (λ y else f. fits-task z r.k r.readers u.task y f) (λ seen p. p))
 
 -- each step
-pub steps_are_events : (z : Base) (s : State Asked Role) (id : ℕ) → Agrees z s → StepsAreEvents z s id
+pub steps_are_events : (z : Base) (s : State Asked Role) (id : ℕ) (r : Agrees z s) → StepsAreEvents z s r id
 steps_are_events z s id r = record {
   announce = λ x at quiet. announce_event z s r id x at quiet;
   leave = λ x at there. leave_event z s r id x at there;
-  load = λ x at. let mine = reader_knows z s r id (reading x) x at refl in (r.k.log, load_event z s r id x (reading x) at (λ q e. e) (λ e. e) mine.0 mine.1);
+  load = λ x at. let mine = reader_knows z s r id (reading x) x at refl in load_event z s r id x (reading x) at (λ q e. e) (λ e. e) mine.0 mine.1;
   learn = λ x seen at.
       let mine : (r.seats.owner x.number ≡ id) × Fits z r.k r.readers x × IsPrefix seen r.k.log = r.seats.each_seat id (learning x seen) at in
-      (r.k.log, load_event z s r id x (learning x seen) at (λ q e. e) (λ e. e) mine.0 mine.1);
+      load_event z s r id x (learning x seen) at (λ q e. e) (λ e. e) mine.0 mine.1;
   meet = λ k x at unmet.
       let mine : (id ≡ r.seats.keeper) × (k ≡ r.k) × (r.seats.owner x.number ≡ id) × Fits z r.k r.readers x = r.seats.each_seat id (meeting k x) at in
       subst (λ (l : KeeperView). get_elem? s.views id ≡ some (meeting l x) → (l.unmet ≡ None) ⊎ (l.unmet ≡ Some x.number)
-      → IsEvent z s (after_step s now_at (get_or s.words now_at 0) id (meeting (met l) (met_by z l x))) (Load x.number) (says.Now (place_told (get_or s.words now_at 0)) (version_told (get_or s.words now_at 0)))) (sym mine.1)
+      → IsEvent z s r (after_step s now_at (get_or s.words now_at 0) id (meeting (met l) (met_by z l x))) (Load x.number) (says.Now (place_told (get_or s.words now_at 0)) (version_told (get_or s.words now_at 0)))) (sym mine.1)
       (λ at' unmet'. meet_event z s r id x at' unmet') at unmet;
   look_map = λ x v p at held inside. map_event z s r id x v p at held inside;
   look_tile = λ x v p b i at held inside is row. tile_event z s r id x v p b i at held inside is row;
   order = λ k by c at none accepted.
       let mine = keeper_knows z s r id (keeping k) k at refl in
       subst (λ (l : KeeperView). get_elem? s.views id ≡ some (keeping l) → l.task ≡ None → refused z.setting (story z (entries l.log)) c ≡ None
-      → IsEvent z s (after_step s now_at (get_or s.words now_at 0) id (keeping (ordered l by c))) (Order c) (says.Ordered (steps_before z (blocks z (entries l.log)) c + 1))) (sym mine.1)
+      → IsEvent z s r (after_step s now_at (get_or s.words now_at 0) id (keeping (ordered l by c))) (Order c) (says.Ordered (steps_before z (blocks z (entries l.log)) c + 1))) (sym mine.1)
       (λ at' none' accepted'. order_event z s r id by c at' none' accepted') at none accepted;
   write = λ k t at task publish more.
       let mine = keeper_knows z s r id (keeping k) k at refl in
       subst (λ (l : KeeperView). get_elem? s.views id ≡ some (keeping l) → l.task ≡ Some t → t.hand.done < steps_before z (blocks z (entries l.log)) Publish
-      → IsEvent z s (after_step s (write_of z (story z (entries l.log)) (blocks z (entries l.log)) t.hand.done).at (write_of z (story z (entries l.log)) (blocks z (entries l.log)) t.hand.done).word id (keeping (wrote l t))) Keep says.Written) (sym mine.1)
+      → IsEvent z s r (after_step s (write_of z (story z (entries l.log)) (blocks z (entries l.log)) t.hand.done).at (write_of z (story z (entries l.log)) (blocks z (entries l.log)) t.hand.done).word id (keeping (wrote l t))) Keep says.Written) (sym mine.1)
       (λ at' task' more'. write_event z s r id t at' task' publish more') at task more;
   scan = λ k t at task collect more.
       let mine = keeper_knows z s r id (keeping k) k at refl in
-      subst (λ (l : KeeperView). get_elem? s.views id ≡ some (keeping l) → l.task ≡ Some t → IsEvent z s (after_step s (pin_at t.hand.done) (get_or s.words (pin_at t.hand.done) 0) id (keeping (scanned l t (get_or s.words (pin_at t.hand.done) 0)))) Keep
+      subst (λ (l : KeeperView). get_elem? s.views id ≡ some (keeping l) → l.task ≡ Some t → IsEvent z s r (after_step s (pin_at t.hand.done) (get_or s.words (pin_at t.hand.done) 0) id (keeping (scanned l t (get_or s.words (pin_at t.hand.done) 0)))) Keep
       (says.Scanned t.hand.done (get_or s.words (pin_at t.hand.done) 0))) (sym mine.1) (λ at' task'. scan_event z s r id t at' task' collect more) at task;
   commit = λ k may at.
       let mine = keeper_knows z s r id (keeping k) k at refl in
-      subst (λ (l : KeeperView). (m : MayCommit z l) → get_elem? s.views id ≡ some (keeping l) → IsEvent z s (after_step s now_at (now_of (story z (entries (committed z l m.task).log))) id (keeping (committed z l m.task))) Keep
+      subst (λ (l : KeeperView). (m : MayCommit z l) → get_elem? s.views id ≡ some (keeping l) → IsEvent z s r (after_step s now_at (now_of (story z (entries (committed z l m.task).log))) id (keeping (committed z l m.task))) Keep
       (says.Committed (signed_of z l m.task).entry.reply)) (sym mine.1) (λ m at'. commit_event z s r id m at') may at;
 }

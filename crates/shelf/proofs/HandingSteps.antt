@@ -5,37 +5,39 @@ use lib.ListN.{get_elem?}
 use Rattle.atomic_table.specs.Table.{State}
 use Rattle.atomic_table.proofs.Lists.{set_again}
 use Rattle.map_core.specs.Words.{Base, now_at}
-use Rattle.map_core.specs.Views.{Keeper}
+use Rattle.map_core.specs.Views.{Keeper, Reader}
+use Rattle.map_core.specs.Views as core
 use Rattle.map_core.specs.Sound.{IsWhole}
 use Rattle.shelf.specs.declared.asked.Asked.{Asked}
 use Rattle.shelf.specs.Roles.{KeeperView, Role, keeping, meeting, resting, as_keeper, core_of}
 use Rattle.shelf.specs.Rule.{Fits, AreSeats, Agrees}
 use Rattle.shelf.specs.Steps.{without}
-use Rattle.shelf.specs.Laws.{after_step, with_views, IsStateOf, IsNoEvent, HandingsAreNone}
+use Rattle.shelf.specs.Laws.{after_step, with_views, IsNoEvent, HandingsAreNone}
 use Rattle.shelf.proofs.Bridge.{set_get}
-use Rattle.shelf.proofs.OneCore.{core_at}
 use Rattle.shelf.proofs.KeeperSteps.{keeper_knows}
 use Rattle.shelf.proofs.TicketSteps.{cut_seats, handed_seats}
 use Rattle.shelf.proofs.MeetingSteps.{together_seats, apart_seats, without_seats}
 use Rattle.shelf.proofs.OpeningSteps.{dealt_seats}
 
 -- the seats have other views, and another view of the keeper's may stand for the same keeper of the core
-handed : (z : Base) (s : State Asked Role) (r : Agrees z s) (views : List Role) (u : KeeperView) → as_keeper u ≡ as_keeper r.k → AreSeats z u r.readers views → IsNoEvent z s (with_views s views)
+handed : (z : Base) (s : State Asked Role) (r : Agrees z s) (views : List Role) (u : KeeperView) → as_keeper u ≡ as_keeper r.k → AreSeats z u r.readers views → IsNoEvent z s r (with_views s views)
 handed z s r views u same seats =
     let t = with_views s views in
     let whole : IsWhole (core_of z s.words u r.readers) = subst (λ (c : Keeper). IsWhole record { base = z; words = s.words; keeper = c; readers = r.readers }) (sym same) r.whole in
     record {
-      state = core_of z s.words r.k r.readers;
-      was = core_at z s r.k r.readers r.whole r.seats;
-      is = subst (λ (c : Keeper). IsStateOf z t record { base = z; words = s.words; keeper = c; readers = r.readers }) same (core_at z t u r.readers whole seats);
+      after = record { k = u; readers = r.readers; whole = whole; seats = seats };
+      same = ap (λ (c : Keeper). core_of_parts z s.words c r.readers) same;
     }
+  where
+    core_of_parts : (z : Base) (words : List ℕ) (c : Keeper) (readers : List Reader) → core.State
+    core_of_parts z words c readers = record { base = z; words = words; keeper = c; readers = readers }
 
 -- the same where a word is loaded besides
-loaded_too : (z : Base) (s : State Asked Role) (i id : ℕ) (v : Role) → IsNoEvent z s (with_views s (set s.views id v)) → IsNoEvent z s (after_step s i (get_or s.words i 0) id v)
-loaded_too z s i id v none = subst (λ (ws : List ℕ). IsNoEvent z s record { words = ws; homes = s.homes; views = set s.views id v }) (sym (set_get s.words i)) none
+loaded_too : (z : Base) (s : State Asked Role) (r : Agrees z s) (i id : ℕ) (v : Role) → IsNoEvent z s r (with_views s (set s.views id v)) → IsNoEvent z s r (after_step s i (get_or s.words i 0) id v)
+loaded_too z s r i id v none = subst (λ (ws : List ℕ). IsNoEvent z s r record { words = ws; homes = s.homes; views = set s.views id v }) (sym (set_get s.words i)) none
 
 -- each handing
-pub handings_are_none : (z : Base) (s : State Asked Role) (id other : ℕ) → Agrees z s → HandingsAreNone z s id other
+pub handings_are_none : (z : Base) (s : State Asked Role) (id other : ℕ) (r : Agrees z s) → HandingsAreNone z s r id other
 handings_are_none z s id other r = record {
   together = λ k x at else there. handed z s r _ r.k refl (together_seats z s r id other k x at else there);
   apart = λ k x at. handed z s r _ r.k refl (apart_seats z s r id k x at);
@@ -46,10 +48,10 @@ handings_are_none z s id other r = record {
       handed z s r _ (resting (n + 1) []) (ap as_keeper mine.1) (dealt_seats z s r id n below at);
   give_up = λ k x at quiet.
       let mine : (id ≡ r.seats.keeper) × (k ≡ r.k) × (r.seats.owner x.number ≡ id) × Fits z r.k r.readers x = r.seats.each_seat id (meeting k x) at in
-      loaded_too z s now_at id (keeping (without k x))
-      (subst (λ (l : KeeperView). get_elem? s.views id ≡ some (meeting l x) → IsNoEvent z s (with_views s (set s.views id (keeping (without l x))))) (sym mine.1)
+      loaded_too z s r now_at id (keeping (without k x))
+      (subst (λ (l : KeeperView). get_elem? s.views id ≡ some (meeting l x) → IsNoEvent z s r (with_views s (set s.views id (keeping (without l x))))) (sym mine.1)
       (λ at'. handed z s r _ (without r.k x) refl (without_seats z s r id x at' quiet)) at);
   end = λ k at.
       let mine = keeper_knows z s r id (keeping k) k at refl in
-      loaded_too z s now_at id (keeping k) (handed z s r _ r.k refl (subst (AreSeats z r.k r.readers) (sym (set_again s.views id (keeping k) at)) r.seats));
+      loaded_too z s r now_at id (keeping k) (handed z s r _ r.k refl (subst (AreSeats z r.k r.readers) (sym (set_again s.views id (keeping k) at)) r.seats));
 }

@@ -22,3 +22,4 @@ pub mod ClosingSums
 pub mod EventSteps
 pub mod HandingSteps
 pub mod WriteSteps
+pub mod Schedules

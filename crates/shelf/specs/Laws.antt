@@ -19,8 +19,8 @@ use Rattle.map_core.specs.Views as core
 use Rattle.map_core.specs.Sound.{IsWhole}
 use Rattle.map_core.specs.Safe.{IsSafe, SparesLive, IsBeginning}
 use Rattle.shelf.specs.declared.asked.Asked.{Asked}
-use Rattle.shelf.specs.Roles.{Task, KeeperView, ReaderView, Role, keeping, reading, meeting, entries, as_keeper, as_reader, learning, ticket, idle, resting, fresh_reader}
-use Rattle.shelf.specs.Rule.{HasReader, HasKeeper, IsSomeSeat}
+use Rattle.shelf.specs.Roles.{Task, KeeperView, ReaderView, Role, keeping, reading, meeting, entries, as_keeper, as_reader, learning, ticket, idle, resting, fresh_reader, core_of}
+use Rattle.shelf.specs.Rule.{HasReader, HasKeeper, IsSomeSeat, Agrees}
 use Rattle.shelf.specs.Steps.{announcing, leaving, scanned, committed, signed_of, MayCommit, loaded, ordered, wrote, met, met_by, without}
 
 -- a seat of this role has this reader, of number r
@@ -65,68 +65,99 @@ pub record IsAState (z : Base) (s : State Asked Role) : Type 0 where
 abbrev pub after_step : State Asked Role → ℕ → ℕ → ℕ → Role → State Asked Role
 after_step s at word id v = record { words = slice_set s.words at word; homes = s.homes; views = slice_set s.views id v }
 
--- a step of the table is this event of the core
-pub record IsEvent (z : Base) (s t : State Asked Role) (e : Event) (answer : StepReply) : Type 0 where
-  pub before : core.State
-  pub after : core.State
-  pub stored : Option ℕ
-  pub was : IsStateOf z s before
-  pub is : IsStateOf z t after
-  pub done : does before e ≡ Some record { state = after; answer = answer; stored = stored }
-  pub spares : SparesLive before stored
+-- the state of the core that a proof of the rule has
+abbrev pub ruled : (z : Base) (s : State Asked Role) → Agrees z s → core.State
+ruled z s r = core_of z s.words r.k r.readers
 
--- words and seats of a table become others, and no event of the core has happened: one state of the core is that of both
-pub record IsNoEvent (z : Base) (s t : State Asked Role) : Type 0 where
-  pub state : core.State
-  pub was : IsStateOf z s state
-  pub is : IsStateOf z t state
+-- a step of the table is this event of the core, in whatever state of the core the rule has before it
+pub record IsEvent (z : Base) (s : State Asked Role) (r : Agrees z s) (t : State Asked Role) (e : Event) (answer : StepReply) : Type 0 where
+  pub after : Agrees z t
+  pub stored : Option ℕ
+  pub was : IsStateOf z s (ruled z s r)
+  pub is : IsStateOf z t (ruled z t after)
+  pub done : does (ruled z s r) e ≡ Some record { state = ruled z t after; answer = answer; stored = stored }
+  pub spares : SparesLive (ruled z s r) stored
+
+-- words and seats of a table become others, and no event of the core has happened: the state of the core is the same
+pub record IsNoEvent (z : Base) (s : State Asked Role) (r : Agrees z s) (t : State Asked Role) : Type 0 where
+  pub after : Agrees z t
+  pub same : ruled z t after ≡ ruled z s r
 
 -- what the table becomes where its seats have other views
 abbrev pub with_views : State Asked Role → List Role → State Asked Role
 with_views s views = record { words = s.words; homes = s.homes; views = views }
 
 -- each step of a seat is the event of its kind
-pub record StepsAreEvents (z : Base) (s : State Asked Role) (id : ℕ) : Type 0 where
+pub record StepsAreEvents (z : Base) (s : State Asked Role) (r : Agrees z s) (id : ℕ) : Type 0 where
   pub announce : (x : ReaderView) → get_elem? s.views id ≡ maybe.some (reading x) → x.announced ≡ None
-      → IsEvent z s (after_step s (pin_at x.number) (pin_word (Some (newest_seen z (as_reader x)))) id (reading (announcing z x))) (Announce x.number) (says.Announced (newest_seen z (as_reader x)))
+      → IsEvent z s r (after_step s (pin_at x.number) (pin_word (Some (newest_seen z (as_reader x)))) id (reading (announcing z x))) (Announce x.number) (says.Announced (newest_seen z (as_reader x)))
   pub leave : (x : ReaderView) → get_elem? s.views id ≡ maybe.some (reading x) → is_some x.announced ≡ true
-      → IsEvent z s (after_step s (pin_at x.number) (pin_word None) id (reading (leaving x))) (Leave x.number) says.Left
+      → IsEvent z s r (after_step s (pin_at x.number) (pin_word None) id (reading (leaving x))) (Leave x.number) says.Left
   pub load : (x : ReaderView) → get_elem? s.views id ≡ maybe.some (reading x)
-      → (log : List Signed) × IsEvent z s (after_step s now_at (slice_index s.words now_at) id (reading (loaded z log x))) (Load x.number) (says.Now (place_told (slice_index s.words now_at)) (version_told (slice_index s.words now_at)))
+      → IsEvent z s r (after_step s now_at (slice_index s.words now_at) id (reading (loaded z r.k.log x))) (Load x.number) (says.Now (place_told (slice_index s.words now_at)) (version_told (slice_index s.words now_at)))
   -- the load by which a reader learns what a ticket has seen, and that of a meeting, whose reader counts its entry
   pub learn : (x : ReaderView) (seen : List Signed) → get_elem? s.views id ≡ maybe.some (learning x seen)
-      → (log : List Signed) × IsEvent z s (after_step s now_at (slice_index s.words now_at) id (reading (loaded z log x))) (Load x.number) (says.Now (place_told (slice_index s.words now_at)) (version_told (slice_index s.words now_at)))
+      → IsEvent z s r (after_step s now_at (slice_index s.words now_at) id (reading (loaded z r.k.log x))) (Load x.number) (says.Now (place_told (slice_index s.words now_at)) (version_told (slice_index s.words now_at)))
   pub meet : (k : KeeperView) (x : ReaderView) → get_elem? s.views id ≡ maybe.some (meeting k x) → (k.unmet ≡ None) ⊎ (k.unmet ≡ Some x.number)
-      → IsEvent z s (after_step s now_at (slice_index s.words now_at) id (meeting (met k) (met_by z k x))) (Load x.number) (says.Now (place_told (slice_index s.words now_at)) (version_told (slice_index s.words now_at)))
+      → IsEvent z s r (after_step s now_at (slice_index s.words now_at) id (meeting (met k) (met_by z k x))) (Load x.number) (says.Now (place_told (slice_index s.words now_at)) (version_told (slice_index s.words now_at)))
   pub look_map : (x : ReaderView) (v p : ℕ) → get_elem? s.views id ≡ maybe.some (reading x) → x.holds ≡ Some v → p < tiles z
-      → let at = map_at z (slot_of z (story z (entries x.seen)) v) p in IsEvent z s (after_step s at (slice_index s.words at) id (reading x)) (LookMap x.number p) (says.Block (slice_index s.words at))
+      → let at = map_at z (slot_of z (story z (entries x.seen)) v) p in IsEvent z s r (after_step s at (slice_index s.words at) id (reading x)) (LookMap x.number p) (says.Block (slice_index s.words at))
   pub look_tile : (x : ReaderView) (v p b i : ℕ) → get_elem? s.views id ≡ maybe.some (reading x) → x.holds ≡ Some v → p < tiles z → b ≡ slice_index (directory_of (blocks z (entries x.seen)) v) p → i < 64
-      → IsEvent z s (after_step s (tile_at z b i) (slice_index s.words (tile_at z b i)) id (reading x)) (LookTile x.number b i) (says.Word (slice_index s.words (tile_at z b i)))
+      → IsEvent z s r (after_step s (tile_at z b i) (slice_index s.words (tile_at z b i)) id (reading x)) (LookTile x.number b i) (says.Word (slice_index s.words (tile_at z b i)))
   pub order : (k : KeeperView) (by : ℕ) (c : Command) → get_elem? s.views id ≡ maybe.some (keeping k) → k.task ≡ None → refused z.setting (story z (entries k.log)) c ≡ None
-      → IsEvent z s (after_step s now_at (slice_index s.words now_at) id (keeping (ordered k by c))) (Order c) (says.Ordered (steps_before z (blocks z (entries k.log)) c + 1))
+      → IsEvent z s r (after_step s now_at (slice_index s.words now_at) id (keeping (ordered k by c))) (Order c) (says.Ordered (steps_before z (blocks z (entries k.log)) c + 1))
   pub write : (k : KeeperView) (t : Task) → get_elem? s.views id ≡ maybe.some (keeping k) → k.task ≡ Some t → t.hand.command ≡ Publish → t.hand.done < steps_before z (blocks z (entries k.log)) Publish
-      → let next = write_of z (story z (entries k.log)) (blocks z (entries k.log)) t.hand.done in IsEvent z s (after_step s next.at next.word id (keeping (wrote k t))) Keep says.Written
+      → let next = write_of z (story z (entries k.log)) (blocks z (entries k.log)) t.hand.done in IsEvent z s r (after_step s next.at next.word id (keeping (wrote k t))) Keep says.Written
   pub scan : (k : KeeperView) (t : Task) → get_elem? s.views id ≡ maybe.some (keeping k) → k.task ≡ Some t → t.hand.command ≡ Collect → t.hand.done < z.setting.sessions
-      → IsEvent z s (after_step s (pin_at t.hand.done) (slice_index s.words (pin_at t.hand.done)) id (keeping (scanned k t (slice_index s.words (pin_at t.hand.done))))) Keep
+      → IsEvent z s r (after_step s (pin_at t.hand.done) (slice_index s.words (pin_at t.hand.done)) id (keeping (scanned k t (slice_index s.words (pin_at t.hand.done))))) Keep
       (says.Scanned t.hand.done (slice_index s.words (pin_at t.hand.done)))
   pub commit : (k : KeeperView) (may : MayCommit z k) → get_elem? s.views id ≡ maybe.some (keeping k)
-      → IsEvent z s (after_step s now_at (now_of (story z (entries (committed z k may.task).log))) id (keeping (committed z k may.task))) Keep
+      → IsEvent z s r (after_step s now_at (now_of (story z (entries (committed z k may.task).log))) id (keeping (committed z k may.task))) Keep
       (says.Committed (signed_of z k may.task).entry.reply)
 
 -- what seats hand to one another, and the last loads of a store that is closed, are no events
-pub record HandingsAreNone (z : Base) (s : State Asked Role) (id other : ℕ) : Type 0 where
+pub record HandingsAreNone (z : Base) (s : State Asked Role) (r : Agrees z s) (id other : ℕ) : Type 0 where
   -- a reader's view is laid in the keeper's seat, and parted from it again
   pub together : (k : KeeperView) (x : ReaderView) → get_elem? s.views id ≡ maybe.some (keeping k) → other ≢ id → get_elem? (slice_set s.views id (meeting k x)) other ≡ maybe.some (reading x)
-      → IsNoEvent z s (with_views s (slice_set (slice_set s.views id (meeting k x)) other idle))
-  pub apart : (k : KeeperView) (x : ReaderView) → get_elem? s.views id ≡ maybe.some (meeting k x) → IsNoEvent z s (with_views s (slice_set s.views id (keeping k) ++ reading x ∷ []))
+      → IsNoEvent z s r (with_views s (slice_set (slice_set s.views id (meeting k x)) other idle))
+  pub apart : (k : KeeperView) (x : ReaderView) → get_elem? s.views id ≡ maybe.some (meeting k x) → IsNoEvent z s r (with_views s (slice_set s.views id (keeping k) ++ reading x ∷ []))
   -- a ticket is cut from the keeper's seat, and laid in a reader's
-  pub cut : (k : KeeperView) → get_elem? s.views id ≡ maybe.some (keeping k) → IsNoEvent z s (with_views s (slice_set s.views id (keeping k) ++ ticket k.log ∷ []))
+  pub cut : (k : KeeperView) → get_elem? s.views id ≡ maybe.some (keeping k) → IsNoEvent z s r (with_views s (slice_set s.views id (keeping k) ++ ticket k.log ∷ []))
   pub hand : (x : ReaderView) (seen : List Signed) → get_elem? s.views id ≡ maybe.some (reading x) → other ≢ id → get_elem? (slice_set s.views id (learning x seen)) other ≡ maybe.some (ticket seen)
-      → IsNoEvent z s (with_views s (slice_set (slice_set s.views id (learning x seen)) other idle))
+      → IsNoEvent z s r (with_views s (slice_set (slice_set s.views id (learning x seen)) other idle))
   -- the next reader is dealt
   pub deal : (n : ℕ) → n < z.setting.sessions → get_elem? s.views id ≡ maybe.some (keeping (resting n []))
-      → IsNoEvent z s (with_views s (slice_set s.views id (keeping (resting (n + 1) [])) ++ reading (fresh_reader n) ∷ []))
+      → IsNoEvent z s r (with_views s (slice_set s.views id (keeping (resting (n + 1) [])) ++ reading (fresh_reader n) ∷ []))
   -- a reader is given up, and the keeper's last load
   pub give_up : (k : KeeperView) (x : ReaderView) → get_elem? s.views id ≡ maybe.some (meeting k x) → x.announced ≡ None
-      → IsNoEvent z s (after_step s now_at (slice_index s.words now_at) id (keeping (without k x)))
-  pub end : (k : KeeperView) → get_elem? s.views id ≡ maybe.some (keeping k) → IsNoEvent z s (after_step s now_at (slice_index s.words now_at) id (keeping k))
+      → IsNoEvent z s r (after_step s now_at (slice_index s.words now_at) id (keeping (without k x)))
+  pub end : (k : KeeperView) → get_elem? s.views id ≡ maybe.some (keeping k) → IsNoEvent z s r (after_step s now_at (slice_index s.words now_at) id (keeping k))
+
+-- a table becomes another by an event of the core, or by none, whatever state of the core the rule has before
+abbrev pub Moves : (z : Base) → State Asked Role → State Asked Role → Type 0
+Moves z s t = (r : Agrees z s) → ((e : Event) × (answer : StepReply) × IsEvent z s r t e answer) ⊎ IsNoEvent z s r t
+
+-- tables one after another, each of which the one before has become
+abbrev pub IsSchedule : Base → State Asked Role → List (State Asked Role) → Type 0
+IsSchedule z s [] = Unit {0}
+IsSchedule z s (t ∷ ts) = Moves z s t × IsSchedule z t ts
+
+-- the last of them
+abbrev pub last_table : State Asked Role → List (State Asked Role) → State Asked Role
+last_table s [] = s
+last_table s (t ∷ ts) = last_table t ts
+
+-- events of the core one after another, each enabled, none of which stored in a live block
+abbrev pub IsCoreRun : core.State → List Event → List StepReply → core.State → Type 0
+IsCoreRun w [] [] v = v ≡ w
+IsCoreRun w [] (a ∷ answers) v = ⊥
+IsCoreRun w (e ∷ events) [] v = ⊥
+IsCoreRun w (e ∷ events) (a ∷ answers) v =
+    (mid : core.State) × (stored : Option ℕ) × (does w e ≡ Some record { state = mid; answer = a; stored = stored }) × SparesLive w stored × IsCoreRun mid events answers v
+
+-- a schedule of the table is one run of the core
+pub record IsOneRun (z : Base) (s : State Asked Role) (r : Agrees z s) (ts : List (State Asked Role)) : Type 0 where
+  pub after : Agrees z (last_table s ts)
+  pub events : List Event
+  pub answers : List StepReply
+  pub run : IsCoreRun (ruled z s r) events answers (ruled z (last_table s ts) after)

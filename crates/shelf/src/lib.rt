@@ -35,7 +35,9 @@ pub use asked::Asked;
 pub use closing::Closing;
 pub use fresh::{FreshKeeper, FreshReader};
 pub use keeper::KeeperSeat;
-pub use laws::{handings_are_no_events, rule_is_a_state, seats_do_events, seats_have_one_log};
+pub use laws::{
+    handings_are_no_events, rule_has_one_keeper, rule_is_a_state, schedules_are_runs, seats_do_events, seats_have_one_log,
+};
 pub use meeting::meet;
 pub use name::StoreName;
 pub use opened::Opening;

@@ -1,0 +1,6 @@
+-- By the lemma on any table.
+use Rattle.shelf.proofs.Schedules.{one_keeper_view}
+use Rattle.shelf.proofs.laws.rule_has_one_keeper.Goals as goal
+
+pub returns : goal.returns
+returns c = one_keeper_view
