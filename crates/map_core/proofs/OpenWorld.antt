@@ -1,5 +1,5 @@
 -- A world that is opened, by its parts.
-use Rattle.std.proofs.Common.{◌≡◌, ℕ, zero, suc, ◌+◌, ◌-◌, ◌<◌, ◌≤◌, List, [], ◌∷◌, length, map, get_or, replicate, refl, ap, subst, sym, ◌∙◌, lit<, arith}
+use Rattle.std.proofs.Common.{◌≡◌, ℕ, zero, suc, ◌+◌, ◌*◌, ◌-◌, ◌<◌, ◌≤◌, List, [], ◌∷◌, length, map, get_or, replicate, refl, ap, subst, sym, ◌∙◌, lit<, arith}
 use Rattle.std.specs.Prelude.{Option, Some, None, false, slice_get}
 use Rattle.std.specs.List.{range_with_len}
 use Rattle.std.proofs.Math.Nat.{zero-mod}
@@ -81,7 +81,7 @@ ReaderSound-opening : (k : Base) (words : List ℕ) → AreOpeningWords k words 
 unfolding pin_at pin_word
 ReaderSound-opening k words opening r h = record {
   seen = record { rest = []; whole = refl };
-  word = opening.quiet (1 + r) (omega arith);
+  word = opening.quiet (8 + 8 * r) (omega arith);
   announced = λ a is. absurd (cc);
   holds = λ v is. absurd (cc);
   passed = tt;

@@ -35,7 +35,7 @@ blank_world width height g =
     let k : Base = record { setting = g; opening = cells_where width height (λ x y. false) } in
     record {
       base = k;
-      words = 0 ∷ replicate g.sessions 0 ++ range_with_len 0 (tiles k) ++ replicate ((g.versions - 1) * tiles k + 64 * g.blocks) 0;
+      words = replicate (8 + 8 * g.sessions) 0 ++ range_with_len 0 (tiles k) ++ replicate ((g.versions - 1) * tiles k + 64 * g.blocks) 0;
       keeper = record { log = []; hand = None };
       readers = replicate g.sessions record { seen = []; announced = None; holds = None };
     }

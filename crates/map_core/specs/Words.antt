@@ -1,4 +1,4 @@
--- The words of a world and what stands in them: this project's own rule. First NOW, then a word for each reader, then the slots' directories, then the blocks, 64 words each.
+-- The words of a world and what stands in them: this project's own rule. First NOW, then a word for each reader, each with seven unused words behind it, then the slots' directories, then the blocks, 64 words each.
 use Rattle.std.specs.Prelude.{◌≡◌, ℕ, suc, ◌+◌, ◌*◌, ◌/◌, ◌%◌, ◌^◌, ◌==◌, List, slice_index, Option, Some, None}
 use Rattle.std.specs.Int.{bit_at}
 use Rattle.bits.specs.Cells.{Cells, cells_where}
@@ -23,7 +23,7 @@ pub record IsPlan (k : Base) (plan : Plan) : Type 0 where
 
 -- how many words there are
 unfoldable pub word_count : Base → ℕ
-word_count k = 1 + k.setting.sessions + k.setting.versions * tiles k + 64 * k.setting.blocks
+word_count k = 8 + 8 * k.setting.sessions + k.setting.versions * tiles k + 64 * k.setting.blocks
 
 -- the place of the word NOW
 abbrev pub now_at : ℕ
@@ -31,15 +31,15 @@ now_at = 0
 
 -- the place of a reader's word
 unfoldable pub pin_at : ℕ → ℕ
-pin_at reader = 1 + reader
+pin_at reader = 8 + 8 * reader
 
 -- the place of the word that has the block of position p in a slot
 unfoldable pub map_at : Base → ℕ → ℕ → ℕ
-map_at k slot p = 1 + k.setting.sessions + (slot * tiles k + p)
+map_at k slot p = 8 + 8 * k.setting.sessions + (slot * tiles k + p)
 
 -- the place of the word that has row i of a block
 unfoldable pub tile_at : Base → ℕ → ℕ → ℕ
-tile_at k block i = 1 + k.setting.sessions + k.setting.versions * tiles k + (block * 64 + i)
+tile_at k block i = 8 + 8 * k.setting.sessions + k.setting.versions * tiles k + (block * 64 + i)
 
 -- what NOW says: the place of the last entry, and the newest version
 abbrev pub now_word : ℕ → ℕ → ℕ

@@ -31,7 +31,7 @@ impl Plan {
     pub fn pin_at(reader: u32) -> usize
         ensures { result ≡ pin_at reader }
     {
-        1 + reader as usize
+        8 + 8 * reader as usize
     }
 
     /// Where the word stands that has the block of a position in a version's slot.
@@ -40,7 +40,7 @@ impl Plan {
         ensures { (k : Base) (s : Story) → IsPlan k self → result ≡ map_at k (slot_of k s version) position }
     {
         let slot = (version % self.setting.versions) as usize;
-        1 + self.setting.sessions as usize + (slot * usize::from(self.tiles) + position as usize)
+        8 + 8 * self.setting.sessions as usize + (slot * usize::from(self.tiles) + position as usize)
     }
 
     /// Where the word stands that has a row of a block.
@@ -48,6 +48,6 @@ impl Plan {
         ensures { (k : Base) → IsPlan k self → result ≡ tile_at k block row }
     {
         let directories = self.setting.versions as usize * usize::from(self.tiles);
-        1 + self.setting.sessions as usize + directories + (block as usize * 64 + row as usize)
+        8 + 8 * self.setting.sessions as usize + directories + (block as usize * 64 + row as usize)
     }
 }
