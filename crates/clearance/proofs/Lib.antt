@@ -6,6 +6,7 @@ pub mod RectFirsts
 pub mod Rectangles
 pub mod Refusals
 pub mod RowSearches
+pub mod RowWords
 pub mod Searches
 pub mod StripLines
 pub mod Walks

@@ -1,12 +1,20 @@
 -- The nearest of the obstacles that have been looked at, row by row outwards: this project's own rule.
 use Rattle.std.specs.Prelude.{◌≡◌, ℕ, ◌+◌, ◌^◌, ◌<◌, ◌≤◌, ◌⊎◌, Option, Some, None}
 use Rattle.std.specs.Int.{abs_diff}
+use Rattle.metric.specs.declared.cell.Cell.{Cell}
 use Rattle.metric.specs.declared.near.Near.{Near}
 use Rattle.metric.specs.Nearest.{IsNear}
+use Rattle.bits.specs.Cells.{Cells, IsBitmap, IsInside, IsObstacle}
 
 -- the nearest of the obstacles that have been looked at
 abbrev pub IsNearAmong : (ℕ → ℕ → ℕ) → (ℕ → ℕ → Type 0) → (ℕ → ℕ → Type 0) → ℕ → ℕ → Option Near → Type 0
 IsNearAmong distance Obstacle IsSeen x y best = IsNear distance (λ a b. Obstacle a b × IsSeen a b) x y best
+
+-- a search for the nearest obstacle of a bitmap's cell: the nearest of the obstacles that have been looked at
+pub record IsSought (distance : ℕ → ℕ → ℕ) (cells : Cells) (cell : Cell) (IsSeen : ℕ → ℕ → Type 0) (best : Option Near) : Type 0 where
+  pub bitmap : IsBitmap cells
+  pub inside : IsInside cells cell.x cell.y
+  pub near : IsNearAmong distance (IsObstacle cells) IsSeen cell.x cell.y best
 
 -- a limit above the distance of the best so far; above each distance where there is none
 abbrev pub limit_of : Option Near → ℕ

@@ -1,6 +1,18 @@
 -- Which obstacles of a row are found in its words: this project's own rule.
-use Rattle.std.specs.Prelude.{◌≡◌, ℕ, ◌-◌, ◌/◌, ◌%◌, ◌^◌, ◌<◌, ◌≤◌, List, slice_index, Option, Some, None}
+use Rattle.std.specs.Prelude.{◌≡◌, ℕ, ◌+◌, ◌-◌, ◌*◌, ◌/◌, ◌%◌, ◌^◌, ◌<◌, ◌≤◌, List, slice_index, map, Option, Some, None}
 use Rattle.std.specs.Int.{bit_at}
+use Rattle.std.specs.List.{range_with_len}
+use Rattle.bits.specs.Cells.{Cells, has}
+use Rattle.bits.specs.Words.{words_across}
+use Rattle.bits.specs.Tiles.{word_where}
+
+-- the words of the row y of a map: bit i of word k is the cell of column 64 k + i, and 0 past the edge
+unfoldable pub words_of_row : Cells → ℕ → List ℕ
+words_of_row cells y = map (λ k. word_where (λ i. has cells (64 * k + i) y) 64) (range_with_len 0 (words_across cells.width))
+
+-- no cell of the row y is an obstacle
+abbrev pub IsBlankRow : Cells → ℕ → Type 0
+IsBlankRow cells y = (k : ℕ) → k < words_across cells.width → slice_index (words_of_row cells y) k ≡ 0
 
 -- the words have a 1 for the column x
 abbrev pub IsMarked : List ℕ → ℕ → Type 0

@@ -2,6 +2,7 @@
 use Rattle.std.specs.Prelude.{◌≡◌, ℕ, ◌+◌, ◌-◌, ◌<◌, ◌≤◌, List}
 use Rattle.metric.specs.declared.rect.Rect.{Rect}
 use Rattle.metric.specs.Distance.{distance_between}
+use Rattle.bits.specs.Cells.{Cells, IsBitmap}
 use Rattle.clearance.specs.Rows.{IsMarked, IsFar}
 
 -- the cell (x, y) lies in the rectangle
@@ -10,6 +11,12 @@ pub record IsInRect (rect : Rect) (x y : ℕ) : Type 0 where
   pub right : x < rect.x1
   pub top : rect.y0 ≤ y
   pub bottom : y < rect.y1
+
+-- a rectangle lies in a bitmap
+pub record IsRectIn (cells : Cells) (rect : Rect) : Type 0 where
+  pub bitmap : IsBitmap cells
+  pub columns : rect.x1 ≤ cells.width
+  pub rows : rect.y1 ≤ cells.height
 
 -- a cell that passes a test has an obstacle at distance d
 pub record IsReachedFrom (distance : ℕ → ℕ → ℕ) (Obstacle IsCell : ℕ → ℕ → Type 0) (d : ℕ) : Type 0 where

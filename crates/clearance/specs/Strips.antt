@@ -1,8 +1,15 @@
 -- The lines of a strip, counted from 0, and which of them have an obstacle near: this project's own rule.
-use Rattle.std.specs.Prelude.{◌≡◌, ℕ, ◌+◌, ◌≤◌, ◌<◌}
+use Rattle.std.specs.Prelude.{◌≡◌, ℕ, ◌+◌, ◌≤◌, ◌<◌, max}
 use Rattle.metric.specs.Distance.{distance_between}
+use Rattle.bits.specs.Cells.{Cells, IsBitmap}
 use Rattle.clearance.specs.Paths.{towards}
 use Rattle.clearance.specs.declared.strip.Strip.{Strip}
+
+-- the lines of a strip lie in a bitmap
+pub record IsStripIn (cells : Cells) (strip : Strip) : Type 0 where
+  pub bitmap : IsBitmap cells
+  pub columns : max strip.from.x strip.to.x + strip.across ≤ cells.width
+  pub rows : max strip.from.y strip.to.y < cells.height
 
 -- the cell (x, y) lies on the line number k of a strip
 pub record IsOnLine (strip : Strip) (k x y : ℕ) : Type 0 where

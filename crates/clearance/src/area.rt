@@ -1,63 +1,64 @@
 //! The first cell of a rectangle that has the least distance, found by halves.
 
-ghost use Rattle.std.specs.Prelude.{◌≡◌, ◌<◌, ◌≤◌};
+ghost use Rattle.std.specs.Prelude.{◌≡◌};
 ghost use Rattle.bits.specs.Cells.{IsInside, IsObstacle};
 ghost use Rattle.clearance.specs.Answers.{IsLeastOf, cells_of_rect};
 ghost use Rattle.clearance.specs.Firsts.{IsCellWithNear, IsFirstColumn, IsFirstOrNone, IsFirstRow, IsRectNear};
+ghost use Rattle.clearance.specs.Search.{IsRectIn};
 
 use crate::nearest::nearest;
+use crate::rows::Rows;
 use crate::search::{NO_LIMIT, least_below};
 use crate::strip::Strip;
-use bits::Bitmap;
 use metric::{Cell, Metric, Near, Rect};
 
 /// The first cell of the least distance in a rectangle of the bitmap, with its nearest obstacle; `None` where the bitmap has no obstacle.
-pub fn least_of_rect<M: Metric>(bitmap: &Bitmap, rect: Rect) -> Option<(Cell, Near)>
-    requires columns { rect.x1 ≤ bitmap.now.width }
-    requires rows { rect.y1 ≤ bitmap.now.height }
-    ensures { IsLeastOf M.distance (IsObstacle bitmap.now) (cells_of_rect rect.x0 rect.y0 rect.x1 rect.y1) result }
+pub fn least_of_rect<M: Metric, R: Rows>(rows: &mut R, rect: Rect) -> Option<(Cell, Near)>
+    requires { IsRectIn (R.cells rows.old) rect }
+    ensures found { IsLeastOf M.distance (IsObstacle (R.cells rows.old)) (cells_of_rect rect.x0 rect.y0 rect.x1 rect.y1) result }
+    ensures rows { rows.new ≡ rows.old }
 {
-    let least = least_below::<M>(bitmap, rect, NO_LIMIT);
+    let least = least_below::<M, R>(rows, rect, NO_LIMIT);
     if least >= NO_LIMIT {
         return None;
     }
-    first_of_rect::<M>(bitmap, rect, least + 1)
+    first_of_rect::<M, R>(rows, rect, least + 1)
 }
 
 /// The first cell of the rectangle that has an obstacle at a distance below the limit. There is one.
-fn first_of_rect<M: Metric>(bitmap: &Bitmap, rect: Rect, limit: u64) -> Option<(Cell, Near)>
-    requires columns { rect.x1 ≤ bitmap.now.width }
-    requires rows { rect.y1 ≤ bitmap.now.height }
-    requires some { IsRectNear M.distance (IsObstacle bitmap.now) rect limit }
-    ensures { IsFirstOrNone M.distance (IsObstacle bitmap.now) (cells_of_rect rect.x0 rect.y0 rect.x1 rect.y1) limit result }
+fn first_of_rect<M: Metric, R: Rows>(rows: &mut R, rect: Rect, limit: u64) -> Option<(Cell, Near)>
+    requires rect { IsRectIn (R.cells rows.old) rect }
+    requires some { IsRectNear M.distance (IsObstacle (R.cells rows.old)) rect limit }
+    ensures found { IsFirstOrNone M.distance (IsObstacle (R.cells rows.old)) (cells_of_rect rect.x0 rect.y0 rect.x1 rect.y1) limit result }
+    ensures rows { rows.new ≡ rows.old }
 {
-    let y = first_row::<M>(bitmap, rect, limit);
-    let x = first_column::<M>(bitmap, rect, y, limit);
-    with_nearest::<M>(bitmap, Cell { x, y })
+    let y = first_row::<M, R>(rows, rect, limit);
+    let x = first_column::<M, R>(rows, rect, y, limit);
+    with_nearest::<M, R>(rows, Cell { x, y })
 }
 
 /// The first row of the rectangle in which a cell has an obstacle at a distance below the limit. There is one.
-fn first_row<M: Metric>(bitmap: &Bitmap, rect: Rect, limit: u64) -> u16
-    requires columns { rect.x1 ≤ bitmap.now.width }
-    requires rows { rect.y1 ≤ bitmap.now.height }
-    requires some { IsRectNear M.distance (IsObstacle bitmap.now) rect limit }
-    ensures { IsFirstRow M.distance (IsObstacle bitmap.now) rect limit result }
+fn first_row<M: Metric, R: Rows>(rows: &mut R, rect: Rect, limit: u64) -> u16
+    requires rect { IsRectIn (R.cells rows.old) rect }
+    requires some { IsRectNear M.distance (IsObstacle (R.cells rows.old)) rect limit }
+    ensures found { IsFirstRow M.distance (IsObstacle (R.cells rows.old)) rect limit result }
+    ensures rows { rows.new ≡ rows.old }
 {
     let (x, top, bottom) = (rect.x0, rect.y0, rect.y1 - 1);
-    let rows = Strip {
+    let lines = Strip {
         from: Cell { x, y: top },
         to: Cell { x, y: bottom },
         across: rect.x1 - x,
     };
-    top + rows.first_near::<M>(bitmap, 0, bottom - top, limit)
+    top + lines.first_near::<M, R>(rows, 0, bottom - top, limit)
 }
 
 /// The first column of the rectangle in which the cell of the row `y` has an obstacle at a distance below the limit. There is one.
-fn first_column<M: Metric>(bitmap: &Bitmap, rect: Rect, y: u16, limit: u64) -> u16
-    requires columns { rect.x1 ≤ bitmap.now.width }
-    requires rows { rect.y1 ≤ bitmap.now.height }
-    requires some { IsFirstRow M.distance (IsObstacle bitmap.now) rect limit y }
-    ensures { IsFirstColumn M.distance (IsObstacle bitmap.now) rect limit y result }
+fn first_column<M: Metric, R: Rows>(rows: &mut R, rect: Rect, y: u16, limit: u64) -> u16
+    requires rect { IsRectIn (R.cells rows.old) rect }
+    requires some { IsFirstRow M.distance (IsObstacle (R.cells rows.old)) rect limit y }
+    ensures found { IsFirstColumn M.distance (IsObstacle (R.cells rows.old)) rect limit y result }
+    ensures rows { rows.new ≡ rows.old }
 {
     let (left, right) = (rect.x0, rect.x1 - 1);
     let columns = Strip {
@@ -65,15 +66,16 @@ fn first_column<M: Metric>(bitmap: &Bitmap, rect: Rect, y: u16, limit: u64) -> u
         to: Cell { x: right, y },
         across: 1,
     };
-    left + columns.first_near::<M>(bitmap, 0, right - left, limit)
+    left + columns.first_near::<M, R>(rows, 0, right - left, limit)
 }
 
 /// The cell with its nearest obstacle; `None` where the bitmap has no obstacle.
-pub fn with_nearest<M: Metric>(bitmap: &Bitmap, cell: Cell) -> Option<(Cell, Near)>
-    requires { IsInside bitmap.now cell.x cell.y }
-    ensures { IsCellWithNear M.distance (IsObstacle bitmap.now) cell result }
+pub fn with_nearest<M: Metric, R: Rows>(rows: &mut R, cell: Cell) -> Option<(Cell, Near)>
+    requires { IsInside (R.cells rows.old) cell.x cell.y }
+    ensures found { IsCellWithNear M.distance (IsObstacle (R.cells rows.old)) cell result }
+    ensures rows { rows.new ≡ rows.old }
 {
-    match nearest::<M>(bitmap, cell) {
+    match nearest::<M, R>(rows, cell) {
         Some(near) => Some((cell, near)),
         None => None,
     }

@@ -9,9 +9,14 @@ mod nearest;
 mod path;
 mod queries;
 mod row;
+mod rows;
 mod search;
 mod segment;
 mod strip;
 mod walk;
+mod words;
 
-pub use queries::{along, at, clear_of, least_in};
+pub use queries::{
+    along, along_rows, at, at_rows, clear_of, clear_of_rows, least_in, least_in_rows,
+};
+pub use rows::Rows;

@@ -1,30 +1,31 @@
-//! The nearest obstacle of one cell, searched in the words of a bitmap.
+//! The nearest obstacle of one cell, searched in the words of a map.
 
 ghost use Rattle.std.specs.Prelude.{◌≡◌, ◌+◌, ◌<◌, ◌≤◌, ◌↔◌, IsTrue};
 ghost use Rattle.std.specs.Int.{abs_diff};
 ghost use Rattle.metric.specs.Nearest.{IsNear};
-ghost use Rattle.bits.specs.Cells.{IsBitmap, IsInside, IsObstacle};
-ghost use Rattle.clearance.specs.Nearest.{IsAhead, IsBetter, IsNearAmong, IsRowBefore, IsRowUpTo, IsSeenInRow, IsWithin, IsWithinOrAbove, limit_of};
+ghost use Rattle.bits.specs.Cells.{IsInside, IsObstacle};
+ghost use Rattle.clearance.specs.Nearest.{IsAhead, IsBetter, IsRowBefore, IsRowUpTo, IsSeenInRow, IsSought, IsWithin, IsWithinOrAbove, limit_of};
 
-use crate::row::{is_blank, last_nearer, next_nearer};
-use crate::search::{NO_LIMIT, SPARSE_GAP};
-use bits::Bitmap;
+use crate::rows::Rows;
+use crate::search::{NO_LIMIT, is_passed};
+use crate::words::{last_nearer, next_nearer};
 use metric::{Cell, Metric, Near};
 
-/// The nearest obstacle of the cell; `None` where the bitmap has no obstacle.
+/// The nearest obstacle of the cell; `None` where the map has no obstacle.
 ///
 /// The rows are looked at from the cell outwards, the upper one of two first, and in each row the words, as long as an obstacle there can be as near as the best so far.
-pub fn nearest<M: Metric>(bitmap: &Bitmap, cell: Cell) -> Option<Near>
-    requires { IsInside bitmap.now cell.x cell.y }
-    ensures { IsNear M.distance (IsObstacle bitmap.now) cell.x cell.y result }
+pub fn nearest<M: Metric, R: Rows>(rows: &mut R, cell: Cell) -> Option<Near>
+    requires { IsInside (R.cells rows.old) cell.x cell.y }
+    ensures near { IsNear M.distance (IsObstacle (R.cells rows.old)) cell.x cell.y result }
+    ensures rows { rows.new ≡ rows.old }
 {
     let mut best = None;
-    'gaps: for gap in 0..bitmap.height() {
+    'gaps: for gap in 0..rows.height() {
         if u64::from(M::of(0, gap)) >= limit_of(best) {
             return best;
         }
-        best = with_row_above::<M>(bitmap, cell, gap, best);
-        best = with_row_below::<M>(bitmap, cell, gap, best);
+        best = with_row_above::<M, R>(rows, cell, gap, best);
+        best = with_row_below::<M, R>(rows, cell, gap, best);
     }
     best
 }
@@ -40,85 +41,80 @@ fn limit_of(best: Option<Near>) -> u64
 }
 
 /// The best once the row so many rows above the cell has been looked at, if there is one.
-fn with_row_above<M: Metric>(
-    bitmap: &Bitmap,
+fn with_row_above<M: Metric, R: Rows>(
+    rows: &mut R,
     cell: Cell,
     gap: u16,
     best: Option<Near>,
 ) -> Option<Near>
-    requires inside { IsInside bitmap.now cell.x cell.y }
-    requires bitmap { IsBitmap bitmap.now }
-    requires gap { gap < bitmap.now.height }
-    requires best { IsNearAmong M.distance (IsObstacle bitmap.now) (IsWithin cell.y gap) cell.x cell.y best }
-    ensures { IsNearAmong M.distance (IsObstacle bitmap.now) (IsWithinOrAbove cell.y gap) cell.x cell.y result }
+    requires gap { gap ≤ 4095 }
+    requires sought { IsSought M.distance (R.cells rows.old) cell (IsWithin cell.y gap) best }
+    ensures sought { IsSought M.distance (R.cells rows.new) cell (IsWithinOrAbove cell.y gap) result }
+    ensures rows { rows.new ≡ rows.old }
 {
     if gap <= cell.y {
-        with_row::<M>(bitmap, cell, cell.y - gap, gap, best)
+        with_row::<M, R>(rows, cell, cell.y - gap, gap, best)
     } else {
         best
     }
 }
 
 /// The same below the cell.
-fn with_row_below<M: Metric>(
-    bitmap: &Bitmap,
+fn with_row_below<M: Metric, R: Rows>(
+    rows: &mut R,
     cell: Cell,
     gap: u16,
     best: Option<Near>,
 ) -> Option<Near>
-    requires inside { IsInside bitmap.now cell.x cell.y }
-    requires bitmap { IsBitmap bitmap.now }
-    requires gap { gap < bitmap.now.height }
-    requires best { IsNearAmong M.distance (IsObstacle bitmap.now) (IsWithinOrAbove cell.y gap) cell.x cell.y best }
-    ensures { IsNearAmong M.distance (IsObstacle bitmap.now) (IsWithin cell.y (gap + 1)) cell.x cell.y result }
+    requires gap { gap ≤ 4095 }
+    requires sought { IsSought M.distance (R.cells rows.old) cell (IsWithinOrAbove cell.y gap) best }
+    ensures sought { IsSought M.distance (R.cells rows.new) cell (IsWithin cell.y (gap + 1)) result }
+    ensures rows { rows.new ≡ rows.old }
 {
-    if 0 < gap && cell.y + gap < bitmap.height() {
-        with_row::<M>(bitmap, cell, cell.y + gap, gap, best)
+    if 0 < gap && cell.y + gap < rows.height() {
+        with_row::<M, R>(rows, cell, cell.y + gap, gap, best)
     } else {
         best
     }
 }
 
 /// The best once a row has been looked at that lies so many rows away.
-fn with_row<M: Metric>(
-    bitmap: &Bitmap,
+fn with_row<M: Metric, R: Rows>(
+    rows: &mut R,
     cell: Cell,
     row: u16,
     gap: u16,
     best: Option<Near>,
 ) -> Option<Near>
-    requires inside { IsInside bitmap.now cell.x cell.y }
-    requires bitmap { IsBitmap bitmap.now }
-    requires row { row < bitmap.now.height }
+    requires row { row < (R.cells rows.old).height }
     requires gap { gap ≡ abs_diff cell.y row }
-    requires best { IsNearAmong M.distance (IsObstacle bitmap.now) (λ a b. IsRowBefore cell.y row b) cell.x cell.y best }
-    ensures { IsNearAmong M.distance (IsObstacle bitmap.now) (IsRowUpTo cell.y row) cell.x cell.y result }
+    requires sought { IsSought M.distance (R.cells rows.old) cell (λ a b. IsRowBefore cell.y row b) best }
+    ensures sought { IsSought M.distance (R.cells rows.new) cell (IsRowUpTo cell.y row) result }
+    ensures rows { rows.new ≡ rows.old }
 {
-    if gap >= SPARSE_GAP && is_blank(bitmap.row_words(row)) {
+    if is_passed(rows, row, gap) {
         return best;
     }
-    let right = with_right::<M>(bitmap, cell, row, gap, best);
-    with_left::<M>(bitmap, cell, row, gap, right)
+    let right = with_right::<M, R>(rows, cell, row, gap, best);
+    with_left::<M, R>(rows, cell, row, gap, right)
 }
 
 /// The best once the row's obstacles from the cell's column on have been looked at: the first of them is the nearest.
 #[inline(always)]
-fn with_right<M: Metric>(
-    bitmap: &Bitmap,
+fn with_right<M: Metric, R: Rows>(
+    rows: &mut R,
     cell: Cell,
     row: u16,
     gap: u16,
     best: Option<Near>,
 ) -> Option<Near>
-    requires inside { IsInside bitmap.now cell.x cell.y }
-    requires bitmap { IsBitmap bitmap.now }
-    requires row { row < bitmap.now.height }
+    requires row { row < (R.cells rows.old).height }
     requires gap { gap ≡ abs_diff cell.y row }
-    requires best { IsNearAmong M.distance (IsObstacle bitmap.now) (λ a b. IsRowBefore cell.y row b) cell.x cell.y best }
-    ensures { IsNearAmong M.distance (IsObstacle bitmap.now) (IsSeenInRow cell.y row (λ a. cell.x ≤ a)) cell.x cell.y result }
+    requires sought { IsSought M.distance (R.cells rows.old) cell (λ a b. IsRowBefore cell.y row b) best }
+    ensures sought { IsSought M.distance (R.cells rows.new) cell (IsSeenInRow cell.y row (λ a. cell.x ≤ a)) result }
+    ensures rows { rows.new ≡ rows.old }
 {
-    let words = bitmap.row_words(row);
-    match next_nearer::<M>(words, cell.x, cell.x, gap, limit_of(best)) {
+    match next_nearer::<M, R>(rows, row, cell.x, cell.x, gap, limit_of(best)) {
         Some(x) => {
             let dist = M::of(x - cell.x, gap);
             let next = Near {
@@ -133,23 +129,23 @@ fn with_right<M: Metric>(
 
 /// The best once the row's obstacles on the left have been looked at, the nearest first: one as near and further left is better.
 #[inline(always)]
-fn with_left<M: Metric>(
-    bitmap: &Bitmap,
+fn with_left<M: Metric, R: Rows>(
+    rows: &mut R,
     cell: Cell,
     row: u16,
     gap: u16,
     right: Option<Near>,
 ) -> Option<Near>
-    requires inside { IsInside bitmap.now cell.x cell.y }
-    requires bitmap { IsBitmap bitmap.now }
-    requires row { row < bitmap.now.height }
+    requires row { row < (R.cells rows.old).height }
     requires gap { gap ≡ abs_diff cell.y row }
-    requires best { IsNearAmong M.distance (IsObstacle bitmap.now) (IsSeenInRow cell.y row (λ a. cell.x ≤ a)) cell.x cell.y right }
-    ensures { IsNearAmong M.distance (IsObstacle bitmap.now) (IsRowUpTo cell.y row) cell.x cell.y result }
+    requires sought { IsSought M.distance (R.cells rows.old) cell (IsSeenInRow cell.y row (λ a. cell.x ≤ a)) right }
+    ensures sought { IsSought M.distance (R.cells rows.new) cell (IsRowUpTo cell.y row) result }
+    ensures rows { rows.new ≡ rows.old }
 {
-    let words = bitmap.row_words(row);
     let (mut best, mut end) = (right, cell.x);
-    'left: while let Some(x) = last_nearer::<M>(words, end, cell.x, gap, limit_of(best)) {
+    'left: while let Some(x) =
+        last_nearer::<M, R>(rows, row, end, cell.x, gap, limit_of(best))
+    {
         let dist = M::of(cell.x - x, gap);
         let next = Near {
             dist,

@@ -4,17 +4,17 @@ ghost use Rattle.std.specs.Prelude.{◌≡◌, ◌≤◌, length, Some, None, Ma
 ghost use Rattle.std.specs.List.{list_any};
 ghost use Rattle.clearance.specs.Paths.{crooked_point, is_outside, path_refusal};
 
-use bits::Bitmap;
+use crate::rows::{Rows, holds};
 use metric::{Cell, Refusal};
 
 /// Refuses a path of no point or of over 1000, then one with a point outside, then one with a crooked point, the first of them.
-pub fn check_path(bitmap: &Bitmap, points: &[Cell]) -> Result<(), Refusal>
-    ensures { MatchResult result (λ _. path_refusal bitmap.now points.now ≡ None) (λ refusal. path_refusal bitmap.now points.now ≡ Some refusal) }
+pub fn check_path<R: Rows>(rows: &R, points: &[Cell]) -> Result<(), Refusal>
+    ensures { MatchResult result (λ _. path_refusal (R.cells rows.now) points.now ≡ None) (λ refusal. path_refusal (R.cells rows.now) points.now ≡ Some refusal) }
 {
     if points.is_empty() || points.len() > 1000 {
         return Err(Refusal::BadPath);
     }
-    if leaves_bitmap(bitmap, points) {
+    if leaves_bitmap(rows, points) {
         return Err(Refusal::OutOfRange);
     }
     match first_crooked_point(points) {
@@ -24,11 +24,11 @@ pub fn check_path(bitmap: &Bitmap, points: &[Cell]) -> Result<(), Refusal>
 }
 
 /// Whether a point lies outside the bitmap.
-fn leaves_bitmap(bitmap: &Bitmap, points: &[Cell]) -> bool
-    ensures { result ≡ list_any (is_outside bitmap.now) points.now }
+fn leaves_bitmap<R: Rows>(rows: &R, points: &[Cell]) -> bool
+    ensures { result ≡ list_any (is_outside (R.cells rows.now)) points.now }
 {
     'points: for point in points {
-        if !bitmap.holds(*point) {
+        if !holds(rows, *point) {
             return true;
         }
     }

@@ -9,6 +9,7 @@ ghost use Rattle.clearance.specs.Paths.{IsPathRefusal, cells_of_path, path_refus
 use crate::area::least_of_rect;
 use crate::nearest::nearest;
 use crate::path::check_path;
+use crate::rows::{Rows, holds, holds_rect};
 use crate::walk::{first_of_path, least_of_path};
 use bits::Bitmap;
 use metric::{Cell, Metric, Near, Rect, Refusal};
@@ -17,22 +18,20 @@ use std::alloc::Global;
 /// The nearest obstacle of the cell, or `None` where the bitmap has no obstacle.
 ///
 /// A cell that doesn't lie in the bitmap is out of range. No memory is asked for.
-pub fn at<M: Metric>(_alloc: Global, bitmap: &Bitmap, cell: Cell) -> Result<Option<Near>, Refusal>
+pub fn at<M: Metric>(alloc: Global, bitmap: &Bitmap, cell: Cell) -> Result<Option<Near>, Refusal>
     ensures inside { IfOk result (λ _. IsInside bitmap.now cell.x cell.y) }
     ensures near { IfOk result (λ near. IsNear M.distance (IsObstacle bitmap.now) cell.x cell.y near) }
     ensures refused { IfErr result (IsRefusalFor (IsInside bitmap.now cell.x cell.y)) }
 {
-    if !bitmap.holds(cell) {
-        return Err(Refusal::OutOfRange);
-    }
-    Ok(nearest::<M>(bitmap, cell))
+    let mut rows = bitmap;
+    at_rows::<M, &Bitmap>(alloc, &mut rows, cell)
 }
 
 /// The least distance over the cells of the rectangle, at the first such cell, row by row from the top and each row from the left, with its nearest obstacle; `None` where the bitmap has no obstacle.
 ///
 /// A rectangle that doesn't lie wholly in the bitmap is out of range. No memory is asked for.
 pub fn least_in<M: Metric>(
-    _alloc: Global,
+    alloc: Global,
     bitmap: &Bitmap,
     rect: Rect,
 ) -> Result<Option<(Cell, Near)>, Refusal>
@@ -40,10 +39,8 @@ pub fn least_in<M: Metric>(
     ensures least { IfOk result (IsLeastOf M.distance (IsObstacle bitmap.now) (cells_of_rect rect.x0 rect.y0 rect.x1 rect.y1)) }
     ensures refused { IfErr result (IsRefusalFor (LiesIn bitmap.now rect)) }
 {
-    if !bitmap.holds_rect(rect) {
-        return Err(Refusal::OutOfRange);
-    }
-    Ok(least_of_rect::<M>(bitmap, rect))
+    let mut rows = bitmap;
+    least_in_rows::<M, &Bitmap>(alloc, &mut rows, rect)
 }
 
 /// The least distance over the cells of a path, at the first such cell along it, with its nearest obstacle; `None` where the bitmap has no obstacle.
@@ -52,7 +49,7 @@ pub fn least_in<M: Metric>(
 ///
 /// Refused, in this order: a path of no point or of over 1000, a point outside the bitmap, the first point that is neither in the row nor in the column of the point before it.
 pub fn along<M: Metric>(
-    _alloc: Global,
+    alloc: Global,
     bitmap: &Bitmap,
     points: &[Cell],
 ) -> Result<Option<(Cell, Near)>, Refusal>
@@ -60,15 +57,15 @@ pub fn along<M: Metric>(
     ensures least { IfOk result (IsLeastOf M.distance (IsObstacle bitmap.now) (cells_of_path points.now)) }
     ensures refused { IfErr result (IsPathRefusal bitmap.now points.now) }
 {
-    check_path(bitmap, points)?;
-    Ok(least_of_path::<M>(bitmap, points))
+    let mut rows = bitmap;
+    along_rows::<M, &Bitmap>(alloc, &mut rows, points)
 }
 
 /// `None` where each cell of a path has no distance, since the bitmap has no obstacle, or one of at least `d`; otherwise the first cell along the path whose distance is below `d`, in the unit of the metric, with its nearest obstacle.
 ///
 /// The cells of a path and the refusals are those of `along`.
 pub fn clear_of<M: Metric>(
-    _alloc: Global,
+    alloc: Global,
     bitmap: &Bitmap,
     points: &[Cell],
     d: u32,
@@ -77,6 +74,71 @@ pub fn clear_of<M: Metric>(
     ensures clear { IfOk result (IsClearOf M.distance (IsObstacle bitmap.now) (cells_of_path points.now) d) }
     ensures refused { IfErr result (IsPathRefusal bitmap.now points.now) }
 {
-    check_path(bitmap, points)?;
-    Ok(first_of_path::<M>(bitmap, points, u64::from(d)))
+    let mut rows = bitmap;
+    clear_of_rows::<M, &Bitmap>(alloc, &mut rows, points, d)
+}
+
+/// As `at`, of a map whose words are asked for one by one.
+pub fn at_rows<M: Metric, R: Rows>(
+    _alloc: Global,
+    rows: &mut R,
+    cell: Cell,
+) -> Result<Option<Near>, Refusal>
+    ensures inside { IfOk result (λ _. IsInside (R.cells rows.old) cell.x cell.y) }
+    ensures near { IfOk result (λ near. IsNear M.distance (IsObstacle (R.cells rows.old)) cell.x cell.y near) }
+    ensures refused { IfErr result (IsRefusalFor (IsInside (R.cells rows.old) cell.x cell.y)) }
+    ensures rows { rows.new ≡ rows.old }
+{
+    if !holds(rows, cell) {
+        return Err(Refusal::OutOfRange);
+    }
+    Ok(nearest::<M, R>(rows, cell))
+}
+
+/// As `least_in`, of a map whose words are asked for one by one.
+pub fn least_in_rows<M: Metric, R: Rows>(
+    _alloc: Global,
+    rows: &mut R,
+    rect: Rect,
+) -> Result<Option<(Cell, Near)>, Refusal>
+    ensures inside { IfOk result (λ _. LiesIn (R.cells rows.old) rect) }
+    ensures least { IfOk result (IsLeastOf M.distance (IsObstacle (R.cells rows.old)) (cells_of_rect rect.x0 rect.y0 rect.x1 rect.y1)) }
+    ensures refused { IfErr result (IsRefusalFor (LiesIn (R.cells rows.old) rect)) }
+    ensures rows { rows.new ≡ rows.old }
+{
+    if !holds_rect(rows, rect) {
+        return Err(Refusal::OutOfRange);
+    }
+    Ok(least_of_rect::<M, R>(rows, rect))
+}
+
+/// As `along`, of a map whose words are asked for one by one.
+pub fn along_rows<M: Metric, R: Rows>(
+    _alloc: Global,
+    rows: &mut R,
+    points: &[Cell],
+) -> Result<Option<(Cell, Near)>, Refusal>
+    ensures accepted { IfOk result (λ _. path_refusal (R.cells rows.old) points.now ≡ None) }
+    ensures least { IfOk result (IsLeastOf M.distance (IsObstacle (R.cells rows.old)) (cells_of_path points.now)) }
+    ensures refused { IfErr result (IsPathRefusal (R.cells rows.old) points.now) }
+    ensures rows { rows.new ≡ rows.old }
+{
+    check_path(rows, points)?;
+    Ok(least_of_path::<M, R>(rows, points))
+}
+
+/// As `clear_of`, of a map whose words are asked for one by one.
+pub fn clear_of_rows<M: Metric, R: Rows>(
+    _alloc: Global,
+    rows: &mut R,
+    points: &[Cell],
+    d: u32,
+) -> Result<Option<(Cell, Near)>, Refusal>
+    ensures accepted { IfOk result (λ _. path_refusal (R.cells rows.old) points.now ≡ None) }
+    ensures clear { IfOk result (IsClearOf M.distance (IsObstacle (R.cells rows.old)) (cells_of_path points.now) d) }
+    ensures refused { IfErr result (IsPathRefusal (R.cells rows.old) points.now) }
+    ensures rows { rows.new ≡ rows.old }
+{
+    check_path(rows, points)?;
+    Ok(first_of_path::<M, R>(rows, points, u64::from(d)))
 }

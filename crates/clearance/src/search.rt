@@ -1,116 +1,128 @@
-//! The least distance of a rectangle's cells, searched in the words of a bitmap.
+//! The least distance of a rectangle's cells, searched in the words of a map.
 
-ghost use Rattle.std.specs.Prelude.{◌≡◌, ◌+◌, ◌-◌, ◌*◌, ◌<◌, ◌≤◌, length};
-ghost use Rattle.bits.specs.Cells.{IsBitmap, IsObstacle};
-ghost use Rattle.clearance.specs.Search.{IsLeastBelow, IsLeastWithin, IsLoweredBy, IsLoweredLeft, IsLoweredRight};
+ghost use Rattle.std.specs.Prelude.{◌≡◌, ◌+◌, ◌-◌, ◌<◌, ◌≤◌, true};
+ghost use Rattle.bits.specs.Cells.{IsObstacle};
+ghost use Rattle.clearance.specs.Rows.{IsBlankRow, words_of_row};
+ghost use Rattle.clearance.specs.Search.{IsLeastBelow, IsLeastWithin, IsLoweredBy, IsLoweredLeft, IsLoweredRight, IsRectIn};
 
-use crate::row::{is_blank, last_nearer, next_nearer};
-use bits::Bitmap;
+use crate::rows::Rows;
+use crate::words::{last_nearer, next_nearer};
 use metric::{Metric, Rect};
 
 /// Above each distance.
 pub const NO_LIMIT: u64 = 1 << 32;
 
 /// From so many rows away on, a row is looked at as a whole first: obstacles are rare there.
-pub const SPARSE_GAP: u16 = 128;
+const SPARSE_GAP: u16 = 128;
 
 /// The least of `limit` and of the distances of the rectangle's cells to the obstacles.
 ///
 /// The rows are looked at from the rectangle outwards, and in each row the words, no further than a distance below the least so far can be.
-pub fn least_below<M: Metric>(bitmap: &Bitmap, rect: Rect, limit: u64) -> u64
-    requires columns { rect.x1 ≤ bitmap.now.width }
-    requires rows { rect.y1 ≤ bitmap.now.height }
-    ensures { IsLeastBelow M.distance (IsObstacle bitmap.now) rect limit result }
+pub fn least_below<M: Metric, R: Rows>(rows: &mut R, rect: Rect, limit: u64) -> u64
+    requires { IsRectIn (R.cells rows.old) rect }
+    ensures least { IsLeastBelow M.distance (IsObstacle (R.cells rows.old)) rect limit result }
+    ensures rows { rows.new ≡ rows.old }
 {
-    let mut least = least_inside::<M>(bitmap, rect, limit);
-    'gaps: for gap in 1..bitmap.height() {
+    let mut least = least_inside::<M, R>(rows, rect, limit);
+    'gaps: for gap in 1..rows.height() {
         if u64::from(M::of(0, gap)) >= least {
             return least;
         }
-        least = lowered_above::<M>(bitmap, rect, gap, least);
-        least = lowered_below::<M>(bitmap, rect, gap, least);
+        least = lowered_above::<M, R>(rows, rect, gap, least);
+        least = lowered_below::<M, R>(rows, rect, gap, least);
     }
     least
 }
 
 /// The least of `limit` and of the distances to the obstacles in the rectangle's own rows.
-fn least_inside<M: Metric>(bitmap: &Bitmap, rect: Rect, limit: u64) -> u64
-    requires columns { rect.x1 ≤ bitmap.now.width }
-    requires rows { rect.y1 ≤ bitmap.now.height }
-    ensures least { IsLeastWithin M.distance (IsObstacle bitmap.now) rect 1 limit result }
-    ensures bitmap { IsBitmap bitmap.now }
+fn least_inside<M: Metric, R: Rows>(rows: &mut R, rect: Rect, limit: u64) -> u64
+    requires { IsRectIn (R.cells rows.old) rect }
+    ensures least { IsLeastWithin M.distance (IsObstacle (R.cells rows.old)) rect 1 limit result }
+    ensures rows { rows.new ≡ rows.old }
 {
     let mut least = limit;
-    let holds = bitmap.holds_rect(rect);
-    prove!(holds);
-    'rows: for y in rect.y0..rect.y1 {
+    'inside: for y in rect.y0..rect.y1 {
         if u64::from(M::of(0, 0)) >= least {
             return least;
         }
-        least = lowered::<M>(bitmap, rect, y, 0, least);
+        least = lowered::<M, R>(rows, rect, y, 0, least);
     }
     least
 }
 
 /// The least so far, or a lesser distance to an obstacle so many rows above the rectangle, if there is such a row.
-fn lowered_above<M: Metric>(bitmap: &Bitmap, rect: Rect, gap: u16, least: u64) -> u64
-    requires columns { rect.x1 ≤ bitmap.now.width }
-    requires rows { rect.y1 ≤ bitmap.now.height }
-    requires bitmap { IsBitmap bitmap.now }
-    requires gap { gap < bitmap.now.height }
-    ensures row { gap ≤ rect.y0 → IsLoweredBy M.distance (IsObstacle bitmap.now) rect (rect.y0 - gap) gap least result }
+fn lowered_above<M: Metric, R: Rows>(rows: &mut R, rect: Rect, gap: u16, least: u64) -> u64
+    requires rect { IsRectIn (R.cells rows.old) rect }
+    requires gap { gap ≤ 4095 }
+    ensures row { gap ≤ rect.y0 → IsLoweredBy M.distance (IsObstacle (R.cells rows.old)) rect (rect.y0 - gap) gap least result }
     ensures none { rect.y0 < gap → result ≡ least }
+    ensures rows { rows.new ≡ rows.old }
 {
     if gap <= rect.y0 {
-        lowered::<M>(bitmap, rect, rect.y0 - gap, gap, least)
+        lowered::<M, R>(rows, rect, rect.y0 - gap, gap, least)
     } else {
         least
     }
 }
 
 /// The same below the rectangle.
-fn lowered_below<M: Metric>(bitmap: &Bitmap, rect: Rect, gap: u16, least: u64) -> u64
-    requires columns { rect.x1 ≤ bitmap.now.width }
-    requires rows { rect.y1 ≤ bitmap.now.height }
-    requires bitmap { IsBitmap bitmap.now }
-    requires gap { gap < bitmap.now.height }
-    ensures row { rect.y1 - 1 + gap < bitmap.now.height → IsLoweredBy M.distance (IsObstacle bitmap.now) rect (rect.y1 - 1 + gap) gap least result }
-    ensures none { bitmap.now.height ≤ rect.y1 - 1 + gap → result ≡ least }
+fn lowered_below<M: Metric, R: Rows>(rows: &mut R, rect: Rect, gap: u16, least: u64) -> u64
+    requires rect { IsRectIn (R.cells rows.old) rect }
+    requires gap { gap ≤ 4095 }
+    ensures row { rect.y1 - 1 + gap < (R.cells rows.old).height → IsLoweredBy M.distance (IsObstacle (R.cells rows.old)) rect (rect.y1 - 1 + gap) gap least result }
+    ensures none { (R.cells rows.old).height ≤ rect.y1 - 1 + gap → result ≡ least }
+    ensures rows { rows.new ≡ rows.old }
 {
     let y = rect.y1 - 1 + gap;
-    if y < bitmap.height() {
-        lowered::<M>(bitmap, rect, y, gap, least)
+    if y < rows.height() {
+        lowered::<M, R>(rows, rect, y, gap, least)
     } else {
         least
     }
 }
 
 /// The least so far, or a lesser distance to an obstacle in the row `y`, so many rows away.
-fn lowered<M: Metric>(bitmap: &Bitmap, rect: Rect, y: u16, gap: u16, least: u64) -> u64
-    requires columns { rect.x1 ≤ bitmap.now.width }
-    requires bitmap { IsBitmap bitmap.now }
-    requires row { y < bitmap.now.height }
+fn lowered<M: Metric, R: Rows>(rows: &mut R, rect: Rect, y: u16, gap: u16, least: u64) -> u64
+    requires rect { IsRectIn (R.cells rows.old) rect }
+    requires row { y < (R.cells rows.old).height }
     requires gap { gap ≤ 4095 }
-    ensures { IsLoweredBy M.distance (IsObstacle bitmap.now) rect y gap least result }
+    ensures least { IsLoweredBy M.distance (IsObstacle (R.cells rows.old)) rect y gap least result }
+    ensures rows { rows.new ≡ rows.old }
 {
-    let words = bitmap.row_words(y);
-    if gap >= SPARSE_GAP && is_blank(words) {
+    if is_passed(rows, y, gap) {
         return least;
     }
-    let right = lowered_right::<M>(words, rect, gap, least);
-    lowered_left::<M>(words, rect, gap, right)
+    let right = lowered_right::<M, R>(rows, rect, y, gap, least);
+    lowered_left::<M, R>(rows, rect, y, gap, right)
+}
+
+/// Whether the row `y`, so many rows away, is looked at as a whole and found to be free.
+#[inline(always)]
+pub fn is_passed<R: Rows>(rows: &mut R, y: u16, gap: u16) -> bool
+    requires { y < (R.cells rows.old).height }
+    ensures blank { result ≡ true → IsBlankRow (R.cells rows.old) y }
+    ensures rows { rows.new ≡ rows.old }
+{
+    gap >= SPARSE_GAP && rows.is_blank(y)
 }
 
 /// The least so far, or a lesser distance to an obstacle of the row in the rectangle's columns or to the right of them.
 #[inline(always)]
-fn lowered_right<M: Metric>(words: &[u64], rect: Rect, gap: u16, least: u64) -> u64
-    requires few { length words.now ≤ 64 }
-    requires columns { rect.x1 ≤ 64 * length words.now }
+fn lowered_right<M: Metric, R: Rows>(
+    rows: &mut R,
+    rect: Rect,
+    y: u16,
+    gap: u16,
+    least: u64,
+) -> u64
+    requires rect { IsRectIn (R.cells rows.old) rect }
+    requires row { y < (R.cells rows.old).height }
     requires gap { gap ≤ 4095 }
-    ensures { IsLoweredRight M.distance words.now rect gap least result }
+    ensures least { IsLoweredRight M.distance (words_of_row (R.cells rows.old) y) rect gap least result }
+    ensures rows { rows.new ≡ rows.old }
 {
     let last = rect.x1 - 1;
-    match next_nearer::<M>(words, rect.x0, last, gap, least) {
+    match next_nearer::<M, R>(rows, y, rect.x0, last, gap, least) {
         Some(column) => u64::from(M::of(column.saturating_sub(last), gap)),
         None => least,
     }
@@ -118,13 +130,20 @@ fn lowered_right<M: Metric>(words: &[u64], rect: Rect, gap: u16, least: u64) -> 
 
 /// The least so far, or a lesser distance to an obstacle of the row to the left of the rectangle.
 #[inline(always)]
-fn lowered_left<M: Metric>(words: &[u64], rect: Rect, gap: u16, least: u64) -> u64
-    requires few { length words.now ≤ 64 }
-    requires columns { rect.x1 ≤ 64 * length words.now }
+fn lowered_left<M: Metric, R: Rows>(
+    rows: &mut R,
+    rect: Rect,
+    y: u16,
+    gap: u16,
+    least: u64,
+) -> u64
+    requires rect { IsRectIn (R.cells rows.old) rect }
+    requires row { y < (R.cells rows.old).height }
     requires gap { gap ≤ 4095 }
-    ensures { IsLoweredLeft M.distance words.now rect gap least result }
+    ensures least { IsLoweredLeft M.distance (words_of_row (R.cells rows.old) y) rect gap least result }
+    ensures rows { rows.new ≡ rows.old }
 {
-    match last_nearer::<M>(words, rect.x0, rect.x0, gap, least) {
+    match last_nearer::<M, R>(rows, y, rect.x0, rect.x0, gap, least) {
         Some(column) => u64::from(M::of(rect.x0 - column, gap)),
         None => least,
     }

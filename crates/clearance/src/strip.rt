@@ -2,9 +2,9 @@
 
 ghost use Rattle.clearance.specs.Segments.{IsStrip};
 
+use crate::rows::Rows;
 use crate::search::least_below;
 use crate::segment::step_towards;
-use bits::Bitmap;
 use metric::{Cell, Metric, Rect};
 
 /// Lines of `across` cells each, counted from 0: line 0 begins at `from`, and each further one is a step on towards `to`, which none passes.
@@ -21,7 +21,7 @@ impl Strip {
     ghost use Rattle.bits.specs.Cells.{IsObstacle};
     ghost use Rattle.clearance.specs.Paths.{towards};
     ghost use Rattle.clearance.specs.Search.{IsInRect};
-    ghost use Rattle.clearance.specs.Strips.{IsFirstNear, IsOnLine, IsSomeNear};
+    ghost use Rattle.clearance.specs.Strips.{IsFirstNear, IsOnLine, IsSomeNear, IsStripIn};
 
     /// The first cell of a line.
     pub fn cell(self, line: u16) -> Cell
@@ -53,16 +53,22 @@ impl Strip {
     }
 
     /// The first of the lines from `first` to `last` that has an obstacle at a distance below the limit. One of them has.
-    pub fn first_near<M: Metric>(self, bitmap: &Bitmap, first: u16, last: u16, limit: u64) -> u16
-        requires columns { max self.from.x self.to.x + self.across ≤ bitmap.now.width }
-        requires rows { max self.from.y self.to.y < bitmap.now.height }
-        requires some { IsSomeNear M.distance (IsObstacle bitmap.now) self limit first last }
-        ensures { IsFirstNear M.distance (IsObstacle bitmap.now) self limit first last result }
+    pub fn first_near<M: Metric, R: Rows>(
+        self,
+        rows: &mut R,
+        first: u16,
+        last: u16,
+        limit: u64,
+    ) -> u16
+        requires strip { IsStripIn (R.cells rows.old) self }
+        requires some { IsSomeNear M.distance (IsObstacle (R.cells rows.old)) self limit first last }
+        ensures found { IsFirstNear M.distance (IsObstacle (R.cells rows.old)) self limit first last result }
+        ensures rows { rows.new ≡ rows.old }
     {
         let (mut low, mut high) = (first, last);
         'halves: while low < high {
             let middle = low + (high - low) / 2;
-            if least_below::<M>(bitmap, self.rect(low, middle), limit) < limit {
+            if least_below::<M, R>(rows, self.rect(low, middle), limit) < limit {
                 high = middle;
             } else {
                 low = middle + 1;

@@ -8,54 +8,57 @@ ghost use Rattle.clearance.specs.Paths.{cells_of_path, cells_up_to, path_refusal
 ghost use Rattle.clearance.specs.Segments.{IsStraight};
 
 use crate::area::with_nearest;
+use crate::rows::{Rows, holds};
 use crate::search::{NO_LIMIT, least_below};
 use crate::segment::count_cells;
 use crate::strip::Strip;
-use bits::Bitmap;
 use metric::{Cell, Metric, Near};
 
 /// The first cell of the least distance along a path that isn't refused, with its nearest obstacle; `None` where the bitmap has no obstacle.
-pub fn least_of_path<M: Metric>(bitmap: &Bitmap, points: &[Cell]) -> Option<(Cell, Near)>
-    requires { path_refusal bitmap.now points.now ≡ None }
-    ensures { IsLeastOf M.distance (IsObstacle bitmap.now) (cells_of_path points.now) result }
+pub fn least_of_path<M: Metric, R: Rows>(rows: &mut R, points: &[Cell]) -> Option<(Cell, Near)>
+    requires { path_refusal (R.cells rows.old) points.now ≡ None }
+    ensures found { IsLeastOf M.distance (IsObstacle (R.cells rows.old)) (cells_of_path points.now) result }
+    ensures rows { rows.new ≡ rows.old }
 {
-    let least = least_along::<M>(bitmap, points);
+    let least = least_along::<M, R>(rows, points);
     if least >= NO_LIMIT {
         return None;
     }
-    first_of_path::<M>(bitmap, points, least + 1)
+    first_of_path::<M, R>(rows, points, least + 1)
 }
 
 /// The least distance along a path; `NO_LIMIT` where the bitmap has no obstacle.
-fn least_along<M: Metric>(bitmap: &Bitmap, points: &[Cell]) -> u64
-    requires { path_refusal bitmap.now points.now ≡ None }
-    ensures { IsLeastOver M.distance (IsObstacle bitmap.now) (cells_of_path points.now) (2 ^ 32) result }
+fn least_along<M: Metric, R: Rows>(rows: &mut R, points: &[Cell]) -> u64
+    requires { path_refusal (R.cells rows.old) points.now ≡ None }
+    ensures found { IsLeastOver M.distance (IsObstacle (R.cells rows.old)) (cells_of_path points.now) (2 ^ 32) result }
+    ensures rows { rows.new ≡ rows.old }
 {
     let (mut least, mut from) = (NO_LIMIT, points[0]);
-    let inside = bitmap.holds(from);
+    let inside = holds(rows, from);
     prove!(inside);
     'pieces: for to in points {
-        least = least_of_piece::<M>(bitmap, from, *to, least);
+        least = least_of_piece::<M, R>(rows, from, *to, least);
         from = *to;
     }
     least
 }
 
 /// The first cell along a path that has an obstacle at a distance below the limit, with its nearest obstacle; `None` where no cell has.
-pub fn first_of_path<M: Metric>(
-    bitmap: &Bitmap,
+pub fn first_of_path<M: Metric, R: Rows>(
+    rows: &mut R,
     points: &[Cell],
     limit: u64,
 ) -> Option<(Cell, Near)>
-    requires { path_refusal bitmap.now points.now ≡ None }
-    ensures { IsFirstOrNone M.distance (IsObstacle bitmap.now) (cells_of_path points.now) limit result }
+    requires { path_refusal (R.cells rows.old) points.now ≡ None }
+    ensures found { IsFirstOrNone M.distance (IsObstacle (R.cells rows.old)) (cells_of_path points.now) limit result }
+    ensures rows { rows.new ≡ rows.old }
 {
     let mut from = points[0];
-    let inside = bitmap.holds(from);
+    let inside = holds(rows, from);
     prove!(inside);
     'pieces: for to in points {
-        if least_of_piece::<M>(bitmap, from, *to, limit) < limit {
-            return first_of_piece::<M>(bitmap, from, *to, limit);
+        if least_of_piece::<M, R>(rows, from, *to, limit) < limit {
+            return first_of_piece::<M, R>(rows, from, *to, limit);
         }
         from = *to;
     }
@@ -63,40 +66,42 @@ pub fn first_of_path<M: Metric>(
 }
 
 /// The least of the limit and of the distances of the cells behind a point, up to the next.
-fn least_of_piece<M: Metric>(bitmap: &Bitmap, from: Cell, to: Cell, limit: u64) -> u64
+fn least_of_piece<M: Metric, R: Rows>(rows: &mut R, from: Cell, to: Cell, limit: u64) -> u64
     requires straight { IsStraight from to }
-    requires from { IsInside bitmap.now from.x from.y }
-    requires to { IsInside bitmap.now to.x to.y }
-    requires bitmap { IsBitmap bitmap.now }
-    ensures { IsLeastOver M.distance (IsObstacle bitmap.now) (cells_up_to from to) limit result }
+    requires from { IsInside (R.cells rows.old) from.x from.y }
+    requires to { IsInside (R.cells rows.old) to.x to.y }
+    requires bitmap { IsBitmap (R.cells rows.old) }
+    ensures found { IsLeastOver M.distance (IsObstacle (R.cells rows.old)) (cells_up_to from to) limit result }
+    ensures rows { rows.new ≡ rows.old }
 {
     let cells = Strip {
         from,
         to,
         across: 1,
     };
-    least_below::<M>(bitmap, cells.rect(1, count_cells(from, to)), limit)
+    least_below::<M, R>(rows, cells.rect(1, count_cells(from, to)), limit)
 }
 
 /// The first of the cells behind a point, up to the next, that has an obstacle at a distance below the limit, with its nearest obstacle. There is one.
-fn first_of_piece<M: Metric>(
-    bitmap: &Bitmap,
+fn first_of_piece<M: Metric, R: Rows>(
+    rows: &mut R,
     from: Cell,
     to: Cell,
     limit: u64,
 ) -> Option<(Cell, Near)>
     requires straight { IsStraight from to }
-    requires from { IsInside bitmap.now from.x from.y }
-    requires to { IsInside bitmap.now to.x to.y }
-    requires bitmap { IsBitmap bitmap.now }
-    requires some { IsListNear M.distance (IsObstacle bitmap.now) (cells_up_to from to) limit }
-    ensures { IsFirstOrNone M.distance (IsObstacle bitmap.now) (cells_up_to from to) limit result }
+    requires from { IsInside (R.cells rows.old) from.x from.y }
+    requires to { IsInside (R.cells rows.old) to.x to.y }
+    requires bitmap { IsBitmap (R.cells rows.old) }
+    requires some { IsListNear M.distance (IsObstacle (R.cells rows.old)) (cells_up_to from to) limit }
+    ensures found { IsFirstOrNone M.distance (IsObstacle (R.cells rows.old)) (cells_up_to from to) limit result }
+    ensures rows { rows.new ≡ rows.old }
 {
     let cells = Strip {
         from,
         to,
         across: 1,
     };
-    let step = cells.first_near::<M>(bitmap, 1, count_cells(from, to), limit);
-    with_nearest::<M>(bitmap, cells.cell(step))
+    let step = cells.first_near::<M, R>(rows, 1, count_cells(from, to), limit);
+    with_nearest::<M, R>(rows, cells.cell(step))
 }

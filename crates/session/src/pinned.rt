@@ -10,6 +10,7 @@ ghost use Rattle.session.specs.Sessions.{bitmap_pinned, newest_seen};
 
 mod commands;
 mod queries;
+mod rows;
 
 use crate::reading::read_once;
 use crate::room::Room;
@@ -28,6 +29,8 @@ pub struct Pinned<Id: StoreName> {
     // The version's bitmap once it is read, and until then room for it.
     pub(crate) bitmap: Bitmap,
     pub(crate) read: bool,
+    // How many words queries may look at, one by one, before the version is read.
+    pub(crate) looks: u32,
 }
 
 impl<Id: StoreName> Model for Pinned<Id> {
@@ -57,6 +60,11 @@ impl<Id: StoreName> Pinned<Id> {
         ensures { result ≡ self.now.seat.made }
     {
         self.seat.made()
+    }
+
+    /// Whether its version has been read.
+    fn is_read(&self) -> bool {
+        self.read
     }
 
     /// The bitmap that was published as the version that it holds. It is read from the shared words when it is first asked for: 65 loads for
@@ -92,6 +100,7 @@ impl<Id: StoreName> Pinned<Id> {
             version: _,
             bitmap,
             read: _,
+            looks: _,
         } = self;
         seat.leave();
         let room = Room::with(bitmap);

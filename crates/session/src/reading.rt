@@ -1,7 +1,9 @@
 //! Reading a version by the shared words.
 
-ghost use Rattle.std.specs.Prelude.{◌≡◌, ◌<◌, true, Some};
+ghost use Rattle.std.specs.Prelude.{◌≡◌, ◌<◌, true, Some, slice_index};
 ghost use Rattle.bits.specs.TileWords.{tile_words};
+ghost use Rattle.bits.specs.Words.{words_across};
+ghost use Rattle.clearance.specs.Rows.{words_of_row};
 ghost use Rattle.map_core.specs.Words.{tiles};
 ghost use Rattle.map_core.specs.Tidy.{IsOfMap};
 ghost use Rattle.session.specs.Sessions.{bitmap_seen};
@@ -25,6 +27,26 @@ fn read_tile<Id: StoreName>(
     'rows: for row in 0..64u16 {
         words[usize::from(row)] = seat.look_tile(block, row);
     }
+}
+
+/// Looks at one word of a row of the held version, whose rows take so many: at the block of its tile, and at the tile's row.
+pub fn look_word<Id: StoreName>(
+    seat: &mut ReaderSeat<Id>,
+    version: u32,
+    across: u16,
+    y: u16,
+    index: u16,
+) -> u64
+    requires held { seat.old.holds ≡ Some version }
+    requires of_map { IsOfMap Id.store.base (bitmap_seen Id.store seat.old version) }
+    requires across { across ≡ words_across (bitmap_seen Id.store seat.old version).width }
+    requires row { y < (bitmap_seen Id.store seat.old version).height }
+    requires index { index < across }
+    ensures seat { seat.new ≡ seat.old }
+    ensures word { result ≡ slice_index (words_of_row (bitmap_seen Id.store seat.old version) y) index }
+{
+    let block = seat.look_map(version, y / 64 * across + index);
+    seat.look_tile(block, y % 64)
 }
 
 /// Reads the held version, tile by tile, into a bitmap of the map's size.

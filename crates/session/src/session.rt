@@ -16,6 +16,9 @@ use shelf::{ReaderSeat, StoreName, Ticket};
 use std::alloc::Global;
 use std::marker::Model;
 
+/// For each tile of the map a pin's queries look at so many words one by one, before they read the version as a whole.
+const LOOKS: u32 = 8;
+
 /// A session of a store: it makes commands, and pins versions. Contracts see it as its number, what it has seen of the log, and how many
 /// entries of it are its own. It has announced nothing and holds nothing.
 ///
@@ -70,6 +73,7 @@ impl<Id: StoreName> Session<Id> {
         let Some(bitmap) = room.take(alloc) else {
             return Err((Session { seat, room }, Refusal::Memory));
         };
+        let looks = LOOKS * u32::from(bitmap.tiles());
         seat.take();
         seat.announce();
         let now = seat.take();
@@ -78,6 +82,7 @@ impl<Id: StoreName> Session<Id> {
             version: now.version,
             bitmap,
             read: false,
+            looks,
         })
     }
 

@@ -22,7 +22,11 @@ impl<Id: StoreName> Pinned<Id> {
         ensures near { IfOk result (λ near. IsNear M.distance (IsObstacle (bitmap_pinned Id.store self.old)) cell.x cell.y near) }
         ensures refused { IfErr result (IsRefusalFor (IsInside (bitmap_pinned Id.store self.old) cell.x cell.y)) }
     {
-        clearance::at::<M>(alloc, self.bitmap(), cell)
+        if self.is_read() {
+            clearance::at::<M>(alloc, self.bitmap(), cell)
+        } else {
+            clearance::at_rows::<M, Pinned<Id>>(alloc, self, cell)
+        }
     }
 
     /// The least distance over a rectangle in the version that it holds, as `clearance::least_in` answers.
@@ -38,7 +42,11 @@ impl<Id: StoreName> Pinned<Id> {
         ensures least { IfOk result (IsLeastOf M.distance (IsObstacle (bitmap_pinned Id.store self.old)) (cells_of_rect rect.x0 rect.y0 rect.x1 rect.y1)) }
         ensures refused { IfErr result (IsRefusalFor (LiesIn (bitmap_pinned Id.store self.old) rect)) }
     {
-        clearance::least_in::<M>(alloc, self.bitmap(), rect)
+        if self.is_read() {
+            clearance::least_in::<M>(alloc, self.bitmap(), rect)
+        } else {
+            clearance::least_in_rows::<M, Pinned<Id>>(alloc, self, rect)
+        }
     }
 
     /// The least distance along a path in the version that it holds, as `clearance::along` answers.
@@ -55,7 +63,11 @@ impl<Id: StoreName> Pinned<Id> {
         ensures least { IfOk result (IsLeastOf M.distance (IsObstacle (bitmap_pinned Id.store self.old)) (cells_of_path points.now)) }
         ensures refused { IfErr result (IsPathRefusal (bitmap_pinned Id.store self.old) points.now) }
     {
-        clearance::along::<M>(alloc, self.bitmap(), points)
+        if self.is_read() {
+            clearance::along::<M>(alloc, self.bitmap(), points)
+        } else {
+            clearance::along_rows::<M, Pinned<Id>>(alloc, self, points)
+        }
     }
 
     /// Whether each cell of a path is at least `d` away from the obstacles of the version that it holds, in the metric's unit, as
@@ -71,6 +83,10 @@ impl<Id: StoreName> Pinned<Id> {
         ensures clear { IfOk result (IsClearOf M.distance (IsObstacle (bitmap_pinned Id.store self.old)) (cells_of_path points.now) d) }
         ensures refused { IfErr result (IsPathRefusal (bitmap_pinned Id.store self.old) points.now) }
     {
-        clearance::clear_of::<M>(alloc, self.bitmap(), points, d)
+        if self.is_read() {
+            clearance::clear_of::<M>(alloc, self.bitmap(), points, d)
+        } else {
+            clearance::clear_of_rows::<M, Pinned<Id>>(alloc, self, points, d)
+        }
     }
 }

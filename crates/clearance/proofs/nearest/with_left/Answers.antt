@@ -1,20 +1,36 @@
 -- Obstacle by obstacle to the left, as long as one is as near as the best.
-use Rattle.std.proofs.Common.{arith}
+use Rattle.std.proofs.Common.{◌∙◌, arith}
 use Rattle.clearance.proofs.NearestSearches.{IsNearAmong-left, IsNearAmong-left_none}
+use Rattle.clearance.proofs.RowWords.{IsRowOf-words}
+use Rattle.clearance.specs.Rows.{words_of_row}
 use Rattle.clearance.proofs.nearest.with_left.Goals as goal
 
 pub left-preserved : goal.left-preserved
 left-preserved g c =
-    let order = c.in-Some.ensures.order in
+    let cells = g.R.Rows.cells c.args.rows.now in
+    let sought = c.left.invariant.sought in
+    let found = rw (c.left.invariant.rows) at c.in-Some.ensures.last in
+    let order = found.order in
     let left = c.left.invariant.order in
     record {
-      best =
-          IsNearAmong-left _ c.args.bitmap.now c.args.cell.x c.args.cell.y c.args.row c.args.gap c.limit_of.result c.of-dist.result c.in-Some.x c.left.end c.row_words-words.result.now c.left.best c.better.result
-          c.requires.bitmap c.left.invariant.order c.row_words-words.ensures c.requires.gap c.in-Some.ensures c.of-dist.ensures c.better.ensures c.left.invariant.best;
+      rows = c.last_nearer.ensures.rows ∙ c.left.invariant.rows;
+      sought = record {
+        bitmap = sought.bitmap;
+        inside = sought.inside;
+        near = IsNearAmong-left _ cells c.args.cell.x c.args.cell.y c.args.row c.args.gap c.limit_of.result c.of-dist.result c.in-Some.x c.left.end (words_of_row cells c.args.row) c.left.best c.better.result
+            sought.bitmap c.left.invariant.order (IsRowOf-words cells c.args.row) c.requires.gap found c.of-dist.ensures c.better.ensures sought.near;
+      };
       order = omega arith;
     }
 
-pub returns : goal.returns
-returns g c =
-    IsNearAmong-left_none _ c.args.bitmap.now c.args.cell.x c.args.cell.y c.args.row c.args.gap c.limit_of.result c.left.end c.row_words-words.result.now c.left.best
-    c.requires.bitmap c.left.invariant.order c.row_words-words.ensures c.requires.gap c.limit_of.ensures (rw (c.in_default.is) at c.last_nearer.ensures) c.left.invariant.best
+pub returns-clause-sought : goal.returns-clause-sought
+returns-clause-sought g c =
+    let cells = g.R.Rows.cells c.args.rows.now in
+    let sought = c.left.invariant.sought in
+    let none = rw (c.in_default.is, c.left.invariant.rows) at c.last_nearer.ensures.last in
+    rw (c.last_nearer.ensures.rows, c.left.invariant.rows) (record {
+      bitmap = sought.bitmap;
+      inside = sought.inside;
+      near = IsNearAmong-left_none _ cells c.args.cell.x c.args.cell.y c.args.row c.args.gap c.limit_of.result c.left.end (words_of_row cells c.args.row) c.left.best
+          sought.bitmap c.left.invariant.order (IsRowOf-words cells c.args.row) c.requires.gap c.limit_of.ensures none sought.near;
+    })

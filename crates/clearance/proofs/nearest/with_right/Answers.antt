@@ -1,18 +1,40 @@
 -- The first obstacle from the cell's column on is the only one that counts.
 use Rattle.std.proofs.Common.{◌≤◌, length, arith}
+use Rattle.clearance.specs.Rows.{words_of_row}
 use Rattle.clearance.proofs.NearestSearches.{IsNearAmong-right, IsNearAmong-right_none}
+use Rattle.clearance.proofs.RowSearches.{mark_within}
+use Rattle.clearance.proofs.RowWords.{IsRowOf-words, length-words_of_row}
 use Rattle.clearance.proofs.nearest.with_right.Goals as goal
 
-pub returns-in-Some : goal.returns-in-Some
-returns-in-Some g c =
-    let words = c.row_words-words.result.now in
-    let wide = c.requires.bitmap.width_is.few in
-    let many = c.row_words-words.ensures.as_many in
-    let few : length words ≤ 64 = omega arith in
-    IsNearAmong-right _ g.met.M.Metric.stays_nearer c.args.bitmap.now c.args.cell.x c.args.cell.y c.args.row c.args.gap c.limit_of.result c.of-dist.result c.in-Some.x words c.args.best c.better.result
-    c.requires.bitmap c.requires.inside.column c.requires.inside.row c.requires.row c.row_words-words.ensures few c.requires.gap c.in-Some.ensures c.of-dist.ensures c.better.ensures c.requires.best
+pub of-dist-requires-clause-columns : goal.of-dist-requires-clause-columns
+of-dist-requires-clause-columns g c =
+    let words = words_of_row (g.R.Rows.cells c.args.rows.now) c.args.row in
+    let wide = c.requires.sought.bitmap.width_is.few in
+    let few : length words ≤ 64 = omega (arith, length-words_of_row (g.R.Rows.cells c.args.rows.now) c.args.row) in
+    omega (arith, mark_within words c.in-Some.x few c.in-Some.ensures.next.marked)
 
-pub returns-in-None : goal.returns-in-None
-returns-in-None g c =
-    IsNearAmong-right_none _ c.args.bitmap.now c.args.cell.x c.args.cell.y c.args.row c.args.gap c.limit_of.result c.row_words-words.result.now c.args.best
-    c.requires.bitmap c.row_words-words.ensures c.requires.gap c.limit_of.ensures c.in-None.ensures c.requires.best
+pub returns-in-Some-clause-sought : goal.returns-in-Some-clause-sought
+returns-in-Some-clause-sought g c =
+    let cells = g.R.Rows.cells c.args.rows.now in
+    let sought = c.requires.sought in
+    let words = words_of_row cells c.args.row in
+    let wide = sought.bitmap.width_is.few in
+    let many = length-words_of_row cells c.args.row in
+    let few : length words ≤ 64 = omega arith in
+    rw (c.next_nearer.ensures.rows) (record {
+      bitmap = sought.bitmap;
+      inside = sought.inside;
+      near = IsNearAmong-right _ g.met.M.Metric.stays_nearer cells c.args.cell.x c.args.cell.y c.args.row c.args.gap c.limit_of.result c.of-dist.result c.in-Some.x words c.args.best c.better.result
+          sought.bitmap sought.inside.column sought.inside.row c.requires.row (IsRowOf-words cells c.args.row) few c.requires.gap c.in-Some.ensures.next c.of-dist.ensures c.better.ensures sought.near;
+    })
+
+pub returns-in-None-clause-sought : goal.returns-in-None-clause-sought
+returns-in-None-clause-sought g c =
+    let cells = g.R.Rows.cells c.args.rows.now in
+    let sought = c.requires.sought in
+    rw (c.next_nearer.ensures.rows) (record {
+      bitmap = sought.bitmap;
+      inside = sought.inside;
+      near = IsNearAmong-right_none _ cells c.args.cell.x c.args.cell.y c.args.row c.args.gap c.limit_of.result (words_of_row cells c.args.row) c.args.best
+          sought.bitmap (IsRowOf-words cells c.args.row) c.requires.gap c.limit_of.ensures c.in-None.ensures.next sought.near;
+    })

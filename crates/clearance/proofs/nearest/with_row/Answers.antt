@@ -1,8 +1,24 @@
 -- A row without an obstacle changes nothing.
+use Rattle.std.proofs.Common.{◌<◌, length, get_or, ℕ, arith}
+use Rattle.clearance.specs.Rows.{words_of_row}
 use Rattle.clearance.proofs.NearestSearches.{IsNearAmong-blank}
+use Rattle.clearance.proofs.RowWords.{IsRowOf-words, length-words_of_row}
 use Rattle.clearance.proofs.nearest.with_row.Goals as goal
 
-pub returns-then-is_blank : goal.returns-then-is_blank
-returns-then-is_blank g c =
-    IsNearAmong-blank _ c.args.bitmap.now c.args.cell.x c.args.cell.y c.args.row c.row_words.result.now c.args.best c.requires.bitmap c.row_words.ensures
-    (c.is_blank.ensures c.if-is_blank.true) c.requires.best
+pub with_right-right-requires : goal.with_right-right-requires
+with_right-right-requires g c = rw (c.is_passed.ensures.rows) c.requires
+
+pub with_left-requires-clause-row : goal.with_left-requires-clause-row
+with_left-requires-clause-row g c = rw (c.with_right-right.ensures.rows, c.is_passed.ensures.rows) c.requires.row
+
+pub returns-then-is_passed-clause-sought : goal.returns-then-is_passed-clause-sought
+returns-then-is_passed-clause-sought g c =
+    let cells = g.R.Rows.cells c.args.rows.now in
+    let sought = c.requires.sought in
+    let blank = c.is_passed.ensures.blank c.if-is_passed.true in
+    rw (c.is_passed.ensures.rows) (record {
+      bitmap = sought.bitmap;
+      inside = sought.inside;
+      near = IsNearAmong-blank _ cells c.args.cell.x c.args.cell.y c.args.row (words_of_row cells c.args.row) c.args.best sought.bitmap (IsRowOf-words cells c.args.row)
+          (λ (k : ℕ) (within : k < length (words_of_row cells c.args.row)). blank k (omega (arith, length-words_of_row cells c.args.row))) sought.near;
+    })

@@ -5,4 +5,4 @@ use Rattle.clearance.specs.Paths.{is_outside}
 use Rattle.clearance.proofs.path.leaves_bitmap.Given as goal
 
 abbrev pub invariant-points : goal.invariant-points
-invariant-points l = list_any (is_outside l.bitmap) l.points ≡ list_any (is_outside l.bitmap) (drop l.point-index l.points)
+invariant-points g l = list_any (is_outside (g.R.Rows.cells l.rows)) l.points ≡ list_any (is_outside (g.R.Rows.cells l.rows)) (drop l.point-index l.points)

@@ -1,5 +1,5 @@
 -- The pieces up to this point have been looked at.
-use Rattle.std.proofs.Common.{ℕ, ◌≤◌, length}
+use Rattle.std.proofs.Common.{◌≡◌, ℕ, ◌≤◌, length}
 use Rattle.bits.specs.Cells.{IsObstacle, IsInside}
 use Rattle.clearance.specs.Firsts.{IsLeastBefore}
 use Rattle.clearance.specs.Paths.{cells_of_path}
@@ -8,6 +8,7 @@ use Rattle.clearance.proofs.walk.least_along.Given as goal
 
 abbrev pub invariant-pieces : goal.invariant-pieces
 invariant-pieces g l = record {
-  inside : IsInside l.bitmap l.from.x l.from.y;
-  walked : (place : ℕ) × IsWalkedTo l.points place l.to-index l.from × (place ≤ length (cells_of_path l.points)) × IsLeastBefore g.M.Metric.distance (IsObstacle l.bitmap) (cells_of_path l.points) 4294967296 place l.least;
+  rows : l.rows ≡ l.fn.rows;
+  inside : IsInside (g.R.Rows.cells l.fn.rows) l.from.x l.from.y;
+  walked : (place : ℕ) × IsWalkedTo l.points place l.to-index l.from × (place ≤ length (cells_of_path l.points)) × IsLeastBefore g.M.Metric.distance (IsObstacle (g.R.Rows.cells l.fn.rows)) (cells_of_path l.points) 4294967296 place l.least;
 }

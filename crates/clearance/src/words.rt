@@ -1,0 +1,116 @@
+//! The obstacles of one row, found in its words, which are asked for one by one.
+
+ghost use Rattle.std.specs.Prelude.{◌≡◌, ◌-◌, ◌<◌, ◌≤◌};
+ghost use Rattle.bits.specs.Cells.{IsBitmap};
+ghost use Rattle.clearance.specs.Rows.{IsLastNearer, IsNextNearer, IsWhereNearer, words_of_row};
+
+use crate::bit::{bits_below, bits_from, highest_bit, lowest_bit};
+use crate::rows::Rows;
+use metric::Metric;
+
+/// How many cells a word holds.
+const WORD_CELLS: u16 = 64;
+
+/// The first obstacle of the row `y` from the column `start` on, where its distance is below `limit`.
+///
+/// Distances are measured from the column `edge`, so many rows away; a column before `edge` is no columns away.
+#[inline(always)]
+pub fn next_nearer<M: Metric, R: Rows>(
+    rows: &mut R,
+    y: u16,
+    start: u16,
+    edge: u16,
+    gap: u16,
+    limit: u64,
+) -> Option<u16>
+    requires bitmap { IsBitmap (R.cells rows.old) }
+    requires row { y < (R.cells rows.old).height }
+    requires start { start < (R.cells rows.old).width }
+    requires gap { gap ≤ 4095 }
+    ensures next { IsNextNearer M.distance (words_of_row (R.cells rows.old) y) start edge gap limit result }
+    ensures rows { rows.new ≡ rows.old }
+{
+    let own = start / WORD_CELLS;
+    let front = bits_from(rows.word(y, usize::from(own)), start % WORD_CELLS);
+    if front != 0 {
+        return right_nearer::<M>(own * WORD_CELLS + lowest_bit(front), edge, gap, limit);
+    }
+    'words: for index in usize::from(own) + 1..rows.across() {
+        let first = index as u16 * WORD_CELLS;
+        if u64::from(M::of(first.saturating_sub(edge), gap)) >= limit {
+            return None;
+        }
+        let word = rows.word(y, index);
+        if word != 0 {
+            return right_nearer::<M>(first + lowest_bit(word), edge, gap, limit);
+        }
+    }
+    None
+}
+
+/// The column, where its distance from a column on its left is below the limit.
+#[inline(always)]
+fn right_nearer<M: Metric>(column: u16, edge: u16, gap: u16, limit: u64) -> Option<u16>
+    requires column { column ≤ 4095 }
+    requires gap { gap ≤ 4095 }
+    ensures { IsWhereNearer (M.distance (column - edge) gap) limit column result }
+{
+    if u64::from(M::of(column.saturating_sub(edge), gap)) < limit {
+        Some(column)
+    } else {
+        None
+    }
+}
+
+/// The last obstacle of the row `y` before the column `end`, where its distance is below `limit`.
+///
+/// Distances are measured from the column `edge`, so many rows away.
+#[inline(always)]
+pub fn last_nearer<M: Metric, R: Rows>(
+    rows: &mut R,
+    y: u16,
+    end: u16,
+    edge: u16,
+    gap: u16,
+    limit: u64,
+) -> Option<u16>
+    requires row { y < (R.cells rows.old).height }
+    requires end { end < (R.cells rows.old).width }
+    requires edge { end ≤ edge }
+    requires within { edge ≤ 4095 }
+    requires gap { gap ≤ 4095 }
+    ensures last { IsLastNearer M.distance (words_of_row (R.cells rows.old) y) end edge gap limit result }
+    ensures rows { rows.new ≡ rows.old }
+{
+    let own = end / WORD_CELLS;
+    let back = bits_below(rows.word(y, usize::from(own)), end % WORD_CELLS);
+    if back != 0 {
+        return left_nearer::<M>(own * WORD_CELLS + highest_bit(back), edge, gap, limit);
+    }
+    'words: for away in 1..own + 1 {
+        let first = (own - away) * WORD_CELLS;
+        if u64::from(M::of(edge - (first + 63), gap)) >= limit {
+            return None;
+        }
+        let word = rows.word(y, usize::from(own - away));
+        if word != 0 {
+            return left_nearer::<M>(first + highest_bit(word), edge, gap, limit);
+        }
+    }
+    None
+}
+
+/// The column, where its distance from a column on its right is below the limit.
+#[inline(always)]
+fn left_nearer<M: Metric>(column: u16, edge: u16, gap: u16, limit: u64) -> Option<u16>
+    requires column { column ≤ edge }
+    requires edge { edge ≤ 4095 }
+    requires gap { gap ≤ 4095 }
+    ensures { IsWhereNearer (M.distance (edge - column) gap) limit column result }
+{
+    if u64::from(M::of(edge - column, gap)) < limit {
+        Some(column)
+    } else {
+        None
+    }
+}

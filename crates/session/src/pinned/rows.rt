@@ -1,0 +1,49 @@
+//! The words of the version that a pin holds, one by one: a fresh pin looks at those that it is asked for.
+
+ghost use Rattle.std.specs.Prelude.{◌≡◌, ◌<◌, ◌≤◌};
+
+use crate::pinned::Pinned;
+use crate::reading::look_word;
+use clearance::Rows;
+use shelf::StoreName;
+
+impl<Id: StoreName> Rows for Pinned<Id> {
+    ghost use Rattle.session.specs.Sessions.{bitmap_pinned};
+
+    ghost cells = { λ p. bitmap_pinned Id.store p };
+
+    fn width(&self) -> u16 {
+        self.bitmap.width()
+    }
+
+    fn height(&self) -> u16 {
+        self.bitmap.height()
+    }
+
+    fn across(&self) -> usize {
+        usize::from(self.bitmap.width()).div_ceil(64)
+    }
+
+    #[inline(always)]
+    fn word(&mut self, y: u16, index: usize) -> u64 {
+        if self.looks == 0 {
+            return self.bitmap().row_words(y)[index];
+        }
+        self.looks -= 1;
+        let across = self.bitmap.width().div_ceil(64);
+        look_word(&mut self.seat, self.version, across, y, index as u16)
+    }
+
+    fn is_blank(&mut self, y: u16) -> bool {
+        if self.looks == 0 {
+            let mut rows = self.bitmap();
+            return rows.is_blank(y);
+        }
+        'words: for index in 0..self.across() {
+            if self.word(y, index) != 0 {
+                return false;
+            }
+        }
+        true
+    }
+}
