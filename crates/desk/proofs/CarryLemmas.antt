@@ -1,8 +1,8 @@
 -- A command that the keeper commits is carried out: the reply that is computed is the one that its log has.
-use Rattle.std.proofs.Common.{◌≡◌, ℕ, ◌<◌, List, [], ◌∷◌, ◌++◌, refl, ap, subst, sym, ◌∙◌}
+use Rattle.std.proofs.Common.{◌≡◌, ℕ, ◌+◌, ◌^◌, ◌<◌, List, [], ◌∷◌, ◌++◌, refl, ap, subst, sym, ◌∙◌, arith}
 use Rattle.std.specs.Prelude.{false, Some, None}
 use Rattle.map_core.specs.declared.command.Command.{Command}
-use Rattle.map_core.specs.declared.command.Command.TheVariants.{Paint, Stamp, Publish, Revert, Collect}
+use Rattle.map_core.specs.declared.command.Command.TheVariants.{Paint, Stamp, Publish, Revert, Collect, Checkpoint}
 use Rattle.map_core.specs.declared.command.Reply.{Reply}
 use Rattle.map_core.specs.Blocks.{Blocks}
 use Rattle.map_core.specs.Drawing.{draws}
@@ -18,7 +18,9 @@ use Rattle.map_core.proofs.Replies.{HasFloor, the_reply}
 use Rattle.desk.specs.declared.holding.Holding.{Holding}
 use Rattle.desk.specs.Holdings.{IsTold, IsOneStep, Does}
 use Rattle.desk.specs.Carries.{CanCarry, IsCarried, signed}
+use Rattle.map_core.proofs.LedgerLemmas.{place_of_ledger}
 use Rattle.desk.proofs.HoldDraw.{judged_other}
+use Rattle.desk.proofs.HoldOpen.{can_answer}
 
 -- a command in hand, of which so many steps are done, and whose scan saw these words
 abbrev pub task_of : ℕ → Command → ℕ → List ℕ → Task
@@ -52,6 +54,7 @@ no_steps z m (Stamp x y b) one = refl
 no_steps z m Publish one = absurd one
 no_steps z m Revert one = refl
 no_steps z m Collect one = absurd one
+no_steps z m Checkpoint one = refl
 
 -- so it may be committed at once
 pub may_commit : (z : Base) (k u : KeeperView) (by : ℕ) (c : Command) → u ≡ ordered k by c → IsOneStep c → by < k.dealt → k.unmet ≡ None → MayCommit z u
@@ -80,3 +83,11 @@ no_floor z k (Stamp x y b) reply one = tt
 no_floor z k Publish reply one = absurd one
 no_floor z k Revert reply one = tt
 no_floor z k Collect reply one = absurd one
+no_floor z k Checkpoint reply one = tt
+
+-- a command that the ledger doesn't refuse: one more version can be counted
+pub next_version : (z : Base) (k : KeeperView) (h : Holding) (c : Command) → IsTold z (entries k.log) h → refused_by_ledger h.ledger c ≡ None → h.ledger.newest + 1 < 2 ^ 32
+next_version z k h c tells by =
+    let left = place_of_ledger h.ledger c by in
+    let fewer = (can_answer z (entries k.log) h tells).balanced.newest_in in
+    omega arith

@@ -1,43 +1,56 @@
 -- A desk's command: why it is refused, what the seat has then seen, and what the desk is then.
-use Rattle.std.proofs.Common.{◌≡◌, ℕ, ◌+◌, ◌==◌, cond, Bool, List, [], ◌∷◌, ◌++◌, length, refl, ap, subst, sym, ◌∙◌, arith, add-zero}
-use Rattle.std.specs.Prelude.{Option, Some, None}
+use Rattle.std.proofs.Common.{◌≡◌, ℕ, ◌+◌, ◌≤◌, ◌==◌, cond, Bool, true, false, if◌then◌else◌, List, [], ◌∷◌, ◌++◌, length, drop, refl, ap, subst, sym, ◌∙◌, arith, add-zero}
+use Rattle.std.specs.Prelude.{◌⊎◌, Option, Some, None}
+use Rattle.metric.specs.declared.refusal.Refusal.TheVariants.{PlacesUsed, Memory}
+use Rattle.map_core.specs.declared.command.Command.TheVariants.{Paint, Stamp, Publish, Revert, Collect, Checkpoint}
 use Rattle.std.proofs.lemmas.Bool.Decides.{nat_tests}
 use mathlib.Core.Logic.{inl, inr}
 use Rattle.metric.specs.declared.refusal.Refusal.{Refusal}
 use Rattle.map_core.specs.declared.command.Command.{Command}
 use Rattle.map_core.specs.declared.command.Entry.{Entry}
 use Rattle.map_core.specs.declared.command.Reply.{Reply}
-use Rattle.map_core.specs.Story.{newest}
+use Rattle.map_core.specs.Story.{Story, newest}
+use Rattle.map_core.specs.Ledger.{takes_room}
+use Rattle.map_core.specs.Legal.{told, refused, are_places_used}
 use Rattle.map_core.specs.Words.{Base}
 use Rattle.map_core.specs.Views.{story}
 use Rattle.shelf.specs.declared.signed.Signed.{Signed}
 use Rattle.shelf.specs.Store.{StoreId, readers_of}
-use Rattle.shelf.proofs.LogParts.{entries-push}
+use Rattle.shelf.proofs.LogParts.{entries-push, length-entries}
+use Rattle.shelf.proofs.NowLemmas.{story-push}
+use Rattle.map_core.proofs.LogLemmas.{places_are, places-legal}
+use Rattle.map_core.specs.Legal.{IsLegal}
+use Rattle.std.proofs.lemmas.List.{drop-append-le, drop_all, length-append}
 use Rattle.shelf.specs.Roles.{KeeperView, ReaderView, entries, resting, unmet_by}
 use Rattle.shelf.specs.Steps.{met, met_by}
 use Rattle.shelf.proofs.ReaderSeats.{hold_stays}
 use Rattle.desk.specs.declared.holding.Holding.{Holding}
 use Rattle.desk.specs.Holdings.{IsTold, Refuses}
 use Rattle.desk.specs.Carries.{CanCarry, IsCarried, signed}
-use Rattle.desk.specs.Desks.{DeskView, IsDesk, IsSteady, IsAccepted, IsWhy, IsRefused}
+use Rattle.desk.specs.Desks.{DeskView, story_told, base_place, kept_part, kept_after, IsDesk, IsSteady, IsAccepted, IsWhy, IsRefused}
 
 -- where the log refuses a command, or there is no memory for its entry
-why_is : (z : StoreId) (d : DeskView) (h : Holding) (c : Command) (has_room : Bool) (refusal : Refusal) → IsTold z.base (entries d.log) h → Refuses h c has_room refusal → IsWhy z d c refusal
-why_is z d h c has_room refusal told (inl judged) = inl (sym (judged z.base (entries d.log) told))
-why_is z d h c has_room refusal told (inr judged) = inr (sym (judged.0 z.base (entries d.log) told), judged.1)
+why_is : (z : StoreId) (d : DeskView) (h : Holding) (c : Command) (has_room : Bool) (refusal : Refusal) → IsTold z.base (entries d.log) h → (takes_room c ≡ false → has_room ≡ true) → Refuses h c has_room refusal
+    → IsWhy z d c refusal
+why_is z d h c has_room refusal told checkpoint (inl judged) = inl (sym (judged z.base (entries d.log) told))
+why_is z d h c has_room refusal told checkpoint (inr judged) = inr (sym (judged.0 z.base (entries d.log) told), judged.1, takes (takes_room c) has_room checkpoint judged.2)
+  where
+    takes : (takes has_room : Bool) → (takes ≡ false → has_room ≡ true) → has_room ≡ false → takes ≡ true
+    takes true has_room checkpoint none = refl
+    takes false has_room checkpoint none = absurd (let room = checkpoint refl in cc)
 
 -- a reader that holds steady has, once it has met the keeper, seen its log, and counts so many entries more
 met_steady : (z : Base) (k : KeeperView) (x : ReaderView) (more : ℕ) → IsSteady x → unmet_by x.number k.unmet ≡ more → met_by z k x ≡ record x { seen = k.log; made = x.made + more }
 met_steady z k x more steady count = λ i. record x { seen = k.log; made = x.made + count i; holds = hold_stays x (newest (story z (entries k.log))) steady i }
 
 -- the keeper of a desk once a reader has met it
-pub keeper_met : (z : StoreId) (d : DeskView) (k after : KeeperView) (h : Holding) (as' : List (Option ℕ)) → IsDesk z d k h as' → after ≡ met k → after ≡ resting (readers_of z) d.log
-keeper_met z d k after h as' desk is = is ∙ ap met desk.keeper_is
+pub keeper_met : (z : StoreId) (d : DeskView) (k after : KeeperView) (h : Holding) (kept : List Signed) (as' : List (Option ℕ)) → IsDesk z d k h kept as' → after ≡ met k → after ≡ resting (readers_of z) d.log
+keeper_met z d k after h kept as' desk is = is ∙ ap met desk.keeper_is
 
 -- the reader has then seen the desk's log
-pub reader_met : (z : StoreId) (d : DeskView) (k : KeeperView) (h : Holding) (as' : List (Option ℕ)) (x y : ReaderView) → IsDesk z d k h as' → IsSteady x → y ≡ met_by z.base k x
+pub reader_met : (z : StoreId) (d : DeskView) (k : KeeperView) (h : Holding) (kept : List Signed) (as' : List (Option ℕ)) (x y : ReaderView) → IsDesk z d k h kept as' → IsSteady x → y ≡ met_by z.base k x
     → y ≡ record x { seen = d.log }
-reader_met z d k h as' x y desk steady is =
+reader_met z d k h kept as' x y desk steady is =
     is ∙ (ap (λ (u : KeeperView). met_by z.base u x) desk.keeper_is
     ∙ (met_steady z.base (resting (readers_of z) d.log) x 0 steady refl ∙ ap (λ (n : ℕ). record x { seen = d.log; made = n }) (add-zero x.made)))
 
@@ -49,10 +62,10 @@ can_carry z d k h told is = record {
 }
 
 -- after a refusal
-pub refused_is : (z : StoreId) (d new : DeskView) (k : KeeperView) (h : Holding) (as' : List (Option ℕ)) (x y : ReaderView) (c : Command) (has_room : Bool) (refusal : Refusal) → IsDesk z d k h as'
-    → IsSteady x → Refuses h c has_room refusal → new ≡ d → y ≡ met_by z.base k x → IsRefused z d x c refusal new y
-refused_is z d new k h as' x y c has_room refusal desk steady judged same met_is =
-    record { why = why_is z d h c has_room refusal desk.told judged; same = same; seat_is = reader_met z d k h as' x y desk steady met_is }
+pub refused_is : (z : StoreId) (d new : DeskView) (k : KeeperView) (h : Holding) (kept : List Signed) (as' : List (Option ℕ)) (x y : ReaderView) (c : Command) (has_room : Bool) (refusal : Refusal) → IsDesk z d k h kept as'
+    → IsSteady x → (takes_room c ≡ false → has_room ≡ true) → Refuses h c has_room refusal → new ≡ d → y ≡ met_by z.base k x → IsRefused z d x c refusal new y
+refused_is z d new k h kept as' x y c has_room refusal desk steady checkpoint judged same met_is =
+    record { why = why_is z d h c has_room refusal desk.told checkpoint judged; same = same; seat_is = reader_met z d k h kept as' x y desk steady met_is }
 
 -- what was done of a command that is accepted: the keeper rested at the desk's log, and carried it out
 pub record IsDone (z : StoreId) (d : DeskView) (k : KeeperView) (h : Holding) (by : ℕ) (c : Command) (reply : Reply) (after : KeeperView) (new : Holding) : Type 0 where
@@ -66,15 +79,56 @@ keeper_after : (z : StoreId) (d : DeskView) (k : KeeperView) (h : Holding) (by :
 keeper_after z d k h by c reply after new done =
     done.carried.keeper_is ∙ ap (λ (u : KeeperView). record u { log = u.log ++ signed by c reply ∷ []; task = None; unmet = Some by }) done.at_rest
 
+-- ---- the entries that are kept
+
+-- the base place after one more entry
+base_told : (s : Story) (c : Command) (reply : Reply) → (told s c reply).base ≡ (if takes_room c then s.base else s.places + 1)
+unfolding told
+base_told s (Paint r black) reply = refl
+base_told s (Stamp x y b) reply = refl
+base_told s Publish reply = refl
+base_told s Revert reply = refl
+base_told s Collect reply = refl
+base_told s Checkpoint reply = refl
+
+-- the base place of a log with one more entry
+base_push : (z : StoreId) (log : List Signed) (e : Signed) → base_place z (log ++ e ∷ []) ≡ (if takes_room e.entry.command then base_place z log else length log + 1)
+base_push z log e =
+    ap (λ (s : Story). s.base) (story-push z.base log e)
+    ∙ (base_told (story_told z log) e.entry.command e.entry.reply ∙ ap (λ (n : ℕ). if takes_room e.entry.command then base_place z log else n + 1) (places_are z.base (entries log) ∙ length-entries log))
+
+-- the entries that are kept of a log with one more
+pub kept_push : (z : StoreId) (log : List Signed) (e : Signed) → IsLegal z.base.setting z.base.opening (entries log) → kept_part z (log ++ e ∷ []) ≡ kept_after (kept_part z log) e
+kept_push z log e legal =
+    ap (λ (n : ℕ). drop n (log ++ e ∷ [])) (base_push z log e) ∙ by_room (takes_room e.entry.command)
+  where
+    within : base_place z log ≤ length log
+    within =
+        let counts = places-legal z.base (entries log) legal in
+        let places : (story_told z log).places ≡ length log = places_are z.base (entries log) ∙ length-entries log in
+        let low = counts.2 in
+        omega arith
+
+    by_room : (takes : Bool) → drop (if takes then base_place z log else length log + 1) (log ++ e ∷ []) ≡ (if takes then kept_part z log ++ e ∷ [] else [])
+    by_room true = drop-append-le (base_place z log) log (e ∷ []) within
+    by_room false = drop_all (length log + 1) (log ++ e ∷ []) (omega (arith, length-append log (e ∷ [])))
+
+-- the whole log after a command that is accepted
+pub log_after : (z : StoreId) (d : DeskView) (k : KeeperView) (h : Holding) (by : ℕ) (c : Command) (reply : Reply) (after last : KeeperView) (new : Holding) → IsDone z d k h by c reply after new → last ≡ met after
+    → last.log ≡ d.log ++ signed by c reply ∷ []
+log_after z d k h by c reply after last new done last_is = ap (λ (q : KeeperView). q.log) (last_is ∙ ap met (keeper_after z d k h by c reply after new done))
+
 -- the desk after a command that is accepted
-pub desk_after : (z : StoreId) (d : DeskView) (k : KeeperView) (h : Holding) (by : ℕ) (c : Command) (reply : Reply) (after last : KeeperView) (new : Holding) (log : List Signed) (as' : List (Option ℕ))
-    → IsDone z d k h by c reply after new → log ≡ d.log ++ signed by c reply ∷ [] → last ≡ met after → length as' ≡ readers_of z → IsDesk z record { log = log } last new as'
-desk_after z d k h by c reply after last new log as' done log_is last_is place_each =
+pub desk_after : (z : StoreId) (d : DeskView) (k : KeeperView) (h : Holding) (by : ℕ) (c : Command) (reply : Reply) (after last : KeeperView) (new : Holding) (before kept : List Signed) (as' : List (Option ℕ))
+    → IsDone z d k h by c reply after new → before ≡ kept_part z d.log → kept ≡ kept_after before (signed by c reply) → last ≡ met after → length as' ≡ readers_of z → IsDesk z record { log = last.log } last new kept as'
+desk_after z d k h by c reply after last new before kept as' done before_is kept_is last_is place_each =
     let e = signed by c reply in
-    subst (λ (l : List Signed). IsDesk z record { log = l } last new as') (sym log_is)
+    let rests : last ≡ resting (readers_of z) (d.log ++ e ∷ []) = last_is ∙ ap met (keeper_after z d k h by c reply after new done) in
+    subst (λ (q : KeeperView). IsDesk z record { log = q.log } q new kept as') (sym rests)
     record {
-      keeper_is = last_is ∙ ap met (keeper_after z d k h by c reply after new done);
+      keeper_is = refl;
       told = subst (λ (l : List Entry). IsTold z.base l new) (sym (entries-push d.log e)) (done.carried.does z.base (entries d.log) done.told).1;
+      kept_is = kept_is ∙ (ap (λ (l : List Signed). kept_after l e) before_is ∙ sym (kept_push z d.log e done.told.legal));
       place_each = place_each;
     }
 
@@ -85,9 +139,15 @@ pub accepted_is : (z : StoreId) (d now : DeskView) (k : KeeperView) (h : Holding
 accepted_is z d now k h by c reply after new x seen y done steady by_is now_is seen_is y_is =
     let one = same_number x.number by by_is in
     let last : KeeperView = record (resting (readers_of z) (d.log ++ signed by c reply ∷ [])) { unmet = Some by } in
+    let whole : now.log ≡ d.log ++ signed x.number c reply ∷ [] = ap (λ (v : DeskView). v.log) now_is ∙ ap (λ (n : ℕ). d.log ++ signed n c reply ∷ []) by_is in
     record {
       answer = (done.carried.does z.base (entries d.log) done.told).0;
-      log = ap (λ (v : DeskView). v.log) now_is ∙ ap (λ (n : ℕ). d.log ++ signed n c reply ∷ []) by_is;
+      log = whole;
+      kept = ap (kept_part z) whole ∙ kept_push z d.log (signed x.number c reply) done.told.legal;
+      base =
+          ap (base_place z) whole
+          ∙ (base_push z d.log (signed x.number c reply)
+          ∙ ap (λ (n : ℕ). if takes_room c then base_place z d.log else n) (sym (ap length whole ∙ length-append d.log (signed x.number c reply ∷ []))));
       seat_is = y_is ∙ ((λ i. met_by z.base (keeper_after z d k h by c reply after new done i) (seen_is i))
           ∙ (met_steady z.base last (record x { seen = d.log }) 1 steady one
           ∙ ap (λ (l : List Signed). record x { seen = l; made = x.made + 1 }) (sym (ap (λ (v : DeskView). v.log) now_is))));
@@ -95,3 +155,13 @@ accepted_is z d now k h by c reply after new x seen y done steady by_is now_is s
   where
     same_number : (a b : ℕ) → b ≡ a → ◌≡◌ {A = ℕ} (cond (a == b) 1 0) 1
     same_number a b is = grind (arith, nat_tests)
+
+-- a checkpoint is refused for want of a place alone
+pub only_places : (z : StoreId) (d new : DeskView) (x y : ReaderView) (refusal : Refusal) → IsRefused z d x Checkpoint refusal new y → refusal ≡ PlacesUsed
+unfolding refused
+only_places z d new x y refusal back = by_why (are_places_used (story_told z d.log)) refusal back.why
+  where
+    by_why : (used : Bool) (refusal : Refusal) → ((if used then Some PlacesUsed else None) ≡ Some refusal) ⊎ (((if used then Some PlacesUsed else None) ≡ None) × (refusal ≡ Memory) × (false ≡ true)) → refusal ≡ PlacesUsed
+    by_why true refusal (inl is) = cc
+    by_why false refusal (inl is) = absurd (cc)
+    by_why used refusal (inr is) = absurd (let never = is.2 in cc)

@@ -1,5 +1,5 @@
 -- What is held after a paint or a stamp, and after a revert.
-use Rattle.std.proofs.Common.{◌≡◌, ℕ, ◌+◌, ◌-◌, Bool, true, false, if◌then◌else◌, List, length, drop, map, replicate, refl, ap, subst, sym, ◌∙◌, arith}
+use Rattle.std.proofs.Common.{◌≡◌, ℕ, ◌+◌, ◌-◌, Bool, true, false, if◌then◌else◌, List, [], ◌∷◌, ◌++◌, length, drop, map, replicate, refl, ap, subst, sym, ◌∙◌, arith}
 use Rattle.std.specs.Prelude.{Option, Some, None, is_some, nat_lt, unwrap_or}
 use Rattle.std.proofs.lemmas.List.{length-map}
 use mathlib.Core.Logic.{inl, inr}
@@ -7,10 +7,10 @@ use Rattle.bits.specs.Cells.{Cells}
 use Rattle.metric.specs.declared.refusal.Refusal.{Refusal}
 use Rattle.metric.specs.declared.refusal.Refusal.TheVariants.{OutOfRange, BlocksFull, Memory}
 use Rattle.map_core.specs.declared.command.Command.{Command}
-use Rattle.map_core.specs.declared.command.Command.TheVariants.{Paint, Stamp, Publish, Revert, Collect}
+use Rattle.map_core.specs.declared.command.Command.TheVariants.{Paint, Stamp, Publish, Revert, Collect, Checkpoint}
 use Rattle.map_core.specs.declared.command.Entry.{Entry}
 use Rattle.map_core.specs.declared.command.Reply.{Reply}
-use Rattle.map_core.specs.declared.command.Reply.TheVariants.{Painted, Reverted}
+use Rattle.map_core.specs.declared.command.Reply.TheVariants.{Painted, Reverted, Checkpointed}
 use Rattle.map_core.specs.declared.ledger.Ledger.{Ledger}
 use Rattle.map_core.specs.declared.setting.Setting.{Setting}
 use Rattle.map_core.specs.Drawing.{touched, differing, cells_changed, is_inside, draws, IsDraw}
@@ -22,8 +22,8 @@ use Rattle.map_core.specs.Summary.{Summary, IsSummary}
 use Rattle.map_core.specs.Words.{Base}
 use Rattle.map_core.specs.Views.{story, blocks}
 use Rattle.map_core.specs.Tidy.{IsTidy}
-use Rattle.map_core.proofs.LedgerLemmas.{refused_first, refused_next, refused_for_none, inside_told, told_draw, ledger_draw, ledger_revert}
-use Rattle.map_core.proofs.SummaryDraw.{IsDrawnOn, moved_draw, summary_draw, summary_revert}
+use Rattle.map_core.proofs.LedgerLemmas.{refused_first, refused_next, refused_for_none, inside_told, told_draw, ledger_draw, ledger_revert, ledger_checkpoint}
+use Rattle.map_core.proofs.SummaryDraw.{IsDrawnOn, moved_draw, summary_draw, summary_revert, summary_checkpoint}
 use Rattle.map_core.proofs.TidyDraft.{free_is}
 use Rattle.grid.specs.Grids.{Draws, Reverts, draft, own_blocks, needed_by, refused_by}
 use Rattle.grid.specs.Pieces.{block_if}
@@ -78,6 +78,7 @@ judged_draw k log h c answer tells draws by is =
     as_draw g s Publish draws = absurd draws
     as_draw g s Revert draws = absurd draws
     as_draw g s Collect draws = absurd draws
+    as_draw g s Checkpoint draws = absurd draws
 
 -- another command that the ledger doesn't refuse isn't refused
 pub judged_other : (k : Base) (log : List Entry) (h : Holding) (c : Command) → IsTold k log h → draws c ≡ false → refused_by_ledger h.ledger c ≡ None → None ≡ refused k.setting (story k log) c
@@ -125,6 +126,7 @@ draw_done old new c changed reply draws by passed drew home entered said k log t
     replies s l Publish changed reply draws said count places = absurd draws
     replies s l Revert changed reply draws said count places = absurd draws
     replies s l Collect changed reply draws said count places = absurd draws
+    replies s l Checkpoint changed reply draws said count places = absurd draws
 
 -- a revert is done
 pub revert_done : (old new : Holding) (reply : Reply) → refused_by_ledger old.ledger Revert ≡ None → Reverts old.grid old.arena.free new.grid new.arena.free → new.arena.home ≡ old.arena.home
@@ -145,4 +147,26 @@ revert_done old new reply by reverted home entered said k log tells =
       answer,
       told_more k log old new Revert reply tells answer
           (holds_draft k s (told s Revert reply) m (moved s Revert reply m) old new tells.holds reverted.others home summary refl refl (λ v. refl) refl),
+    )
+
+-- a checkpoint is done
+pub checkpoint_done : (old new : Holding) (ledger : Ledger) (reply : Reply) → refused_by_ledger old.ledger Checkpoint ≡ None → new ≡ record old { ledger = ledger }
+    → ledger ≡ record old.ledger { places = old.ledger.places + 1; base = old.ledger.places + 1 } → reply ≡ Checkpointed (old.ledger.places + 1) → Does old Checkpoint reply new
+unfolding told moved newest bitmap_of directory_of
+checkpoint_done old new ledger reply by new_is entered said k log tells =
+    let s = story k log in
+    let m = blocks k log in
+    let tidy = tidy_told k log old tells in
+    let kept = tells.holds.summary in
+    let now : Holding = record old { ledger = ledger } in
+    let answer : IsAnswer k.setting s Checkpoint reply = record {
+      accepted = refused_next k s old.ledger kept.ledger_is tidy.draft Checkpoint by;
+      reply_is = subst (λ (x : Reply). IsReply s Checkpoint x) (sym said) (ap (λ (n : ℕ). n + 1) kept.ledger_is.places_is);
+    } in
+    let next = ledger_checkpoint k s old.ledger ledger reply kept.ledger_is entered in
+    let summary = summary_checkpoint k s m (summary_of old) reply ledger kept next in (
+      answer,
+      subst (λ (h : Holding). IsTold k (log ++ record { command = Checkpoint; reply = reply } ∷ []) h) (sym new_is)
+          (told_more k log old now Checkpoint reply tells answer
+          (holds_draft k s (told s Checkpoint reply) m (moved s Checkpoint reply m) old now tells.holds refl refl summary refl refl (λ v. refl) refl)),
     )

@@ -25,7 +25,7 @@ use Rattle.desk.proofs.HoldLemmas.{tidy_told}
 pub record IsNew (g : Setting) (b : Cells) (h : Holding) : Type 0 where
   pub fits : bad_field (tile_count b) g ≡ None
   pub bitmap : IsBitmap b
-  pub ledger_is : h.ledger ≡ record { setting = g; width = b.width; height = b.height; places = 0; newest = 0; floor = 0 }
+  pub ledger_is : h.ledger ≡ record { setting = g; width = b.width; height = b.height; places = 0; base = 0; newest = 0; floor = 0 }
   pub draft_is : draft h.grid ≡ b
   pub version_0 : bitmap_at h.grid 0 ≡ b
   pub newest_is : h.grid.newest ≡ 0
@@ -68,7 +68,7 @@ told_new g b h new =
       legal = tt;
       holds = record {
         summary = record {
-          ledger_is = subst (λ (l : Ledger). IsLedger k (story k []) l) (sym new.ledger_is) record { setting_is = refl; width_is = refl; height_is = refl; places_is = refl; newest_is = refl; floor_is = refl };
+          ledger_is = subst (λ (l : Ledger). IsLedger k (story k []) l) (sym new.ledger_is) record { setting_is = refl; width_is = refl; height_is = refl; places_is = refl; base_is = refl; newest_is = refl; floor_is = refl };
           draft_is = new.draft_is;
           published_is = ap (bitmap_at h.grid) new.newest_is ∙ new.version_0;
           came_long = ap length new.came_is ∙ length-replicate (tile_count b) 0;

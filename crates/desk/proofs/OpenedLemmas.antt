@@ -1,20 +1,22 @@
 -- A desk at its opening.
-use Rattle.std.proofs.Common.{◌≡◌, ℕ, List, [], length, ap, subst, sym, ◌∙◌}
+use Rattle.std.proofs.Common.{◌≡◌, ℕ, List, [], length, refl, ap, subst, sym, ◌∙◌, arith}
 use Rattle.std.specs.Prelude.{Option}
 use Rattle.shelf.specs.declared.signed.Signed.{Signed}
 use Rattle.shelf.specs.Store.{StoreId, readers_of}
 use Rattle.shelf.specs.Roles.{KeeperView, resting}
 use Rattle.desk.specs.declared.holding.Holding.{Holding}
 use Rattle.desk.specs.Holdings.{IsTold}
-use Rattle.desk.specs.Desks.{IsDesk}
+use Rattle.desk.specs.Desks.{IsDesk, base_place}
+use Rattle.std.proofs.lemmas.List.{drop_all}
 
 -- the desk of a store with a name is that of the store without
 pub desk_named : (z y : StoreId) (k : KeeperView) (h : Holding) (log : List Signed) (announced : List (Option ℕ)) → y ≡ z → IsTold y.base [] h → log ≡ []
-    → length announced ≡ readers_of y → k ≡ resting (readers_of z) [] → IsDesk z record { log = log } k h announced
+    → length announced ≡ readers_of y → k ≡ resting (readers_of z) [] → IsDesk z record { log = k.log } k h log announced
 desk_named z y k h log announced same told log_is place_each keeper_is =
-    subst (λ (l : List Signed). IsDesk z record { log = l } k h announced) (sym log_is)
+    subst (λ (q : KeeperView). IsDesk z record { log = q.log } q h log announced) (sym keeper_is)
     record {
-      keeper_is = keeper_is;
+      keeper_is = refl;
+      kept_is = log_is ∙ sym (drop_all (base_place z []) [] (omega arith));
       told = subst (λ (x : StoreId). IsTold x.base [] h) same told;
       place_each = place_each ∙ ap (λ (x : StoreId). readers_of x) same;
     }

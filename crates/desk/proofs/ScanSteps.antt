@@ -20,7 +20,8 @@ use Rattle.shelf.proofs.WorkSteps.{may_collect}
 use Rattle.desk.specs.declared.holding.Holding.{Holding}
 use Rattle.desk.specs.Holdings.{IsTold, Does}
 use Rattle.desk.specs.Carries.{CanCarry, IsCarried}
-use Rattle.desk.proofs.CarryLemmas.{all_met, is_dealt, carried_is}
+use Rattle.map_core.specs.Ledger.{refused_by_ledger}
+use Rattle.desk.proofs.CarryLemmas.{next_version, all_met, is_dealt, carried_is}
 use Rattle.desk.proofs.HoldOpen.{can_answer}
 
 -- the word of a reader that has announced nothing
@@ -85,9 +86,9 @@ pub scanned_all : (k a u : KeeperView) (by : ℕ) (c : Command) (seen : List (Op
 scanned_all k a u by c seen order is = is ∙ ap (λ (q : KeeperView). scanning q by (map pin_word seen)) order
 
 -- one more version can be counted
-pub few_versions : (z : Base) (k u : KeeperView) (h : Holding) (by : ℕ) (c : Command) → u ≡ ordered k by c → IsTold z (entries k.log) h → newest (story z (entries u.log)) + 1 < 2 ^ 32
-few_versions z k u h by c is tells =
-    let few = (can_answer z (entries k.log) h tells).balanced.few_versions in
+pub few_versions : (z : Base) (k u : KeeperView) (h : Holding) (by : ℕ) (c : Command) → u ≡ ordered k by c → IsTold z (entries k.log) h → refused_by_ledger h.ledger c ≡ None → newest (story z (entries u.log)) + 1 < 2 ^ 32
+few_versions z k u h by c is tells judged =
+    let few = next_version z k h c tells judged in
     subst (λ (n : ℕ). n + 1 < 2 ^ 32) (tells.holds.summary.ledger_is.newest_is ∙ ap (λ (q : KeeperView). newest (story z (entries q.log))) (sym is)) few
 
 -- a collect that has seen each reader's word may be committed

@@ -1,10 +1,11 @@
 -- What contracts see of a desk, and how it answers a command: this project's own rule.
-use Rattle.std.specs.Prelude.{◌≡◌, ℕ, ◌+◌, ◌⊎◌, List, [], ◌∷◌, ◌++◌, length, Option, Some, None}
+use Rattle.std.specs.Prelude.{◌≡◌, ℕ, ◌+◌, ◌⊎◌, true, List, [], ◌∷◌, ◌++◌, length, drop, Option, Some, None, if◌then◌else◌}
 use Rattle.metric.specs.declared.refusal.Refusal.{Refusal}
 use Rattle.metric.specs.declared.refusal.Refusal.TheVariants.{Memory}
 use Rattle.map_core.specs.declared.command.Command.{Command}
 use Rattle.map_core.specs.declared.command.Reply.{Reply}
 use Rattle.map_core.specs.Story.{Story}
+use Rattle.map_core.specs.Ledger.{takes_room}
 use Rattle.map_core.specs.Legal.{refused, IsAnswer}
 use Rattle.map_core.specs.Views.{story}
 use Rattle.shelf.specs.declared.signed.Signed.{Signed}
@@ -13,7 +14,7 @@ use Rattle.shelf.specs.Roles.{KeeperView, ReaderView, entries, resting}
 use Rattle.desk.specs.declared.holding.Holding.{Holding}
 use Rattle.desk.specs.Holdings.{IsTold}
 
--- what contracts see of a desk: its log
+-- what contracts see of a desk: the whole log
 pub record DeskView : Type 0 where
   pub log : List Signed
 
@@ -21,10 +22,23 @@ pub record DeskView : Type 0 where
 abbrev pub story_told : StoreId → List Signed → Story
 story_told store log = story store.base (entries log)
 
--- the keeper's seat rests at the desk's log, what is held is what the log tells, and there is a place for what each reader announces
-pub record IsDesk (store : StoreId) (d : DeskView) (keeper : KeeperView) (h : Holding) (announced : List (Option ℕ)) : Type 0 where
+-- the place of a log's last checkpoint; 0 where it has none
+abbrev pub base_place : StoreId → List Signed → ℕ
+base_place store log = (story_told store log).base
+
+-- the entries of a log that are kept: those behind its last checkpoint
+abbrev pub kept_part : StoreId → List Signed → List Signed
+kept_part store log = drop (base_place store log) log
+
+-- the entries that are kept once there is one more: a checkpoint leaves none
+abbrev pub kept_after : List Signed → Signed → List Signed
+kept_after kept e = if takes_room e.entry.command then kept ++ e ∷ [] else []
+
+-- the keeper's seat rests at the desk's log, what is held is what the log tells, its last part is kept, and there is a place for what each reader announces
+pub record IsDesk (store : StoreId) (d : DeskView) (keeper : KeeperView) (h : Holding) (kept : List Signed) (announced : List (Option ℕ)) : Type 0 where
   pub keeper_is : keeper ≡ resting (readers_of store) d.log
   pub told : IsTold store.base (entries d.log) h
+  pub kept_is : kept ≡ kept_part store d.log
   pub place_each : length announced ≡ readers_of store
 
 -- a reader whose hold no load moves: it has announced nothing, or holds a version
@@ -36,11 +50,14 @@ pub record IsAccepted (store : StoreId) (old : DeskView) (seat : ReaderView) (c 
   pub answer : IsAnswer store.base.setting (story_told store old.log) c reply
   pub log : new.log ≡ old.log ++ record { by = seat.number; entry = record { command = c; reply = reply } } ∷ []
   pub seat_is : seat_after ≡ record seat { seen = new.log; made = seat.made + 1 }
+  -- the entry is kept behind the others; a checkpoint leaves none, and its place is the base place then
+  pub kept : kept_part store new.log ≡ kept_after (kept_part store old.log) record { by = seat.number; entry = record { command = c; reply = reply } }
+  pub base : base_place store new.log ≡ (if takes_room c then base_place store old.log else length new.log)
 
--- why a command is refused: by the log, or, where the log doesn't refuse it, for want of memory
+-- why a command is refused: by the log, or, where the log doesn't refuse it, for want of memory, which a checkpoint never is
 abbrev pub IsWhy : StoreId → DeskView → Command → Refusal → Type 0
 IsWhy store d c refusal =
-    (refused store.base.setting (story_told store d.log) c ≡ Some refusal) ⊎ ((refused store.base.setting (story_told store d.log) c ≡ None) × (refusal ≡ Memory))
+    (refused store.base.setting (story_told store d.log) c ≡ Some refusal) ⊎ ((refused store.base.setting (story_told store d.log) c ≡ None) × (refusal ≡ Memory) × (takes_room c ≡ true))
 
 -- a command is refused: the desk is as before, and the seat has seen the whole log
 pub record IsRefused (store : StoreId) (old : DeskView) (seat : ReaderView) (c : Command) (refusal : Refusal) (new : DeskView) (seat_after : ReaderView) : Type 0 where

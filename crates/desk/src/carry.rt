@@ -16,7 +16,7 @@ use map_core::{Command, Reply};
 use metric::Refusal;
 use shelf::{Asked, KeeperSeat, StoreName};
 
-/// Carries out a paint, a stamp or a revert that the ledger doesn't refuse, or answers why it is refused for want of blocks.
+/// Carries out a paint, a stamp, a revert or a checkpoint that the ledger doesn't refuse, or answers why it is refused for want of blocks.
 fn carry_draw<Id: StoreName>(
     keeper: &mut KeeperSeat<Id>,
     holding: &mut Holding,
@@ -39,7 +39,7 @@ fn carry_draw<Id: StoreName>(
     Ok(reply)
 }
 
-/// Carries a command out, or answers why it is refused: for its area (`OutOfRange`), for want of room in the log (`LogFull`), of blocks
+/// Carries a command out, or answers why it is refused: for its area (`OutOfRange`), for want of room in the log (`LogFull`), of a place (`PlacesUsed`), of blocks
 /// (`BlocksFull`, a paint or a stamp) or of a slot (`VersionsFull`, a publish), or of memory for its entry, in this order. It takes no memory.
 ///
 /// `has_room` tells whether memory for the entry was found. `announced` has a place for each reader; a collect leaves there what its scan saw.

@@ -9,7 +9,7 @@ pub use fresh::FreshDesk;
 use shelf::{KeeperSeat, Signed, StoreName};
 use std::marker::Model;
 
-/// The value behind the writers' lock of a store. Contracts see it as its log.
+/// The value behind the writers' lock of a store. Contracts see it as the whole log, of which it keeps the entries behind the last checkpoint.
 ///
 /// The type keeps that the log is legal, that ledger, draft, kept versions and blocks are what the log tells, and that the keeper's seat
 /// rests at the log.
@@ -18,6 +18,7 @@ use std::marker::Model;
 pub struct Desk<Id: StoreName> {
     keeper: KeeperSeat<Id>,
     holding: Holding,
+    // The entries that are kept.
     log: Vec<Signed>,
     // What the last collect's scan saw of each reader.
     announced: Vec<Option<u32>>,
@@ -28,7 +29,7 @@ impl<Id: StoreName> Model for Desk<Id> {
 
     ghost Value = { DeskView };
 
-    ghost view = { λ d. record { log = d.log.items } };
+    ghost view = { λ d. record { log = d.keeper.log } };
 
-    ghost invariant = { λ d. IsDesk Id.store record { log = d.log.items } d.keeper d.holding d.announced.items };
+    ghost invariant = { λ d. IsDesk Id.store record { log = d.keeper.log } d.keeper d.holding d.log.items d.announced.items };
 }

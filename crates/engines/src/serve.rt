@@ -157,8 +157,8 @@ fn serve_store<Id: StoreName + Send + Sync, R: Wait + Threads + Sync, W: Sink>(
     let connections = place.connections;
     match pool(rt, alloc, &store, sessions, place.accepted(alloc)) {
         Ok(sessions) => {
-            let log = store.close(sessions).len() as u64;
-            served_line(connections, log, &mut text);
+            let (base, kept) = store.close(sessions);
+            served_line(connections, u64::from(base) + kept.len() as u64, &mut text);
             write_text(writer, text.as_bytes(), DONE)
         }
         Err((sessions, refusal)) => {

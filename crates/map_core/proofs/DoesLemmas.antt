@@ -6,7 +6,7 @@ use Rattle.std.proofs.lemmas.Bool.Decides.{nat_tests}
 use mathlib.Core.Logic.{inl, inr}
 use Rattle.metric.specs.declared.refusal.Refusal.{Refusal}
 use Rattle.map_core.specs.declared.command.Command.{Command}
-use Rattle.map_core.specs.declared.command.Command.TheVariants.{Paint, Stamp, Publish, Revert, Collect}
+use Rattle.map_core.specs.declared.command.Command.TheVariants.{Paint, Stamp, Publish, Revert, Collect, Checkpoint}
 use Rattle.map_core.specs.declared.event.Event.{Event}
 use Rattle.map_core.specs.declared.event.Event.TheVariants.{Announce, Load, LookMap, LookTile, Leave, Order, Keep}
 use Rattle.map_core.specs.declared.event.StepReply.{StepReply}
@@ -105,6 +105,7 @@ keeps-step w h (Stamp x y b) whole is more = absurd (omega arith)
 keeps-step w h Publish whole is more = keeps-write w h whole is more
 keeps-step w h Revert whole is more = absurd (omega arith)
 keeps-step w h Collect whole is more = keeps-scan w h whole is more
+keeps-step w h Checkpoint whole is more = absurd (omega arith)
 
 -- the next step of the command in hand
 keeps-next : (w : State) (h : Hand) (o : Outcome) → IsWhole (in_hand w (Some h))

@@ -2,7 +2,7 @@
 use Rattle.std.proofs.Common.{◌≡◌, ℕ, ◌+◌, ◌-◌, ◌≤◌, Bool, true, not, List, length, refl, arith}
 use Rattle.std.specs.Prelude.{None, filter}
 use Rattle.map_core.specs.declared.command.Command.{Command}
-use Rattle.map_core.specs.declared.command.Command.TheVariants.{Paint, Stamp, Publish, Revert, Collect}
+use Rattle.map_core.specs.declared.command.Command.TheVariants.{Paint, Stamp, Publish, Revert, Collect, Checkpoint}
 use Rattle.map_core.specs.Story.{Story, newest, kept, with_floor, inuse}
 use Rattle.map_core.specs.Legal.{refused, IsAnswer}
 use Rattle.map_core.specs.declared.blocks.Retired.{Retired}
@@ -54,6 +54,7 @@ reply_is_answer k s m tidy (Paint r black) words accepted = record { accepted = 
 reply_is_answer k s m tidy (Stamp x y b) words accepted = record { accepted = accepted; reply_is = (refl, refl) }
 reply_is_answer k s m tidy Publish words accepted = record { accepted = accepted; reply_is = (refl, refl) }
 reply_is_answer k s m tidy Revert words accepted = record { accepted = accepted; reply_is = refl }
+reply_is_answer k s m tidy Checkpoint words accepted = record { accepted = accepted; reply_is = refl }
 reply_is_answer k s m tidy Collect words accepted =
     let high = floor_after-le s words tidy.floor_in in
     let low = floor_after-from s words in

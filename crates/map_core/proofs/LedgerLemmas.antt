@@ -1,18 +1,19 @@
 -- A ledger judges commands, and enters them, as the log says.
-use Rattle.std.proofs.Common.{◌≡◌, ℕ, suc, ◌+◌, ◌-◌, Bool, true, false, if◌then◌else◌, List, length, refl, ap, subst, sym, ◌∙◌, arith}
+use Rattle.std.proofs.Common.{◌≡◌, ℕ, suc, ◌+◌, ◌-◌, ◌<◌, ◌&&◌, Bool, true, false, if◌then◌else◌, List, length, refl, ap, subst, sym, ◌∙◌, arith}
 use Rattle.std.specs.Prelude.{Option, Some, None, nat_le}
+use Rattle.std.proofs.lemmas.Bool.Decides.{nat_tests}
 use Rattle.std.proofs.lemmas.List.FromFn.{length-range_with_len}
 use Rattle.metric.specs.declared.refusal.Refusal.{Refusal}
-use Rattle.metric.specs.declared.refusal.Refusal.TheVariants.{OutOfRange, LogFull, VersionsFull}
+use Rattle.metric.specs.declared.refusal.Refusal.TheVariants.{OutOfRange, LogFull, PlacesUsed, VersionsFull}
 use Rattle.map_core.specs.declared.command.Command.{Command}
-use Rattle.map_core.specs.declared.command.Command.TheVariants.{Paint, Stamp, Publish, Revert, Collect}
+use Rattle.map_core.specs.declared.command.Command.TheVariants.{Paint, Stamp, Publish, Revert, Collect, Checkpoint}
 use Rattle.map_core.specs.declared.command.Entry.{Entry}
 use Rattle.map_core.specs.declared.command.Reply.{Reply}
 use Rattle.map_core.specs.declared.command.Reply.TheVariants.{Collected}
 use Rattle.map_core.specs.declared.ledger.Ledger.{Ledger}
 use Rattle.map_core.specs.declared.setting.Setting.{Setting}
 use Rattle.map_core.specs.Drawing.{IsDraw, draws, is_inside, lies_within}
-use Rattle.map_core.specs.Ledger.{IsLedger, IsBalanced, has_no_slot, refused_by_ledger, refused_draw_blocks, first_refusal}
+use Rattle.map_core.specs.Ledger.{IsLedger, IsBalanced, HasPlace, takes_room, has_no_room, has_no_place, has_no_slot, refused_slots, refused_by_ledger, refused_draw_blocks, first_refusal}
 use Rattle.map_core.specs.Story.{Story, newest, kept, kept_log}
 use Rattle.map_core.specs.Legal.{IsLegal, refused, refused_blocks, told, after_draw, floor_told}
 use Rattle.map_core.specs.Words.{Base, now_word, now_of}
@@ -21,31 +22,32 @@ use Rattle.map_core.specs.Tidy.{IsOfMap, IsReady}
 use Rattle.map_core.proofs.LogLemmas.{places-legal}
 use Rattle.map_core.proofs.TidyLog.{IsTidy-legal}
 
--- after a legal log a ledger has room for one more entry
+-- after a legal log the numbers of a ledger lie below one another
 pub balanced : (k : Base) (log : List Entry) (l : Ledger) → IsReady k → IsLegal k.setting k.opening log → IsLedger k (story k log) l → IsBalanced l
 balanced k log l ready legal is =
     let counts = places-legal k log legal in
-    let within = counts.0 in
     let fewer = counts.1 in
-    let most = ready.log in
+    let last = counts.2 in
     let floor_in = (IsTidy-legal k log ready legal).floor_in in
     let places_is = is.places_is in
     let newest_is = is.newest_is in
     let floor_is = is.floor_is in
-    record { floor_in = omega arith; few_versions = omega arith; few_places = omega arith }
+    let base_is = is.base_is in
+    record { floor_in = omega arith; newest_in = omega arith; base_in = omega arith }
 
--- three tests, one after another
-in_turn : (inside inside_now full full_now : Bool) (slots blocks_short : Option Refusal) → inside ≡ inside_now → full ≡ full_now
-    → (if inside then (if full then Some LogFull else first_refusal slots blocks_short) else Some OutOfRange)
-    ≡ first_refusal (if inside_now then (if full_now then Some LogFull else slots) else Some OutOfRange) blocks_short
-in_turn inside inside_now full full_now slots blocks_short inside_is full_is = rw (inside_is, full_is) (by_tests inside_now full_now slots blocks_short)
+-- four tests, one after another
+in_turn : (inside inside_now full full_now used used_now : Bool) (slots blocks_short : Option Refusal) → inside ≡ inside_now → full ≡ full_now → used ≡ used_now
+    → (if inside then (if full then Some LogFull else (if used then Some PlacesUsed else first_refusal slots blocks_short)) else Some OutOfRange)
+    ≡ first_refusal (if inside_now then (if full_now then Some LogFull else (if used_now then Some PlacesUsed else slots)) else Some OutOfRange) blocks_short
+in_turn inside inside_now full full_now used used_now slots blocks_short inside_is full_is used_is = rw (inside_is, full_is, used_is) (by_tests inside_now full_now used_now slots blocks_short)
   where
-    by_tests : (inside full : Bool) (slots blocks_short : Option Refusal)
-        → (if inside then (if full then Some LogFull else first_refusal slots blocks_short) else Some OutOfRange)
-        ≡ first_refusal (if inside then (if full then Some LogFull else slots) else Some OutOfRange) blocks_short
-    by_tests true true slots blocks_short = refl
-    by_tests true false slots blocks_short = refl
-    by_tests false full slots blocks_short = refl
+    by_tests : (inside full used : Bool) (slots blocks_short : Option Refusal)
+        → (if inside then (if full then Some LogFull else (if used then Some PlacesUsed else first_refusal slots blocks_short)) else Some OutOfRange)
+        ≡ first_refusal (if inside then (if full then Some LogFull else (if used then Some PlacesUsed else slots)) else Some OutOfRange) blocks_short
+    by_tests true true used slots blocks_short = refl
+    by_tests true false true slots blocks_short = refl
+    by_tests true false false slots blocks_short = refl
+    by_tests false full used slots blocks_short = refl
 
 -- the area of a command, by the ledger
 inside_is : (k : Base) (s : Story) (l : Ledger) → IsLedger k s l → IsOfMap k s.draft → (c : Command) → lies_within s.draft.width s.draft.height c ≡ lies_within l.width l.height c
@@ -53,8 +55,14 @@ inside_is k s l is of_map c =
     ap (λ (n : ℕ). lies_within n s.draft.height c) (of_map.width_is ∙ sym is.width_is) ∙ ap (λ (n : ℕ). lies_within l.width n c) (of_map.height_is ∙ sym is.height_is)
 
 -- whether the log is full, by the ledger
-full_is : (k : Base) (s : Story) (l : Ledger) → IsLedger k s l → nat_le k.setting.log s.places ≡ nat_le l.setting.log l.places
-full_is k s l is = ap (λ (n : ℕ). nat_le k.setting.log n) (sym is.places_is) ∙ ap (λ (g : Setting). nat_le g.log l.places) (sym is.setting_is)
+full_is : (k : Base) (s : Story) (l : Ledger) → IsLedger k s l → nat_le k.setting.log (s.places - s.base) ≡ has_no_room l
+full_is k s l is =
+    ap (λ (n : ℕ). nat_le k.setting.log (n - s.base)) (sym is.places_is)
+    ∙ (ap (λ (n : ℕ). nat_le k.setting.log (l.places - n)) (sym is.base_is) ∙ ap (λ (g : Setting). nat_le g.log (l.places - l.base)) (sym is.setting_is))
+
+-- whether a place is left, by the ledger
+used_is : (k : Base) (s : Story) (l : Ledger) → IsLedger k s l → nat_le 4294967295 s.places ≡ has_no_place l
+used_is k s l is = ap (nat_le 4294967295) (sym is.places_is)
 
 -- whether a slot is free, by the ledger
 slots_are : (k : Base) (s : Story) (l : Ledger) → IsLedger k s l → nat_le k.setting.versions (length (kept s)) ≡ has_no_slot l
@@ -68,18 +76,20 @@ slots_are k s l is =
 refused_in_turn : (k : Base) (s : Story) (l : Ledger) → IsLedger k s l → IsOfMap k s.draft → (c : Command) → refused k.setting s c ≡ first_refusal (refused_by_ledger l c) (refused_draw_blocks k.setting s c)
 unfolding refused refused_by_ledger kept_log
 refused_in_turn k s l is of_map (Paint r black) =
-    in_turn _ _ _ _ None (refused_blocks k.setting s (Paint r black)) (inside_is k s l is of_map (Paint r black)) (full_is k s l is)
-refused_in_turn k s l is of_map (Stamp x y b) = in_turn _ _ _ _ None (refused_blocks k.setting s (Stamp x y b)) (inside_is k s l is of_map (Stamp x y b)) (full_is k s l is)
+    in_turn _ _ _ _ _ _ None (refused_blocks k.setting s (Paint r black)) (inside_is k s l is of_map (Paint r black)) (full_is k s l is) (used_is k s l is)
+refused_in_turn k s l is of_map (Stamp x y b) =
+    in_turn _ _ _ _ _ _ None (refused_blocks k.setting s (Stamp x y b)) (inside_is k s l is of_map (Stamp x y b)) (full_is k s l is) (used_is k s l is)
 refused_in_turn k s l is of_map Publish =
-    ap (λ (none : Bool). if nat_le k.setting.log s.places then Some LogFull else (if none then Some VersionsFull else None)) (slots_are k s l is)
-    ∙ by_slots _ _ _ (full_is k s l is)
+    ap (λ (none : Bool). if nat_le k.setting.log (s.places - s.base) then Some LogFull else (if nat_le 4294967295 s.places then Some PlacesUsed else (if none then Some VersionsFull else None))) (slots_are k s l is)
+    ∙ by_slots _ _ _ _ _ (full_is k s l is) (used_is k s l is)
   where
-    by_slots : (full full_now none : Bool) → full ≡ full_now
-        → ◌≡◌ {A = Option Refusal} (if full then Some LogFull else (if none then Some VersionsFull else None)) (first_refusal (if full_now then Some LogFull else (if none then Some VersionsFull else None)) None)
-    by_slots full full_now true full_is = in_turn true true full full_now (Some VersionsFull) None refl full_is
-    by_slots full full_now false full_is = in_turn true true full full_now None None refl full_is
-refused_in_turn k s l is of_map Revert = in_turn true true _ _ None None refl (full_is k s l is)
-refused_in_turn k s l is of_map Collect = in_turn true true _ _ None None refl (full_is k s l is)
+    by_slots : (full full_now used used_now none : Bool) → full ≡ full_now → used ≡ used_now
+        → ◌≡◌ {A = Option Refusal} (if full then Some LogFull else (if used then Some PlacesUsed else (if none then Some VersionsFull else None))) (first_refusal (if full_now then Some LogFull else (if used_now then Some PlacesUsed else (if none then Some VersionsFull else None))) None)
+    by_slots full full_now used used_now true full_is used_is = in_turn true true full full_now used used_now (Some VersionsFull) None refl full_is used_is
+    by_slots full full_now used used_now false full_is used_is = in_turn true true full full_now used used_now None None refl full_is used_is
+refused_in_turn k s l is of_map Revert = in_turn true true _ _ _ _ None None refl (full_is k s l is) (used_is k s l is)
+refused_in_turn k s l is of_map Collect = in_turn true true _ _ _ _ None None refl (full_is k s l is) (used_is k s l is)
+refused_in_turn k s l is of_map Checkpoint = in_turn true true false false _ _ None None refl refl (used_is k s l is)
 
 -- a command that the ledger refuses
 pub refused_first : (k : Base) (s : Story) (l : Ledger) → IsLedger k s l → IsOfMap k s.draft → (c : Command) (refusal : Refusal) → refused_by_ledger l c ≡ Some refusal → refused k.setting s c ≡ Some refusal
@@ -96,6 +106,7 @@ refused_for_draw g s (Stamp x y b) is = refl
 refused_for_draw g s Publish is = absurd (cc)
 refused_for_draw g s Revert is = absurd (cc)
 refused_for_draw g s Collect is = absurd (cc)
+refused_for_draw g s Checkpoint is = absurd (cc)
 
 -- another command isn't
 pub refused_for_none : (g : Setting) (s : Story) (c : Command) → draws c ≡ false → refused_draw_blocks g s c ≡ None
@@ -104,6 +115,7 @@ refused_for_none g s (Stamp x y b) is = absurd (cc)
 refused_for_none g s Publish is = refl
 refused_for_none g s Revert is = refl
 refused_for_none g s Collect is = refl
+refused_for_none g s Checkpoint is = refl
 
 -- what a ledger doesn't refuse lies in the map
 inside_of_ledger : (l : Ledger) (c : Command) → refused_by_ledger l c ≡ None → lies_within l.width l.height c ≡ true
@@ -113,6 +125,20 @@ inside_of_ledger l c by = tested (lies_within l.width l.height c) _ by
     tested : (inside : Bool) (rest : Option Refusal) → (if inside then rest else Some OutOfRange) ≡ None → inside ≡ true
     tested true rest is = refl
     tested false rest is = absurd (cc)
+
+-- what a ledger doesn't refuse finds a place
+pub place_of_ledger : (l : Ledger) (c : Command) → refused_by_ledger l c ≡ None → HasPlace l
+unfolding refused_by_ledger
+place_of_ledger l c by = from_test l.places (tested (lies_within l.width l.height c) (takes_room c && has_no_room l) (nat_le 4294967295 l.places) (refused_slots l c) by)
+  where
+    tested : (inside full used : Bool) (rest : Option Refusal) → (if inside then (if full then Some LogFull else (if used then Some PlacesUsed else rest)) else Some OutOfRange) ≡ None → used ≡ false
+    tested true true used rest is = absurd (cc)
+    tested true false true rest is = absurd (cc)
+    tested true false false rest is = refl
+    tested false full used rest is = absurd (cc)
+
+    from_test : (n : ℕ) → nat_le 4294967295 n ≡ false → n < 4294967295
+    from_test n is = grind (arith, nat_tests)
 
 -- what the ledger of a story doesn't refuse lies in the map
 pub inside_told : (k : Base) (s : Story) (l : Ledger) → IsLedger k s l → IsOfMap k s.draft → (c : Command) → refused_by_ledger l c ≡ None → is_inside s.draft c ≡ true
@@ -126,6 +152,7 @@ told_draw s (Stamp x y b) reply draws = refl
 told_draw s Publish reply draws = absurd draws
 told_draw s Revert reply draws = absurd draws
 told_draw s Collect reply draws = absurd draws
+told_draw s Checkpoint reply draws = absurd draws
 
 -- a paint or a stamp is entered
 pub ledger_draw : (k : Base) (s : Story) (l new : Ledger) (c : Command) (reply : Reply) → IsLedger k s l → IsDraw c → new ≡ record l { places = l.places + 1 } → IsLedger k (told s c reply) new
@@ -133,28 +160,35 @@ unfolding newest
 ledger_draw k s l new c reply is draws new_is =
     subst (λ (t : Story). IsLedger k t new) (sym (told_draw s c reply draws))
     (subst (λ (m : Ledger). IsLedger k (after_draw s c) m) (sym new_is)
-    record { setting_is = is.setting_is; width_is = is.width_is; height_is = is.height_is; places_is = ap (λ (n : ℕ). n + 1) is.places_is; newest_is = is.newest_is; floor_is = is.floor_is })
+    record { setting_is = is.setting_is; width_is = is.width_is; height_is = is.height_is; places_is = ap (λ (n : ℕ). n + 1) is.places_is; base_is = is.base_is; newest_is = is.newest_is; floor_is = is.floor_is })
 
 -- a publish is entered
 pub ledger_publish : (k : Base) (s : Story) (l new : Ledger) (reply : Reply) → IsLedger k s l → newest (told s Publish reply) ≡ newest s + 1 → new ≡ record l { places = l.places + 1; newest = l.newest + 1 } → IsLedger k (told s Publish reply) new
 unfolding told
 ledger_publish k s l new reply is next new_is =
     subst (λ (m : Ledger). IsLedger k (told s Publish reply) m) (sym new_is)
-    record { setting_is = is.setting_is; width_is = is.width_is; height_is = is.height_is; places_is = ap (λ (n : ℕ). n + 1) is.places_is; newest_is = ap (λ (n : ℕ). n + 1) is.newest_is ∙ sym next; floor_is = is.floor_is }
+    record { setting_is = is.setting_is; width_is = is.width_is; height_is = is.height_is; places_is = ap (λ (n : ℕ). n + 1) is.places_is; base_is = is.base_is; newest_is = ap (λ (n : ℕ). n + 1) is.newest_is ∙ sym next; floor_is = is.floor_is }
 
 -- a revert is entered
 pub ledger_revert : (k : Base) (s : Story) (l new : Ledger) (reply : Reply) → IsLedger k s l → new ≡ record l { places = l.places + 1 } → IsLedger k (told s Revert reply) new
 unfolding told newest
 ledger_revert k s l new reply is new_is =
     subst (λ (m : Ledger). IsLedger k (told s Revert reply) m) (sym new_is)
-    record { setting_is = is.setting_is; width_is = is.width_is; height_is = is.height_is; places_is = ap (λ (n : ℕ). n + 1) is.places_is; newest_is = is.newest_is; floor_is = is.floor_is }
+    record { setting_is = is.setting_is; width_is = is.width_is; height_is = is.height_is; places_is = ap (λ (n : ℕ). n + 1) is.places_is; base_is = is.base_is; newest_is = is.newest_is; floor_is = is.floor_is }
 
 -- a collect is entered
 pub ledger_collect : (k : Base) (s : Story) (l new : Ledger) (reply : Reply) (place f freed : ℕ) → IsLedger k s l → reply ≡ Collected place f freed → new ≡ record l { places = l.places + 1; floor = f } → IsLedger k (told s Collect reply) new
 unfolding told newest
 ledger_collect k s l new reply place f freed is said new_is =
     subst (λ (m : Ledger). IsLedger k (told s Collect reply) m) (sym new_is)
-    record { setting_is = is.setting_is; width_is = is.width_is; height_is = is.height_is; places_is = ap (λ (n : ℕ). n + 1) is.places_is; newest_is = is.newest_is; floor_is = ap (floor_told s) (sym said) }
+    record { setting_is = is.setting_is; width_is = is.width_is; height_is = is.height_is; places_is = ap (λ (n : ℕ). n + 1) is.places_is; base_is = is.base_is; newest_is = is.newest_is; floor_is = ap (floor_told s) (sym said) }
+
+-- a checkpoint is entered
+pub ledger_checkpoint : (k : Base) (s : Story) (l new : Ledger) (reply : Reply) → IsLedger k s l → new ≡ record l { places = l.places + 1; base = l.places + 1 } → IsLedger k (told s Checkpoint reply) new
+unfolding told newest
+ledger_checkpoint k s l new reply is new_is =
+    subst (λ (m : Ledger). IsLedger k (told s Checkpoint reply) m) (sym new_is)
+    record { setting_is = is.setting_is; width_is = is.width_is; height_is = is.height_is; places_is = ap (λ (n : ℕ). n + 1) is.places_is; base_is = ap (λ (n : ℕ). n + 1) is.places_is; newest_is = is.newest_is; floor_is = is.floor_is }
 
 -- NOW is what the ledger says
 pub now_of_ledger : (k : Base) (s : Story) (l : Ledger) (now : ℕ) → IsLedger k s l → now ≡ now_word l.places l.newest → now ≡ now_of s

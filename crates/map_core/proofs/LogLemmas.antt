@@ -4,14 +4,14 @@ use Rattle.std.specs.Prelude.{Option, Some, None, nat_le}
 use Rattle.std.proofs.lemmas.Bool.Decides.{nat_tests}
 use Rattle.std.proofs.lemmas.List.{length-append, append-nil, append_assoc, get_or_append_left}
 use Rattle.metric.specs.declared.refusal.Refusal.{Refusal}
-use Rattle.metric.specs.declared.refusal.Refusal.TheVariants.{OutOfRange, LogFull}
+use Rattle.metric.specs.declared.refusal.Refusal.TheVariants.{OutOfRange, LogFull, PlacesUsed}
 use Rattle.map_core.specs.declared.command.Command.{Command}
-use Rattle.map_core.specs.declared.command.Command.TheVariants.{Paint, Stamp, Publish, Revert, Collect}
+use Rattle.map_core.specs.declared.command.Command.TheVariants.{Paint, Stamp, Publish, Revert, Collect, Checkpoint}
 use Rattle.map_core.specs.declared.command.Reply.{Reply}
 use Rattle.map_core.specs.declared.command.Entry.{Entry}
 use Rattle.map_core.specs.declared.setting.Setting.{Setting}
 use Rattle.map_core.specs.Drawing.{is_inside}
-use Rattle.map_core.specs.Story.{Story, opened, kept_log, newest, no_bitmap, bitmap_of}
+use Rattle.map_core.specs.Story.{Story, opened, newest, no_bitmap, bitmap_of}
 use Rattle.map_core.specs.Legal.{refused, told, after, IsLegalFrom, IsLegal}
 use Rattle.map_core.specs.Words.{Base}
 use Rattle.map_core.specs.Views.{story}
@@ -22,28 +22,29 @@ not_refused : (test : Bool) (refusal : Refusal) (rest : Option Refusal) → (if 
 not_refused true refusal rest is = absurd (cc)
 not_refused false refusal rest is = (refl, is)
 
--- a command that is accepted finds room in the log
-pub room_in_log : (g : Setting) (s : Story) (c : Command) → refused g s c ≡ None → s.places < g.log
-unfolding refused kept_log
-room_in_log g s (Paint r black) accepted = from_test g.log s.places (drawing (is_inside s.draft (Paint r black)) (nat_le g.log s.places) _ accepted)
+-- a command that is accepted finds a place
+pub place_left : (g : Setting) (s : Story) (c : Command) → refused g s c ≡ None → s.places < 4294967295
+unfolding refused
+place_left g s (Paint r black) accepted = from_test s.places (drawing (is_inside s.draft (Paint r black)) _ (nat_le 4294967295 s.places) _ accepted)
   where
-    drawing : (inside full : Bool) (rest : Option Refusal) → (if inside then (if full then Some LogFull else rest) else Some OutOfRange) ≡ None → full ≡ false
-    drawing true full rest is = (not_refused full LogFull rest is).0
-    drawing false full rest is = absurd (cc)
+    drawing : (inside full used : Bool) (rest : Option Refusal) → (if inside then (if full then Some LogFull else (if used then Some PlacesUsed else rest)) else Some OutOfRange) ≡ None → used ≡ false
+    drawing true full used rest is = (not_refused used PlacesUsed rest (not_refused full LogFull _ is).1).0
+    drawing false full used rest is = absurd (cc)
 
-    from_test : (l n : ℕ) → nat_le l n ≡ false → n < l
-    from_test l n is = grind (arith, nat_tests)
-room_in_log g s (Stamp x y b) accepted = from_test g.log s.places (drawing (is_inside s.draft (Stamp x y b)) (nat_le g.log s.places) _ accepted)
+    from_test : (n : ℕ) → nat_le 4294967295 n ≡ false → n < 4294967295
+    from_test n is = grind (arith, nat_tests)
+place_left g s (Stamp x y b) accepted = from_test s.places (drawing (is_inside s.draft (Stamp x y b)) _ (nat_le 4294967295 s.places) _ accepted)
   where
-    drawing : (inside full : Bool) (rest : Option Refusal) → (if inside then (if full then Some LogFull else rest) else Some OutOfRange) ≡ None → full ≡ false
-    drawing true full rest is = (not_refused full LogFull rest is).0
-    drawing false full rest is = absurd (cc)
+    drawing : (inside full used : Bool) (rest : Option Refusal) → (if inside then (if full then Some LogFull else (if used then Some PlacesUsed else rest)) else Some OutOfRange) ≡ None → used ≡ false
+    drawing true full used rest is = (not_refused used PlacesUsed rest (not_refused full LogFull _ is).1).0
+    drawing false full used rest is = absurd (cc)
 
-    from_test : (l n : ℕ) → nat_le l n ≡ false → n < l
-    from_test l n is = grind (arith, nat_tests)
-room_in_log g s Publish accepted = let is = (not_refused (nat_le g.log s.places) LogFull _ accepted).0 in grind (arith, nat_tests)
-room_in_log g s Revert accepted = let is = (not_refused (nat_le g.log s.places) LogFull _ accepted).0 in grind (arith, nat_tests)
-room_in_log g s Collect accepted = let is = (not_refused (nat_le g.log s.places) LogFull _ accepted).0 in grind (arith, nat_tests)
+    from_test : (n : ℕ) → nat_le 4294967295 n ≡ false → n < 4294967295
+    from_test n is = grind (arith, nat_tests)
+place_left g s Publish accepted = let is = (not_refused (nat_le 4294967295 s.places) PlacesUsed _ (not_refused _ LogFull _ accepted).1).0 in grind (arith, nat_tests)
+place_left g s Revert accepted = let is = (not_refused (nat_le 4294967295 s.places) PlacesUsed _ (not_refused _ LogFull _ accepted).1).0 in grind (arith, nat_tests)
+place_left g s Collect accepted = let is = (not_refused (nat_le 4294967295 s.places) PlacesUsed _ (not_refused _ LogFull _ accepted).1).0 in grind (arith, nat_tests)
+place_left g s Checkpoint accepted = let is = (not_refused (nat_le 4294967295 s.places) PlacesUsed _ accepted).0 in grind (arith, nat_tests)
 
 -- an entry takes one place
 pub places-told : (s : Story) (c : Command) (reply : Reply) → (told s c reply).places ≡ s.places + 1
@@ -53,6 +54,17 @@ places-told s (Stamp x y b) reply = refl
 places-told s Publish reply = refl
 places-told s Revert reply = refl
 places-told s Collect reply = refl
+places-told s Checkpoint reply = refl
+
+-- the last checkpoint has a place
+base-told : (s : Story) (c : Command) (reply : Reply) → s.base ≤ s.places → (told s c reply).base ≤ (told s c reply).places
+unfolding told
+base-told s (Paint r black) reply within = omega arith
+base-told s (Stamp x y b) reply within = omega arith
+base-told s Publish reply within = omega arith
+base-told s Revert reply within = omega arith
+base-told s Collect reply within = omega arith
+base-told s Checkpoint reply within = omega arith
 
 -- newest never falls, and grows by one at most
 pub newest-told : (s : Story) (c : Command) (reply : Reply) → (newest s ≤ newest (told s c reply)) × (newest (told s c reply) ≤ newest s + 1)
@@ -62,6 +74,7 @@ newest-told s (Stamp x y b) reply = (omega arith, omega arith)
 newest-told s Publish reply = (omega (arith, length-append s.published (s.draft ∷ [])), omega (arith, length-append s.published (s.draft ∷ [])))
 newest-told s Revert reply = (omega arith, omega arith)
 newest-told s Collect reply = (omega arith, omega arith)
+newest-told s Checkpoint reply = (omega arith, omega arith)
 
 -- newest never falls over some entries
 pub newest-after : (s : Story) (log : List Entry) → newest s ≤ newest (after s log)
@@ -90,6 +103,7 @@ published-told s (Stamp x y b) reply v within = (refl, within)
 published-told s Publish reply v within = (get_or_append_left s.published (s.draft ∷ []) no_bitmap v within, omega (arith, length-append s.published (s.draft ∷ [])))
 published-told s Revert reply v within = (refl, within)
 published-told s Collect reply v within = (refl, within)
+published-told s Checkpoint reply v within = (refl, within)
 
 -- over some entries too
 published-after : (s : Story) (log : List Entry) (v : ℕ) → v < length s.published → (bitmap_of (after s log) v ≡ bitmap_of s v) × (v < length (after s log).published)
@@ -120,21 +134,22 @@ beginning_itself log = record { rest = []; whole = append-nil log }
 pub beginning-push : (seen log : List Entry) (e : Entry) → IsBeginning seen log → IsBeginning seen (log ++ e ∷ [])
 beginning-push seen log e h = record { rest = h.rest ++ e ∷ []; whole = sym (append_assoc seen h.rest (e ∷ [])) ∙ ap (λ (l : List Entry). l ++ e ∷ []) h.whole }
 
--- the log has no more entries than it may, and newest is at most their number
-pub places-after : (g : Setting) (s : Story) (log : List Entry) → IsLegalFrom g s log → s.places ≤ g.log → newest s ≤ s.places
-    → ((after s log).places ≤ g.log) × (newest (after s log) ≤ (after s log).places)
-places-after g s [] legal fits few = (fits, few)
-places-after g s (e ∷ es) legal fits few =
-    let room = room_in_log g s e.command legal.0.accepted in
+-- the log has no more entries than places count, and newest and the last checkpoint's place are at most their number
+pub places-after : (g : Setting) (s : Story) (log : List Entry) → IsLegalFrom g s log → s.places ≤ 4294967295 → newest s ≤ s.places → s.base ≤ s.places
+    → ((after s log).places ≤ 4294967295) × (newest (after s log) ≤ (after s log).places) × ((after s log).base ≤ (after s log).places)
+places-after g s [] legal fits few within = (fits, few, within)
+places-after g s (e ∷ es) legal fits few within =
+    let room = place_left g s e.command legal.0.accepted in
     let place = places-told s e.command e.reply in
     let up = newest-told s e.command e.reply in
     let most = up.1 in
-    places-after g (told s e.command e.reply) es legal.1 (omega arith) (omega arith)
+    places-after g (told s e.command e.reply) es legal.1 (omega arith) (omega arith) (base-told s e.command e.reply within)
 
 -- the same of a whole log
-pub places-legal : (k : Base) (log : List Entry) → IsLegal k.setting k.opening log → ((story k log).places ≤ k.setting.log) × (newest (story k log) ≤ (story k log).places)
+pub places-legal : (k : Base) (log : List Entry) → IsLegal k.setting k.opening log
+    → ((story k log).places ≤ 4294967295) × (newest (story k log) ≤ (story k log).places) × ((story k log).base ≤ (story k log).places)
 unfolding story opened newest
-places-legal k log legal = places-after k.setting (opened k.opening) log legal (omega arith) (omega arith)
+places-legal k log legal = places-after k.setting (opened k.opening) log legal (omega arith) (omega arith) (omega arith)
 
 -- each entry takes a place
 counted_places : (s : Story) (log : List Entry) → (after s log).places ≡ s.places + length log

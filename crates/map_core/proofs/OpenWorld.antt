@@ -133,7 +133,7 @@ pub record IsNew (g : Setting) (b opening : Cells) (words : List ℕ) (log : Lis
   pub words_are : AreOpeningWords record { setting = g; opening = b } words
   pub log_is : log ≡ []
   pub standings_are : standings ≡ replicate g.sessions fresh_standing
-  pub ledger_is : u.ledger ≡ record { setting = g; width = b.width; height = b.height; places = 0; newest = 0; floor = 0 }
+  pub ledger_is : u.ledger ≡ record { setting = g; width = b.width; height = b.height; places = 0; base = 0; newest = 0; floor = 0 }
   pub draft_is : u.draft ≡ b
   pub scratch_is : room.scratch ≡ cells_where b.width b.height (λ x y. false)
   pub published_is : u.published ≡ b
@@ -173,7 +173,7 @@ consistent_opened g b opening words log standings u room new =
           let fresh = slice_get-replicate g.sessions r fresh_standing p (ap (λ (ps : List Standing). slice_get ps r) (sym new.standings_are) ∙ there) in
           subst (λ (q : Standing). IsStanding k [] q) (sym fresh.0) record { within = omega arith; version_is = refl; small = lit< tt };
       summary = record {
-        ledger_is = subst (λ (l : Ledger). IsLedger k (story k []) l) (sym new.ledger_is) record { setting_is = refl; width_is = refl; height_is = refl; places_is = refl; newest_is = refl; floor_is = refl };
+        ledger_is = subst (λ (l : Ledger). IsLedger k (story k []) l) (sym new.ledger_is) record { setting_is = refl; width_is = refl; height_is = refl; places_is = refl; base_is = refl; newest_is = refl; floor_is = refl };
         draft_is = new.draft_is;
         published_is = new.published_is;
         came_long = ap length new.came_is ∙ length-replicate (tile_count b) 0;

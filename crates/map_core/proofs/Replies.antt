@@ -1,9 +1,9 @@
 -- A reply that is an answer is the one that a commit makes, the floor of a collect aside. And the floor of a scan is that of what its words announce.
 use Rattle.std.proofs.Common.{◌≡◌, ℕ, ◌-◌, List, ap, ◌∙◌, arith}
 use Rattle.map_core.specs.declared.command.Command.{Command}
-use Rattle.map_core.specs.declared.command.Command.TheVariants.{Paint, Stamp, Publish, Revert, Collect}
+use Rattle.map_core.specs.declared.command.Command.TheVariants.{Paint, Stamp, Publish, Revert, Collect, Checkpoint}
 use Rattle.map_core.specs.declared.command.Reply.{Reply}
-use Rattle.map_core.specs.declared.command.Reply.TheVariants.{Painted, Published, Reverted, Collected}
+use Rattle.map_core.specs.declared.command.Reply.TheVariants.{Painted, Published, Reverted, Collected, Checkpointed}
 use Rattle.map_core.specs.Story.{Story, inuse, with_floor}
 use Rattle.map_core.specs.Legal.{IsReply, floor_told}
 use Rattle.map_core.specs.Steps.{floor_after, reply_of}
@@ -20,6 +20,7 @@ the_reply s (Paint r black) (Painted place changed) words is floor = ap (λ (q :
 the_reply s (Stamp x y b) (Painted place changed) words is floor = ap (λ (q : ℕ × ℕ). Painted q.0 q.1) (λ i. (is.0 i, is.1 i))
 the_reply s Publish (Published place version) words is floor = ap (λ (q : ℕ × ℕ). Published q.0 q.1) (λ i. (is.0 i, is.1 i))
 the_reply s Revert (Reverted place) words is floor = ap (λ (n : ℕ). Reverted n) is
+the_reply s Checkpoint (Checkpointed place) words is floor = ap (λ (n : ℕ). Checkpointed n) is
 the_reply s Collect (Collected place f freed) words is floor =
     let count = is.1.freed_is in
     let freed_is : freed ≡ inuse s - inuse (with_floor s f) = omega arith in
@@ -39,3 +40,12 @@ the_reply s Revert (Collected place f freed) words is floor = absurd is
 the_reply s Collect (Painted place changed) words is floor = absurd is
 the_reply s Collect (Published place version) words is floor = absurd is
 the_reply s Collect (Reverted place) words is floor = absurd is
+the_reply s (Paint r black) (Checkpointed place) words is floor = absurd is
+the_reply s (Stamp x y b) (Checkpointed place) words is floor = absurd is
+the_reply s Publish (Checkpointed place) words is floor = absurd is
+the_reply s Revert (Checkpointed place) words is floor = absurd is
+the_reply s Collect (Checkpointed place) words is floor = absurd is
+the_reply s Checkpoint (Painted place changed) words is floor = absurd is
+the_reply s Checkpoint (Published place version) words is floor = absurd is
+the_reply s Checkpoint (Reverted place) words is floor = absurd is
+the_reply s Checkpoint (Collected place f freed) words is floor = absurd is

@@ -4,7 +4,7 @@ use Rattle.std.specs.Prelude.{Option, Some, None, slice_get, nat_lt, is_some}
 use mathlib.Core.Logic.{inl, inr}
 use Rattle.metric.specs.declared.refusal.Refusal.{Refusal}
 use Rattle.map_core.specs.declared.command.Command.{Command}
-use Rattle.map_core.specs.declared.command.Command.TheVariants.{Paint, Stamp, Publish, Revert, Collect}
+use Rattle.map_core.specs.declared.command.Command.TheVariants.{Paint, Stamp, Publish, Revert, Collect, Checkpoint}
 use Rattle.map_core.specs.declared.event.Event.{Event}
 use Rattle.map_core.specs.declared.event.Event.TheVariants.{Announce, Load, LookMap, LookTile, Leave, Order, Keep}
 use Rattle.map_core.specs.Legal.{refused}
@@ -107,6 +107,7 @@ stay-step w h (Stamp x y b) = refl
 stay-step w h Publish = refl
 stay-step w h Revert = refl
 stay-step w h Collect = refl
+stay-step w h Checkpoint = refl
 
 stay-keep : (w : State) (hand : Option Hand) (o : Outcome) → keep w hand ≡ Some o → o.state.readers ≡ w.readers
 unfolding keep

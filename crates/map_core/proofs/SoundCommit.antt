@@ -9,9 +9,9 @@ use Rattle.bits.specs.Cells.{Cells}
 use Rattle.bits.specs.Tiles.{row_word}
 use Rattle.map_core.specs.declared.command.Entry.{Entry}
 use Rattle.map_core.specs.declared.command.Command.{Command}
-use Rattle.map_core.specs.declared.command.Command.TheVariants.{Paint, Stamp, Publish, Revert, Collect}
+use Rattle.map_core.specs.declared.command.Command.TheVariants.{Paint, Stamp, Publish, Revert, Collect, Checkpoint}
 use Rattle.map_core.specs.declared.command.Reply.{Reply}
-use Rattle.map_core.specs.declared.command.Reply.TheVariants.{Painted, Published, Reverted, Collected}
+use Rattle.map_core.specs.declared.command.Reply.TheVariants.{Painted, Published, Reverted, Collected, Checkpointed}
 use Rattle.map_core.specs.Story.{Story, opened, newest, bitmap_of, IsKept}
 use Rattle.map_core.specs.Legal.{IsAnswer, told}
 use Rattle.map_core.specs.Blocks.{Blocks, directory_of, own_list, mapped, moved}
@@ -53,6 +53,7 @@ directory_stays k s m (Stamp x y b) reply shape v h = refl
 directory_stays k s m Publish reply shape v h = directory_of-publish k s m shape v h
 directory_stays k s m Revert reply shape v h = refl
 directory_stays k s m Collect reply shape v h = refl
+directory_stays k s m Checkpoint reply shape v h = refl
 
 -- no command changes the bitmap of a version
 pub bitmap_stays : (k : Base) (s : Story) (m : Blocks) (c : Command) (reply : Reply) → IsShaped k s m → (v : ℕ) → v ≤ newest s
@@ -63,6 +64,7 @@ bitmap_stays k s m (Stamp x y b) reply shape v h = refl
 bitmap_stays k s m Publish reply shape v h = bitmap_of-publish k s m shape v h
 bitmap_stays k s m Revert reply shape v h = refl
 bitmap_stays k s m Collect reply shape v h = refl
+bitmap_stays k s m Checkpoint reply shape v h = refl
 
 -- a version that is kept after an answer was kept before, or it is the new one of a publish
 pub kept_before : (k : Base) (s : Story) (m : Blocks) (c : Command) (reply : Reply) → IsShaped k s m → IsAnswer k.setting s c reply → (v : ℕ) → IsKept (told s c reply) v
@@ -83,6 +85,8 @@ kept_before k s m Collect (Collected place f freed) shape answer v is_kept = let
 kept_before k s m Collect (Painted place changed) shape answer v is_kept = absurd answer.reply_is
 kept_before k s m Collect (Published place version) shape answer v is_kept = absurd answer.reply_is
 kept_before k s m Collect (Reverted place) shape answer v is_kept = absurd answer.reply_is
+kept_before k s m Collect (Checkpointed place) shape answer v is_kept = absurd answer.reply_is
+kept_before k s m Checkpoint reply shape answer v is_kept = inl is_kept
 
 -- the block of a position that has changed is one of the draft's, at the place of that position
 pub own_place : (q : ℕ) (own : List (Option ℕ)) (blocks : List ℕ) (p : ℕ) → length own ≡ length blocks → p < length own
@@ -224,6 +228,7 @@ kept_stays s Publish words v is_kept above =
     (is_kept.0, omega (arith, length-append s.published (s.draft ∷ [])))
 kept_stays s Revert words v is_kept above = is_kept
 kept_stays s Collect words v is_kept above = (above refl, is_kept.1)
+kept_stays s Checkpoint words v is_kept above = is_kept
 
 -- a collect that has done all of its scan has passed each reader
 scanned_all : (k : Base) (m : Blocks) (h : Hand) (r : ℕ) → r < k.setting.sessions → h.command ≡ Collect → h.done ≡ steps_before k m h.command

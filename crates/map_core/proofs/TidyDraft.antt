@@ -11,11 +11,11 @@ use Rattle.bits.specs.Cells.{Cells, has}
 use Rattle.bits.specs.Words.{words_across}
 use Rattle.bits.specs.Tiles.{tiles_down, tile_count, row_word}
 use Rattle.bits.proofs.CellsLemmas.{IsBitmap-cells_where}
-use Rattle.metric.specs.declared.refusal.Refusal.TheVariants.{OutOfRange, BlocksFull, LogFull}
+use Rattle.metric.specs.declared.refusal.Refusal.TheVariants.{OutOfRange, BlocksFull, LogFull, PlacesUsed}
 use Rattle.map_core.specs.declared.command.Command.{Command}
 use Rattle.map_core.specs.Drawing.{drawn, touched, tile_differs, is_inside}
 use Rattle.map_core.specs.Story.{Story, newest, bitmap_of, kept, trues, either, new_ones, inuse}
-use Rattle.map_core.specs.Legal.{needed, refused_draw, after_draw, is_log_full}
+use Rattle.map_core.specs.Legal.{needed, refused_draw, after_draw, is_log_full, are_places_used}
 use Rattle.map_core.specs.Blocks.{Blocks, directory_of, own_list, own_after, blocks_of, drawn_blocks, given_back}
 use Rattle.map_core.specs.Words.{Base, tiles}
 use Rattle.map_core.specs.Safe.{times}
@@ -41,15 +41,15 @@ free_is k s m tidy =
     omega arith
 
 -- another draft with its own blocks, on the same versions
-pub tidy-draft : (k : Base) (s : Story) (m : Blocks) → IsTidy k s m → (places : ℕ) (draft : Cells) (changed : List Bool) (own : List (Option ℕ)) (free : List ℕ)
+pub tidy-draft : (k : Base) (s : Story) (m : Blocks) → IsTidy k s m → (places base : ℕ) (draft : Cells) (changed : List Bool) (own : List (Option ℕ)) (free : List ℕ)
     → IsOfMap k draft → length own ≡ tiles k → changed ≡ map is_some own
     → ((p i : ℕ) → slice_get own p ≡ Some None → i < 64 → row_word draft p i ≡ row_word (bitmap_of s (newest s)) p i)
     → length free + length (own_list own) ≡ length m.free + length (own_list m.own)
     → ((n : ℕ) → times n free + times n (own_list own) ≡ times n m.free + times n (own_list m.own))
-    → IsTidy k record s { places = places; draft = draft; changed = changed } record m { own = own; free = free }
+    → IsTidy k record s { places = places; base = base; draft = draft; changed = changed } record m { own = own; free = free }
 unfolding newest bitmap_of kept directory_of
-tidy-draft k s m tidy places draft changed own free of_map long same unchanged lengths stands =
-    let t : Story = record s { places = places; draft = draft; changed = changed } in
+tidy-draft k s m tidy places base draft changed own free of_map long same unchanged lengths stands =
+    let t : Story = record s { places = places; base = base; draft = draft; changed = changed } in
     let n : Blocks = record m { own = own; free = free } in
     let rest : List ℕ = directory_of m (newest s) ++ blocks_of m.retired in
     let sum = tidy.shape.blocks in
@@ -137,14 +137,15 @@ inside_own (o ∷ own) (suc p) is = let rest = inside_own own p is in omega arit
 pub enough_free : (k : Base) (s : Story) (m : Blocks) (c : Command) → IsTidy k s m → refused_draw k.setting s c ≡ None → needed s c ≤ length m.free
 enough_free k s m c tidy accepted =
     let free = free_is k s m tidy in
-    let few = few_needed (is_inside s.draft c) (is_log_full k.setting s) (k.setting.blocks - inuse s) (needed s c) accepted in
+    let few = few_needed (is_inside s.draft c) (is_log_full k.setting s) (are_places_used s) (k.setting.blocks - inuse s) (needed s c) accepted in
     omega arith
   where
-    few_needed : (inside full : Bool) (free n : ℕ)
-        → (if inside then (if full then Some LogFull else (if nat_lt free n then Some (BlocksFull n free) else None)) else Some OutOfRange) ≡ None → n ≤ free
-    few_needed true true free n is = absurd (cc)
-    few_needed false full free n is = absurd (cc)
-    few_needed true false free n is =
+    few_needed : (inside full used : Bool) (free n : ℕ)
+        → (if inside then (if full then Some LogFull else (if used then Some PlacesUsed else (if nat_lt free n then Some (BlocksFull n free) else None))) else Some OutOfRange) ≡ None → n ≤ free
+    few_needed true true used free n is = absurd (cc)
+    few_needed true false true free n is = absurd (cc)
+    few_needed false full used free n is = absurd (cc)
+    few_needed true false false free n is =
         elim (cases_lt free n) [
           | inl less ↦ absurd (let test : nat_lt free n ≡ true = grind (arith, nat_tests) in let found : (if nat_lt free n then Some (BlocksFull n free) else None) ≡ Some (BlocksFull n free) = rw test in cc)
           | inr enough ↦ enough
@@ -161,7 +162,7 @@ IsTidy-draw k s m c tidy accepted =
     let enough : trues (new_ones ts (map is_some m.own)) ≤ length m.free = omega arith in
     let free : List ℕ = drop (trues (new_ones ts s.changed)) m.free in
     let free_same : free ≡ drop (trues (new_ones ts (map is_some m.own))) m.free = ap (λ (n : ℕ). drop n m.free) need in
-    tidy-draft k s m tidy (s.places + 1) (drawn s.draft c) (either s.changed ts) (own_after ts m.own m.free) free
+    tidy-draft k s m tidy (s.places + 1) s.base (drawn s.draft c) (either s.changed ts) (own_after ts m.own m.free) free
     (IsOfMap-drawn k s.draft c tidy.draft)
     (positions-own_after ts m.own m.free long ∙ tidy.shape.own)
     (ap (λ (bs : List Bool). either bs ts) tidy.shape.changed ∙ is_some-own_after ts m.own m.free long enough)
@@ -180,10 +181,15 @@ pub IsTidy-revert : (k : Base) (s : Story) (m : Blocks) → IsTidy k s m
 IsTidy-revert k s m tidy =
     let none = own_list-none (length m.own) in
     let changed_long : length s.changed ≡ length m.own = ap length tidy.shape.changed ∙ length-map m.own is_some in
-    tidy-draft k s m tidy (s.places + 1) (bitmap_of s (newest s)) (replicate (length s.changed) false) (replicate (length m.own) None) (given_back (own_list m.own) m.free)
+    tidy-draft k s m tidy (s.places + 1) s.base (bitmap_of s (newest s)) (replicate (length s.changed) false) (replicate (length m.own) None) (given_back (own_list m.own) m.free)
     (tidy.published (newest s) (omega arith))
     (length-replicate (length m.own) None ∙ tidy.shape.own)
     (ap (λ (n : ℕ). replicate n false) changed_long ∙ sym (is_some-none (length m.own)))
     (λ p i no h. refl)
     (let back = length-given_back (own_list m.own) m.free in let gone = ap length none in omega arith)
     (λ n. let back = times-given_back n (own_list m.own) m.free in let gone = ap (times n) none in omega arith)
+
+-- what holds after a legal log holds after one more checkpoint
+pub IsTidy-checkpoint : (k : Base) (s : Story) (m : Blocks) → IsTidy k s m → IsTidy k record s { places = s.places + 1; base = s.places + 1 } m
+IsTidy-checkpoint k s m tidy =
+    tidy-draft k s m tidy (s.places + 1) (s.places + 1) s.draft s.changed m.own m.free tidy.draft tidy.shape.own tidy.shape.changed tidy.unchanged refl (λ n. refl)

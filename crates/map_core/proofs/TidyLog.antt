@@ -4,32 +4,33 @@ use Rattle.std.specs.Prelude.{Some, None, nat_le}
 use Rattle.std.proofs.lemmas.Bool.{cases_lt}
 use Rattle.std.proofs.lemmas.Bool.Decides.{nat_tests}
 use mathlib.Core.Logic.{inl, inr}
-use Rattle.metric.specs.declared.refusal.Refusal.TheVariants.{VersionsFull, LogFull}
+use Rattle.metric.specs.declared.refusal.Refusal.TheVariants.{VersionsFull, LogFull, PlacesUsed}
 use Rattle.map_core.specs.declared.command.Command.{Command}
-use Rattle.map_core.specs.declared.command.Command.TheVariants.{Paint, Stamp, Publish, Revert, Collect}
+use Rattle.map_core.specs.declared.command.Command.TheVariants.{Paint, Stamp, Publish, Revert, Collect, Checkpoint}
 use Rattle.map_core.specs.declared.command.Reply.{Reply}
-use Rattle.map_core.specs.declared.command.Reply.TheVariants.{Painted, Published, Reverted, Collected}
+use Rattle.map_core.specs.declared.command.Reply.TheVariants.{Painted, Published, Reverted, Collected, Checkpointed}
 use Rattle.map_core.specs.declared.command.Entry.{Entry}
 use Rattle.map_core.specs.declared.setting.Setting.{Setting}
 use Rattle.map_core.specs.Story.{Story, opened, kept}
-use Rattle.map_core.specs.Legal.{refused, IsAnswer, told, after, IsLegalFrom, IsLegal, is_log_full}
+use Rattle.map_core.specs.Legal.{refused, IsAnswer, told, after, IsLegalFrom, IsLegal, is_log_full, are_places_used}
 use Rattle.map_core.specs.Blocks.{Blocks, opened_blocks, moved, blocks_after}
 use Rattle.map_core.specs.Words.{Base, tiles}
 use Rattle.map_core.specs.Views.{story, blocks}
 use Rattle.map_core.specs.Tidy.{IsReady, IsTidy}
 use Rattle.map_core.proofs.TidyOpened.{IsTidy-opened}
-use Rattle.map_core.proofs.TidyDraft.{IsTidy-draw, IsTidy-revert}
+use Rattle.map_core.proofs.TidyDraft.{IsTidy-draw, IsTidy-revert, IsTidy-checkpoint}
 use Rattle.map_core.proofs.TidyPublish.{IsTidy-publish}
 use Rattle.map_core.proofs.TidyCollect.{IsTidy-collect}
 
 -- a publish that isn't refused finds a slot
 pub room_for : (g : Setting) (s : Story) → refused g s Publish ≡ None → length (kept s) < g.versions
 unfolding refused
-room_for g s accepted = free_slot (is_log_full g s) g.versions (length (kept s)) accepted
+room_for g s accepted = free_slot (is_log_full g s) (are_places_used s) g.versions (length (kept s)) accepted
   where
-    free_slot : (full : Bool) (versions n : ℕ) → (if full then Some LogFull else (if nat_le versions n then Some VersionsFull else None)) ≡ None → n < versions
-    free_slot true versions n is = absurd (cc)
-    free_slot false versions n is =
+    free_slot : (full used : Bool) (versions n : ℕ) → (if full then Some LogFull else (if used then Some PlacesUsed else (if nat_le versions n then Some VersionsFull else None))) ≡ None → n < versions
+    free_slot true used versions n is = absurd (cc)
+    free_slot false true versions n is = absurd (cc)
+    free_slot false false versions n is =
         elim (cases_lt n versions) [
           | inl less ↦ less
           | inr many ↦ absurd (let test : nat_le versions n ≡ true = grind (arith, nat_tests) in let found : (if nat_le versions n then Some VersionsFull else None) ≡ Some VersionsFull = rw test in cc)
@@ -47,6 +48,8 @@ IsTidy-told k s m Collect (Collected place f freed) tidy answer = IsTidy-collect
 IsTidy-told k s m Collect (Painted place changed) tidy answer = absurd answer.reply_is
 IsTidy-told k s m Collect (Published place version) tidy answer = absurd answer.reply_is
 IsTidy-told k s m Collect (Reverted place) tidy answer = absurd answer.reply_is
+IsTidy-told k s m Collect (Checkpointed place) tidy answer = absurd answer.reply_is
+IsTidy-told k s m Checkpoint reply tidy answer = IsTidy-checkpoint k s m tidy
 
 -- what holds after a legal log holds after more legal entries
 pub IsTidy-after : (k : Base) (s : Story) (m : Blocks) (log : List Entry) → IsTidy k s m → IsLegalFrom k.setting s log

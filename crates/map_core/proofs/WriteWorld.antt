@@ -1,5 +1,5 @@
 -- The words that a publish stores, by what is kept.
-use Rattle.std.proofs.Common.{◌≡◌, ℕ, zero, suc, ◌+◌, ◌/◌, ◌%◌, ◌<◌, ◌≤◌, List, [], ◌∷◌, length, get_or, ap, subst, sym, ◌∙◌, arith}
+use Rattle.std.proofs.Common.{◌≡◌, ℕ, zero, suc, ◌+◌, ◌/◌, ◌%◌, ◌^◌, ◌<◌, ◌≤◌, List, [], ◌∷◌, length, get_or, ap, subst, sym, ◌∙◌, arith}
 use Rattle.std.specs.Prelude.{Option, Some, None, slice_get}
 use Rattle.bits.specs.Cells.{Cells}
 use Rattle.bits.specs.Tiles.{row_word}
@@ -12,7 +12,6 @@ use Rattle.map_core.specs.Views.{State, story_of, blocks_of_state}
 use Rattle.map_core.specs.Steps.{own_positions, tile_steps, tile_write, map_write}
 use Rattle.map_core.specs.Summary.{Summary}
 use Rattle.map_core.specs.Consistent.{Room, IsConsistent}
-use Rattle.map_core.proofs.LogLemmas.{places-legal}
 use Rattle.map_core.proofs.SpareLemmas.{own_within}
 use Rattle.map_core.proofs.SoundCommit.{mapped_none}
 use Rattle.map_core.proofs.StepLemmas.{tidy_of}
@@ -22,15 +21,9 @@ pub consistent_of : (w v : State) (hand : Option Command) (steps : ℕ) (standin
     → IsConsistent w hand steps standings u room
 consistent_of w v hand steps standings u room same consistent = subst (λ (x : State). IsConsistent x hand steps standings u room) same consistent
 
--- there are few versions
-pub newest_few : (w : State) (hand : Option Command) (steps : ℕ) (standings : List Standing) (u : Summary) (room : Room) → IsConsistent w hand steps standings u room → u.ledger.newest ≤ 1048576
-newest_few w hand steps standings u room consistent =
-    let counts = places-legal w.base w.keeper.log consistent.whole.keeper.legal in
-    let fits = counts.0 in
-    let few = counts.1 in
-    let most = consistent.whole.ready.log in
-    let is = consistent.summary.ledger_is.newest_is in
-    omega arith
+-- a next version can be counted, by what is kept
+pub newest_few : (w : State) (hand : Option Command) (steps : ℕ) (standings : List Standing) (u : Summary) (room : Room) → IsConsistent w hand steps standings u room → newest (story_of w) + 1 < 2 ^ 32 → u.ledger.newest + 1 < 2 ^ 32
+newest_few w hand steps standings u room consistent few = let is = consistent.summary.ledger_is.newest_is in omega arith
 
 -- there is a block, or none, for each position
 pub own_within_tiles : (w : State) (hand : Option Command) (steps : ℕ) (standings : List Standing) (u : Summary) (room : Room) → IsConsistent w hand steps standings u room → length u.own ≡ tiles w.base

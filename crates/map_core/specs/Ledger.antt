@@ -1,14 +1,14 @@
 -- What a ledger counts of a log, and which commands it refuses: this project's own rule.
-use Rattle.std.specs.Prelude.{◌≡◌, suc, ◌+◌, ◌-◌, ◌^◌, ◌<◌, ◌≤◌, nat_le, Bool, Option, Some, None, if◌then◌else◌}
+use Rattle.std.specs.Prelude.{◌≡◌, suc, ◌-◌, ◌<◌, ◌≤◌, ◌&&◌, nat_le, Bool, true, false, Option, Some, None, if◌then◌else◌}
 use Rattle.metric.specs.declared.refusal.Refusal.{Refusal}
-use Rattle.metric.specs.declared.refusal.Refusal.TheVariants.{OutOfRange, VersionsFull, LogFull}
+use Rattle.metric.specs.declared.refusal.Refusal.TheVariants.{OutOfRange, VersionsFull, LogFull, PlacesUsed}
 use Rattle.map_core.specs.declared.command.Command.{Command}
-use Rattle.map_core.specs.declared.command.Command.TheVariants.{Paint, Stamp, Publish, Revert, Collect}
+use Rattle.map_core.specs.declared.command.Command.TheVariants.{Paint, Stamp, Publish, Revert, Collect, Checkpoint}
 use Rattle.map_core.specs.declared.ledger.Ledger.{Ledger}
 use Rattle.map_core.specs.declared.setting.Setting.{Setting}
 use Rattle.map_core.specs.Drawing.{lies_within}
 use Rattle.map_core.specs.Legal.{refused_blocks}
-use Rattle.map_core.specs.Story.{Story, newest}
+use Rattle.map_core.specs.Story.{Story, most_places, newest}
 use Rattle.map_core.specs.Words.{Base}
 
 -- a ledger counts what a story of this map has
@@ -17,14 +17,36 @@ pub record IsLedger (k : Base) (s : Story) (l : Ledger) : Type 0 where
   pub width_is : l.width ≡ k.opening.width
   pub height_is : l.height ≡ k.opening.height
   pub places_is : l.places ≡ s.places
+  pub base_is : l.base ≡ s.base
   pub newest_is : l.newest ≡ newest s
   pub floor_is : l.floor ≡ s.floor
 
--- a ledger has room for one more entry, and keeps newest
+-- the numbers of a ledger lie below one another: newest is kept, each version has a place, and so has the last checkpoint
 pub record IsBalanced (l : Ledger) : Type 0 where
   pub floor_in : l.floor ≤ l.newest
-  pub few_versions : l.newest + 1 < 2 ^ 32
-  pub few_places : l.places + 1 < 2 ^ 32
+  pub newest_in : l.newest ≤ l.places
+  pub base_in : l.base ≤ l.places
+
+-- a place is left for one more entry
+abbrev pub HasPlace : Ledger → Type 0
+HasPlace l = l.places < most_places
+
+-- whether a command's entry takes room in the log; a checkpoint alone takes none
+abbrev pub takes_room : Command → Bool
+takes_room (Paint r black) = true
+takes_room (Stamp x y b) = true
+takes_room Publish = true
+takes_room Revert = true
+takes_room Collect = true
+takes_room Checkpoint = false
+
+-- whether the log has as many entries after its last checkpoint as it may have
+abbrev pub has_no_room : Ledger → Bool
+has_no_room l = nat_le l.setting.log (l.places - l.base)
+
+-- whether no place is left
+abbrev pub has_no_place : Ledger → Bool
+has_no_place l = nat_le most_places l.places
 
 -- whether as many versions are kept as there are slots
 abbrev pub has_no_slot : Ledger → Bool
@@ -37,10 +59,11 @@ refused_slots l (Stamp x y b) = None
 refused_slots l Publish = if has_no_slot l then Some VersionsFull else None
 refused_slots l Revert = None
 refused_slots l Collect = None
+refused_slots l Checkpoint = None
 
 -- why a ledger refuses a command, blocks aside
 unfoldable pub refused_by_ledger : Ledger → Command → Option Refusal
-refused_by_ledger l c = if lies_within l.width l.height c then (if nat_le l.setting.log l.places then Some LogFull else refused_slots l c) else Some OutOfRange
+refused_by_ledger l c = if lies_within l.width l.height c then (if takes_room c && has_no_room l then Some LogFull else (if has_no_place l then Some PlacesUsed else refused_slots l c)) else Some OutOfRange
 
 -- why a command is refused for want of blocks; a paint or a stamp alone takes some
 abbrev pub refused_draw_blocks : Setting → Story → Command → Option Refusal
@@ -49,6 +72,7 @@ refused_draw_blocks g s (Stamp x y b) = refused_blocks g s (Stamp x y b)
 refused_draw_blocks g s Publish = None
 refused_draw_blocks g s Revert = None
 refused_draw_blocks g s Collect = None
+refused_draw_blocks g s Checkpoint = None
 
 -- the first of two refusals
 abbrev pub first_refusal : Option Refusal → Option Refusal → Option Refusal

@@ -2,23 +2,27 @@
 use Rattle.std.specs.Prelude.{◌≡◌, ℕ, ◌+◌, ◌-◌, ◌≤◌, nat_lt, nat_le, Bool, false, List, [], ◌∷◌, ◌++◌, length, replicate, Option, Some, None, if◌then◌else◌}
 use Rattle.bits.specs.Cells.{Cells}
 use Rattle.metric.specs.declared.refusal.Refusal.{Refusal}
-use Rattle.metric.specs.declared.refusal.Refusal.TheVariants.{OutOfRange, BlocksFull, VersionsFull, LogFull}
+use Rattle.metric.specs.declared.refusal.Refusal.TheVariants.{OutOfRange, BlocksFull, VersionsFull, LogFull, PlacesUsed}
 use Rattle.map_core.specs.declared.command.Command.{Command}
-use Rattle.map_core.specs.declared.command.Command.TheVariants.{Paint, Stamp, Publish, Revert, Collect}
+use Rattle.map_core.specs.declared.command.Command.TheVariants.{Paint, Stamp, Publish, Revert, Collect, Checkpoint}
 use Rattle.map_core.specs.declared.command.Reply.{Reply}
-use Rattle.map_core.specs.declared.command.Reply.TheVariants.{Painted, Published, Reverted, Collected}
+use Rattle.map_core.specs.declared.command.Reply.TheVariants.{Painted, Published, Reverted, Collected, Checkpointed}
 use Rattle.map_core.specs.declared.command.Entry.{Entry}
 use Rattle.map_core.specs.declared.setting.Setting.{Setting}
 use Rattle.map_core.specs.Drawing.{drawn, touched, cells_changed, is_inside}
-use Rattle.map_core.specs.Story.{Story, opened, kept_log, newest, bitmap_of, kept, with_floor, trues, either, new_ones, inuse}
+use Rattle.map_core.specs.Story.{Story, opened, most_places, kept_log, newest, bitmap_of, kept, with_floor, trues, either, new_ones, inuse}
 
 -- how many new blocks a command needs: one for each position in which it changes a cell and that hasn't changed before
 unfoldable pub needed : Story → Command → ℕ
 needed s c = trues (new_ones (touched s.draft c) s.changed)
 
--- whether the log has as many entries as it may have
+-- whether the log has as many entries after its last checkpoint as it may have
 abbrev pub is_log_full : Setting → Story → Bool
 is_log_full g s = nat_le g.log (kept_log s)
+
+-- whether no place is left for another entry
+abbrev pub are_places_used : Story → Bool
+are_places_used s = nat_le most_places s.places
 
 -- whether as many versions are kept as there are slots
 abbrev pub is_versions_full : Setting → Story → Bool
@@ -28,17 +32,26 @@ is_versions_full g s = nat_le g.versions (length (kept s))
 abbrev pub refused_blocks : Setting → Story → Command → Option Refusal
 refused_blocks g s c = if nat_lt (g.blocks - inuse s) (needed s c) then Some (BlocksFull (needed s c) (g.blocks - inuse s)) else None
 
--- why a paint or a stamp is refused: its area, then the log, then the blocks
+-- why a command is refused where no place is left, and otherwise
+abbrev pub refused_place : Story → Option Refusal → Option Refusal
+refused_place s later = if are_places_used s then Some PlacesUsed else later
+
+-- why a command but a checkpoint is refused for want of room in the log, then of a place, and otherwise
+abbrev pub refused_log : Setting → Story → Option Refusal → Option Refusal
+refused_log g s later = if is_log_full g s then Some LogFull else refused_place s later
+
+-- why a paint or a stamp is refused: its area, then the log and the places, then the blocks
 abbrev pub refused_draw : Setting → Story → Command → Option Refusal
-refused_draw g s c = if is_inside s.draft c then (if is_log_full g s then Some LogFull else refused_blocks g s c) else Some OutOfRange
+refused_draw g s c = if is_inside s.draft c then refused_log g s (refused_blocks g s c) else Some OutOfRange
 
 -- why a command is refused after a log; none where it is accepted
 unfoldable pub refused : Setting → Story → Command → Option Refusal
 refused g s (Paint r black) = refused_draw g s (Paint r black)
 refused g s (Stamp x y b) = refused_draw g s (Stamp x y b)
-refused g s Publish = if is_log_full g s then Some LogFull else (if is_versions_full g s then Some VersionsFull else None)
-refused g s Revert = if is_log_full g s then Some LogFull else None
-refused g s Collect = if is_log_full g s then Some LogFull else None
+refused g s Publish = refused_log g s (if is_versions_full g s then Some VersionsFull else None)
+refused g s Revert = refused_log g s None
+refused g s Collect = refused_log g s None
+refused g s Checkpoint = refused_place s None
 
 -- a collect's reply: a floor from the old one to newest, and how many blocks fewer are in use then
 pub record IsCollected (s : Story) (floor freed : ℕ) : Type 0 where
@@ -53,6 +66,7 @@ IsReply s (Stamp x y b) (Painted place changed) = (place ≡ s.places + 1) × (c
 IsReply s Publish (Published place version) = (place ≡ s.places + 1) × (version ≡ newest s + 1)
 IsReply s Revert (Reverted place) = place ≡ s.places + 1
 IsReply s Collect (Collected place floor freed) = (place ≡ s.places + 1) × IsCollected s floor freed
+IsReply s Checkpoint (Checkpointed place) = place ≡ s.places + 1
 IsReply s c reply = ⊥
 
 -- an accepted answer to a command after a log
@@ -76,6 +90,7 @@ told s (Stamp x y b) reply = after_draw s (Stamp x y b)
 told s Publish reply = record s { places = s.places + 1; published = s.published ++ s.draft ∷ []; changes = s.changes ++ s.changed ∷ []; changed = replicate (length s.changed) false }
 told s Revert reply = record s { places = s.places + 1; draft = bitmap_of s (newest s); changed = replicate (length s.changed) false }
 told s Collect reply = record s { places = s.places + 1; floor = floor_told s reply }
+told s Checkpoint reply = record s { places = s.places + 1; base = s.places + 1 }
 
 -- the story after some more entries
 abbrev pub after : Story → List Entry → Story

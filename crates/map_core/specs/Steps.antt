@@ -3,9 +3,9 @@ use Rattle.std.specs.Prelude.{ℕ, zero, suc, ◌+◌, ◌-◌, ◌*◌, ◌/◌
 use Rattle.bits.specs.Tiles.{row_word}
 use Rattle.metric.specs.declared.refusal.Refusal.{Refusal}
 use Rattle.map_core.specs.declared.command.Command.{Command}
-use Rattle.map_core.specs.declared.command.Command.TheVariants.{Paint, Stamp, Publish, Revert, Collect}
+use Rattle.map_core.specs.declared.command.Command.TheVariants.{Paint, Stamp, Publish, Revert, Collect, Checkpoint}
 use Rattle.map_core.specs.declared.command.Reply.{Reply}
-use Rattle.map_core.specs.declared.command.Reply.TheVariants.{Painted, Published, Reverted, Collected}
+use Rattle.map_core.specs.declared.command.Reply.TheVariants.{Painted, Published, Reverted, Collected, Checkpointed}
 use Rattle.map_core.specs.declared.command.Entry.{Entry}
 use Rattle.map_core.specs.declared.event.Event.{Event}
 use Rattle.map_core.specs.declared.event.Event.TheVariants.{Announce, Load, LookMap, LookTile, Leave, Order, Keep}
@@ -100,6 +100,7 @@ steps_before k m (Stamp x y b) = 0
 steps_before k m Publish = tile_steps m + tiles k
 steps_before k m Revert = 0
 steps_before k m Collect = k.setting.sessions
+steps_before k m Checkpoint = 0
 
 -- the positions that have changed, from k on
 abbrev pub own_positions : ℕ → List (Option ℕ) → List ℕ
@@ -136,6 +137,7 @@ reply_of s (Stamp x y b) words = Painted (s.places + 1) (cells_changed s.draft (
 reply_of s Publish words = Published (s.places + 1) (newest s + 1)
 reply_of s Revert words = Reverted (s.places + 1)
 reply_of s Collect words = Collected (s.places + 1) (floor_after s words) (inuse s - inuse (with_floor s (floor_after s words)))
+reply_of s Checkpoint words = Checkpointed (s.places + 1)
 
 -- the entry that the command in hand commits
 abbrev pub entry_of : Story → Hand → Entry

@@ -8,6 +8,8 @@ use Rattle.bits.specs.Tiles.{tile_count}
 pub record Story : Type 0 where
   -- how many entries the log has: the place of its last entry
   pub places : ℕ
+  -- the place of the last checkpoint; 0 where there is none
+  pub base : ℕ
   pub draft : Cells
   -- the published bitmaps: version 0, 1, ..
   pub published : List Cells
@@ -20,11 +22,15 @@ pub record Story : Type 0 where
 
 -- at the opening the draft and version 0 are the opening bitmap
 unfoldable pub opened : Cells → Story
-opened b = record { places = 0; draft = b; published = b ∷ []; changed = replicate (tile_count b) false; changes = []; floor = 0 }
+opened b = record { places = 0; base = 0; draft = b; published = b ∷ []; changed = replicate (tile_count b) false; changes = []; floor = 0 }
 
--- how many entries of the log count against its limit
+-- the most entries that a log may have: places count no further
+abbrev pub most_places : ℕ
+most_places = 4294967295
+
+-- how many entries of the log count against its limit: those after the last checkpoint
 unfoldable pub kept_log : Story → ℕ
-kept_log s = s.places
+kept_log s = s.places - s.base
 
 -- the newest version
 unfoldable pub newest : Story → ℕ

@@ -16,6 +16,8 @@ pub enum Command {
     Revert,
     /// Raises the floor, the least version that is kept, and gives back blocks. It changes no bitmap.
     Collect,
+    /// Changes no bitmap. The entries up to it, itself included, count no longer against the log's limit; places count on.
+    Checkpoint,
 }
 
 /// The reply to a command that was accepted. Each has the command's place in the log, from 1.
@@ -29,6 +31,8 @@ pub enum Reply {
     Reverted { place: u32 },
     /// To a collect, with the new floor and the number of blocks that were given back.
     Collected { place: u32, floor: u32, freed: u32 },
+    /// To a checkpoint.
+    Checkpointed { place: u32 },
 }
 
 /// An entry of the log: a command that was accepted, with its reply.

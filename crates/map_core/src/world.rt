@@ -65,7 +65,7 @@ impl Model for World {
 impl World {
     /// Does an event and answers it, or answers that it isn't enabled and changes nothing.
     ///
-    /// An order is refused, in this order, for its area (`OutOfRange`), for want of room in the log (`LogFull`), of blocks (`BlocksFull`, a
+    /// An order is refused, in this order, for its area (`OutOfRange`), for want of room in the log (`LogFull`, never a checkpoint), of a place (`PlacesUsed`), of blocks (`BlocksFull`, a
     /// paint or a stamp) or of a slot (`VersionsFull`, a publish), and of memory. No other event asks for memory. That memory is found
     /// where there is some isn't promised.
     pub fn step(&mut self, alloc: Global, event: Event) -> Result<StepReply, NotEnabled>

@@ -25,6 +25,7 @@ refusal_title refusals.TooMuchData = codes "ERR 14 TooMuchData"
 refusal_title (refusals.BadImage faults.Memory) = codes "ERR 5 Memory"
 refusal_title (refusals.BadImage fault) = codes "ERR 15 BadImage"
 refusal_title (refusals.BadSetting field) = codes "ERR 16 BadSetting"
+refusal_title refusals.PlacesUsed = codes "ERR 17 PlacesUsed"
 
 -- what belongs to a refusal, each word of it behind a blank
 abbrev pub refusal_details : Refusal → List ℕ

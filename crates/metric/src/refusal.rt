@@ -49,6 +49,8 @@ pub enum Refusal {
     BadImage(PbmFault),
     /// A setting is out of its limits: the first of the four.
     BadSetting(Field),
+    /// The log has had as many entries as places can count.
+    PlacesUsed,
 }
 
 impl Field {
@@ -88,6 +90,7 @@ impl Refusal {
             Refusal::TooMuchData => "ERR 14 TooMuchData",
             Refusal::BadImage(_) => "ERR 15 BadImage",
             Refusal::BadSetting(_) => "ERR 16 BadSetting",
+            Refusal::PlacesUsed => "ERR 17 PlacesUsed",
         }
     }
 }

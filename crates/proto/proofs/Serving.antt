@@ -5,7 +5,7 @@ use Rattle.std.specs.List.{flat_map}
 use Rattle.std.proofs.lemmas.List.{append-nil}
 use Rattle.std.proofs.lemmas.Grind.{flat_map-append}
 use Rattle.metric.specs.Stream.{Appends, AppendsFront, Takes}
-use Rattle.metric.proofs.Appending.{Appends-nothing, Appends-more, AppendsFront-more}
+use Rattle.metric.proofs.Appending.{Appends-nothing, Appends-more}
 use Rattle.metric.proofs.Taking.{Takes-nothing}
 use Rattle.metric.specs.declared.refusal.Refusal.{Refusal}
 use Rattle.metric.specs.declared.refusal.Refusal.TheVariants.{Memory, NotPinned}

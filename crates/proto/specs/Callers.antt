@@ -1,5 +1,5 @@
 -- What a caller does with its session and its pin: this project's own rule.
-use Rattle.std.specs.Prelude.{◌≡◌, ℕ, ◌+◌, ◌⊎◌, List, [], ◌∷◌, ◌++◌, Option, Some, None, Result, Ok, Err}
+use Rattle.std.specs.Prelude.{◌≡◌, ℕ, true, ◌+◌, ◌⊎◌, List, [], ◌∷◌, ◌++◌, Option, Some, None, Result, Ok, Err}
 use mathlib.Core.List.{IsPrefix}
 use Rattle.bits.specs.Cells.{Cells}
 use Rattle.metric.specs.declared.refusal.Refusal.{Refusal}
@@ -7,6 +7,7 @@ use Rattle.metric.specs.declared.refusal.Refusal.TheVariants.{Memory, AlreadyPin
 use Rattle.map_core.specs.declared.command.Command.{Command}
 use Rattle.map_core.specs.declared.command.Reply.{Reply}
 use Rattle.map_core.specs.Story.{newest, bitmap_of, no_bitmap}
+use Rattle.map_core.specs.Ledger.{takes_room}
 use Rattle.map_core.specs.Legal.{refused, IsAnswer, IsLegal}
 use Rattle.shelf.specs.declared.signed.Signed.{Signed}
 use Rattle.shelf.specs.Store.{StoreId}
@@ -42,10 +43,10 @@ pub record IsDone (store : StoreId) (old : ReaderView) (c : Command) (reply : Re
   pub legal : IsLegal store.base.setting store.base.opening (entries new.seen)
   pub seat_is : new ≡ record old { seen = before ++ record { by = old.number; entry = record { command = c; reply = reply } } ∷ []; made = old.made + 1 }
 
--- a refused command: the caller has seen a legal log, after which the refusal is the answer, or which doesn't refuse the command and memory was wanting
+-- a refused command: the caller has seen a legal log, after which the refusal is the answer, or which doesn't refuse the command, that takes room in the log, and memory was wanting
 pub record IsNotDone (store : StoreId) (old : ReaderView) (c : Command) (refusal : Refusal) (new : ReaderView) : Type 0 where
   pub seen : HasSeenMore store old new
-  pub why : (refused store.base.setting (story_told store new.seen) c ≡ Some refusal) ⊎ ((refused store.base.setting (story_told store new.seen) c ≡ None) × (refusal ≡ Memory))
+  pub why : (refused store.base.setting (story_told store new.seen) c ≡ Some refusal) ⊎ ((refused store.base.setting (story_told store new.seen) c ≡ None) × (refusal ≡ Memory) × (takes_room c ≡ true))
 
 -- the answer that tells whether a command was accepted
 abbrev pub told_as : Result Reply Refusal → Answer

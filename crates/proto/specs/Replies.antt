@@ -5,7 +5,7 @@ use Rattle.metric.specs.Refusal.{refusal_text}
 use Rattle.metric.specs.declared.cell.Cell.{Cell}
 use Rattle.metric.specs.declared.near.Near.{Near}
 use Rattle.map_core.specs.declared.command.Reply.{Reply}
-use Rattle.map_core.specs.declared.command.Reply.TheVariants.{Painted, Published, Reverted, Collected}
+use Rattle.map_core.specs.declared.command.Reply.TheVariants.{Painted, Published, Reverted, Collected, Checkpointed}
 use Rattle.proto.specs.declared.answer.Answer.{Answer}
 use Rattle.proto.specs.declared.answer.Answer.TheVariants as answers
 
@@ -32,6 +32,7 @@ numbers_of (Painted place changed) = place ∷ changed ∷ []
 numbers_of (Published place version) = place ∷ version ∷ []
 numbers_of (Reverted place) = place ∷ []
 numbers_of (Collected place floor freed) = place ∷ floor ∷ freed ∷ []
+numbers_of (Checkpointed place) = place ∷ []
 
 -- a number behind `OK`
 abbrev pub one_text : ℕ → List ℕ

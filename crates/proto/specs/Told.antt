@@ -7,13 +7,14 @@ use Rattle.proto.specs.declared.verb.Order.TheVariants as orders
 use Rattle.proto.specs.Corners.{Corners, corners_of, seen_corners}
 use Rattle.proto.specs.Numbers.{points, pair}
 
--- what the keeper is told: to give the cells of a rectangle one value, to stamp, which no line tells by itself, to publish, to revert, or to collect
+-- what the keeper is told: to give the cells of a rectangle one value, to stamp, which no line tells by itself, to publish, to revert, to collect, or to drop the entries that are kept
 pub data Told : Type 0 where
   draw : Bool → Corners → Told
   stamp : Told
   publish : Told
   revert : Told
   collect : Told
+  checkpoint : Told
 
 -- what a command of the program tells
 abbrev pub told_by : Command → Told
@@ -22,6 +23,7 @@ told_by (commands.Stamp x y bitmap) = stamp
 told_by commands.Publish = publish
 told_by commands.Revert = revert
 told_by commands.Collect = collect
+told_by commands.Checkpoint = checkpoint
 
 -- the command of this name, in capital letters
 abbrev pub order_named : List ℕ → Option Order
@@ -31,6 +33,7 @@ order_named word =
     else if bytes_eq word (codes "PUBLISH") then Some orders.Publish
     else if bytes_eq word (codes "REVERT") then Some orders.Revert
     else if bytes_eq word (codes "COLLECT") then Some orders.Collect
+    else if bytes_eq word (codes "CHECKPOINT") then Some orders.Checkpoint
     else None
 
 -- what has no arguments, with the words behind its name
@@ -49,3 +52,4 @@ order_told orders.Clear words = option_map (draw false) (rect_told words)
 order_told orders.Publish words = alone publish words
 order_told orders.Revert words = alone revert words
 order_told orders.Collect words = alone collect words
+order_told orders.Checkpoint words = alone checkpoint words

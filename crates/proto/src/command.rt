@@ -23,6 +23,7 @@ pub fn read_order(order: Order, rest: Option<&[u8]>) -> Option<Command>
         Order::Publish => bare_order(rest, Command::Publish),
         Order::Revert => bare_order(rest, Command::Revert),
         Order::Collect => bare_order(rest, Command::Collect),
+        Order::Checkpoint => bare_order(rest, Command::Checkpoint),
     }
 }
 

@@ -57,7 +57,7 @@ fn put_done(text: &mut Text, reply: Reply)
     match reply {
         Reply::Painted { place, changed } => put_pair(text, place, changed),
         Reply::Published { place, version } => put_pair(text, place, version),
-        Reply::Reverted { place } => put_detail(text, place),
+        Reply::Reverted { place } | Reply::Checkpointed { place } => put_detail(text, place),
         Reply::Collected {
             place,
             floor,

@@ -1,4 +1,4 @@
-//! The names of the fourteen commands of a line.
+//! The names of the fifteen commands of a line.
 
 ghost use Rattle.std.specs.Prelude.{◌≡◌};
 ghost use Rattle.proto.specs.Told.{order_named};
@@ -30,6 +30,7 @@ pub enum Order {
     Publish,
     Revert,
     Collect,
+    Checkpoint,
 }
 
 /// A query, by its name alone.
@@ -41,7 +42,7 @@ pub enum QueryKind {
     ClearOf,
 }
 
-/// The command that a line names, whatever follows it; none where its first word is none of the fourteen.
+/// The command that a line names, whatever follows it; none where its first word is none of the fifteen.
 #[tactic(auto, unfolding(crate::specs::Said::verb_in))]
 pub fn verb_of(bytes: &[u8]) -> Option<Verb>
     ensures { result ≡ verb_in bytes.now }
@@ -96,6 +97,8 @@ fn order_named(word: &[u8]) -> Option<Order>
         Some(Order::Revert)
     } else if word == b"COLLECT".as_slice() {
         Some(Order::Collect)
+    } else if word == b"CHECKPOINT".as_slice() {
+        Some(Order::Checkpoint)
     } else {
         None
     }

@@ -7,7 +7,15 @@ use mathlib.Core.List.{IsPrefix}
 use Rattle.shelf.specs.declared.signed.Signed.{Signed}
 use Rattle.shelf.specs.Close.{Closed}
 use Rattle.shelf.specs.Roles.{ReaderView, made_by}
-use Rattle.session.specs.Sessions.{IsIn}
+use Rattle.session.specs.Sessions.{IsIn, IsHandedOut}
+use Rattle.shelf.specs.Roles.{entries}
+use Rattle.shelf.specs.Store.{StoreId, readers_of}
+use Rattle.shelf.proofs.LogParts.{length-entries}
+use Rattle.desk.specs.Desks.{story_told, base_place, kept_part}
+use Rattle.map_core.specs.Legal.{IsLegal}
+use Rattle.map_core.proofs.LogLemmas.{places_are, places-legal}
+use Rattle.std.specs.Prelude.{drop}
+use Rattle.std.proofs.lemmas.List.{length-drop}
 
 -- the sessions that are left, while others were given up
 pub record IsCounted (closing : Closed) (left : List ReaderView) (before : Closed) (all : List ReaderView) : Type 0 where
@@ -44,10 +52,26 @@ counted_next closing after before left rest all x y counted left_is seat_is afte
       all_in = λ rest_in. counted.all_in (subst (All (IsIn before.log)) (sym left_is) (All-append (IsIn before.log) rest (x ∷ []) rest_in (one_in before.log x here)));
     }
 
--- each session is in the log that is handed out
-pub in_handed : (closing : Closed) (log handed : List Signed) (all : List ReaderView) → closing ≡ record { log = log; readers = 0; made = 0 } → handed ≡ log
-    → All (IsIn closing.log) all → All (IsIn handed) all
-in_handed closing log handed all closing_is handed_is all_in = subst (λ (l : List Signed). All (IsIn l) all) (ap (λ (c : Closed). c.log) closing_is ∙ sym handed_is) all_in
+-- what is handed out of a desk's log, once all sessions that were handed in are given up
+pub handed_out : (z : StoreId) (closing after : Closed) (log kept : List Signed) (all : List ReaderView) (base : ℕ) → closing ≡ record { log = log; readers = 0; made = 0 }
+    → after ≡ record closing { readers = closing.readers + length all; made = closing.made + sum_by (λ s. s.made) all } → All (IsIn closing.log) all → IsLegal z.base.setting z.base.opening (entries after.log)
+    → (after.readers ≡ readers_of z → after.made ≡ length after.log) → base ≡ base_place z log → kept ≡ kept_part z log → IsHandedOut z all base kept
+handed_out z closing after log kept all base closing_is after_is all_in legal made base_is kept_is =
+    let whole : after.log ≡ log = ap (λ (c : Closed). c.log) after_is ∙ ap (λ (c : Closed). c.log) closing_is in
+    let lawful : IsLegal z.base.setting z.base.opening (entries log) = subst (λ (l : List Signed). IsLegal z.base.setting z.base.opening (entries l)) whole legal in
+    let readers_are : after.readers ≡ length all = omega (arith, ap (λ (c : Closed). c.readers) after_is, ap (λ (c : Closed). c.readers) closing_is) in
+    let made_are : after.made ≡ sum_by (λ s. s.made) all = omega (arith, ap (λ (c : Closed). c.made) after_is, ap (λ (c : Closed). c.made) closing_is) in
+    let low = (places-legal z.base (entries log) lawful).2 in
+    let places : (story_told z log).places ≡ length log = places_are z.base (entries log) ∙ length-entries log in
+    record {
+      log = log;
+      legal = lawful;
+      sessions = subst (λ (l : List Signed). All (IsIn l) all) (ap (λ (c : Closed). c.log) closing_is) all_in;
+      made = λ handed. sym made_are ∙ (made (readers_are ∙ handed) ∙ ap length whole);
+      base_is = base_is;
+      kept_is = kept_is ∙ ap (λ (n : ℕ). drop n log) (sym base_is);
+      last_is = omega (arith, ap length kept_is, length-drop (base_place z log) log);
+    }
 
 -- where none is left each session is in the log
 pub all_given_up : (closing before : Closed) (left all : List ReaderView) → IsCounted closing left before all → length left ≡ 0 → All (IsIn before.log) all

@@ -1,5 +1,5 @@
 -- What contracts see of pins and of sessions: this project's own rule.
-use Rattle.std.specs.Prelude.{◌≡◌, ◌≤◌, ℕ, Bool, true, List, map, Some, None, is_some}
+use Rattle.std.specs.Prelude.{◌≡◌, ◌+◌, ◌≤◌, ℕ, Bool, true, All, List, drop, length, map, sum_by, Some, None, is_some}
 use Rattle.std.specs.List.{range_with_len}
 use mathlib.Core.List.{IsPrefix}
 use Rattle.bits.specs.Cells.{Cells}
@@ -9,6 +9,8 @@ use Rattle.map_core.specs.Tidy.{IsReady, IsOfMap}
 use Rattle.shelf.specs.declared.signed.Signed.{Signed}
 use Rattle.shelf.specs.Store.{StoreId, readers_of}
 use Rattle.shelf.specs.Roles.{ReaderView, entries, fresh_reader, made_by}
+use Rattle.map_core.specs.Legal.{IsLegal}
+use Rattle.desk.specs.Desks.{base_place}
 
 -- a pin: its session's seat, and the version that it holds
 pub record PinView : Type 0 where
@@ -34,6 +36,18 @@ all_fresh store = map fresh_reader (range_with_len 0 (readers_of store))
 -- a log begins with what a session has seen, and has as many entries by it as it counts
 abbrev pub IsIn : List Signed → ReaderView → Type 0
 IsIn log s = IsPrefix s.seen log × (made_by s.number log ≡ s.made)
+
+-- what a store that is closed hands out is the last part of one log: the place of its last checkpoint, and the entries behind it
+pub record IsHandedOut (store : StoreId) (handed : List ReaderView) (base : ℕ) (kept : List Signed) : Type 0 where
+  pub log : List Signed
+  pub legal : IsLegal store.base.setting store.base.opening (entries log)
+  -- it begins with what each session has seen, and has as many entries by it as it counts
+  pub sessions : All (IsIn log) handed
+  -- where all sessions are handed in, what they count adds up to its length
+  pub made : length handed ≡ readers_of store → sum_by (λ s. s.made) handed ≡ length log
+  pub base_is : base ≡ base_place store log
+  pub kept_is : kept ≡ drop base log
+  pub last_is : base + length kept ≡ length log
 
 -- the size of a map
 pub record Size : Type 0 where

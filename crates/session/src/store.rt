@@ -1,11 +1,8 @@
 //! A store: the lock of its desk, and how it is opened and closed.
 
-ghost use Rattle.std.specs.Prelude.{◌≡◌, All, length, sum_by, IfOk, IfErr};
+ghost use Rattle.std.specs.Prelude.{◌≡◌, IfOk, IfErr};
 ghost use Rattle.metric.specs.declared.refusal.Refusal.TheVariants.{Memory};
-ghost use Rattle.map_core.specs.Legal.{IsLegal};
-ghost use Rattle.shelf.specs.Roles.{entries};
-ghost use Rattle.shelf.specs.Store.{readers_of};
-ghost use Rattle.session.specs.Sessions.{IsIn, all_fresh};
+ghost use Rattle.session.specs.Sessions.{IsHandedOut, all_fresh};
 
 use crate::blank::Blank;
 use crate::session::Session;
@@ -50,18 +47,16 @@ impl<Id: StoreName> Store<Id> {
         self.desk.lock(rt)
     }
 
-    /// Closes the store: its log, which begins with what each session has seen, and has as many entries by it as it counts.
+    /// Closes the store: the place of its log's last checkpoint, 0 where there is none, and the entries behind it. The log begins with what each session has seen, and has as many entries by it as it counts.
     ///
     /// Where all sessions are handed in, their counts add up to the log's length.
-    pub fn close(self, sessions: Vec<Session<Id>>) -> Vec<Signed>
-        ensures legal { IsLegal Id.store.base.setting Id.store.base.opening (entries result.items) }
-        ensures sessions { All (IsIn result.items) sessions.items }
-        ensures made { length sessions.items ≡ readers_of Id.store → sum_by (λ s. s.made) sessions.items ≡ length result.items }
+    pub fn close(self, sessions: Vec<Session<Id>>) -> (u32, Vec<Signed>)
+        ensures { IsHandedOut Id.store sessions.items result.0 result.1.items }
     {
         let Store { desk } = self;
-        let (mut closing, log) = desk.into_inner().close();
+        let (mut closing, base, log) = desk.into_inner().close();
         give_up(&mut closing, sessions);
         closing.end();
-        log
+        (base, log)
     }
 }

@@ -116,8 +116,8 @@ module _ (z : Base) (ready : IsReady z) (k : KeeperView) (place version step : �
       let then = says_committed in
       (λ i. now_word (then.place_is i) (then.version_is i)) ∙ sym (now_of_log z (committed z k may.task).log)
 
-  -- the place and the version after a commit are far below 2^32
-  pub room_committed : (place + 1 ≤ 1048576) × (version + step ≤ 1048576)
+  -- the place and the version after a commit are below 2^32
+  pub room_committed : (place + 1 ≤ 4294967295) × (version + step ≤ 4294967295)
   room_committed =
       let then = says_committed in
       let most = room z (committed z k may.task).log ready then.legal in

@@ -2,7 +2,7 @@
 use Rattle.std.proofs.Common.{◌≡◌, ℕ, ◌+◌, ◌<◌, ◌≤◌, Bool, true, false, cond, List, [], ◌∷◌, ◌++◌, length, refl, ap, ◌∙◌, arith, length-append}
 use mir.Val.{bool_byte}
 use Rattle.map_core.specs.declared.command.Command.{Command}
-use Rattle.map_core.specs.declared.command.Command.TheVariants.{Paint, Stamp, Publish, Revert, Collect}
+use Rattle.map_core.specs.declared.command.Command.TheVariants.{Paint, Stamp, Publish, Revert, Collect, Checkpoint}
 use Rattle.map_core.specs.declared.command.Reply.{Reply}
 use Rattle.map_core.specs.declared.command.Entry.{Entry}
 use Rattle.map_core.specs.Story.{Story, opened, newest}
@@ -25,6 +25,7 @@ newest_of_told s (Stamp x y b) reply some_version = omega arith
 newest_of_told s Publish reply some_version = omega (arith, length-append s.published (s.draft ∷ []))
 newest_of_told s Revert reply some_version = omega arith
 newest_of_told s Collect reply some_version = omega arith
+newest_of_told s Checkpoint reply some_version = omega arith
 
 -- there is always a version
 version_told : (s : Story) (c : Command) (reply : Reply) → 0 < length s.published → 0 < length (told s c reply).published
@@ -34,6 +35,7 @@ version_told s (Stamp x y b) reply some_version = some_version
 version_told s Publish reply some_version = omega (arith, length-append s.published (s.draft ∷ []))
 version_told s Revert reply some_version = some_version
 version_told s Collect reply some_version = some_version
+version_told s Checkpoint reply some_version = some_version
 
 -- also after some entries
 version_after : (s : Story) (log : List Entry) → 0 < length s.published → 0 < length (after s log).published
@@ -59,12 +61,11 @@ pub now_of_log : (z : Base) (log : List Signed) → now_of (story z (entries log
 unfolding now_of
 now_of_log z log = ap (λ (n : ℕ). now_word n (newest (story z (entries log)))) (places_are z (entries log) ∙ length-entries log)
 
--- a legal log is far shorter than 2^32, and has fewer versions
+-- a legal log is shorter than 2^32, and has no more versions than entries behind the first
 pub room : (z : Base) (log : List Signed) → IsReady z → IsLegal z.setting z.opening (entries log)
-    → (length log ≤ 1048576) × (newest (story z (entries log)) ≤ 1048576)
+    → (length log ≤ 4294967295) × (newest (story z (entries log)) ≤ 4294967295)
 room z log ready legal =
     let counts = places-legal z (entries log) legal in
-    let most = ready.log in
     let places : (story z (entries log)).places ≡ length log = places_are z (entries log) ∙ length-entries log in
     let few = counts.0 in
     let fewer = counts.1 in

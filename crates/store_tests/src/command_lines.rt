@@ -18,7 +18,7 @@ const PAINTS: [(&[u8], [u16; 4], bool); 4] = [
 ];
 
 /// Lines with arguments of the wrong number or form.
-const BAD_ARGUMENTS: [&[u8]; 26] = [
+const BAD_ARGUMENTS: [&[u8]; 28] = [
     b"STAMP",
     b"STAMP 0 0",
     b"STAMP 0 0 1 ",
@@ -45,6 +45,8 @@ const BAD_ARGUMENTS: [&[u8]; 26] = [
     b"PUBLISH ",
     b"REVERT 1",
     b"COLLECT now",
+    b"CHECKPOINT ",
+    b"CHECKPOINT 3",
 ];
 
 /// Lines of stamps, with the place and the number of bytes.
@@ -79,6 +81,7 @@ fn bare_name(line: &Line) -> &'static [u8] {
         Line::Command(Command::Publish) => b"PUBLISH",
         Line::Command(Command::Revert) => b"REVERT",
         Line::Command(Command::Collect) => b"COLLECT",
+        Line::Command(Command::Checkpoint) => b"CHECKPOINT",
         Line::Pin => b"PIN",
         Line::Unpin => b"UNPIN",
         Line::Dump => b"DUMP",
@@ -89,8 +92,15 @@ fn bare_name(line: &Line) -> &'static [u8] {
 
 #[test]
 fn bare_lines_are_told(rt: HostRuntime) -> Result<(), Fail> {
-    let lines: [&[u8]; 7] = [
-        b"PUBLISH", b"REVERT", b"COLLECT", b"PIN", b"UNPIN", b"DUMP", b"QUIT",
+    let lines: [&[u8]; 8] = [
+        b"PUBLISH",
+        b"REVERT",
+        b"COLLECT",
+        b"CHECKPOINT",
+        b"PIN",
+        b"UNPIN",
+        b"DUMP",
+        b"QUIT",
     ];
     for line in lines {
         assert!(rt; bare_name(&parse_line(rt.alloc(), line)?) == line);
@@ -128,7 +138,8 @@ fn verbs_are_named(rt: HostRuntime) {
     assert!(rt; verb_of(b"AT nonsense") == Some(Verb::Ask(QueryKind::At)));
     assert!(rt; verb_of(b"PAINT") == Some(Verb::Order(Order::Paint)));
     assert!(rt; verb_of(b"UNPIN  ") == Some(Verb::Unpin));
-    assert!(rt; verb_of(b"CHECKPOINT").is_none());
+    assert!(rt; verb_of(b"CHECKPOINT now") == Some(Verb::Order(Order::Checkpoint)));
+    assert!(rt; verb_of(b"CHECKPOINTS").is_none());
     assert!(rt; verb_of(b" PIN").is_none());
 }
 
@@ -163,7 +174,7 @@ fn queries_are_answered(rt: HostRuntime) -> Result<(), Fail> {
 }
 
 /// The replies to accepted commands, and their lines.
-const REPLIES: [(Reply, &[u8]); 5] = [
+const REPLIES: [(Reply, &[u8]); 6] = [
     (
         Reply::Painted {
             place: 1,
@@ -179,6 +190,10 @@ const REPLIES: [(Reply, &[u8]); 5] = [
         b"OK 2 1\n",
     ),
     (Reply::Reverted { place: 3 }, b"OK 3\n"),
+    (
+        Reply::Checkpointed { place: 4294967295 },
+        b"OK 4294967295\n",
+    ),
     (
         Reply::Collected {
             place: 4,

@@ -1,10 +1,14 @@
 //! Worlds at their limits: a log of a thousand entries, and the largest map with the most readers.
 
+ghost use Rattle.std.specs.Prelude.{IfOk};
+ghost use Rattle.map_core.specs.Ledger.{IsBalanced};
+
 use crate::compare::same;
 use crate::events::SMALL;
 use bits::Bitmap;
-use map_core::{Command, Event, Reply, Setting, StepReply, World};
+use map_core::{Command, Event, Ledger, Reply, Setting, StepReply, World};
 use metric::{Rect, Refusal};
+use std::alloc::Global;
 use std::test::Fail;
 
 #[test]
@@ -104,5 +108,57 @@ fn the_largest_map(rt: HostRuntime) -> Result<(), Fail> {
     ] {
         same(&rt, world.step(rt.alloc(), event), Ok(answer), "step");
     }
+    Ok(())
+}
+
+/// A ledger of a log with so many entries, of which the last two stand after a checkpoint.
+fn late_ledger(alloc: Global, places: u32) -> Result<Ledger, Fail>
+    ensures { IfOk result (λ ledger. IsBalanced ledger) }
+{
+    let map = Bitmap::blank(alloc, 64, 64)?;
+    Ok(Ledger {
+        places,
+        base: places.saturating_sub(2),
+        ..Ledger::of(SMALL, &map)
+    })
+}
+
+#[test]
+fn places_are_used_up(rt: HostRuntime) -> Result<(), Fail> {
+    let rect = Rect::new(0, 0, 1, 1).expect(&rt, "a cell");
+    let paint = Command::Paint { rect, black: true };
+    let last = late_ledger(rt.alloc(), 4_294_967_295)?;
+    let before = late_ledger(rt.alloc(), 4_294_967_294)?;
+    for command in [
+        paint,
+        Command::Publish,
+        Command::Revert,
+        Command::Collect,
+        Command::Checkpoint,
+    ] {
+        same(&rt, before.judge(&command), None, "a place is left");
+        same(
+            &rt,
+            last.judge(&command),
+            Some(Refusal::PlacesUsed),
+            "none is",
+        );
+    }
+    Ok(())
+}
+
+#[test]
+fn a_full_log_is_told_before_used_places(rt: HostRuntime) -> Result<(), Fail> {
+    let mut ledger = late_ledger(rt.alloc(), 4_294_967_295)?;
+    ledger.setting.log = 2;
+    let full = Some(Refusal::LogFull);
+    same(&rt, ledger.judge(&Command::Revert), full, "a revert");
+    let used = Some(Refusal::PlacesUsed);
+    same(
+        &rt,
+        ledger.judge(&Command::Checkpoint),
+        used,
+        "a checkpoint",
+    );
     Ok(())
 }

@@ -44,6 +44,12 @@ pub fn open<Id: StoreName>(
     }
 }
 
+/// Closes a store. Answers how many entries its log has, with those that a checkpoint has dropped.
+pub fn close<Id: StoreName>(store: Store<Id>, sessions: Vec<Session<Id>>) -> usize {
+    let (base, kept) = store.close(sessions);
+    kept.len().saturating_add(base as usize)
+}
+
 /// The rectangle with these corners.
 pub fn rect(rt: &impl Abort, corners: [u16; 4]) -> Rect {
     let [x0, y0, x1, y1] = corners;

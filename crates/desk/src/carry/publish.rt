@@ -1,6 +1,6 @@
 //! A publish, word by word: the rows of the draft's own tiles, then the directory of the next version.
 
-ghost use Rattle.std.specs.Prelude.{◌≡◌, ℕ, ◌+◌, ◌*◌, ◌<◌, length, take, None};
+ghost use Rattle.std.specs.Prelude.{◌≡◌, ℕ, ◌+◌, ◌*◌, ◌^◌, ◌<◌, length, take, None};
 ghost use Rattle.bits.specs.TileWords.{tile_words};
 ghost use Rattle.map_core.specs.declared.command.Command.TheVariants.{Publish};
 ghost use Rattle.map_core.specs.Blocks.{own_list};
@@ -95,6 +95,7 @@ fn write_directory<Id: StoreName>(
     requires told { IsTold Id.store.base (entries keeper.old.log) holding.now }
     requires in_hand { keeper.old ≡ writing keeper.old by (64 * stored) }
     requires stored { stored ≡ length (own_list (blocks Id.store.base (entries keeper.old.log)).own) }
+    requires few { holding.now.ledger.newest + 1 < 2 ^ 32 }
     ensures { keeper.new ≡ writing keeper.old by (64 * stored + tiles Id.store.base) }
 {
     let version = holding.ledger.newest + 1;

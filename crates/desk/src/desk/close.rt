@@ -1,15 +1,17 @@
 //! A desk that is closed.
 
 ghost use Rattle.std.specs.Prelude.{◌≡◌};
+ghost use Rattle.desk.specs.Desks.{base_place, kept_part};
 
 use crate::desk::Desk;
 use shelf::{Closing, Signed, StoreName};
 
 impl<Id: StoreName> Desk<Id> {
-    /// Closes the desk, whose blocks all go back: its log, and its keeper's seat, to which the readers' seats are to be given up.
-    pub fn close(self) -> (Closing<Id>, Vec<Signed>)
+    /// Closes the desk, whose blocks all go back: its keeper's seat, to which the readers' seats are to be given up, the place of the last checkpoint, and the entries that are kept.
+    pub fn close(self) -> (Closing<Id>, u32, Vec<Signed>)
         ensures closing { result.0 ≡ record { log = self.log; readers = 0; made = 0 } }
-        ensures log { result.1.items ≡ self.log }
+        ensures base { result.1 ≡ base_place Id.store self.log }
+        ensures log { result.2.items ≡ kept_part Id.store self.log }
     {
         let Desk {
             keeper,
@@ -17,7 +19,8 @@ impl<Id: StoreName> Desk<Id> {
             log,
             announced: _,
         } = self;
+        let base = holding.ledger.base;
         holding.end();
-        (keeper.close(), log)
+        (keeper.close(), base, log)
     }
 }

@@ -2,13 +2,14 @@
 //!
 //! Condition of each: a seat that has announced a version holds one.
 
-ghost use Rattle.std.specs.Prelude.{◌≡◌, ◌<◌, true, Some, vec_len, vec_capacity, IfOk, IfErr};
+ghost use Rattle.std.specs.Prelude.{◌≡◌, ◌<◌, true, false, Some, vec_len, vec_capacity, IfOk, IfErr};
+ghost use Rattle.metric.specs.declared.refusal.Refusal.TheVariants.{PlacesUsed};
 ghost use mathlib.Core.List.{IsPrefix};
-ghost use Rattle.map_core.specs.declared.command.Command.TheVariants.{Paint, Stamp, Publish, Revert, Collect};
-ghost use Rattle.map_core.specs.Ledger.{IsBalanced};
+ghost use Rattle.map_core.specs.declared.command.Command.TheVariants.{Paint, Stamp, Publish, Revert, Collect, Checkpoint};
+ghost use Rattle.map_core.specs.Ledger.{IsBalanced, takes_room};
 ghost use Rattle.map_core.specs.Legal.{IsLegal};
 ghost use Rattle.shelf.specs.Roles.{entries};
-ghost use Rattle.desk.specs.Desks.{IsSteady, IsAccepted, IsRefused};
+ghost use Rattle.desk.specs.Desks.{IsSteady, IsAccepted, IsRefused, base_place, kept_after, kept_part};
 
 use crate::carry::carry;
 use crate::desk::Desk;
@@ -17,13 +18,26 @@ use map_core::{Command, Entry, Ledger, Reply};
 use metric::{Rect, Refusal};
 use shelf::{Asked, ReaderSeat, Signed, StoreName, Ticket, meet};
 
-/// Whether there is room for a command's entry. None is asked for where the ledger refuses the command.
+/// Whether there is room for a command's entry. None is asked for where the ledger refuses the command, and a checkpoint needs none.
 fn finds_room(ledger: &Ledger, command: &Command, log: &mut Vec<Signed>) -> bool
     requires { IsBalanced ledger.now }
     ensures items { log.new.items ≡ log.old.items }
-    ensures room { result ≡ true → vec_len log.new < vec_capacity log.new }
+    ensures room { result ≡ true → takes_room command.now ≡ true → vec_len log.new < vec_capacity log.new }
+    ensures checkpoint { takes_room command.now ≡ false → result ≡ true }
 {
-    ledger.judge(command).is_none() && log.reserve(1).is_ok()
+    !command.takes_room() || (ledger.judge(command).is_none() && log.reserve(1).is_ok())
+}
+
+/// Keeps an entry behind the others. A checkpoint drops them all, and isn't kept itself; the room stays.
+fn keep(log: &mut Vec<Signed>, signed: Signed)
+    requires { takes_room signed.entry.command ≡ true → vec_len log.old < vec_capacity log.old }
+    ensures { log.new.items ≡ kept_after log.old.items signed }
+{
+    if signed.entry.command.takes_room() {
+        log.push_reserved(signed);
+    } else {
+        log.clear();
+    }
 }
 
 impl<Id: StoreName> Desk<Id> {
@@ -61,7 +75,7 @@ impl<Id: StoreName> Desk<Id> {
             Err(refusal) => return Err((command, refusal)),
         };
         let entry = Entry { command, reply };
-        self.log.push_reserved(Signed { by, entry });
+        keep(&mut self.log, Signed { by, entry });
         meet(&mut self.keeper, seat);
         Ok(reply)
     }
@@ -179,12 +193,39 @@ impl<Id: StoreName> Desk<Id> {
         }
     }
 
-    /// The log: each command that was accepted, with its reply and its session.
+    /// Drops the entries that are kept, its own among them: `Reply::Checkpointed`, whose place is the base place then. Places go on counting. It takes no memory, and no bitmap and no version changes.
+    ///
+    /// Refused where no place is left (`PlacesUsed`) alone.
+    pub fn checkpoint(&mut self, seat: &mut ReaderSeat<Id>) -> Result<Reply, Refusal>
+        requires { IsSteady seat.old }
+        ensures accepted { IfOk result (λ reply. IsAccepted Id.store self.old seat.old Checkpoint reply self.new seat.new) }
+        ensures refused { IfErr result (λ refusal. IsRefused Id.store self.old seat.old Checkpoint refusal self.new seat.new) }
+        ensures places { IfErr result (λ refusal. refusal ≡ PlacesUsed) }
+        ensures stays { seat.new ≡ record seat.old { seen = seat.new.seen; made = seat.new.made } }
+        ensures seen { seat.new.seen ≡ self.new.log }
+        ensures began { IsPrefix seat.old.seen self.old.log }
+        ensures grows { IsPrefix seat.old.seen seat.new.seen }
+        ensures legal { IsLegal Id.store.base.setting Id.store.base.opening (entries self.new.log) }
+    {
+        match self.run(seat, Command::Checkpoint) {
+            Ok(reply) => Ok(reply),
+            Err((_, refusal)) => Err(refusal),
+        }
+    }
+
+    /// The entries that are kept: each command that was accepted since the last checkpoint, with its reply and its session.
     pub fn log(&self) -> &[Signed]
-        ensures all { result.now ≡ self.now.log }
-        ensures legal { IsLegal Id.store.base.setting Id.store.base.opening (entries result.now) }
+        ensures kept { result.now ≡ kept_part Id.store self.now.log }
+        ensures legal { IsLegal Id.store.base.setting Id.store.base.opening (entries self.now.log) }
     {
         self.log.as_slice()
+    }
+
+    /// The place of the last checkpoint, 0 where there is none: the entries that are kept have the places behind it.
+    pub fn base_place(&self) -> u32
+        ensures { result ≡ base_place Id.store self.now.log }
+    {
+        self.holding.ledger.base
     }
 
     /// A token of the log as it is now. Whoever learns it has then seen that log. It is always given.

@@ -1,7 +1,7 @@
 //! How commands are answered by what a desk holds.
 
 ghost use Rattle.std.specs.Prelude.{◌≡◌, ◌≤◌, Some, None, true, IfOk, IfErr, OnErr, IfSome, IfNone};
-ghost use Rattle.map_core.specs.declared.command.Command.TheVariants.{Paint, Stamp, Publish, Revert, Collect};
+ghost use Rattle.map_core.specs.declared.command.Command.TheVariants.{Paint, Stamp, Publish, Revert, Collect, Checkpoint};
 ghost use Rattle.map_core.specs.Ledger.{refused_by_ledger};
 ghost use Rattle.desk.specs.Holdings.{CanAnswer, IsOneStep, Judges, Refuses, Does};
 
@@ -60,6 +60,15 @@ impl Holding {
         self.ledger.enter_revert()
     }
 
+    /// A checkpoint that the ledger doesn't refuse: draft, versions and blocks stay.
+    fn checkpoint(&mut self) -> Reply
+        requires able { CanAnswer self.old }
+        requires judged { refused_by_ledger self.old.ledger Checkpoint ≡ None }
+        ensures { Does self.old Checkpoint result self.new }
+    {
+        self.ledger.enter_checkpoint()
+    }
+
     /// A collect that the ledger doesn't refuse: the floor rises to this version.
     pub fn collect(&mut self, floor: u32) -> Reply
         requires able { CanAnswer self.old }
@@ -85,6 +94,7 @@ impl Holding {
             Command::Publish => None,
             Command::Revert => None,
             Command::Collect => None,
+            Command::Checkpoint => None,
         }
     }
 
@@ -121,6 +131,7 @@ impl Holding {
             Command::Paint { rect, black } => self.paint(*rect, *black),
             Command::Stamp { x, y, bitmap } => self.stamp(*x, *y, bitmap),
             Command::Revert => Ok(self.revert()),
+            Command::Checkpoint => Ok(self.checkpoint()),
             _ => unreachable!(),
         }
     }

@@ -4,7 +4,7 @@ ghost use Rattle.std.specs.Prelude.{◌≡◌, fold, Ok};
 ghost use Rattle.map_core.specs.Steps.{lowered};
 ghost use Rattle.map_core.specs.Runs.{SafeStep};
 ghost use Rattle.map_core.specs.declared.event.Event.TheVariants.{Keep};
-ghost use Rattle.map_core.specs.declared.command.Command.TheVariants.{Publish, Revert, Collect};
+ghost use Rattle.map_core.specs.declared.command.Command.TheVariants.{Publish, Revert, Collect, Checkpoint};
 ghost use Rattle.map_core.specs.Consistent.{IsLastOf, IsDrawing};
 
 use crate::blocks::{give_back_own, give_back_retired, publish_own, take_blocks};
@@ -85,6 +85,21 @@ impl World {
         let reply = self.ledger.enter_revert();
         self.log.push_reserved(Entry {
             command: Command::Revert,
+            reply,
+        });
+        self.words[NOW_AT] = self.ledger.now_word();
+        self.hand = None;
+        StepReply::Committed { reply }
+    }
+
+    /// The one step of a checkpoint: the log has its entry, and counts anew against its limit.
+    pub(super) fn checkpoint(&mut self) -> StepReply
+        requires { IsLastOf self.old Checkpoint }
+        ensures { SafeStep self.old Keep (Ok result) self.new }
+    {
+        let reply = self.ledger.enter_checkpoint();
+        self.log.push_reserved(Entry {
+            command: Command::Checkpoint,
             reply,
         });
         self.words[NOW_AT] = self.ledger.now_word();

@@ -1,6 +1,7 @@
 //! The steps of a command in hand.
 
-ghost use Rattle.std.specs.Prelude.{◌≡◌, ◌<◌, length, Ok};
+ghost use Rattle.std.specs.Prelude.{◌≡◌, ◌+◌, ◌^◌, ◌<◌, length, Ok};
+ghost use Rattle.map_core.specs.Story.{newest};
 ghost use Rattle.map_core.specs.Words.{tiles};
 ghost use Rattle.map_core.specs.Views.{story_of, blocks_of_state};
 ghost use Rattle.map_core.specs.Steps.{steps_before, tile_steps, tile_write, map_write, write_of};
@@ -30,7 +31,8 @@ impl World {
 
     /// Where a word of the next version's directory goes, and the word.
     fn map_word(&self, position: u32) -> (usize, u64)
-        requires { position < tiles self.now.base }
+        requires inside { position < tiles self.now.base }
+        requires few { newest (story_of self.now) + 1 < 2 ^ 32 }
         ensures place { result.0 ≡ (map_write self.now.base (story_of self.now) (blocks_of_state self.now) position).at }
         ensures word { result.1 ≡ (map_write self.now.base (story_of self.now) (blocks_of_state self.now) position).word }
         ensures within { result.0 < length self.now.words }
@@ -62,7 +64,8 @@ impl World {
 
     /// Where the next word of a publish goes, and the word: first the rows of the draft's own blocks, then the directory.
     fn next_word(&self, number: usize) -> (usize, u64)
-        requires { number < steps_before self.now.base (blocks_of_state self.now) Publish }
+        requires below { number < steps_before self.now.base (blocks_of_state self.now) Publish }
+        requires few { newest (story_of self.now) + 1 < 2 ^ 32 }
         ensures place { result.0 ≡ (write_of self.now.base (story_of self.now) (blocks_of_state self.now) number).at }
         ensures word { result.1 ≡ (write_of self.now.base (story_of self.now) (blocks_of_state self.now) number).word }
         ensures within { result.0 < length self.now.words }
@@ -102,6 +105,7 @@ impl World {
             Command::Revert => self.revert(),
             Command::Collect if has_more => self.scan(),
             Command::Collect => self.collect(),
+            Command::Checkpoint => self.checkpoint(),
         };
         Ok(answer)
     }

@@ -37,6 +37,7 @@ pub fn by_session<Id: StoreName>(
         Command::Publish => told(session.publish(desk)),
         Command::Revert => told(session.revert(desk)),
         Command::Collect => told(session.collect(desk)),
+        Command::Checkpoint => told(session.checkpoint(desk)),
     }
 }
 
@@ -58,5 +59,6 @@ pub fn by_pin<Id: StoreName>(
         Command::Publish => told(pinned.publish(desk)),
         Command::Revert => told(pinned.revert(desk)),
         Command::Collect => told(pinned.collect(desk)),
+        Command::Checkpoint => told(pinned.checkpoint(desk)),
     }
 }

@@ -2,7 +2,8 @@
 
 ghost use Rattle.std.specs.Prelude.{◌≡◌, IfOk, IfErr};
 ghost use mathlib.Core.List.{IsPrefix};
-ghost use Rattle.map_core.specs.declared.command.Command.TheVariants.{Paint, Stamp, Publish, Revert, Collect};
+ghost use Rattle.metric.specs.declared.refusal.Refusal.TheVariants.{PlacesUsed};
+ghost use Rattle.map_core.specs.declared.command.Command.TheVariants.{Paint, Stamp, Publish, Revert, Collect, Checkpoint};
 ghost use Rattle.map_core.specs.Legal.{IsLegal};
 ghost use Rattle.shelf.specs.Roles.{entries};
 ghost use Rattle.desk.specs.Desks.{IsAccepted, IsRefused};
@@ -74,5 +75,17 @@ impl<Id: StoreName> Session<Id> {
         ensures legal { IsLegal Id.store.base.setting Id.store.base.opening (entries desk.new.log) }
     {
         desk.collect(&mut self.seat)
+    }
+
+    /// Drops the entries that the desk keeps, as `Desk::checkpoint` does with its seat. It takes no memory.
+    pub fn checkpoint(&mut self, desk: &mut Desk<Id>) -> Result<Reply, Refusal>
+        ensures accepted { IfOk result (λ reply. IsAccepted Id.store desk.old self.old Checkpoint reply desk.new self.new) }
+        ensures refused { IfErr result (λ refusal. IsRefused Id.store desk.old self.old Checkpoint refusal desk.new self.new) }
+        ensures places { IfErr result (λ refusal. refusal ≡ PlacesUsed) }
+        ensures began { IsPrefix self.old.seen desk.old.log }
+        ensures grows { IsPrefix self.old.seen self.new.seen }
+        ensures legal { IsLegal Id.store.base.setting Id.store.base.opening (entries desk.new.log) }
+    {
+        desk.checkpoint(&mut self.seat)
     }
 }

@@ -4,6 +4,7 @@ use super::{Input, drawn, look, serve, setting, square};
 use crate::compare::same;
 use crate::opened::blank;
 use bits::Bitmap;
+use map_core::Setting;
 use metric::Cell;
 use proto::End;
 use std::test::Fail;
@@ -24,7 +25,7 @@ const CORNER: &[u8] = b"P1\n3 2\n100\n000\n";
 /// A map of 6 by 4 with an obstacle in the middle.
 const MIDDLE: &[u8] = b"P1\n6 4\n000000\n001000\n000000\n000000\n";
 
-fn worked() -> [Worked; 13] {
+fn worked() -> [Worked; 14] {
     [
         (
             "a pin and its end",
@@ -130,6 +131,14 @@ fn worked() -> [Worked; 13] {
             End::EndOfInput,
             0,
         ),
+        (
+            "a pin that a checkpoint doesn't move",
+            None,
+            b"PAINT 0 0 1 1\nPUBLISH\nPIN\nAT city 3 4\nCHECKPOINT\nAT city 3 4\nCHECKPOINT\nQUIT\n",
+            b"OK 1 1\nOK 2 1\nOK 1\nOK 7 0 0\nOK 3\nOK 7 0 0\nOK 4\nBYE\n",
+            End::Quit,
+            0,
+        ),
     ]
 }
 
@@ -158,6 +167,25 @@ fn two_blocks_are_enough(rt: HostRuntime) -> Result<(), Fail> {
         look(&rt, name, &run, written, end, left);
         same(&rt, run.entries, entries, name);
     }
+    Ok(())
+}
+
+#[test]
+fn a_checkpoint_makes_room(rt: HostRuntime) -> Result<(), Fail> {
+    let alloc = rt.alloc();
+    let narrow = Setting {
+        versions: 2,
+        log: 2,
+        ..setting(2, 1)
+    };
+    let read =
+        b"PAINT 0 0 1 1\nPUBLISH\nCOLLECT\nCHECKPOINT\nCOLLECT\nPAINT 1 0 2 1\nPUBLISH\nCHECKPOINT\nPUBLISH\nCOLLECT\nCHECKPOINT\nQUIT\n";
+    let written =
+        b"OK 1 1\nOK 2 1\nERR 4 LogFull\nOK 3\nOK 4 1 1\nOK 5 1\nERR 4 LogFull\nOK 6\nOK 7 2\nOK 8 2 1\nOK 9\nBYE\n";
+    let blank = blank(narrow, square(alloc)?, alloc)?;
+    let run = serve(&rt, alloc, blank, Input::whole(read))?;
+    look(&rt, "checkpoints", &run, written, End::Quit, 0);
+    same(&rt, run.entries, 9, "entries");
     Ok(())
 }
 

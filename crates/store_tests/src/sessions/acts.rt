@@ -15,6 +15,7 @@ pub enum Act {
     Publish,
     Revert,
     Collect,
+    Checkpoint,
     Pin,
     Unpin,
     /// Asks its pin how far the nearest obstacle of a cell is.
@@ -42,6 +43,8 @@ pub enum Told {
     Published(u32, u32),
     /// Its place.
     Reverted(u32),
+    /// Its place, after which there is no entry yet.
+    Checkpointed(u32),
     /// Its place, the floor, and how many blocks came back.
     Collected(u32, u32, u32),
     /// How many blocks it needs, and how many are free.
@@ -74,6 +77,7 @@ pub fn answered(answer: Result<Reply, Refusal>) -> Told {
         Ok(Reply::Painted { place, changed }) => Told::Painted(place, changed),
         Ok(Reply::Published { place, version }) => Told::Published(place, version),
         Ok(Reply::Reverted { place }) => Told::Reverted(place),
+        Ok(Reply::Checkpointed { place }) => Told::Checkpointed(place),
         Ok(
             Reply::Collected {
                 place,

@@ -3,7 +3,7 @@
 ghost use Rattle.std.specs.Prelude.{◌≡◌};
 
 use crate::compare::{holds, same};
-use crate::opened::{free, hand_back, next, open, pin, rect};
+use crate::opened::{close, free, hand_back, next, open, pin, rect};
 use map_core::Setting;
 use metric::{Cell, City, Near};
 use session::{Blank, Session, Store};
@@ -66,7 +66,7 @@ fn pins_while_the_lock_is_held<Id: StoreName, R: Wait + Abort>(
     drop(desk);
     hand_back(rt, &mut sessions, painter);
     hand_back(rt, &mut sessions, planner);
-    same(rt, store.close(sessions).len(), 2, "entries");
+    same(rt, close(store, sessions), 2, "entries");
     Ok(())
 }
 
@@ -108,6 +108,6 @@ fn hands_a_ticket_over<Id: StoreName + Send + Sync, R: Threads + Wait + Abort + 
     same(rt, near.map(|near| near.dist), Some(7), "its obstacle");
     hand_back(rt, &mut sessions, painter);
     hand_back(rt, &mut sessions, planner);
-    same(rt, store.close(sessions).len(), 2, "entries");
+    same(rt, close(store, sessions), 2, "entries");
     Ok(())
 }

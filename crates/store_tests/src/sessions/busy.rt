@@ -4,7 +4,7 @@
 ghost use Rattle.std.specs.Prelude.{◌≡◌, ◌<◌};
 
 use crate::compare::{holds, same};
-use crate::opened::{free, hand_back, next, open, pin, rect};
+use crate::opened::{close, free, hand_back, next, open, pin, rect};
 use bits::Bitmap;
 use map_core::Setting;
 use metric::{Cell, Chess, Refusal};
@@ -270,6 +270,6 @@ fn paints_and_plans<Id: StoreName + Send + Sync, R: Threads + Wait + Abort + Clo
     same(rt, version, published, "the last version");
     let entries = store.lock(rt).log().len();
     hand_back(rt, &mut sessions, session);
-    same(rt, store.close(sessions).len(), entries, "entries");
+    same(rt, close(store, sessions), entries, "entries");
     Ok(())
 }

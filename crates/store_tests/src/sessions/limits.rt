@@ -3,7 +3,7 @@
 ghost use Rattle.std.specs.Prelude.{◌≡◌};
 
 use crate::compare::same;
-use crate::opened::{free, hand_back, next, open, pin, rect};
+use crate::opened::{close, free, hand_back, next, open, pin, rect};
 use crate::sessions::acts::{A, Act, Told};
 use crate::sessions::players::Players;
 use bits::Bitmap;
@@ -57,7 +57,7 @@ fn fills_a_long_log<Id: StoreName, R: Wait + Abort>(
     let made = players.act(rt, alloc, A, Act::Count);
     same(rt, made, Told::Number(1_000), "made");
     let (store, sessions) = players.rise(rt, alloc);
-    same(rt, store.close(sessions).len(), 1_000, "entries");
+    same(rt, close(store, sessions), 1_000, "entries");
     Ok(())
 }
 
@@ -149,6 +149,6 @@ fn asks_the_largest_map<Id: StoreName, R: Wait + Abort>(
     let mut pinned = pin(rt, alloc, session);
     ask_the_last_cell(rt, alloc, &mut pinned);
     hand_back(rt, &mut sessions, pinned.unpin());
-    same(rt, store.close(sessions).len(), 3, "entries");
+    same(rt, close(store, sessions), 3, "entries");
     Ok(())
 }

@@ -3,7 +3,7 @@
 ghost use Rattle.std.specs.Prelude.{◌≡◌};
 
 use crate::compare::same;
-use crate::opened::{free, hand_back, open};
+use crate::opened::{close, free, hand_back, open};
 use crate::sessions::acts::{A, Act, Row, Told};
 use crate::sessions::seat::Seat;
 use map_core::Setting;
@@ -164,6 +164,6 @@ fn play_in<Id: StoreName, R: Wait + Abort>(
     let mut players = Players::new(rt, alloc, store, sessions, game.size);
     players.play(rt, alloc, game.rows, game.free);
     let (store, sessions) = players.rise(rt, alloc);
-    same(rt, store.close(sessions).len(), game.entries, "entries");
+    same(rt, close(store, sessions), game.entries, "entries");
     Ok(())
 }

@@ -60,6 +60,7 @@ fn command<Id: StoreName>(
         Act::Publish => session.publish(desk),
         Act::Revert => session.revert(desk),
         Act::Collect => session.collect(desk),
+        Act::Checkpoint => session.checkpoint(desk),
         _ => panic!(rt; "no command"),
     }
 }
@@ -79,6 +80,7 @@ fn command_of_pin<Id: StoreName>(
         Act::Publish => pinned.publish(desk),
         Act::Revert => pinned.revert(desk),
         Act::Collect => pinned.collect(desk),
+        Act::Checkpoint => pinned.checkpoint(desk),
         _ => panic!(rt; "no command"),
     }
 }

@@ -49,7 +49,7 @@ fn paint_and_plan<Id: StoreName, R: Wait + Abort>(
     let (planner, planned) = plan(alloc, planner);
     hand_back(rt, &mut sessions, painter);
     hand_back(rt, &mut sessions, planner);
-    let log = store.close(sessions);
+    let (base, kept) = store.close(sessions);
 
     assert_eq!(rt;
         drawn?,
@@ -60,7 +60,7 @@ fn paint_and_plan<Id: StoreName, R: Wait + Abort>(
     );
     let (at, near) = planned?.expect(rt, "the map has an obstacle");
     assert_eq!(rt; (at.x, at.y, near.dist), (9, 20, 16));
-    assert_eq!(rt; log.len(), 2);
+    assert_eq!(rt; (base, kept.len()), (0, 2));
     Ok(())
 }
 

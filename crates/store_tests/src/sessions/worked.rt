@@ -90,6 +90,47 @@ fn a_full_log_refuses_all(rt: HostRuntime) -> Result<(), Fail> {
     play(&rt, rt.alloc(), game)
 }
 
+/// The log has room for two entries. A checkpoint drops those that stand there, so the next two are taken, and places go on counting. A pin of before
+/// answers the same after it.
+const DROPPED: [Row; 19] = [
+    (A, Act::Paint([0, 0, 1, 1]), Told::Painted(1, 1)),
+    (A, Act::Publish, Told::Published(2, 1)),
+    (A, Act::Collect, Told::Refused(Refusal::LogFull)),
+    (A, Act::Checkpoint, Told::Checkpointed(3)),
+    (A, Act::Collect, Told::Collected(4, 1, 1)),
+    (B, Act::Pin, Told::Version(1)),
+    (B, Act::Near([3, 4]), Told::Near(1, 25, [0, 0])),
+    (A, Act::Paint([1, 0, 2, 1]), Told::Painted(5, 1)),
+    (A, Act::Publish, Told::Refused(Refusal::LogFull)),
+    (B, Act::Checkpoint, Told::Checkpointed(6)),
+    (A, Act::Checkpoint, Told::Checkpointed(7)),
+    (A, Act::Publish, Told::Published(8, 2)),
+    (B, Act::Near([3, 4]), Told::Near(1, 25, [0, 0])),
+    (B, Act::Unpin, Told::Nothing),
+    (B, Act::Pin, Told::Version(2)),
+    (B, Act::Near([3, 4]), Told::Near(2, 20, [1, 0])),
+    (B, Act::Unpin, Told::Nothing),
+    (A, Act::Count, Told::Number(7)),
+    (B, Act::Count, Told::Number(1)),
+];
+
+#[test]
+fn a_checkpoint_makes_room(rt: HostRuntime) -> Result<(), Fail> {
+    let game = Game {
+        setting: Setting {
+            blocks: 2,
+            sessions: 2,
+            log: 2,
+            ..SMALL
+        },
+        size: [64, 64],
+        rows: &DROPPED,
+        free: &[],
+        entries: 8,
+    };
+    play(&rt, rt.alloc(), game)
+}
+
 /// A map whose only block is version 0's.
 const CLEARED: [Row; 2] = [
     (A, Act::Clear([0, 0, 64, 64]), Told::Painted(1, 0)),

@@ -18,7 +18,7 @@ pub scan_all-requires-clause-in_hand : goal.scan_all-requires-clause-in_hand
 scan_all-requires-clause-in_hand g c = collect_begun c.args.keeper.now _ _ _ c.order.ensures c.requires.command
 
 pub scan_all-requires-clause-few : goal.scan_all-requires-clause-few
-scan_all-requires-clause-few g c = few_versions _ c.args.keeper.now _ _ _ _ c.order.ensures c.requires.able.told
+scan_all-requires-clause-few g c = few_versions _ c.args.keeper.now _ _ _ _ c.order.ensures c.requires.able.told c.requires.judged
 
 pub collect-reply-requires-clause-able : goal.collect-reply-requires-clause-able
 collect-reply-requires-clause-able g c = can_answer _ _ _ c.requires.able.told

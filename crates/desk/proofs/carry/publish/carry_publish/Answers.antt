@@ -4,6 +4,7 @@ use Rattle.map_core.specs.Drawing.{draws}
 use Rattle.desk.proofs.CarryLemmas.{none_in_hand, accepted}
 use Rattle.desk.proofs.HoldOpen.{can_answer}
 use Rattle.desk.proofs.PublishSteps.{publish_begun, told_ordered, written, may_commit_written, publish_carried}
+use Rattle.desk.proofs.CarryLemmas.{next_version}
 use Rattle.desk.proofs.carry.publish.carry_publish.Goals as goal
 
 pub order-requires-clause-none : goal.order-requires-clause-none
@@ -33,3 +34,6 @@ returns g c =
     publish_carried z c.args.keeper.now _ _ _ _ c.args.asked.now.by _ _ _ c.requires.able c.requires.command
     (written z.base c.args.keeper.now _ _ _ c.args.asked.now.by _ _ c.order.ensures c.write_tiles-stored.ensures.keeper c.write_tiles-stored.ensures.count c.write_directory.ensures)
     c.publish-reply.ensures c.commit.ensures.committed
+
+pub write_directory-requires-clause-few : goal.write_directory-requires-clause-few
+write_directory-requires-clause-few g c = next_version _ c.args.keeper.now c.args.holding.now _ c.requires.able.told c.requires.judged

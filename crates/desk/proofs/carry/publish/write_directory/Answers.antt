@@ -3,12 +3,11 @@ use Rattle.std.proofs.Common.{ℕ, ◌<◌, ◌+◌, ◌*◌, ap, subst, ◌∙�
 use Rattle.map_core.specs.Views.{story}
 use Rattle.shelf.specs.Roles.{entries}
 use Rattle.shelf.proofs.WriteSteps.{next_position}
-use Rattle.desk.proofs.HoldOpen.{can_answer}
 use Rattle.desk.proofs.PublishSteps.{own_long, next_block}
 use Rattle.desk.proofs.carry.publish.write_directory.Goals as goal
 
 pub overflow_add-version : goal.overflow_add-version
-overflow_add-version g c = omega (arith, (can_answer _ _ _ c.requires.told).balanced.few_versions)
+overflow_add-version g c = omega (arith, c.requires.few)
 
 pub block_at-block-requires : goal.block_at-block-requires
 block_at-block-requires g c = omega (arith, own_long _ c.args.keeper.now _ c.requires.told, c.requires.plan.tiles_is, c.loop-position-test.true)

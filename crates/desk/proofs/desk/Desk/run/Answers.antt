@@ -1,10 +1,10 @@
 -- A command is refused, or committed with its answer.
 use Rattle.std.proofs.Common.{◌≡◌, List, [], ◌∷◌, ◌++◌, refl, ap, ◌∙◌}
 use Rattle.shelf.specs.declared.signed.Signed.{Signed}
-use Rattle.shelf.specs.Roles.{ReaderView}
+use Rattle.shelf.specs.Roles.{KeeperView, ReaderView}
 use Rattle.desk.specs.Carries.{signed}
-use Rattle.desk.specs.Desks.{DeskView}
-use Rattle.desk.proofs.DeskLemmas.{IsDone, keeper_met, reader_met, can_carry, refused_is, desk_after, accepted_is}
+use Rattle.desk.specs.Desks.{DeskView, kept_after}
+use Rattle.desk.proofs.DeskLemmas.{IsDone, keeper_met, reader_met, can_carry, refused_is, log_after, desk_after, accepted_is}
 use Rattle.desk.proofs.HoldOpen.{can_answer}
 use Rattle.desk.proofs.desk.Desk.run.Goals as goal
 
@@ -14,30 +14,33 @@ finds_room-has_room-requires g c = (can_answer _ _ _ c.self.invariant.told).bala
 pub carry-carried-requires-clause-able : goal.carry-carried-requires-clause-able
 carry-carried-requires-clause-able g c =
     let z = g.Id.StoreName.store in
-    let d : DeskView = record { log = c.self.inside.log.items } in
-    can_carry z d _ _ c.self.invariant.told (keeper_met z d _ _ _ _ c.self.invariant c.meet.ensures.keeper)
+    let d : DeskView = record { log = c.self.inside.keeper.log } in
+    can_carry z d _ _ c.self.invariant.told (keeper_met z d _ _ _ _ _ c.self.invariant c.meet.ensures.keeper)
 
 pub invariant_of-self-2 : goal.invariant_of-self-2
 invariant_of-self-2 g c =
     let z = g.Id.StoreName.store in
-    let d : DeskView = record { log = c.self.inside.log.items } in
+    let d : DeskView = record { log = c.self.inside.keeper.log } in
     let done : IsDone z d c.meet.new.keeper c.self.inside.holding c.number.result c.args.command c.in-Ok.reply c.carry-carried.new.keeper c.carry-carried.new.holding =
-    record { told = c.self.invariant.told; at_rest = keeper_met z d _ _ _ _ c.self.invariant c.meet.ensures.keeper; carried = c.in-Ok.ensures.carried } in
-    desk_after z d _ _ _ _ _ _ _ _ _ _ done (c.push_reserved.ensures.items ∙ ap (λ (l : List Signed). l ++ signed c.number.result c.args.command c.in-Ok.reply ∷ []) c.finds_room-has_room.ensures.items)
+    record { told = c.self.invariant.told; at_rest = keeper_met z d _ _ _ _ _ c.self.invariant c.meet.ensures.keeper; carried = c.in-Ok.ensures.carried } in
+    desk_after z d _ _ _ _ _ _ _ _ c.self.inside.log.items _ _ done c.self.invariant.kept_is
+    (c.keep.ensures ∙ ap (λ (l : List Signed). kept_after l (signed c.number.result c.args.command c.in-Ok.reply)) c.finds_room-has_room.ensures.items)
     c.meet-2.ensures.keeper c.in-Ok.ensures.place_each
 
 pub returns-in-Err-clause-refused : goal.returns-in-Err-clause-refused
 returns-in-Err-clause-refused g c =
-    rw (← c.self.view_is) (refl, refused_is g.Id.StoreName.store _ _ _ _ _ _ _ _ _ _ c.self.invariant c.requires c.in-Err.ensures.refused (ap (λ (l : List Signed). record { log = l }) c.finds_room-has_room.ensures.items) c.meet.ensures.reader)
+    let z = g.Id.StoreName.store in
+    let d : DeskView = record { log = c.self.inside.keeper.log } in
+    let still : c.carry-carried.new.keeper ≡ _ = c.in-Err.ensures.as_before.0 ∙ keeper_met z d _ _ _ _ _ c.self.invariant c.meet.ensures.keeper in
+    rw (← c.self.view_is) (refl, refused_is z _ _ _ _ _ _ _ _ _ _ _ c.self.invariant c.requires c.finds_room-has_room.ensures.checkpoint c.in-Err.ensures.refused (ap (λ (q : KeeperView). record { log = q.log }) still) c.meet.ensures.reader)
 
 pub returns-clause-accepted : goal.returns-clause-accepted
 returns-clause-accepted g c =
     let z = g.Id.StoreName.store in
-    let d : DeskView = record { log = c.self.inside.log.items } in
+    let d : DeskView = record { log = c.self.inside.keeper.log } in
     let done : IsDone z d c.meet.new.keeper c.self.inside.holding c.number.result c.args.command c.in-Ok.reply c.carry-carried.new.keeper c.carry-carried.new.holding =
-    record { told = c.self.invariant.told; at_rest = keeper_met z d _ _ _ _ c.self.invariant c.meet.ensures.keeper; carried = c.in-Ok.ensures.carried } in
-    let seen : c.meet.new.reader ≡ record c.args.seat.now { seen = d.log } = reader_met z d _ c.self.inside.holding c.self.inside.announced.items c.args.seat.now _ c.self.invariant c.requires c.meet.ensures.reader in
+    record { told = c.self.invariant.told; at_rest = keeper_met z d _ _ _ _ _ c.self.invariant c.meet.ensures.keeper; carried = c.in-Ok.ensures.carried } in
+    let seen : c.meet.new.reader ≡ record c.args.seat.now { seen = d.log } = reader_met z d _ c.self.inside.holding c.self.inside.log.items c.self.inside.announced.items c.args.seat.now _ c.self.invariant c.requires c.meet.ensures.reader in
     let by_is : c.number.result ≡ c.args.seat.now.number = c.number.ensures.number ∙ ap (λ (x : ReaderView). x.number) seen in
-    let log_is : c.push_reserved.new.self.items ≡ d.log ++ signed c.number.result c.args.command c.in-Ok.reply ∷ [] =
-    c.push_reserved.ensures.items ∙ ap (λ (l : List Signed). l ++ signed c.number.result c.args.command c.in-Ok.reply ∷ []) c.finds_room-has_room.ensures.items in
+    let log_is : c.meet-2.new.keeper.log ≡ d.log ++ signed c.number.result c.args.command c.in-Ok.reply ∷ [] = log_after z d _ _ _ _ _ _ _ _ done c.meet-2.ensures.keeper in
     rw (← c.self.view_is) (accepted_is z d _ _ _ _ _ _ _ _ c.args.seat.now _ _ done c.requires by_is (ap (λ (l : List Signed). record { log = l }) log_is) seen c.meet-2.ensures.reader)

@@ -21,3 +21,6 @@ returns-in-Revert c = λ k log tells. judged_other k log c.args.self.now c.args.
 
 pub returns-in-Collect : goal.returns-in-Collect
 returns-in-Collect c = λ k log tells. judged_other k log c.args.self.now c.args.command.now tells (ap draws c.in-Collect.is) c.requires.judged
+
+pub returns-in-Checkpoint : goal.returns-in-Checkpoint
+returns-in-Checkpoint c = λ k log tells. judged_other k log c.args.self.now c.args.command.now tells (ap draws c.in-Checkpoint.is) c.requires.judged

@@ -1,5 +1,6 @@
 -- A stamp is done, or refused for want of blocks.
 use Rattle.desk.proofs.HoldDraw.{draw_done, judged_draw}
+use Rattle.map_core.proofs.LedgerLemmas.{place_of_ledger}
 use Rattle.desk.proofs.holding.Holding.stamp.Goals as goal
 
 pub returns-in-Ok-clause-done : goal.returns-in-Ok-clause-done
@@ -8,3 +9,6 @@ returns-in-Ok-clause-done c =
 
 pub returns-in-Err-clause-refused : goal.returns-in-Err-clause-refused
 returns-in-Err-clause-refused c = λ k log tells. judged_draw k log c.args.self.now _ _ tells tt c.requires.judged c.in-Err.ensures.refused
+
+pub enter_draw-requires : goal.enter_draw-requires
+enter_draw-requires c = place_of_ledger c.args.self.now.ledger _ c.requires.judged

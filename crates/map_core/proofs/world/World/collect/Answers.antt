@@ -2,8 +2,7 @@
 use Rattle.std.proofs.Common.{ap, ◌≡◌, ◌-◌, arith, refl, length}
 use Rattle.map_core.specs.declared.ledger.Ledger.{Ledger}
 use Rattle.map_core.proofs.CollectWorld.{reply_collect, room_retired, floor_risen, stay_few}
-use Rattle.map_core.proofs.CommitWorld.{last_known, last_does, consistent_commit}
-use Rattle.map_core.proofs.JudgeLemmas.{balanced_ledger}
+use Rattle.map_core.proofs.CommitWorld.{last_known, last_does, consistent_commit, place_in_hand}
 use Rattle.map_core.proofs.LedgerLemmas.{ledger_collect, now_of_ledger}
 use Rattle.map_core.proofs.StepLemmas.{tidy_of}
 use Rattle.map_core.proofs.SummaryCollect.{summary_collect, freed_collect}
@@ -21,7 +20,8 @@ pub overflow_cast-freed : goal.overflow_cast-freed
 overflow_cast-freed c = omega (arith, c.len-before.ensures, c.self.inside.retired.ok, (room_retired _ _ _ _ _ _ c.self.invariant).1)
 
 pub enter_collect-reply-requires : goal.enter_collect-reply-requires
-enter_collect-reply-requires c = balanced_ledger _ _ _ _ _ _ c.self.invariant
+enter_collect-reply-requires c =
+    place_in_hand _ _ _ _ _ _ c.self.invariant _ _ _ refl (last_known c.args.self.now _ _ c.self.inside.hand _ _ c.self.view_is refl c.requires).0
 
 pub index_mut-requires : goal.index_mut-requires
 index_mut-requires c = omega (arith, now_word_there _ _ _ _ _ _ c.self.invariant, c.self.inside.words.ok)

@@ -3,9 +3,9 @@ use Rattle.std.proofs.Common.{◌≡◌, arith, refl, ap, subst, sym, ◌∙◌,
 use Rattle.bits.specs.Cells.{Cells, IsBitmap}
 use Rattle.map_core.specs.declared.ledger.Ledger.{Ledger}
 use Rattle.map_core.specs.Drawing.{drawn}
-use Rattle.map_core.proofs.CommitWorld.{last_does, consistent_commit}
+use Rattle.map_core.proofs.CommitWorld.{last_does, consistent_commit, place_in_hand}
 use Rattle.map_core.proofs.DrawWorld.{drawing_known, hand_inside, reply_draw, count_draw, written_back}
-use Rattle.map_core.proofs.JudgeLemmas.{draft_of_map, same_width, same_height, drawn_of_map, own_long, balanced_ledger}
+use Rattle.map_core.proofs.JudgeLemmas.{draft_of_map, same_width, same_height, drawn_of_map, own_long}
 use Rattle.map_core.proofs.LedgerLemmas.{ledger_draw, now_of_ledger}
 use Rattle.map_core.proofs.StepLemmas.{tidy_of}
 use Rattle.map_core.proofs.SummaryDraw.{summary_draw}
@@ -43,7 +43,7 @@ copy_from-requires-2-clause-height c =
     (draft_of_map _ _ _ _ _ _ c.self.invariant).height_is ∙ sym (drawn_of_map _ _ _ _ _ _ c.self.invariant _ _ c.in-Some.command c.copy_from.ensures c.draw-changed.ensures.drawn).height_is
 
 pub enter_draw-reply-requires : goal.enter_draw-reply-requires
-enter_draw-reply-requires c = balanced_ledger _ _ _ _ _ _ c.self.invariant
+enter_draw-reply-requires c = place_in_hand _ _ _ _ _ _ c.self.invariant _ _ _ refl (sym c.take.ensures.value ∙ c.in-Some.is)
 
 pub index_mut-requires : goal.index_mut-requires
 index_mut-requires c = omega (arith, now_word_there _ _ _ _ _ _ c.self.invariant, c.self.inside.words.ok)

@@ -1,7 +1,7 @@
 -- The last step of a publish.
 use Rattle.std.proofs.Common.{arith, refl, ap, sym, ◌∙◌, length}
 use Rattle.map_core.specs.declared.ledger.Ledger.{Ledger}
-use Rattle.map_core.proofs.CommitWorld.{last_known, last_does, consistent_commit, published_of_map}
+use Rattle.map_core.proofs.CommitWorld.{last_known, last_does, consistent_commit, published_of_map, place_in_hand, version_in_hand}
 use Rattle.map_core.proofs.GiveBack.{cleared_back}
 use Rattle.map_core.proofs.JudgeLemmas.{draft_of_map, balanced_ledger}
 use Rattle.map_core.proofs.LedgerLemmas.{ledger_publish, now_of_ledger}
@@ -12,11 +12,17 @@ use Rattle.map_core.proofs.WorldLemmas.{safe_done}
 use Rattle.map_core.proofs.WriteWorld.{newest_few}
 use Rattle.map_core.proofs.world.World.publish.Goals as goal
 
-pub enter_publish-reply-requires : goal.enter_publish-reply-requires
-enter_publish-reply-requires c = balanced_ledger _ _ _ _ _ _ c.self.invariant
+pub enter_publish-reply-requires-clause-balanced : goal.enter_publish-reply-requires-clause-balanced
+enter_publish-reply-requires-clause-balanced c = balanced_ledger _ _ _ _ _ _ c.self.invariant
+
+pub enter_publish-reply-requires-clause-place : goal.enter_publish-reply-requires-clause-place
+enter_publish-reply-requires-clause-place c =
+    place_in_hand _ _ _ _ _ _ c.self.invariant _ _ _ refl (last_known c.args.self.now _ _ c.self.inside.hand _ _ c.self.view_is refl c.requires).0
 
 pub publish_own-requires-clause-newest : goal.publish_own-requires-clause-newest
-publish_own-requires-clause-newest c = omega (arith, newest_few _ _ _ _ _ _ c.self.invariant)
+publish_own-requires-clause-newest c =
+    newest_few _ _ _ _ _ _ c.self.invariant
+    (version_in_hand _ _ _ _ _ _ c.self.invariant _ _ _ refl (last_known c.args.self.now _ _ c.self.inside.hand _ _ c.self.view_is refl c.requires).0)
 
 pub publish_own-requires-clause-room : goal.publish_own-requires-clause-room
 publish_own-requires-clause-room c = rw c.as_mut_slice.ensures.value (room_replaced _ _ _ _ _ _ c.self.invariant)

@@ -1,9 +1,9 @@
 -- The last step of a revert.
 use Rattle.std.proofs.Common.{ap, arith, refl, sym, ◌∙◌}
 use Rattle.map_core.specs.declared.ledger.Ledger.{Ledger}
-use Rattle.map_core.proofs.CommitWorld.{last_known, last_does, consistent_commit, room_back, published_of_map, reply_revert}
+use Rattle.map_core.proofs.CommitWorld.{last_known, last_does, consistent_commit, room_back, published_of_map, place_in_hand, reply_revert}
 use Rattle.map_core.proofs.GiveBack.{cleared_back}
-use Rattle.map_core.proofs.JudgeLemmas.{draft_of_map, balanced_ledger}
+use Rattle.map_core.proofs.JudgeLemmas.{draft_of_map}
 use Rattle.map_core.proofs.LedgerLemmas.{ledger_revert, now_of_ledger}
 use Rattle.map_core.proofs.SummaryDraw.{summary_revert}
 use Rattle.map_core.proofs.WorldLemmas.{safe_done, now_word_there}
@@ -19,7 +19,8 @@ pub give_back_own-requires : goal.give_back_own-requires
 give_back_own-requires c = rw c.as_mut_slice.ensures.value (room_back _ _ _ _ _ _ c.self.invariant)
 
 pub enter_revert-reply-requires : goal.enter_revert-reply-requires
-enter_revert-reply-requires c = balanced_ledger _ _ _ _ _ _ c.self.invariant
+enter_revert-reply-requires c =
+    place_in_hand _ _ _ _ _ _ c.self.invariant _ _ _ refl (last_known c.args.self.now _ _ c.self.inside.hand _ _ c.self.view_is refl c.requires).0
 
 pub index_mut-requires : goal.index_mut-requires
 index_mut-requires c = omega (arith, now_word_there _ _ _ _ _ _ c.self.invariant, c.self.inside.words.ok)

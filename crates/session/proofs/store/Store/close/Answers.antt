@@ -1,6 +1,8 @@
--- The desk's log is handed out.
-use Rattle.session.proofs.ClosingLemmas.{in_handed}
+-- The last part of the desk's log is handed out.
+use Rattle.session.proofs.ClosingLemmas.{handed_out}
 use Rattle.session.proofs.store.Store.close.Goals as goal
 
-pub returns-clause-sessions : goal.returns-clause-sessions
-returns-clause-sessions g c = in_handed _ _ _ _ c.close-closing.ensures.closing c.close-closing.ensures.log c.give_up.ensures.sessions
+pub returns : goal.returns
+returns g c =
+    handed_out g.Id.StoreName.store _ _ c.into_inner.result.log c.close-closing.result.2.items c.args.sessions.items _ c.close-closing.ensures.closing c.give_up.ensures.counts c.give_up.ensures.sessions
+    c.end.ensures.legal c.end.ensures.made c.close-closing.ensures.base c.close-closing.ensures.log

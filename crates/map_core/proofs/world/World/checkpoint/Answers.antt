@@ -1,0 +1,33 @@
+-- The one step of a checkpoint.
+use Rattle.std.proofs.Common.{ap, arith, refl}
+use Rattle.map_core.specs.declared.ledger.Ledger.{Ledger}
+use Rattle.map_core.proofs.CommitWorld.{last_known, last_does, consistent_commit, place_in_hand, reply_checkpoint}
+use Rattle.map_core.proofs.LedgerLemmas.{ledger_checkpoint, now_of_ledger}
+use Rattle.map_core.proofs.SummaryDraw.{summary_checkpoint}
+use Rattle.map_core.proofs.WorldLemmas.{safe_done, now_word_there}
+use Rattle.map_core.proofs.world.World.checkpoint.Goals as goal
+
+pub enter_checkpoint-reply-requires : goal.enter_checkpoint-reply-requires
+enter_checkpoint-reply-requires c =
+    place_in_hand _ _ _ _ _ _ c.self.invariant _ _ _ refl (last_known c.args.self.now _ _ c.self.inside.hand _ _ c.self.view_is refl c.requires).0
+
+pub index_mut-requires : goal.index_mut-requires
+index_mut-requires c = omega (arith, now_word_there _ _ _ _ _ _ c.self.invariant, c.self.inside.words.ok)
+
+pub invariant_of-self : goal.invariant_of-self
+invariant_of-self c =
+    let known = last_known c.args.self.now _ _ c.self.inside.hand _ _ c.self.view_is refl c.requires in
+    let entered = ledger_checkpoint _ _ _ c.enter_checkpoint-reply.new.self c.enter_checkpoint-reply.result c.self.invariant.summary.ledger_is c.enter_checkpoint-reply.ensures.entered in
+    let does = last_does _ _ _ _ _ _ _ _ _ _ _ _ _ c.now_word.result c.self.invariant known (reply_checkpoint _ _ _ _ _ c.self.invariant.summary.ledger_is c.enter_checkpoint-reply.ensures.reply) (now_of_ledger _ _ _ _ entered c.now_word.ensures) in
+    rw (c.push_reserved.ensures.items)
+    (consistent_commit _ _ _ _ _ _ c.self.inside.done _ _ _ c.self.inside.scanned.items _ _ _ _ _ _ _ _ c.self.invariant does
+    (summary_checkpoint _ _ _ _ _ _ c.self.invariant.summary entered)
+    (omega arith) (omega arith) (omega arith) c.self.invariant.roomy.scratch)
+
+pub returns : goal.returns
+returns c =
+    let known = last_known c.args.self.now _ _ c.self.inside.hand _ _ c.self.view_is refl c.requires in
+    let entered = ledger_checkpoint _ _ _ c.enter_checkpoint-reply.new.self c.enter_checkpoint-reply.result c.self.invariant.summary.ledger_is c.enter_checkpoint-reply.ensures.entered in
+    rw (← c.self.view_is, ap (λ (l : Ledger). l.setting) c.enter_checkpoint-reply.ensures.entered, c.push_reserved.ensures.items)
+    (safe_done _ _ _ c.self.invariant.whole
+    (last_does _ _ _ _ _ _ _ _ _ _ _ _ _ c.now_word.result c.self.invariant known (reply_checkpoint _ _ _ _ _ c.self.invariant.summary.ledger_is c.enter_checkpoint-reply.ensures.reply) (now_of_ledger _ _ _ _ entered c.now_word.ensures)))
