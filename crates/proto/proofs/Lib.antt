@@ -1,6 +1,7 @@
 pub mod Alone
 pub mod Numbering
 pub mod Pointing
+pub mod Pooling
 pub mod Serving
 pub mod Speaking
 pub mod Splitting

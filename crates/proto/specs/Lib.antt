@@ -11,3 +11,4 @@ pub mod Wire
 pub mod Callers
 pub mod Exchanges
 pub mod Served
+pub mod Pools

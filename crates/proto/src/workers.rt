@@ -1,7 +1,8 @@
 //! Workers that serve streams, each with a session of its own.
 
-ghost use Rattle.std.specs.Prelude.{◌≡◌, ◌≤◌, ◌+◌, [], All, length, vec_capacity, IfOk, IfErr, IfSome, IsSome};
+ghost use Rattle.std.specs.Prelude.{◌≡◌, ◌≤◌, [], All, length, map, reverse, vec_capacity, Some, IfOk, IfErr, IfSome, IsSome};
 ghost use Rattle.metric.specs.declared.refusal.Refusal.TheVariants.{Memory};
+ghost use Rattle.proto.specs.Pools.{AreBoth, AreEach, AreRelated, HasWorked};
 ghost use Rattle.proto.specs.Wire.{CanGoOn, wire_of};
 
 use crate::serve::serve_stream;
@@ -17,14 +18,18 @@ pub trait Streams {
     /// A stream that is served.
     type S: Stream + Drop + Send;
 
-    /// The next stream, no call of which has failed; `None` where no more come.
+    /// A stream that nobody has read or written yet.
+    ghost fresh: { Self.S → Type 0 };
+
+    /// The next stream, which is fresh, and no call of which has failed; `None` where no more come.
     fn next(&mut self) -> Option<Self::S>
-        ensures { IfSome result (λ stream. CanGoOn (wire_of Self.S.rest Self.S.held Self.S.failed_reads Self.S.failed_writes stream)) };
+        ensures fresh { IfSome result (λ stream. Self.fresh stream) }
+        ensures can_go_on { IfSome result (λ stream. CanGoOn (wire_of Self.S.rest Self.S.held Self.S.failed_reads Self.S.failed_writes stream)) };
 }
 
 /// Serves streams until no more come, with one worker for each session: each asks for the next stream, lets the others ask, and serves it. Where a thread can't be started, the calling thread is that worker.
 ///
-/// As many sessions are handed back. Refused for want of memory alone, and then they are as before, and no stream was asked for.
+/// The same sessions are handed back, in their order, and with each of them nothing was done but that fresh streams were served, each once. Refused for want of memory alone, and then they are as before, and no stream was asked for.
 pub fn pool<Id: StoreName + Send + Sync, R: Wait + Threads + Sync, T: Streams + Send + Drop>(
     rt: &R,
     alloc: Global,
@@ -32,7 +37,7 @@ pub fn pool<Id: StoreName + Send + Sync, R: Wait + Threads + Sync, T: Streams + 
     sessions: Vec<Session<Id>>,
     streams: T,
 ) -> Result<Vec<Session<Id>>, (Vec<Session<Id>>, Refusal)>
-    ensures all { IfOk result (λ back. length back.items ≡ length sessions.items) }
+    ensures worked { IfOk result (λ back. AreRelated (HasWorked T.fresh (wire_of T.S.rest T.S.held T.S.failed_reads T.S.failed_writes) Id.store) sessions.items back.items) }
     ensures refused { IfErr result (λ back. (back.0.items ≡ sessions.items) × (back.1 ≡ Memory)) }
 {
     let Ok(room) = Vec::with_capacity(alloc, sessions.len()) else {
@@ -53,6 +58,7 @@ fn work_all<Id: StoreName + Send + Sync, R: Wait + Threads + Sync, T: Streams + 
     seats: &mut [Option<Session<Id>>],
 )
     requires { All IsSome seats.old }
+    ensures worked { AreEach (AreBoth (HasWorked T.fresh (wire_of T.S.rest T.S.held T.S.failed_reads T.S.failed_writes) Id.store)) seats.old seats.new }
     ensures full { All IsSome seats.new }
     ensures as_many { length seats.new ≡ length seats.old }
 {
@@ -63,7 +69,8 @@ fn work_all<Id: StoreName + Send + Sync, R: Wait + Threads + Sync, T: Streams + 
         count,
         &|_, seat: &mut Option<Session<Id>>|
             requires { IsSome seat.now }
-            ensures { IsSome seat.exit.now }
+            ensures full { IsSome seat.exit.now }
+            ensures worked { AreBoth (HasWorked T.fresh (wire_of T.S.rest T.S.held T.S.failed_reads T.S.failed_writes) Id.store) seat.entry.now seat.exit.now }
         { work(rt, alloc, store, streams, seat) },
     );
 }
@@ -77,7 +84,8 @@ fn work<Id: StoreName, R: Wait, T: Streams>(
     seat: &mut Option<Session<Id>>,
 )
     requires { IsSome seat.old }
-    ensures { IsSome seat.new }
+    ensures full { IsSome seat.new }
+    ensures worked { AreBoth (HasWorked T.fresh (wire_of T.S.rest T.S.held T.S.failed_reads T.S.failed_writes) Id.store) seat.old seat.new }
 {
     let Some(session) = seat.take() else {
         return;
@@ -96,7 +104,9 @@ fn serve_all<Id: StoreName, R: Wait, T: Streams>(
     store: &Store<Id>,
     streams: &Mutex<T>,
     session: Session<Id>,
-) -> Session<Id> {
+) -> Session<Id>
+    ensures { HasWorked T.fresh (wire_of T.S.rest T.S.held T.S.failed_reads T.S.failed_writes) Id.store session result }
+{
     let mut session = session;
     'streams: for _ in rt.forever() {
         let next = streams.lock(rt).next();
@@ -109,7 +119,7 @@ fn serve_all<Id: StoreName, R: Wait, T: Streams>(
     unreachable!()
 }
 
-/// Puts each session into a seat, for which there is room. Answers what held them, and the seats.
+/// Puts each session into a seat, the last one first, for which there is room. Answers what held them, and the seats.
 fn seat_all<Id: StoreName>(
     sessions: Vec<Session<Id>>,
     room: Vec<Option<Session<Id>>>,
@@ -118,7 +128,7 @@ fn seat_all<Id: StoreName>(
     requires room { length sessions.items ≤ vec_capacity room }
     ensures empty { result.0.items ≡ [] }
     ensures room { length sessions.items ≤ vec_capacity result.0 }
-    ensures seats { length result.1.items ≡ length sessions.items }
+    ensures seats { result.1.items ≡ reverse (map Some sessions.items) }
     ensures full { All IsSome result.1.items }
 {
     let mut sessions = sessions;
@@ -129,7 +139,7 @@ fn seat_all<Id: StoreName>(
     (sessions, seats)
 }
 
-/// Takes the sessions out of their seats.
+/// Takes the sessions out of their seats, the last one first.
 fn unseat_all<Id: StoreName>(
     seats: Vec<Option<Session<Id>>>,
     empty: Vec<Session<Id>>,
@@ -137,7 +147,7 @@ fn unseat_all<Id: StoreName>(
     requires empty { empty.items ≡ [] }
     requires room { length seats.items ≤ vec_capacity empty }
     requires full { All IsSome seats.items }
-    ensures { length result.items ≡ length seats.items }
+    ensures { map Some result.items ≡ reverse seats.items }
 {
     let mut seats = seats;
     let mut sessions = empty;

@@ -4,8 +4,11 @@ ghost use Rattle.std.specs.Prelude.{◌≡◌};
 ghost use Rattle.proto.specs.Wire.{CanGoOn, wire_of};
 
 mod failing;
+mod gathered;
 mod hostile;
+mod locks;
 mod meeting;
+mod patient;
 mod pooled;
 mod worked;
 

@@ -28,6 +28,8 @@ impl Accepted {
 impl Streams for Accepted {
     type S = Socket;
 
+    ghost fresh = { λ socket. socket ≡ (0, 0) };
+
     fn next(&mut self) -> Option<Socket> {
         'connections: while 0 < self.left {
             self.left -= 1;

@@ -4,7 +4,7 @@ ghost use Rattle.std.specs.Prelude.{◌≡◌, None, IfSome};
 
 use super::{setting, square};
 use crate::compare::same;
-use crate::opened::{blank, open};
+use crate::opened::{blank, close, open};
 use metric::{ReadFault, Sink, Source, Stream, WriteFault};
 use proto::{Streams, pool};
 use session::Blank;
@@ -178,6 +178,8 @@ struct Two<'a> {
 impl<'a> Streams for Two<'a> {
     type S = Meeting<'a>;
 
+    ghost fresh = { λ stream. stream.failed_reads ≡ 0 };
+
     fn next(&mut self) -> Option<Meeting<'a>> {
         self.given = self.given.saturating_add(1);
         match self.given {
@@ -241,6 +243,6 @@ fn serve_two<Id: StoreName + Send + Sync, R: Wait + Threads + Abort + Sync>(
         22,
         "right bytes",
     );
-    same(rt, store.close(sessions).len(), 2, "sessions");
+    same(rt, close(store, sessions), 2, "sessions");
     Ok(())
 }

@@ -1,11 +1,11 @@
-use Rattle.std.proofs.Common.{◌≡◌, ◌≤◌, ◌+◌, All, length, vec_capacity}
+use Rattle.std.proofs.Common.{◌≡◌, ◌≤◌, ◌++◌, All, length, map, reverse, vec_capacity, Some}
 use Rattle.std.specs.Prelude.{IsSome}
 use Rattle.proto.proofs.workers.seat_all.Given as goal
 
--- those that were taken are seated
+-- those that were taken are seated, the last one first
 abbrev pub invariant-sessions : goal.invariant-sessions
 invariant-sessions g l = record {
-  all : length l.seats.items + length l.sessions.items ≡ length l.fn.sessions.items;
+  all : l.seats.items ++ reverse (map Some l.sessions.items) ≡ reverse (map Some l.fn.sessions.items);
   full : All IsSome l.seats.items;
   room : length l.fn.sessions.items ≤ vec_capacity l.seats;
   rest : length l.fn.sessions.items ≤ vec_capacity l.sessions;

@@ -1,11 +1,11 @@
-use Rattle.std.proofs.Common.{◌≡◌, ◌≤◌, ◌+◌, All, length, vec_capacity}
+use Rattle.std.proofs.Common.{◌≡◌, ◌≤◌, ◌++◌, All, length, map, reverse, vec_capacity, Some}
 use Rattle.std.specs.Prelude.{IsSome}
 use Rattle.proto.proofs.workers.unseat_all.Given as goal
 
--- those that were taken from their seats are handed back
+-- those that were taken from their seats are handed back, the last one first
 abbrev pub invariant-seats : goal.invariant-seats
 invariant-seats g l = record {
-  all : length l.sessions.items + length l.seats.items ≡ length l.fn.seats.items;
+  all : map Some l.sessions.items ++ reverse l.seats.items ≡ reverse l.fn.seats.items;
   full : All IsSome l.seats.items;
   room : length l.fn.seats.items ≤ vec_capacity l.sessions;
 }

@@ -1,0 +1,9 @@
+use Rattle.proto.proofs.Pooling.{HasWorked-next, HasWorked-none}
+use Rattle.proto.proofs.workers.serve_all.Goals as goal
+
+pub streams-init : goal.streams-init
+streams-init g c = HasWorked-none _ _ _ _
+
+pub streams-preserved : goal.streams-preserved
+streams-preserved g c =
+    HasWorked-next _ _ _ _ _ _ _ _ _ c.streams.invariant (rw c.in-Some-next.is at c.next-next.ensures.fresh) c.serve_stream-back.ensures.served c.serve_stream-back.ensures.session
