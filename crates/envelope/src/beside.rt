@@ -9,6 +9,7 @@ ghost use Rattle.envelope.specs.Columns.{AreEntries, AreNearColumns, IsNearColum
 
 use crate::answer::Answer;
 use crate::lanes::{all_of, are_below, chosen, least, load};
+use column::NONE;
 use metric::{Cell, Metric, Near};
 use std::simd::prelude::*;
 
@@ -23,6 +24,13 @@ const NO_PART: u16 = 32400;
 
 /// So many columns to each side are looked at before a row is given up.
 const FARTHEST: u16 = 96;
+
+/// Of the steps outwards that a row may take in all so many are free.
+const FREE_STEPS: u32 = 150;
+
+/// For a column without an obstacle there are so many tenths of a step, and for one with an obstacle so many: about what each costs the stack.
+const STEPS_FREE: u32 = 1;
+const STEPS_TAKEN: u32 = 31;
 
 /// Of eight cells the distance of the nearest column so far, and which column it is.
 #[derive(Clone, Copy)]
@@ -47,15 +55,31 @@ pub fn fill_beside<M: Metric, A: Answer>(
 {
     set_parts::<M>(entries, y, parts);
     let mut start = 0;
+    let mut left = steps_for(entries);
     'cells: while start < entries.len() {
-        let Some((low, high)) = search::<M>(parts, start + FIRST) else {
+        let Some((low, high, steps)) = search::<M>(parts, start + FIRST) else {
             return false;
         };
+        if left < u32::from(steps) {
+            return false;
+        }
+        left -= u32::from(steps);
         fill_eight::<M, A>(entries, y, start, low, answers);
         fill_eight::<M, A>(entries, y, start + 8, high, answers);
         start += 16;
     }
     true
+}
+
+/// How many steps outwards a row may take: what goes beyond that costs more than the stack.
+#[inline(never)]
+fn steps_for(entries: &[u16]) -> u32 {
+    let mut tenths = 10 * FREE_STEPS;
+    'groups: for group in 0..entries.len() / 16 {
+        let steps = if entries[16 * group] == NONE { STEPS_FREE } else { STEPS_TAKEN };
+        tenths = tenths.saturating_add(16 * steps);
+    }
+    tenths / 10
 }
 
 /// Sets the parts of the row's columns.
@@ -73,7 +97,7 @@ fn set_parts<M: Metric>(entries: &[u16], y: u16, parts: &mut [u16])
 
 /// The nearest columns of sixteen cells, from the one of a place on; `None` where one of them has none near by.
 #[inline(always)]
-fn search<M: Metric>(parts: &[u16], at: usize) -> Option<(Eight, Eight)>
+fn search<M: Metric>(parts: &[u16], at: usize) -> Option<(Eight, Eight, u16)>
     requires small { AreSmall parts.now }
     requires left { 128 ≤ at }
     requires right { at + 144 ≤ length parts.now }
@@ -86,7 +110,7 @@ fn search<M: Metric>(parts: &[u16], at: usize) -> Option<(Eight, Eight)>
     'columns: while k < FARTHEST {
         let reach = M::reach(k);
         if are_below(low.best, reach) && are_below(high.best, reach) {
-            return Some((low, high));
+            return Some((low, high, k));
         }
         low = look_twice::<M>(parts, at, k, low);
         high = look_twice::<M>(parts, at + 8, k, high);

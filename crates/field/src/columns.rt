@@ -2,7 +2,7 @@
 //!
 //! The rows are looked at in bands of 64. Carried from row to row is the line of the obstacles before a row; what lies behind a row is known for the rows of one band, and behind each band from one walk up the bitmap.
 
-ghost use Rattle.std.specs.Prelude.{◌≡◌, ◌+◌, ◌<◌, ◌≤◌, IfErr, IfOk, false, true, replicate};
+ghost use Rattle.std.specs.Prelude.{◌≡◌, ◌+◌, ◌<◌, ◌≤◌, IfErr, IfOk, false, length, true, replicate};
 ghost use Rattle.bits.specs.Cells.{IsBitmap};
 ghost use Rattle.column.specs.Columns.{IsRowOfTable};
 ghost use Rattle.field.specs.Columns.{IsReady};
@@ -15,6 +15,9 @@ use std::alloc::Global;
 
 /// Up to so many rows are looked at from each one outwards; for more it is worth to walk through the bitmap once.
 const FEW_ROWS: u16 = 32;
+
+/// And only where no column's nearest obstacle is more than so many rows from the first of them.
+const FAR: u16 = 64;
 
 /// The columns of the rows `from` to `to - 1` of a bitmap, as they are seen from one row after another.
 #[derive(Debug, Drop)]
@@ -45,23 +48,22 @@ impl Columns {
         ensures to { IfOk result (λ columns. columns.to ≡ to) }
         ensures memory { IfErr result (λ refusal. refusal ≡ Memory) }
     {
-        if to - from <= FEW_ROWS {
-            Self::few(alloc, bitmap, from, to)
-        } else {
-            Self::many(alloc, bitmap, from, to)
+        let mut entries = no_obstacles(alloc, usize::from(bitmap.width()))?;
+        if to - from > FEW_ROWS || (from < to && is_far(bitmap, from, entries.as_mut_slice())) {
+            return Self::many(alloc, bitmap, from, to);
         }
+        Ok(Self::few(alloc, bitmap, from, to, entries))
     }
 
     /// The columns of a few rows, each of which is looked at by itself.
-    fn few(alloc: Global, bitmap: &Bitmap, from: u16, to: u16) -> Result<Self, Refusal>
+    fn few(alloc: Global, _bitmap: &Bitmap, from: u16, to: u16, entries: Vec<u16>) -> Self
         requires order { from ≤ to }
-        requires within { to ≤ bitmap.now.height }
-        ensures ready { IfOk result (λ columns. IsReady bitmap.now columns from) }
-        ensures to { IfOk result (λ columns. columns.to ≡ to) }
-        ensures memory { IfErr result (λ refusal. refusal ≡ Memory) }
+        requires within { to ≤ _bitmap.now.height }
+        requires width { length entries.items ≡ _bitmap.now.width }
+        ensures ready { IsReady _bitmap.now result from }
+        ensures to { result.to ≡ to }
     {
-        let entries = no_obstacles(alloc, usize::from(bitmap.width()))?;
-        Ok(Columns {
+        Columns {
             from,
             to,
             seeks: true,
@@ -71,7 +73,7 @@ impl Columns {
             behind: Vec::new(alloc),
             edges: Vec::new(alloc),
             entries,
-        })
+        }
     }
 
     /// The columns of many rows, in bands.
@@ -201,6 +203,20 @@ impl Columns {
             self.entries.as_mut_slice(),
         );
     }
+}
+
+/// Whether a column's nearest obstacle is so far from row `y` that to look outwards from each row costs more than to carry lines. `entries` is room for a line.
+fn is_far(bitmap: &Bitmap, y: u16, entries: &mut [u16]) -> bool
+    requires row { y < bitmap.now.height }
+    requires width { length entries.old ≡ bitmap.now.width }
+    ensures len { length entries.new ≡ length entries.old }
+{
+    nearest_rows(bitmap, y, entries);
+    let mut farthest = 0;
+    'columns: for x in 0..entries.len() {
+        farthest = farthest.max(y.abs_diff(entries[x]));
+    }
+    farthest > FAR
 }
 
 /// So many entries that stand for no obstacle. Refused for want of memory alone.
