@@ -2,7 +2,7 @@
 use Rattle.std.proofs.Common.{◌≡◌, ℕ, ◌+◌, ◌-◌, ◌<◌, ◌≤◌, inl, inr, List, length, slice_index, arith}
 use Rattle.std.proofs.lemmas.Bool.{cases_lt}
 use Rattle.metric.specs.Crossing.{AreColumns}
-use Rattle.envelope.specs.Columns.{AreEntries, IsAmong, gap_of}
+use Rattle.envelope.specs.Columns.{AreEntries, IsAmong, IsFrom, gap_of}
 use Rattle.envelope.specs.declared.cover.Span.{Span}
 use Rattle.envelope.specs.Envelope.{IsCut, span_at}
 use Rattle.envelope.proofs.Envelopes.{IsMore, cut_top}
@@ -25,6 +25,11 @@ pairs_left entries y u row right column left =
       right = gap_small entries y u row right;
     }
 
+-- each column of a piece before another one is left of it
+pub pairs_from : (entries : List ℕ) (y first u : ℕ) → AreEntries entries y → IsAmong entries (length entries) u
+    → (column : ℕ) → IsFrom entries first u column → AreColumns column (gap_of entries y column) u (gap_of entries y u)
+pairs_from entries y first u row right column left = pairs_left entries y u row right column left.among
+
 -- the numbers of a span are those of a map, and its gap is its column's
 pub record IsKnown (entries : List ℕ) (y u : ℕ) (span : Span) : Type 0 where
   pub start : span.start ≤ 4095
@@ -35,50 +40,55 @@ pub record IsKnown (entries : List ℕ) (y u : ℕ) (span : Span) : Type 0 where
   pub pair : AreColumns span.column span.gap u (gap_of entries y u)
 
 -- what is known of the last span that is kept for one more column
-pub top_known : (d : ℕ → ℕ → ℕ) (entries : List ℕ) (y u : ℕ) (spans : List Span) (count : ℕ) → AreEntries entries y → IsAmong entries (length entries) u → 0 < count
-    → IsCut d (gap_of entries y) (IsAmong entries u) spans count (length entries) u → IsKnown entries y u (span_at spans (count - 1))
-top_known d entries y u spans count row right some cut =
-    let top = cut_top d (gap_of entries y) (IsAmong entries u) u spans (length entries) count some cut in
+pub top_known : (d : ℕ → ℕ → ℕ) (entries : List ℕ) (y first width u : ℕ) (spans : List Span) (count : ℕ) → AreEntries entries y → IsAmong entries (length entries) u → 0 < count → width ≤ length entries
+    → IsCut d (gap_of entries y) (IsFrom entries first u) spans count width u → IsKnown entries y u (span_at spans (count - 1))
+top_known d entries y first width u spans count row right some within cut =
+    let top = cut_top d (gap_of entries y) (IsFrom entries first u) u spans width count some cut in
     let span = span_at spans (count - 1) in
     let few = row.few in
     let start = top.start in
-    let left = top.best.among.left in
+    let among = top.best.among.among in
+    let left = among.left in
     let inside = right.left in
-    let known : IsAmong entries (length entries) span.column = record { left = omega (arith, left, inside); some = top.best.among.some } in
+    let known : IsAmong entries (length entries) span.column = record { left = omega (arith, left, inside); some = among.some } in
     let small = gap_small entries y span.column row known in
     let gap_is = top.gap_is in
     record {
-      start = omega (arith, start, few);
-      among = top.best.among;
+      start = omega (arith, start, few, within);
+      among = among;
       column = omega (arith, left, inside, few);
       gap_is = gap_is;
       gap = omega (arith, small, gap_is);
-      pair = rw gap_is (pairs_left entries y u row right span.column top.best.among);
+      pair = rw gap_is (pairs_left entries y u row right span.column among);
     }
 
--- a column with an obstacle joins those before it
-pub more_with : (entries : List ℕ) (y u : ℕ) → AreEntries entries y → IsAmong entries (length entries) u
-    → IsMore (gap_of entries y) (IsAmong entries u) (IsAmong entries (u + 1)) u
-more_with entries y u row right = record {
-  there = λ column among. let left = among.left in record { left = omega (arith, left); some = among.some };
-  here = record { left = omega arith; some = right.some };
-  back = λ column among. elim (cases_lt column u) [
-    | inl before ↦ inl (record { left = before; some = among.some })
-    | inr after ↦ let left = among.left in inr (omega (arith, left))
+-- a column with an obstacle joins those of a piece before it
+pub more_with : (entries : List ℕ) (y first u : ℕ) → AreEntries entries y → IsFrom entries first (length entries) u
+    → IsMore (gap_of entries y) (IsFrom entries first u) (IsFrom entries first (u + 1)) u
+more_with entries y first u row right = record {
+  there = λ column from. let left = from.among.left in record { low = from.low; among = record { left = omega (arith, left); some = from.among.some } };
+  here = record { low = right.low; among = record { left = omega arith; some = right.among.some } };
+  back = λ column from. elim (cases_lt column u) [
+    | inl before ↦ inl (record { low = from.low; among = record { left = before; some = from.among.some } })
+    | inr after ↦ let left = from.among.left in inr (omega (arith, left))
   ];
-  pairs = pairs_left entries y u row right;
+  pairs = pairs_from entries y first u row right.among;
 }
 
 -- a column without an obstacle adds nothing to those before it
-pub same_without : (entries : List ℕ) (u : ℕ) → slice_index entries u ≡ 65535 → (column : ℕ) → IsAmong entries (u + 1) column → IsAmong entries u column
-same_without entries u none column among = elim (cases_lt column u) [
-  | inl before ↦ record { left = before; some = among.some }
+pub same_without : (entries : List ℕ) (first u : ℕ) → slice_index entries u ≡ 65535 → (column : ℕ) → IsFrom entries first (u + 1) column → IsFrom entries first u column
+same_without entries first u none column from = elim (cases_lt column u) [
+  | inl before ↦ record { low = from.low; among = record { left = before; some = from.among.some } }
   | inr after ↦
-      let left = among.left in
+      let left = from.among.left in
       let same : column ≡ u = omega (arith, after, left) in
-      absurd (among.some (rw same none))
+      absurd (from.among.some (rw same none))
 ]
 
 -- what stands among the first columns stands among one more
-pub more_left : (entries : List ℕ) (u column : ℕ) → IsAmong entries u column → IsAmong entries (u + 1) column
-more_left entries u column among = let left = among.left in record { left = omega (arith, left); some = among.some }
+pub more_left : (entries : List ℕ) (first u column : ℕ) → IsFrom entries first u column → IsFrom entries first (u + 1) column
+more_left entries first u column from = let left = from.among.left in record { low = from.low; among = record { left = omega (arith, left); some = from.among.some } }
+
+-- no column stands before the first
+pub none_from : (entries : List ℕ) (first column : ℕ) → IsFrom entries first first column → ⊥
+none_from entries first column from = let low = from.low in let left = from.among.left in absurd (omega (arith, low, left))

@@ -5,3 +5,4 @@ pub mod Putting
 mod Crossings
 pub mod Nears
 pub mod Filling
+mod PieceLemmas

@@ -17,6 +17,11 @@ pub record IsAmong (entries : List ℕ) (count column : ℕ) : Type 0 where
   pub left : column < count
   pub some : slice_index entries column ≢ 65535
 
+-- one of the columns from one to before another, with an obstacle
+pub record IsFrom (entries : List ℕ) (first count column : ℕ) : Type 0 where
+  pub low : first ≤ column
+  pub among : IsAmong entries count column
+
 -- how many rows away from the row y the obstacle of a column lies
 abbrev pub gap_of : List ℕ → ℕ → ℕ → ℕ
 gap_of entries y column = abs_diff y (slice_index entries column)

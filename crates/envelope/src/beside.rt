@@ -1,14 +1,17 @@
-//! The row phase without branches: for eight cells side by side the columns are looked at from the nearest outwards.
+//! The row phase without branches: for eight cells side by side the columns are looked at from the nearest outwards. Cells whose nearest column isn't found near by go to the stack, with the columns between those that are the nearest to the cells beside them.
 //!
 //! Each column has a place, 128 behind its number, and a part at this place: what its gap has in a distance of 16 bits. The places before the first column and behind the last one, and those of columns without an obstacle, have the part that stands for no obstacle. A column is named by how far right it lies of 128 columns to the left of the cell.
 
-ghost use Rattle.std.specs.Prelude.{◌≡◌, ℕ, ◌+◌, ◌-◌, ◌<◌, ◌≤◌, ◌⊎◌, length, slice_index, slice_index_or, true, Some, IfSome};
+ghost use Rattle.std.specs.Prelude.{◌≡◌, ℕ, ◌+◌, ◌-◌, ◌<◌, ◌≤◌, ◌⊎◌, length, slice_index, slice_index_or, Some, IfSome};
 ghost use Rattle.metric.specs.declared.near.Near.{Near};
 ghost use Rattle.envelope.specs.Beside.{AreBestNear, AreDecided, AreParts, AreSmall, AreTold};
 ghost use Rattle.envelope.specs.Columns.{AreEntries, AreNearColumns, IsNearColumn};
+ghost use Rattle.envelope.specs.Pieces.{IsRightBound};
 
 use crate::answer::Answer;
+use crate::cover::Span;
 use crate::lanes::{all_of, are_below, chosen, least, load};
+use crate::piece::{Piece, fill_piece};
 use column::NONE;
 use metric::{Cell, Metric, Near};
 use std::simd::prelude::*;
@@ -22,7 +25,7 @@ pub const SPARE: usize = 272;
 /// The part that stands for no obstacle.
 const NO_PART: u16 = 32400;
 
-/// So many columns to each side are looked at before a row is given up.
+/// So many columns to each side are looked at before a cell is given up.
 const FARTHEST: u16 = 96;
 
 /// Of the steps outwards that a row may take in all so many are free.
@@ -30,7 +33,11 @@ const FREE_STEPS: u32 = 150;
 
 /// For a column without an obstacle there are so many tenths of a step, and for one with an obstacle so many: about what each costs the stack.
 const STEPS_FREE: u32 = 1;
+
 const STEPS_TAKEN: u32 = 31;
+
+/// No row may take more steps.
+const MOST_STEPS: u32 = 20_000;
 
 /// Of eight cells the distance of the nearest column so far, and which column it is.
 #[derive(Clone, Copy)]
@@ -39,47 +46,104 @@ struct Eight {
     away: u16x8,
 }
 
-/// Fills the row with the obstacle of the column that is the nearest to each cell, where these are found near by. Answers whether they were. `parts` has a place for each column, and 272 more.
+/// Fills the row with the obstacle of the column that is the nearest to each cell. Answers whether most cells were found near by. `parts` has room for a place for each column and 272 more, and `spans` for each column.
 // Not inlined: the two phases would compete for registers.
 #[inline(never)]
 pub fn fill_beside<M: Metric, A: Answer>(
     entries: &[u16],
     y: u16,
     parts: &mut [u16],
+    spans: &mut [Span],
     answers: &mut [A],
 ) -> bool
     requires entries { AreEntries entries.now y }
-    requires room { length parts.old ≡ length entries.now + 272 }
+    requires room { length entries.now + 272 ≤ length parts.old }
+    requires spans { length entries.now ≤ length spans.old }
     requires width { length answers.old ≡ length entries.now }
-    ensures { result ≡ true → AreNearColumns A.told A.nothing M.distance entries.now y answers.new }
+    ensures { AreNearColumns A.told A.nothing M.distance entries.now y answers.new }
 {
+    let parts = &mut parts[..entries.len() + SPARE];
     set_parts::<M>(entries, y, parts);
-    let mut start = 0;
     let mut left = steps_for(entries);
+    let (mut start, mut first) = (0, 0);
     'cells: while start < entries.len() {
-        let Some((low, high, steps)) = search::<M>(parts, start + FIRST) else {
-            return false;
-        };
-        if left < u32::from(steps) {
-            return false;
+        if let Some((low, high, steps)) = search::<M>(parts, start + FIRST, left) {
+            fill_eight::<M, A>(entries, y, start, low, answers);
+            fill_eight::<M, A>(entries, y, start + 8, high, answers);
+            first = column_of(start + 15, high.away, 7);
+            left = left.saturating_sub(steps);
+            start += 16;
+        } else {
+            let (end, last, steps) = next_found::<M>(entries, y, parts, start, left);
+            let piece = Piece {
+                from: start,
+                end,
+                first,
+                last,
+            };
+            fill_piece::<M, A>(entries, y, piece, spans, answers);
+            first = last - 1;
+            left = left.saturating_sub(steps);
+            start = end;
         }
-        left -= u32::from(steps);
-        fill_eight::<M, A>(entries, y, start, low, answers);
-        fill_eight::<M, A>(entries, y, start + 8, high, answers);
-        start += 16;
     }
-    true
+    left > 0
+}
+
+/// The next cell whose nearest column is found near by, of those at growing distances from one; the column behind that one, and how many steps were taken. The row's end and its last column where there is none.
+#[inline(never)]
+fn next_found<M: Metric>(
+    entries: &[u16],
+    y: u16,
+    parts: &[u16],
+    start: usize,
+    most: u16,
+) -> (usize, usize, u16)
+    requires entries { AreEntries entries.now y }
+    requires parts { AreParts M.part_of entries.now y parts.now }
+    requires start { start < length entries.now }
+    ensures further { start < result.0 }
+    ensures bound { IsRightBound M.distance entries.now y result.0 result.1 }
+{
+    let (mut at, mut apart, mut steps) = (start + 16, 16, FARTHEST);
+    'groups: while at < entries.len() && steps < most {
+        if let Some((low, _, more)) = search::<M>(parts, at + FIRST, most - steps) {
+            return (
+                at,
+                column_of(at, low.away, 0) + 1,
+                steps.saturating_add(more),
+            );
+        }
+        steps = steps.saturating_add(FARTHEST);
+        apart *= 2;
+        at += apart;
+    }
+    (entries.len(), entries.len(), steps)
+}
+
+/// The column so far right of 128 columns to the left of the cell in column `x`, at one of eight places.
+#[inline(always)]
+fn column_of(x: usize, away: u16x8, place: usize) -> usize
+    requires cell { x ≤ 4111 }
+    requires place { place < 8 }
+    ensures { result ≡ x + slice_index away place - 128 }
+{
+    (x + usize::from(away.to_array()[place])).saturating_sub(128)
 }
 
 /// How many steps outwards a row may take: what goes beyond that costs more than the stack.
 #[inline(never)]
-fn steps_for(entries: &[u16]) -> u32 {
+fn steps_for(entries: &[u16]) -> u16 {
     let mut tenths = 10 * FREE_STEPS;
     'groups: for group in 0..entries.len() / 16 {
-        let steps = if entries[16 * group] == NONE { STEPS_FREE } else { STEPS_TAKEN };
+        let steps = if entries[16 * group] == NONE {
+            STEPS_FREE
+        } else {
+            STEPS_TAKEN
+        };
         tenths = tenths.saturating_add(16 * steps);
     }
-    tenths / 10
+    (tenths / 10).min(MOST_STEPS) as u16
 }
 
 /// Sets the parts of the row's columns.
@@ -95,9 +159,9 @@ fn set_parts<M: Metric>(entries: &[u16], y: u16, parts: &mut [u16])
     }
 }
 
-/// The nearest columns of sixteen cells, from the one of a place on; `None` where one of them has none near by.
+/// The nearest columns of sixteen cells, from the one of a place on, and how many steps that took; `None` where one of them has none so few steps away, or near by.
 #[inline(always)]
-fn search<M: Metric>(parts: &[u16], at: usize) -> Option<(Eight, Eight, u16)>
+fn search<M: Metric>(parts: &[u16], at: usize, most: u16) -> Option<(Eight, Eight, u16)>
     requires small { AreSmall parts.now }
     requires left { 128 ≤ at }
     requires right { at + 144 ≤ length parts.now }
@@ -107,7 +171,8 @@ fn search<M: Metric>(parts: &[u16], at: usize) -> Option<(Eight, Eight, u16)>
     let mut low = look_here::<M>(parts, at);
     let mut high = look_here::<M>(parts, at + 8);
     let mut k = 1u16;
-    'columns: while k < FARTHEST {
+    let end = most.min(FARTHEST);
+    'columns: while k < end {
         let reach = M::reach(k);
         if are_below(low.best, reach) && are_below(high.best, reach) {
             return Some((low, high, k));

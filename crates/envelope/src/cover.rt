@@ -1,11 +1,13 @@
-//! The columns of a row put on a stack, from the left: each span of cells with the column that is the nearest to them.
+//! The columns of a piece of a row put on a stack, from the left: each span of cells with the column that is the nearest to them.
 
 ghost use Rattle.std.specs.Prelude.{ℕ, ◌+◌, ◌-◌, ◌<◌, ◌≤◌, length};
 ghost use Rattle.metric.specs.Crossing.{AreColumns};
-ghost use Rattle.envelope.specs.Columns.{AreEntries, IsAmong, gap_of};
+ghost use Rattle.envelope.specs.Columns.{AreEntries, IsAmong, IsFrom, gap_of};
 ghost use Rattle.envelope.specs.Envelope.{IsCovered, IsKept, IsStart, span_at};
+ghost use Rattle.envelope.specs.Pieces.{IsPiece};
 
 use crate::columns::{crossing, distance, gap};
+use crate::piece::Piece;
 use column::NONE;
 use metric::Metric;
 
@@ -18,19 +20,20 @@ pub struct Span {
     pub gap: u16,
 }
 
-/// Stacks the spans of the whole row. How many there are: none where no column has an obstacle.
+/// Stacks the spans of the cells before the piece's end, over the piece's columns. How many there are: none where no such column has an obstacle.
 // Not inlined: the two phases would compete for registers.
 #[inline(never)]
-pub fn cover<M: Metric>(entries: &[u16], y: u16, spans: &mut [Span]) -> usize
+pub fn cover<M: Metric>(entries: &[u16], y: u16, piece: Piece, spans: &mut [Span]) -> usize
     requires entries { AreEntries entries.now y }
+    requires piece { IsPiece entries.now piece }
     requires room { length entries.now ≤ length spans.old }
     ensures few { result ≤ length entries.now }
-    ensures covered { IsCovered M.distance (gap_of entries.now y) (IsAmong entries.now (length entries.now)) spans.new result (length entries.now) }
+    ensures covered { IsCovered M.distance (gap_of entries.now y) (IsFrom entries.now piece.first piece.last) spans.new result piece.end }
 {
     let mut count = 0;
-    'columns: for column in 0..entries.len() {
+    'columns: for column in piece.first..piece.last {
         if entries[column] != NONE {
-            count = put_on::<M>(entries, y, column as u16, spans, count);
+            count = put_on::<M>(entries, y, piece, column as u16, spans, count);
         }
     }
     count
@@ -40,21 +43,23 @@ pub fn cover<M: Metric>(entries: &[u16], y: u16, spans: &mut [Span]) -> usize
 fn put_on<M: Metric>(
     entries: &[u16],
     y: u16,
+    piece: Piece,
     column: u16,
     spans: &mut [Span],
     count: usize,
 ) -> usize
     requires entries { AreEntries entries.now y }
+    requires piece { IsPiece entries.now piece }
     requires room { length entries.now ≤ length spans.old }
-    requires column { IsAmong entries.now (length entries.now) column }
+    requires column { IsFrom entries.now piece.first (length entries.now) column }
     requires few { count ≤ column }
-    requires covered { IsCovered M.distance (gap_of entries.now y) (IsAmong entries.now column) spans.old count (length entries.now) }
+    requires covered { IsCovered M.distance (gap_of entries.now y) (IsFrom entries.now piece.first column) spans.old count piece.end }
     ensures few { result ≤ column + 1 }
-    ensures covered { IsCovered M.distance (gap_of entries.now y) (IsAmong entries.now (column + 1)) spans.new result (length entries.now) }
+    ensures covered { IsCovered M.distance (gap_of entries.now y) (IsFrom entries.now piece.first (column + 1)) spans.new result piece.end }
 {
-    let kept = kept_spans::<M>(entries, y, column, spans, count);
+    let kept = kept_spans::<M>(entries, y, piece, column, spans, count);
     let start = start_of::<M>(entries, y, column, spans, kept);
-    if usize::from(start) < entries.len() {
+    if usize::from(start) < piece.end {
         let gap = gap(entries, y, column);
         spans[kept] = Span { start, column, gap };
         kept + 1
@@ -82,15 +87,17 @@ fn start_of<M: Metric>(entries: &[u16], y: u16, column: u16, spans: &[Span], kep
 fn kept_spans<M: Metric>(
     entries: &[u16],
     y: u16,
+    _piece: Piece,
     column: u16,
     spans: &[Span],
     count: usize,
 ) -> usize
     requires entries { AreEntries entries.now y }
+    requires piece { IsPiece entries.now _piece }
     requires room { count ≤ length spans.now }
-    requires column { IsAmong entries.now (length entries.now) column }
-    requires covered { IsCovered M.distance (gap_of entries.now y) (IsAmong entries.now column) spans.now count (length entries.now) }
-    ensures { IsKept M.distance (gap_of entries.now y) (IsAmong entries.now column) spans.now count result (length entries.now) column }
+    requires column { IsFrom entries.now _piece.first (length entries.now) column }
+    requires covered { IsCovered M.distance (gap_of entries.now y) (IsFrom entries.now _piece.first column) spans.now count _piece.end }
+    ensures { IsKept M.distance (gap_of entries.now y) (IsFrom entries.now _piece.first column) spans.now count result _piece.end column }
 {
     let gap = gap(entries, y, column);
     let mut kept = count;

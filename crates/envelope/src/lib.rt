@@ -7,6 +7,7 @@ mod columns;
 mod cover;
 mod fill;
 mod lanes;
+mod piece;
 mod stack;
 
 pub use answer::Answer;

@@ -1,6 +1,6 @@
 //! The room in which a row's spans are stacked, and the row phase.
 
-ghost use Rattle.std.specs.Prelude.{◌≡◌, ℕ, ◌<◌, ◌≤◌, true, length, IfOk, IfErr};
+ghost use Rattle.std.specs.Prelude.{◌≡◌, ℕ, ◌<◌, ◌≤◌, length, IfOk, IfErr};
 ghost use Rattle.bits.specs.Cells.{Cells, IsBitmap};
 ghost use Rattle.column.specs.Columns.{IsRowOfTable};
 ghost use Rattle.envelope.specs.Columns.{AreEntries, AreNearColumns};
@@ -9,8 +9,8 @@ ghost use Rattle.metric.specs.declared.refusal.Refusal.TheVariants.{Memory};
 
 use crate::answer::Answer;
 use crate::beside::{SPARE, fill_beside};
-use crate::cover::{Span, cover};
-use crate::fill::fill;
+use crate::cover::Span;
+use crate::piece::{Piece, fill_piece};
 use bits::Bitmap;
 use column::{ColumnTable, nearest_rows};
 use metric::{Metric, Near, Refusal};
@@ -122,35 +122,32 @@ fn fill_row<M: Metric, A: Answer>(entries: &[u16], y: u16, stack: &mut Stack, an
     ensures answers { AreNearColumns A.told A.nothing M.distance entries.now y answers.new }
     ensures stack { stack.new ≡ stack.old }
 {
-    if try_beside::<M, A>(entries, y, stack, answers) {
-        return;
-    }
-    let spans = &mut stack.spans[..entries.len()];
-    let count = cover::<M>(entries, y, spans);
-    fill::<M, A>(entries, y, &spans[..count], answers);
-}
-
-/// Fills a row by looking around each cell, unless the rows here go to the stack. Answers whether the row is filled.
-fn try_beside<M: Metric, A: Answer>(
-    entries: &[u16],
-    y: u16,
-    stack: &mut Stack,
-    answers: &mut [A],
-) -> bool
-    requires entries { AreEntries entries.now y }
-    requires stack { length entries.now ≤ stack.old }
-    requires width { length answers.old ≡ length entries.now }
-    ensures answers { result ≡ true → AreNearColumns A.told A.nothing M.distance entries.now y answers.new }
-    ensures stack { stack.new ≡ stack.old }
-{
     if stack.far_rows > 0 {
         stack.far_rows -= 1;
-        return false;
+        fill_far::<M, A>(entries, y, stack.spans.as_mut_slice(), answers);
+        return;
     }
-    let parts = &mut stack.parts[..entries.len() + SPARE];
-    let found = fill_beside::<M, A>(entries, y, parts, answers);
-    if !found {
+    let (parts, spans) = (stack.parts.as_mut_slice(), stack.spans.as_mut_slice());
+    if !fill_beside::<M, A>(entries, y, parts, spans, answers) {
         stack.far_rows = FAR_ROWS;
     }
-    found
+}
+
+/// Fills a row by the stack alone.
+fn fill_far<M: Metric, A: Answer>(entries: &[u16], y: u16, spans: &mut [Span], answers: &mut [A])
+    requires entries { AreEntries entries.now y }
+    requires spans { length entries.now ≤ length spans.old }
+    requires width { length answers.old ≡ length entries.now }
+    ensures answers { AreNearColumns A.told A.nothing M.distance entries.now y answers.new }
+{
+    if entries.is_empty() {
+        return;
+    }
+    let piece = Piece {
+        from: 0,
+        end: entries.len(),
+        first: 0,
+        last: entries.len(),
+    };
+    fill_piece::<M, A>(entries, y, piece, spans, answers);
 }

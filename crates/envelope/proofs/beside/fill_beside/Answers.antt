@@ -1,6 +1,8 @@
--- The columns that were found are the nearest ones.
-use Rattle.std.proofs.Common.{◌+◌, refl, arith}
+-- The columns that were found are the nearest ones, and bound those of the cells beside them.
+use Rattle.std.proofs.Common.{◌≡◌, ◌+◌, ◌-◌, slice_index, inl, inr, refl, arith}
+use Rattle.std.proofs.lemmas.Bool.{cases_lt}
 use Rattle.envelope.proofs.BesideLemmas.{are_told}
+use Rattle.envelope.proofs.PieceLemmas.{enough_between, piece_between, told_left}
 use Rattle.envelope.proofs.beside.fill_beside.Goals as goal
 
 pub fill_eight-requires-clause-told : goal.fill_eight-requires-clause-told
@@ -8,7 +10,40 @@ fill_eight-requires-clause-told g c =
     are_told g.M.Metric.distance g.M.Metric.joined g.M.Metric.part_of c.args.entries.now c.set_parts.new.parts c.args.y (c.cells.start + 128) c.cells.start c.in-Some.low.best c.in-Some.low.away
     g.met.M.Metric.small g.met.M.Metric.grows g.met.M.Metric.stays_nearer c.requires.entries c.set_parts.ensures refl c.in-Some.ensures.low
 
-pub fill_eight-requires-in-cells-clause-told : goal.fill_eight-requires-in-cells-clause-told
-fill_eight-requires-in-cells-clause-told g c =
+pub fill_eight-requires-in-Some-clause-told : goal.fill_eight-requires-in-Some-clause-told
+fill_eight-requires-in-Some-clause-told g c =
     are_told g.M.Metric.distance g.M.Metric.joined g.M.Metric.part_of c.args.entries.now c.set_parts.new.parts c.args.y (c.cells.start + 128 + 8) (c.cells.start + 8) c.in-Some.high.best c.in-Some.high.away
     g.met.M.Metric.small g.met.M.Metric.grows g.met.M.Metric.stays_nearer c.requires.entries c.set_parts.ensures (omega arith) c.in-Some.ensures.high
+
+pub cells-preserved-in-Some : goal.cells-preserved-in-Some
+cells-preserved-in-Some g c =
+    let start = c.cells.start in
+    let low = c.fill_eight in
+    let high = c.fill_eight-in-Some in
+    record {
+      width = omega (arith, high.auto.answers, low.auto.answers, c.cells.invariant.width);
+      room = c.cells.invariant.room;
+      within = omega (arith, c.cells-test.true);
+      filled = λ x below inside. elim (cases_lt x start) [
+        | inl before ↦ rw (high.ensures.others x (inl (omega (arith, before))), low.ensures.others x (inl before)) (c.cells.invariant.filled x before inside)
+        | inr from ↦ elim (cases_lt x (start + 8)) [
+          | inl near ↦ rw (high.ensures.others x (inl near)) (low.ensures.filled x from near inside)
+          | inr far ↦ high.ensures.filled x far (omega (arith, below)) inside
+        ]
+      ];
+      bound = λ more.
+          told_left g.M.Metric.distance c.args.entries.now c.args.y (start + 8) (start + 16) c.column_of-first.result c.in-Some.high.best c.in-Some.high.away (omega arith) more
+          (let is = c.column_of-first.ensures in omega (arith, is))
+          (are_told g.M.Metric.distance g.M.Metric.joined g.M.Metric.part_of c.args.entries.now c.set_parts.new.parts c.args.y (start + 128 + 8) (start + 8) c.in-Some.high.best c.in-Some.high.away
+          g.met.M.Metric.small g.met.M.Metric.grows g.met.M.Metric.stays_nearer c.requires.entries c.set_parts.ensures (omega arith) c.in-Some.ensures.high);
+    }
+
+pub fill_piece-requires-clause-piece : goal.fill_piece-requires-clause-piece
+fill_piece-requires-clause-piece g c =
+    piece_between g.M.Metric.distance c.args.entries.now c.args.y g.met.M.Metric.stays_nearer c.requires.entries c.cells.start c.next_found-end.result.0 c.cells.first c.next_found-end.result.1
+    (c.cells.invariant.bound c.cells-test.true) c.next_found-end.ensures.bound c.next_found-end.ensures.further
+
+pub fill_piece-requires-clause-enough : goal.fill_piece-requires-clause-enough
+fill_piece-requires-clause-enough g c =
+    enough_between g.M.Metric.distance c.args.entries.now c.args.y g.met.M.Metric.stays_nearer c.requires.entries c.cells.start c.next_found-end.result.0 c.cells.first c.next_found-end.result.1
+    (c.cells.invariant.bound c.cells-test.true) c.next_found-end.ensures.bound c.next_found-end.ensures.further

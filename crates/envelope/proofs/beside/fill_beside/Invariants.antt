@@ -1,13 +1,16 @@
--- The cells so far are filled.
+-- The cells so far are filled, and what bounds the columns of the next ones.
 use Rattle.std.proofs.Common.{◌≡◌, ℕ, ◌-◌, ◌+◌, ◌<◌, ◌≤◌, length, slice_index_or}
 use Rattle.envelope.specs.Columns.{IsNearColumn}
+use Rattle.envelope.specs.Pieces.{IsLeftBound}
 use Rattle.envelope.proofs.beside.fill_beside.Given as goal
 
 abbrev pub invariant-cells : goal.invariant-cells
 invariant-cells g l = record {
   width : length l.answers ≡ length l.entries;
+  room : length l.entries ≤ length l.spans;
   within : l.start ≤ length l.entries + 15;
   filled : (x : ℕ) → x < l.start → x < length l.entries → IsNearColumn g.M.Metric.distance l.entries l.y x (g.A.Answer.told g.M.Metric.distance x l.y (slice_index_or l.answers x g.A.Answer.nothing));
+  bound : l.start < length l.entries → IsLeftBound g.M.Metric.distance l.entries l.y l.start l.first;
 }
 
 abbrev pub decreases-cells : goal.decreases-cells

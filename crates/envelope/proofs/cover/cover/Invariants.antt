@@ -1,5 +1,5 @@
-use Rattle.std.proofs.Common.{◌≡◌, ◌≤◌, length}
-use Rattle.envelope.specs.Columns.{IsAmong, gap_of}
+use Rattle.std.proofs.Common.{◌≡◌, ◌≤◌}
+use Rattle.envelope.specs.Columns.{IsFrom, gap_of}
 use Rattle.envelope.specs.Envelope.{IsCovered}
 use Rattle.envelope.proofs.cover.cover.Given as goal
 
@@ -7,6 +7,6 @@ use Rattle.envelope.proofs.cover.cover.Given as goal
 abbrev pub invariant-columns : goal.invariant-columns
 invariant-columns g l = record {
   few : l.count ≤ l.column;
-  covered : IsCovered g.M.Metric.distance (gap_of l.entries l.y) (IsAmong l.entries l.column) l.spans l.count (length l.entries);
-  end_is : l.column-end ≡ length l.entries;
+  covered : IsCovered g.M.Metric.distance (gap_of l.entries l.y) (IsFrom l.entries l.piece.first l.column) l.spans l.count l.piece.end;
+  end_is : l.column-end ≡ l.piece.last;
 }

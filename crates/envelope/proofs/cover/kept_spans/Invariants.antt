@@ -1,5 +1,5 @@
-use Rattle.std.proofs.Common.{◌≤◌, length}
-use Rattle.envelope.specs.Columns.{IsAmong, gap_of}
+use Rattle.std.proofs.Common.{◌≤◌}
+use Rattle.envelope.specs.Columns.{IsFrom, gap_of}
 use Rattle.envelope.specs.Envelope.{IsCut}
 use Rattle.envelope.proofs.cover.kept_spans.Given as goal
 
@@ -7,7 +7,7 @@ use Rattle.envelope.proofs.cover.kept_spans.Given as goal
 abbrev pub invariant-spans : goal.invariant-spans
 invariant-spans g l = record {
   few : l.kept ≤ l.count;
-  cut : IsCut g.M.Metric.distance (gap_of l.entries l.y) (IsAmong l.entries l.column) l.spans l.kept (length l.entries) l.column;
+  cut : IsCut g.M.Metric.distance (gap_of l.entries l.y) (IsFrom l.entries l.fn._piece.first l.column) l.spans l.kept l.fn._piece.end l.column;
 }
 
 abbrev pub decreases-spans : goal.decreases-spans

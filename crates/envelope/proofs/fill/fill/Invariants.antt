@@ -1,16 +1,17 @@
-use Rattle.std.proofs.Common.{◌≡◌, ℕ, ◌<◌, ◌≤◌, length, slice_index_or}
-use Rattle.envelope.specs.Columns.{IsAmong, IsNearColumn, gap_of}
+use Rattle.std.proofs.Common.{◌≡◌, ℕ, ◌<◌, ◌≤◌, ◌⊎◌, length, slice_index_or}
+use Rattle.envelope.specs.Columns.{IsFrom, IsNearColumn, gap_of}
 use Rattle.envelope.specs.Envelope.{IsEnvelope}
 use Rattle.envelope.proofs.fill.fill.Given as goal
 
--- the spans that are left are those of the cells before the end, and the cells from there on are filled
+-- the spans that are left are those of the cells before the end, and the piece's cells from there on are filled
 abbrev pub invariant-spans : goal.invariant-spans
 invariant-spans g l = record {
   few : l.count ≤ length l.spans;
-  within : l.end ≤ length l.entries;
+  within : l.end ≤ l.piece.end;
   width : length l.answers ≡ length l.entries;
-  covered : IsEnvelope g.M.Metric.distance (gap_of l.entries l.y) (IsAmong l.entries (length l.entries)) l.spans l.count l.end;
-  filled : (x : ℕ) → l.end ≤ x → x < length l.entries → IsNearColumn g.M.Metric.distance l.entries l.y x (g.A.Answer.told g.M.Metric.distance x l.y (slice_index_or l.answers x g.A.Answer.nothing));
+  covered : IsEnvelope g.M.Metric.distance (gap_of l.entries l.y) (IsFrom l.entries l.piece.first l.piece.last) l.spans l.count l.end;
+  filled : (x : ℕ) → l.end ≤ x → l.piece.from ≤ x → x < l.piece.end → IsNearColumn g.M.Metric.distance l.entries l.y x (g.A.Answer.told g.M.Metric.distance x l.y (slice_index_or l.answers x g.A.Answer.nothing));
+  others : (x : ℕ) → (x < l.piece.from) ⊎ (l.piece.end ≤ x) → slice_index_or l.answers x g.A.Answer.nothing ≡ slice_index_or l.fn.answers x g.A.Answer.nothing;
 }
 
 abbrev pub decreases-spans : goal.decreases-spans

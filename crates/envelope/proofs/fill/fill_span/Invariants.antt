@@ -1,11 +1,11 @@
-use Rattle.std.proofs.Common.{◌≡◌, ℕ, ◌<◌, ◌≤◌, length, slice_index_or, Some}
+use Rattle.std.proofs.Common.{◌≡◌, ℕ, ◌<◌, ◌≤◌, ◌⊎◌, length, slice_index_or, Some}
 use Rattle.envelope.specs.Columns.{near_from}
 use Rattle.envelope.proofs.fill.fill_span.Given as goal
 
--- the cells so far are filled, and those from the end on are as before
+-- the cells so far are filled, and all others are as before
 abbrev pub invariant-loop-x : goal.invariant-loop-x
 invariant-loop-x g l = record {
   width : length l.answers ≡ length l.fn.answers;
-  filled : (x : ℕ) → l.span.start ≤ x → x < l.x → g.A.Answer.told g.M.Metric.distance x l.y (slice_index_or l.answers x g.A.Answer.nothing) ≡ Some (near_from g.M.Metric.distance l.entries l.y l.span.column x);
-  others : (x : ℕ) → l.end ≤ x → slice_index_or l.answers x g.A.Answer.nothing ≡ slice_index_or l.fn.answers x g.A.Answer.nothing;
+  filled : (x : ℕ) → l.span.start ≤ x → l.from ≤ x → x < l.x → g.A.Answer.told g.M.Metric.distance x l.y (slice_index_or l.answers x g.A.Answer.nothing) ≡ Some (near_from g.M.Metric.distance l.entries l.y l.span.column x);
+  others : (x : ℕ) → (x < l.from) ⊎ (l.end ≤ x) → slice_index_or l.answers x g.A.Answer.nothing ≡ slice_index_or l.fn.answers x g.A.Answer.nothing;
 }

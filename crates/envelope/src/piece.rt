@@ -1,0 +1,39 @@
+//! A piece of a row that is worked by the stack, and the columns that are enough for it.
+
+ghost use Rattle.std.specs.Prelude.{ℕ, ◌<◌, ◌≤◌, ◌≡◌, ◌⊎◌, length, slice_index_or};
+ghost use Rattle.envelope.specs.Columns.{AreEntries, IsNearColumn};
+ghost use Rattle.envelope.specs.Pieces.{IsEnough, IsPiece};
+
+use crate::answer::Answer;
+use crate::cover::{Span, cover};
+use crate::fill::fill;
+use metric::Metric;
+
+/// The cells from one to before another, and the columns from one to before another.
+#[derive(Clone, Copy, Debug)]
+pub struct Piece {
+    pub from: usize,
+    pub end: usize,
+    pub first: usize,
+    pub last: usize,
+}
+
+/// Fills the cells of a piece by the stack, which has room for a row.
+pub fn fill_piece<M: Metric, A: Answer>(
+    entries: &[u16],
+    y: u16,
+    piece: Piece,
+    spans: &mut [Span],
+    answers: &mut [A],
+)
+    requires entries { AreEntries entries.now y }
+    requires piece { IsPiece entries.now piece }
+    requires enough { IsEnough M.distance entries.now y piece }
+    requires room { length entries.now ≤ length spans.old }
+    requires width { length answers.old ≡ length entries.now }
+    ensures filled { (x : ℕ) → piece.from ≤ x → x < piece.end → IsNearColumn M.distance entries.now y x (A.told M.distance x y (slice_index_or answers.new x A.nothing)) }
+    ensures others { (x : ℕ) → (x < piece.from) ⊎ (piece.end ≤ x) → slice_index_or answers.new x A.nothing ≡ slice_index_or answers.old x A.nothing }
+{
+    let count = cover::<M>(entries, y, piece, spans);
+    fill::<M, A>(entries, y, piece, &spans[..count], answers);
+}
