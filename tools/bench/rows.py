@@ -5,6 +5,8 @@ Each map is worked by the program and by OpenCV in turn, and the least time of a
 for each map, then the ratios' geometric means and largest values beside the aims, and how the time a cell grows from the smallest to the largest maps. The sums of
 the answers have to be the same for each number of workers and for the table. With `--before CLONE` the one-worker times of another clone of this repository stand beside them.
 
+With `--hard` the maps are those of `hard_maps.py` besides, without OpenCV, and each map's nanoseconds a cell stand beside the most that one of the others takes: no map should take over 2.5 times as much.
+
 OpenCV is Debian's `python3-opencv`.
 """
 import argparse
@@ -16,6 +18,7 @@ import sys
 import tempfile
 
 import bench
+from hard_maps import HARD
 from program import HERE, ROOT, build
 
 USES = ["field", "pbm", "bits", "metric"]
@@ -119,11 +122,45 @@ def print_map(name, side, metric, now, peer, old):
     return ratios
 
 
+def hard_map(make):
+    def drawn(side, rng):
+        bitmap = bench.Bitmap(side)
+        make(bitmap, side, rng)
+        return bitmap
+
+    return drawn
+
+
+def print_hard(programs, sides, rounds, source):
+    """Nanoseconds a cell of the table on hard maps, beside the most that one of the other maps takes."""
+    print("| Map | Cells a side | Metric | " + " | ".join(f"{name}, ns a cell | beside the worst" for name in programs) + " |")
+    print("|" + "---|" * (3 + 2 * len(programs)))
+    for side in sides:
+        worst = {}
+        for name, make in (*bench.MAPS, *((name, hard_map(make)) for name, make in HARD)):
+            make(side, random.Random(f"{bench.SEED} {name} {side}")).write(source)
+            runs = {each: [] for each in programs}
+            for _ in range(rounds):
+                for each, program in programs.items():
+                    runs[each].append(figures(program, source))
+            found = {each: least(run) for each, run in runs.items()}
+            for metric in METRICS:
+                if len({each[f"{metric}-table-1"][1] for each in found.values()}) != 1:
+                    sys.exit(f"{name}, {side}, {metric}: the answers differ")
+                cells = {each: times[f"{metric}-table-1"][0] * 1e6 / side / side for each, times in found.items()}
+                for each, taken in cells.items():
+                    if (name, make) in bench.MAPS:
+                        worst[each, metric] = max(worst.get((each, metric), 0), taken)
+                told = " | ".join(f"{taken:.2f} | {taken / worst[each, metric]:.2f}" for each, taken in cells.items())
+                print(f"| {name} | {side} | {metric} | {told} |", flush=True)
+
+
 def main():
     parser = argparse.ArgumentParser(description=__doc__.splitlines()[0])
     parser.add_argument("--sizes", type=int, nargs="+", default=[512, 1024, 4096])
     parser.add_argument("--rounds", type=int, default=2, help="how often the program and OpenCV run in turn")
     parser.add_argument("--before", type=pathlib.Path)
+    parser.add_argument("--hard", action="store_true", help="hard maps besides, without OpenCV")
     parser.add_argument("--huge-pages", action="store_true", help="ask for huge pages in all programs that are measured")
     given = parser.parse_args()
     with tempfile.TemporaryDirectory() as work:
@@ -132,6 +169,10 @@ def main():
         before = build(work / "before", program_text(given.before), USES, given.before) if given.before else None
         if given.huge_pages:
             bench.ask_for_huge_pages()
+        if given.hard:
+            programs = {"now": program, "before": before} if before else {"now": program}
+            print_hard(programs, given.sizes, given.rounds, work / "map.pbm")
+            return
         ratios, cells = {}, {}
         print("| Map | Cells a side | Metric | rows, 1 worker, ms | 2 | 4 | table, 1 worker, ms | 2 | 4 | rows before, ms | OpenCV, ms | rows / OpenCV | table / OpenCV |")
         print("|" + "---|" * 13)

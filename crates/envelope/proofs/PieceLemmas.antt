@@ -157,20 +157,6 @@ module _ (d : ℕ → ℕ → ℕ) (entries : List ℕ) (y : ℕ) (stays : Stays
       ]
     ]
 
-    -- the last column is one at least
-    pub last_some : 1 ≤ last
-    last_some = elim (cases_lt end (length entries)) [
-      | inl inside ↦ (right.best inside).0
-      | inr whole ↦ let within = right.within in let is = right.whole (omega (arith, whole, within)) in omega (arith, is, some, whole)
-    ]
-
-    -- the last column bounds what stands behind the piece
-    pub bound_behind : end < length entries → IsLeftBound d entries y end (last - 1)
-    bound_behind inside =
-        let (one, best) = right.best inside in
-        let own = best.among.left in
-        record { inside = omega (arith, own); best = λ other among before. (end, omega arith, best) }
-
 -- the nearest column that one of eight cells knows
 pub told_best : (d : ℕ → ℕ → ℕ) (entries : List ℕ) (y start i : ℕ) (best away : List ℕ) → AreTold d entries y start best away → i < 8 → start + i < length entries
     → IsBestOfAll d entries y (start + i) (start + i + slice_index away i - 128)

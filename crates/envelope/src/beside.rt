@@ -6,7 +6,7 @@ ghost use Rattle.std.specs.Prelude.{◌≡◌, ℕ, ◌+◌, ◌-◌, ◌<◌, �
 ghost use Rattle.metric.specs.declared.near.Near.{Near};
 ghost use Rattle.envelope.specs.Beside.{AreBestNear, AreDecided, AreParts, AreSmall, AreTold};
 ghost use Rattle.envelope.specs.Columns.{AreEntries, AreNearColumns, IsNearColumn};
-ghost use Rattle.envelope.specs.Pieces.{IsRightBound};
+ghost use Rattle.envelope.specs.Pieces.{IsLeftBound, IsRightBound};
 
 use crate::answer::Answer;
 use crate::cover::Span;
@@ -56,6 +56,7 @@ pub fn fill_beside<M: Metric, A: Answer>(
     spans: &mut [Span],
     answers: &mut [A],
 ) -> bool
+    requires laned { 0 < M.reach_of 1 }
     requires entries { AreEntries entries.now y }
     requires room { length entries.now + 272 ≤ length parts.old }
     requires spans { length entries.now ≤ length spans.old }
@@ -65,15 +66,15 @@ pub fn fill_beside<M: Metric, A: Answer>(
     let parts = &mut parts[..entries.len() + SPARE];
     set_parts::<M>(entries, y, parts);
     let mut left = steps_for(entries);
-    let (mut start, mut first) = (0, 0);
+    let mut start = 0;
     'cells: while start < entries.len() {
         if let Some((low, high, steps)) = search::<M>(parts, start + FIRST, left) {
             fill_eight::<M, A>(entries, y, start, low, answers);
             fill_eight::<M, A>(entries, y, start + 8, high, answers);
-            first = column_of(start + 15, high.away, 7);
             left = left.saturating_sub(steps);
             start += 16;
         } else {
+            let first = first_column::<M>(entries, y, parts, start);
             let (end, last, steps) = next_found::<M>(entries, y, parts, start, left);
             let piece = Piece {
                 from: start,
@@ -82,12 +83,29 @@ pub fn fill_beside<M: Metric, A: Answer>(
                 last,
             };
             fill_piece::<M, A>(entries, y, piece, spans, answers);
-            first = last - 1;
             left = left.saturating_sub(steps);
             start = end;
         }
     }
     left > 0
+}
+
+/// The nearest column to the cell before one, where it is found near by with its neighbours; otherwise the first column.
+#[inline(never)]
+fn first_column<M: Metric>(entries: &[u16], y: u16, parts: &[u16], start: usize) -> usize
+    requires laned { 0 < M.reach_of 1 }
+    requires entries { AreEntries entries.now y }
+    requires parts { AreParts M.part_of entries.now y parts.now }
+    requires start { start < length entries.now }
+    ensures { IsLeftBound M.distance entries.now y start result }
+{
+    if start < 16 {
+        return 0;
+    }
+    match search::<M>(parts, start - 16 + FIRST, FARTHEST) {
+        Some((_, high, _)) => column_of(start - 1, high.away, 7),
+        None => 0,
+    }
 }
 
 /// The next cell whose nearest column is found near by, of those at growing distances from one; the column behind that one, and how many steps were taken. The row's end and its last column where there is none.
@@ -99,6 +117,7 @@ fn next_found<M: Metric>(
     start: usize,
     most: u16,
 ) -> (usize, usize, u16)
+    requires laned { 0 < M.reach_of 1 }
     requires entries { AreEntries entries.now y }
     requires parts { AreParts M.part_of entries.now y parts.now }
     requires start { start < length entries.now }
@@ -149,6 +168,7 @@ fn steps_for(entries: &[u16]) -> u16 {
 /// Sets the parts of the row's columns.
 #[inline(never)]
 fn set_parts<M: Metric>(entries: &[u16], y: u16, parts: &mut [u16])
+    requires laned { 0 < M.reach_of 1 }
     requires entries { AreEntries entries.now y }
     requires room { length parts.old ≡ length entries.now + 272 }
     ensures { AreParts M.part_of entries.now y parts.new }
@@ -162,6 +182,7 @@ fn set_parts<M: Metric>(entries: &[u16], y: u16, parts: &mut [u16])
 /// The nearest columns of sixteen cells, from the one of a place on, and how many steps that took; `None` where one of them has none so few steps away, or near by.
 #[inline(always)]
 fn search<M: Metric>(parts: &[u16], at: usize, most: u16) -> Option<(Eight, Eight, u16)>
+    requires laned { 0 < M.reach_of 1 }
     requires small { AreSmall parts.now }
     requires left { 128 ≤ at }
     requires right { at + 144 ≤ length parts.now }
@@ -187,6 +208,7 @@ fn search<M: Metric>(parts: &[u16], at: usize, most: u16) -> Option<(Eight, Eigh
 /// The columns of eight cells themselves.
 #[inline(always)]
 fn look_here<M: Metric>(parts: &[u16], at: usize) -> Eight
+    requires laned { 0 < M.reach_of 1 }
     requires small { AreSmall parts.now }
     requires right { at + 8 ≤ length parts.now }
     ensures { AreBestNear M.distance M.joined parts.now at 1 result.best result.away }
@@ -200,6 +222,7 @@ fn look_here<M: Metric>(parts: &[u16], at: usize) -> Eight
 /// The columns `k` and `k + 1` columns to both sides of eight cells too.
 #[inline(always)]
 fn look_twice<M: Metric>(parts: &[u16], at: usize, k: u16, eight: Eight) -> Eight
+    requires laned { 0 < M.reach_of 1 }
     requires small { AreSmall parts.now }
     requires left { 128 ≤ at }
     requires right { at + 136 ≤ length parts.now }
@@ -215,6 +238,7 @@ fn look_twice<M: Metric>(parts: &[u16], at: usize, k: u16, eight: Eight) -> Eigh
 /// The columns `k` columns to both sides of eight cells too. On the left a column wins that isn't worse, and on the right one that is better.
 #[inline(always)]
 fn look_aside<M: Metric>(parts: &[u16], at: usize, k: u16, best: u16x8, away: u16x8) -> Eight
+    requires laned { 0 < M.reach_of 1 }
     requires small { AreSmall parts.now }
     requires left { 128 ≤ at }
     requires right { at + 136 ≤ length parts.now }

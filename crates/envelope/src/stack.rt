@@ -114,7 +114,7 @@ pub fn row_from<M: Metric, A: Answer>(entries: &[u16], y: u16, stack: &mut Stack
     fill_row::<M, A>(entries, y, stack, answers);
 }
 
-/// Fills a row with the obstacle of the column that is the nearest to each cell: by looking around each cell where the nearest are near by, and otherwise by the stack.
+/// Fills a row with the obstacle of the column that is the nearest to each cell: by looking around each cell where the nearest are near by, and otherwise by the stack, as for each metric without a reach.
 fn fill_row<M: Metric, A: Answer>(entries: &[u16], y: u16, stack: &mut Stack, answers: &mut [A])
     requires entries { AreEntries entries.now y }
     requires stack { length entries.now ≤ stack.old }
@@ -122,8 +122,8 @@ fn fill_row<M: Metric, A: Answer>(entries: &[u16], y: u16, stack: &mut Stack, an
     ensures answers { AreNearColumns A.told A.nothing M.distance entries.now y answers.new }
     ensures stack { stack.new ≡ stack.old }
 {
-    if stack.far_rows > 0 {
-        stack.far_rows -= 1;
+    if stack.far_rows > 0 || M::reach(1) == 0 {
+        stack.far_rows = stack.far_rows.saturating_sub(1);
         fill_far::<M, A>(entries, y, stack.spans.as_mut_slice(), answers);
         return;
     }

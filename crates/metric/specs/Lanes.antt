@@ -14,6 +14,10 @@ pub record IsSmall (distance : ℕ → ℕ → ℕ) (part : ℕ → ℕ) (joined
   pub fits : (p r : ℕ) → p ≤ 32400 → r ≤ 9409 → joined p r < 65536
   pub reach : (dx : ℕ) → dx ≤ 97 → distance dx 0 ≤ 9409
 
+-- a reach is the distance of the columns alone
+abbrev pub Reaches : (ℕ → ℕ → ℕ) → (ℕ → ℕ) → Type 0
+Reaches distance reach = (dx : ℕ) → dx ≤ 97 → reach dx ≡ distance dx 0
+
 -- each of eight numbers is at most so large
 abbrev pub AreUpTo : ℕ → List ℕ → Type 0
 AreUpTo most lanes = (i : ℕ) → i < 8 → slice_index lanes i ≤ most

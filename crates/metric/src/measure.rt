@@ -1,8 +1,8 @@
 //! Distances between cells, as whole numbers.
 
-ghost use Rattle.std.specs.Prelude.{◌≡◌, ℕ, ◌*◌, ◌/◌, ◌<◌, ◌≤◌, slice_index};
+ghost use Rattle.std.specs.Prelude.{◌≡◌, ℕ, ◌*◌, ◌/◌, ◌<◌, ◌≤◌, refl, slice_index};
 ghost use Rattle.metric.specs.Distance.{Grows, chess, chess_grows, city, city_grows, euclid2, euclid2_grows};
-ghost use Rattle.metric.specs.Lanes.{AreUpTo, IsSmall, added, chess_small, city_small, euclid2_small, larger, plain_part, square_part};
+ghost use Rattle.metric.specs.Lanes.{AreUpTo, IsSmall, Reaches, added, chess_small, city_small, euclid2_small, larger, plain_part, square_part};
 ghost use Rattle.metric.specs.Crossing.{AreColumns, IsLastNotWorse, StaysNearer, chess_stays_nearer, city_stays_nearer, euclid2_stays_nearer};
 
 use std::simd::prelude::*;
@@ -34,14 +34,17 @@ pub trait Metric {
     /// A part and a reach put together.
     ghost joined: { ℕ → ℕ → ℕ };
 
+    /// The reach of cells that lie so many columns apart. Where that of one column is 0, no distance is put together: the metric's rows are worked by the stack alone, and parts, reaches and how they join may be anything.
+    ghost reach_of: { ℕ → ℕ };
+
     /// The part that a row difference has in a distance of 16 bits: at most 32,400, which it is for all from 61,440 on.
     fn part(g: u16) -> u16
         ensures { result ≡ part_of g };
 
-    /// The reach of cells that lie so many columns apart, 97 at most: the distance of two such cells of one row, at most 9409.
+    /// The reach of cells that lie so many columns apart, 97 at most: the distance of two such cells of one row, at most 9409, or 0 for all where distances are larger.
     fn reach(dx: u16) -> u16
         requires { dx ≤ 97 }
-        ensures reach { result ≡ distance dx 0 }
+        ensures reach { result ≡ reach_of dx }
         ensures few { result ≤ 9409 };
 
     /// Eight distances in 16 bits, of their parts and their reach. Those below 32,400 are exact.
@@ -50,8 +53,11 @@ pub trait Metric {
         requires reach { AreUpTo 9409 reach }
         ensures { (i : ℕ) → i < 8 → slice_index result i ≡ joined (slice_index parts i) (slice_index reach i) };
 
-    /// Parts and reach tell small distances.
-    ghost small: { IsSmall distance part_of joined };
+    /// Where there is a reach, it is the distance of the columns alone.
+    ghost reaches: { 0 < reach_of 1 → Reaches distance reach_of };
+
+    /// Where there is a reach, it and the parts tell small distances.
+    ghost small: { 0 < reach_of 1 → IsSmall distance part_of joined };
 
     /// The distance doesn't fall as the row difference grows.
     ghost grows: { Grows distance };
@@ -86,6 +92,8 @@ impl Metric for Euclid2 {
 
     ghost joined = { added };
 
+    ghost reach_of = { λ dx. euclid2 dx 0 };
+
     fn part(g: u16) -> u16 {
         let cut = g.min(180);
         cut * cut
@@ -100,7 +108,9 @@ impl Metric for Euclid2 {
         parts + reach
     }
 
-    ghost small = { euclid2_small };
+    ghost reaches = { λ some dx few. refl };
+
+    ghost small = { λ some. euclid2_small };
 
     ghost grows = { euclid2_grows };
 
@@ -145,6 +155,8 @@ impl Metric for City {
 
     ghost joined = { added };
 
+    ghost reach_of = { λ dx. city dx 0 };
+
     fn part(g: u16) -> u16 {
         g.min(MOST_PART)
     }
@@ -158,7 +170,9 @@ impl Metric for City {
         parts + reach
     }
 
-    ghost small = { city_small };
+    ghost reaches = { λ some dx few. refl };
+
+    ghost small = { λ some. city_small };
 
     ghost grows = { city_grows };
 
@@ -191,6 +205,8 @@ impl Metric for Chess {
 
     ghost joined = { larger };
 
+    ghost reach_of = { λ dx. chess dx 0 };
+
     fn part(g: u16) -> u16 {
         g.min(MOST_PART)
     }
@@ -204,7 +220,9 @@ impl Metric for Chess {
         parts.simd_max(reach)
     }
 
-    ghost small = { chess_small };
+    ghost reaches = { λ some dx few. refl };
+
+    ghost small = { λ some. chess_small };
 
     ghost grows = { chess_grows };
 

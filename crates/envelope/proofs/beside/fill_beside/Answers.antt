@@ -1,19 +1,19 @@
--- The columns that were found are the nearest ones, and bound those of the cells beside them.
-use Rattle.std.proofs.Common.{◌≡◌, ◌+◌, ◌-◌, slice_index, inl, inr, refl, arith}
+-- The columns that were found are the nearest ones, and a piece lies between those of the cells beside it.
+use Rattle.std.proofs.Common.{◌+◌, inl, inr, refl, arith}
 use Rattle.std.proofs.lemmas.Bool.{cases_lt}
 use Rattle.envelope.proofs.BesideLemmas.{are_told}
-use Rattle.envelope.proofs.PieceLemmas.{enough_between, piece_between, told_left}
+use Rattle.envelope.proofs.PieceLemmas.{enough_between, piece_between}
 use Rattle.envelope.proofs.beside.fill_beside.Goals as goal
 
 pub fill_eight-requires-clause-told : goal.fill_eight-requires-clause-told
 fill_eight-requires-clause-told g c =
     are_told g.M.Metric.distance g.M.Metric.joined g.M.Metric.part_of c.args.entries.now c.set_parts.new.parts c.args.y (c.cells.start + 128) c.cells.start c.in-Some.low.best c.in-Some.low.away
-    g.met.M.Metric.small g.met.M.Metric.grows g.met.M.Metric.stays_nearer c.requires.entries c.set_parts.ensures refl c.in-Some.ensures.low
+    (g.met.M.Metric.small c.requires.laned) g.met.M.Metric.grows g.met.M.Metric.stays_nearer c.requires.entries c.set_parts.ensures refl c.in-Some.ensures.low
 
 pub fill_eight-requires-in-Some-clause-told : goal.fill_eight-requires-in-Some-clause-told
 fill_eight-requires-in-Some-clause-told g c =
     are_told g.M.Metric.distance g.M.Metric.joined g.M.Metric.part_of c.args.entries.now c.set_parts.new.parts c.args.y (c.cells.start + 128 + 8) (c.cells.start + 8) c.in-Some.high.best c.in-Some.high.away
-    g.met.M.Metric.small g.met.M.Metric.grows g.met.M.Metric.stays_nearer c.requires.entries c.set_parts.ensures (omega arith) c.in-Some.ensures.high
+    (g.met.M.Metric.small c.requires.laned) g.met.M.Metric.grows g.met.M.Metric.stays_nearer c.requires.entries c.set_parts.ensures (omega arith) c.in-Some.ensures.high
 
 pub cells-preserved-in-Some : goal.cells-preserved-in-Some
 cells-preserved-in-Some g c =
@@ -31,19 +31,14 @@ cells-preserved-in-Some g c =
           | inr far ↦ high.ensures.filled x far (omega (arith, below)) inside
         ]
       ];
-      bound = λ more.
-          told_left g.M.Metric.distance c.args.entries.now c.args.y (start + 8) (start + 16) c.column_of-first.result c.in-Some.high.best c.in-Some.high.away (omega arith) more
-          (let is = c.column_of-first.ensures in omega (arith, is))
-          (are_told g.M.Metric.distance g.M.Metric.joined g.M.Metric.part_of c.args.entries.now c.set_parts.new.parts c.args.y (start + 128 + 8) (start + 8) c.in-Some.high.best c.in-Some.high.away
-          g.met.M.Metric.small g.met.M.Metric.grows g.met.M.Metric.stays_nearer c.requires.entries c.set_parts.ensures (omega arith) c.in-Some.ensures.high);
     }
 
 pub fill_piece-requires-clause-piece : goal.fill_piece-requires-clause-piece
 fill_piece-requires-clause-piece g c =
-    piece_between g.M.Metric.distance c.args.entries.now c.args.y g.met.M.Metric.stays_nearer c.requires.entries c.cells.start c.next_found-end.result.0 c.cells.first c.next_found-end.result.1
-    (c.cells.invariant.bound c.cells-test.true) c.next_found-end.ensures.bound c.next_found-end.ensures.further
+    piece_between g.M.Metric.distance c.args.entries.now c.args.y g.met.M.Metric.stays_nearer c.requires.entries c.cells.start c.next_found-end.result.0 c.first_column-first.result c.next_found-end.result.1
+    c.first_column-first.ensures c.next_found-end.ensures.bound c.next_found-end.ensures.further
 
 pub fill_piece-requires-clause-enough : goal.fill_piece-requires-clause-enough
 fill_piece-requires-clause-enough g c =
-    enough_between g.M.Metric.distance c.args.entries.now c.args.y g.met.M.Metric.stays_nearer c.requires.entries c.cells.start c.next_found-end.result.0 c.cells.first c.next_found-end.result.1
-    (c.cells.invariant.bound c.cells-test.true) c.next_found-end.ensures.bound c.next_found-end.ensures.further
+    enough_between g.M.Metric.distance c.args.entries.now c.args.y g.met.M.Metric.stays_nearer c.requires.entries c.cells.start c.next_found-end.result.0 c.first_column-first.result c.next_found-end.result.1
+    c.first_column-first.ensures c.next_found-end.ensures.bound c.next_found-end.ensures.further

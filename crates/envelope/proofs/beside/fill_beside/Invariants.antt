@@ -1,7 +1,6 @@
--- The cells so far are filled, and what bounds the columns of the next ones.
+-- The cells so far are filled.
 use Rattle.std.proofs.Common.{◌≡◌, ℕ, ◌-◌, ◌+◌, ◌<◌, ◌≤◌, length, slice_index_or}
 use Rattle.envelope.specs.Columns.{IsNearColumn}
-use Rattle.envelope.specs.Pieces.{IsLeftBound}
 use Rattle.envelope.proofs.beside.fill_beside.Given as goal
 
 abbrev pub invariant-cells : goal.invariant-cells
@@ -10,7 +9,6 @@ invariant-cells g l = record {
   room : length l.entries ≤ length l.spans;
   within : l.start ≤ length l.entries + 15;
   filled : (x : ℕ) → x < l.start → x < length l.entries → IsNearColumn g.M.Metric.distance l.entries l.y x (g.A.Answer.told g.M.Metric.distance x l.y (slice_index_or l.answers x g.A.Answer.nothing));
-  bound : l.start < length l.entries → IsLeftBound g.M.Metric.distance l.entries l.y l.start l.first;
 }
 
 abbrev pub decreases-cells : goal.decreases-cells

@@ -12,6 +12,6 @@ pub returns : goal.returns
 returns g c =
     let ended = c.columns-test.false in
     let entries = c.args.entries.now in
-    AreParts-set g.M.Metric.distance g.M.Metric.joined g.M.Metric.part_of entries c.args.y c.columns.parts g.met.M.Metric.small c.columns.invariant.as_many
+    AreParts-set g.M.Metric.distance g.M.Metric.joined g.M.Metric.part_of entries c.args.y c.columns.parts (g.met.M.Metric.small c.requires.laned) c.columns.invariant.as_many
     (λ column inside. c.columns.invariant.each column (omega (arith, inside, ended)))
     (λ p aside below. c.columns.invariant.others p (until_end entries p c.columns.column (omega (arith, c.columns.auto.column-end)) aside) below)
