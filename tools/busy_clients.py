@@ -1,7 +1,7 @@
 #!/usr/bin/env python3
 """Keeps 16 clients of `clearmap serve` busy with every kind of line, kills some in the middle of lines and stamps, and then counts.
 
-Each accepted command has a place in the log. In the end one more connection asks what was left: the places from 1 to the last
+Each accepted command has a place in the log, which is short: it is full now and then, until the next checkpoint. In the end one more connection asks what was left: the places from 1 to the last
 are each answered once, or belong to a client that was killed before its reply; the next command has the place behind the last;
 and a collect raises the floor to the newest version, so that no pin of a killed client is left.
 
@@ -18,7 +18,7 @@ import time
 PROGRAM = pathlib.Path(__file__).resolve().parent.parent / "crates" / "clearmap" / "out" / "clearmap"
 CLIENTS = 16
 SIDE = 256
-COMMANDS = ("PAINT", "CLEAR", "STAMP", "PUBLISH", "REVERT", "COLLECT")
+COMMANDS = ("PAINT", "CLEAR", "STAMP", "PUBLISH", "REVERT", "COLLECT", "CHECKPOINT")
 QUERIES = ("AT", "RECT", "PATH", "CLEAROF")
 METRICS = ("euclid2", "city", "chess")
 
@@ -111,7 +111,7 @@ def main():
     seconds = float(sys.argv[1]) if len(sys.argv) > 1 else 60
     image = b"P4\n%d %d\n" % (SIDE, SIDE) + bytes(SIDE * SIDE // 8)
     server = subprocess.Popen(
-        [str(PROGRAM), "serve", "--connections", "1000000", "--workers", "16", "--log", "1048576", "--versions", "64"],
+        [str(PROGRAM), "serve", "--connections", "1000000", "--workers", "16", "--log", "20", "--versions", "64"],
         stdin=subprocess.PIPE, stdout=subprocess.PIPE,
     )
     server.stdin.write(image)
@@ -125,11 +125,11 @@ def main():
         time.sleep(0.5)  # the last killed clients are noticed
         with socket.create_connection(("127.0.0.1", port)) as stream:
             replies = stream.makefile("rb")
-            published = ask(stream, replies, b"COLLECT") and ask(stream, replies, b"PUBLISH")
+            (checkpointed, _, published) = (ask(stream, replies, line) for line in (b"CHECKPOINT", b"COLLECT", b"PUBLISH"))
             collected = ask(stream, replies, b"COLLECT")
-        assert published[0] == b"OK", f"the log is full: {published}"
+        assert published[0] == b"OK", f"refused after a checkpoint and a collect: {published}"
         places = [place for client in clients for place in client.places]
-        last = int(published[1]) - 2
+        last = int(checkpointed[1]) - 1
         unanswered = sum(client.unanswered for client in clients)
         missing = last - len(places)
         wrong = [text for client in clients for text in client.wrong]

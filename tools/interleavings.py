@@ -1,9 +1,9 @@
 #!/usr/bin/python3
-"""Every interleaving of two readers with one publish and one collect, through `clearmap steps`, against a plain model.
+"""Every interleaving of two readers with a publish, a checkpoint and a collect, through `clearmap steps`, against a plain model.
 
-Each reader announces, loads, looks and leaves. The keeper publishes a painted cell (its stores as one lump, then the commit),
-and then collects (two scans, then the commit); each order stands directly before its first step. That is 90,090 orders of
-13 events. Each is one run of the built program, whose answers are compared line by line with those of `steps_model`.
+Each reader announces, loads, looks and leaves. The keeper publishes a painted cell (its stores as one lump, then the commit), then does a
+checkpoint (its one step), without which the log has no room for more, and then collects (two scans, then the commit); each order stands directly
+before its first step. That is 210,210 orders of 14 events. Each is one run of the built program, whose answers are compared line by line with those of `steps_model`.
 Prints how many were run and how many disagreed; status 1 where one did.
 """
 import argparse
@@ -17,9 +17,10 @@ from steps_model import World
 
 TOP = pathlib.Path(__file__).resolve().parent.parent
 PROGRAM = TOP / "crates" / "clearmap" / "out" / "clearmap"
-SETTING = (64, 64, 3, 2, 2, 10)
+SETTING = (64, 64, 3, 2, 2, 2)
 BEFORE = ["C PAINT 0 0 1 1", "K 1"]
-KEEPER = [["C PUBLISH", "K 65"], ["K 1"], ["C COLLECT", "K 1"], ["K 1"], ["K 1"]]
+KEEPER = [["C PUBLISH", "K 65"], ["K 1"], ["C COLLECT", "C CHECKPOINT", "K 1"], ["C COLLECT", "K 1"], ["K 1"], ["K 1"]]
+EVENTS = len(KEEPER) + 8
 
 
 def reader(r):
@@ -27,9 +28,9 @@ def reader(r):
 
 
 def orders():
-    """Each order of the 13 events, as the places of the first reader's and of the second's."""
-    for first in itertools.combinations(range(13), 4):
-        left = [place for place in range(13) if place not in first]
+    """Each order of the events, as the places of the first reader's and of the second's."""
+    for first in itertools.combinations(range(EVENTS), 4):
+        left = [place for place in range(EVENTS) if place not in first]
         for second in itertools.combinations(left, 4):
             yield first, second
 
@@ -38,7 +39,7 @@ def lines_of(order):
     first, second = order
     events = {"keeper": iter(KEEPER), 0: iter(reader(0)), 1: iter(reader(1))}
     lines = list(BEFORE)
-    for place in range(13):
+    for place in range(EVENTS):
         lines += next(events[0 if place in first else 1 if place in second else "keeper"])
     return lines
 

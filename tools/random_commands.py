@@ -3,9 +3,9 @@
 
 The model (`steps_model.py`) has sets of cells, and lists of blocks by their numbers: it says how many cells change, how many blocks a command needs and
 how many are free, which version may be published, what a collect frees, and what a pin is held back by. A pinned version is dumped now and then and
-compared cell by cell. The maps are small, with sides at the edges of tiles, and mostly there is hardly a block to spare. At the end of each map both
-pins are left, the draft is reverted, and after a publish and a collect the map's own tiles are all that is in use: a paint of the whole map then tells how many
-blocks it needs and how many are free.
+compared cell by cell. The maps are small, with sides at the edges of tiles, mostly there is hardly a block to spare, and a log is full again and again until a
+checkpoint. At the end of each map both pins are left, the draft is reverted, and after a publish and a collect the map's own tiles are all that is in use: a
+paint of the whole map then tells how many blocks it needs and how many are free. The server's last line has the last place.
 
     tools/random_commands.py [COMMANDS [SEED]]
 """
@@ -31,8 +31,7 @@ class Map(steps_model.World):
     def order_stamp(self, x, y, width, height, black):
         if x + width > self.width or y + height > self.height:
             raise steps_model.Refused("ERR 1 OutOfRange")
-        if self.place >= self.limit:
-            raise steps_model.Refused("ERR 4 LogFull")
+        self.check_log()
         area = {(x + i, y + j) for i in range(width) for j in range(height)}
         wanted = {(x + i, y + j) for i, j in black}
         changed = (area & self.draft) ^ wanted
@@ -112,7 +111,9 @@ def one(rng, world, connections):
     """Asks for one command; gives what was asked, what came, and what the model says."""
     session = rng.randrange(2)
     connection = connections[session]
-    name = rng.choices(("PAINT", "CLEAR", "STAMP", "PUBLISH", "REVERT", "COLLECT", "PIN", "UNPIN", "DUMP"), (24, 14, 10, 16, 6, 14, 7, 7, 2))[0]
+    name = rng.choices(
+        ("PAINT", "CLEAR", "STAMP", "PUBLISH", "REVERT", "COLLECT", "CHECKPOINT", "PIN", "UNPIN", "DUMP"), (24, 14, 10, 16, 6, 14, 4, 7, 7, 2)
+    )[0]
     if name in ("PAINT", "CLEAR"):
         words = [name, *map(str, rectangle(rng, world))]
         return words, connection.ask(" ".join(words).encode() + b"\n"), world.command(world.order, words)
@@ -135,7 +136,7 @@ def ended(world, connections):
     """The requests after which the newest version's blocks alone are in use, each with what came and what the model says."""
     for session in (0, 1):
         yield "UNPIN", connections[session].ask(b"UNPIN\n"), world.unpin(session)
-    for name in ("REVERT", "COLLECT", "PUBLISH", "COLLECT"):
+    for name in ("CHECKPOINT", "REVERT", "COLLECT", "PUBLISH", "COLLECT"):
         yield name, connections[0].ask(name.encode() + b"\n"), world.command(world.order, [name])
 
 
@@ -143,7 +144,7 @@ def a_map(rng, count):
     """Runs so many commands on one map. Gives how many replies were wrong."""
     width, height = rng.choice(SIDES), rng.choice(SIDES)
     tiles = ((width + 63) // 64) * ((height + 63) // 64)
-    setting = {"blocks": tiles + rng.choice((0, 1, 2, 3, tiles, 3 * tiles)), "versions": rng.randrange(2, 6), "log": rng.choice((count // 3, count + 10))}
+    setting = {"blocks": tiles + rng.choice((0, 1, 2, 3, tiles, 3 * tiles)), "versions": rng.randrange(2, 6), "log": rng.choice((6, count // 12, count + 10))}
     world = Map(width, height, setting["blocks"], setting["versions"], 2, setting["log"])
     flags = [word for key, value in setting.items() for word in (f"--{key}", str(value))]
     blank = b"P4\n%d %d\n" % (width, height) + bytes((width + 7) // 8 * height)
@@ -164,16 +165,15 @@ def a_map(rng, count):
         compare(*one(rng, world, connections))
     for asked in ended(world, connections):
         compare(*asked)
-    if world.place < world.limit and len(world.free) != world.blocks - world.tiles:
+    if len(world.free) != world.blocks - world.tiles:
         wrong += 1
         print(f"{width} by {height}, {setting}: {len(world.free)} blocks are free at the end")
     for words in (["CLEAR", "0", "0", str(width), str(height)], ["PAINT", "0", "0", str(width), str(height)]):
         compare(words, connections[0].ask(" ".join(words).encode() + b"\n"), world.command(world.order, words))
     for connection in connections:
         compare("QUIT", connection.ask(b"QUIT\n"), "BYE")
-    if server.wait(timeout=30) != 0:
-        wrong += 1
-        print("the server ended with a fault")
+    compare("the last line", server.stdout.read().decode(), f"SERVED 2 {world.place}\n")
+    compare("the status", server.wait(timeout=30), 0)
     return wrong
 
 

@@ -2,7 +2,7 @@
 import re
 
 NUMBER = re.compile(r"[0-9]{1,10}")
-COMMANDS = ("PAINT", "CLEAR", "PUBLISH", "REVERT", "COLLECT")
+COMMANDS = ("PAINT", "CLEAR", "PUBLISH", "REVERT", "COLLECT", "CHECKPOINT")
 
 
 class Refused(Exception):
@@ -25,7 +25,7 @@ class World:
         self.across = (width + 63) // 64
         self.tiles = self.across * ((height + 63) // 64)
         self.blocks, self.versions, self.limit = blocks, versions, log
-        self.place, self.floor, self.hand = 0, 0, None
+        self.place, self.checkpointed, self.floor, self.hand = 0, 0, 0, None
         self.draft, self.published = set(), [set()]
         self.own, self.free, self.retired = {}, list(range(self.tiles, blocks)), []
         self.directories = [list(range(self.tiles))]
@@ -39,6 +39,11 @@ class World:
     @property
     def newest(self):
         return len(self.published) - 1
+
+    def check_log(self):
+        """The entries after the last checkpoint count against the log's limit."""
+        if self.place - self.checkpointed >= self.limit:
+            raise Refused("ERR 4 LogFull")
 
     def position(self, cell):
         return cell[1] // 64 * self.across + cell[0] // 64
@@ -65,8 +70,9 @@ class World:
             raise NotEnabled
         if command in ("PAINT", "CLEAR"):
             return self.order_draw(draw)
-        if self.place >= self.limit:
-            raise Refused("ERR 4 LogFull")
+        if command == "CHECKPOINT":
+            return self.take_up([("checkpoint",)])
+        self.check_log()
         if command == "PUBLISH":
             if self.newest - self.floor + 1 >= self.versions:
                 raise Refused("ERR 3 VersionsFull")
@@ -80,8 +86,7 @@ class World:
         _, x0, y0, x1, y1, black = draw
         if x1 > self.width or y1 > self.height:
             raise Refused("ERR 1 OutOfRange")
-        if self.place >= self.limit:
-            raise Refused("ERR 4 LogFull")
+        self.check_log()
         area = {(x, y) for x in range(x0, x1) for y in range(y0, y1)}
         changed = area - self.draft if black else area & self.draft
         needed = {self.position(cell) for cell in changed} - set(self.own)
@@ -138,6 +143,10 @@ class World:
         for k in sorted(self.own):
             self.free.insert(0, self.own[k])
         self.own, self.draft = {}, set(self.published[-1])
+        return []
+
+    def commit_checkpoint(self):
+        self.checkpointed = self.place
         return []
 
     def commit_collect(self):

@@ -69,6 +69,11 @@ struct Collected {
     std::uint32_t place, floor, freed;
 };
 
+/// What a client does where a command of its own is answered LogFull: it throws that, or it sends a checkpoint and then the command once more. **A
+/// checkpoint drops the entries of the log, those of other painters too**; no bitmap and no version changes by it. Where others have filled the log
+/// again by then, LogFull is thrown.
+enum class FullLog { thrown, checkpointed };
+
 /// Whatever went wrong.
 struct Error : std::runtime_error {
     using std::runtime_error::runtime_error;
@@ -92,7 +97,7 @@ struct WrongAnswer : Error {
 /// The numbers of refusals, as the protocol has them.
 enum Refusal {
     OutOfRange = 1, BlocksFull, VersionsFull, LogFull, Memory, NotPinned, AlreadyPinned, BadPath, Crooked,
-    UnknownCommand = 11, BadArguments, LineTooLong, TooMuchData, BadImage
+    UnknownCommand = 11, BadArguments, LineTooLong, TooMuchData, BadImage, PlacesUsed = 17
 };
 
 /// A line that the server refused. Nothing has changed, and the connection goes on.
@@ -141,7 +146,7 @@ inline std::optional<std::pair<std::string, std::size_t>> refusal(std::uint32_t 
         {LogFull, {"LogFull", 0}},           {Memory, {"Memory", 0}},               {NotPinned, {"NotPinned", 0}},
         {AlreadyPinned, {"AlreadyPinned", 0}}, {BadPath, {"BadPath", 0}},           {Crooked, {"Crooked", 1}},
         {UnknownCommand, {"UnknownCommand", 0}}, {BadArguments, {"BadArguments", 0}}, {LineTooLong, {"LineTooLong", 0}},
-        {TooMuchData, {"TooMuchData", 0}},   {BadImage, {"BadImage", 0}},
+        {TooMuchData, {"TooMuchData", 0}},   {BadImage, {"BadImage", 0}},           {PlacesUsed, {"PlacesUsed", 0}},
     };
     auto at = known.find(number);
     if (at == known.end()) return std::nullopt;
@@ -440,47 +445,64 @@ private:
 /// A connection to a server on this machine. The time-out is for each wait for bytes; 0 waits for ever.
 class Client {
 public:
-    explicit Client(std::uint16_t port, std::chrono::milliseconds timeout = std::chrono::seconds(10)) : wire_(port, timeout) {}
+    explicit Client(std::uint16_t port, std::chrono::milliseconds timeout = std::chrono::seconds(10), FullLog full_log = FullLog::thrown)
+        : wire_(port, timeout), full_log_(full_log) {}
 
     /// Ends the connection; what was accepted stays accepted, and a pin is left.
     void close() { wire_.close(); }
 
     /// Makes columns x0 up to x1 - 1 of rows y0 up to y1 - 1 of the draft obstacles.
-    Change paint(int x0, int y0, int x1, int y1) { return change("PAINT" + detail::points({{x0, y0}, {x1, y1}})); }
+    Change paint(int x0, int y0, int x1, int y1) { return draw("PAINT" + detail::points({{x0, y0}, {x1, y1}}) + '\n'); }
 
     /// Makes them free.
-    Change clear(int x0, int y0, int x1, int y1) { return change("CLEAR" + detail::points({{x0, y0}, {x1, y1}})); }
+    Change clear(int x0, int y0, int x1, int y1) { return draw("CLEAR" + detail::points({{x0, y0}, {x1, y1}}) + '\n'); }
 
     /// Gives the cells from (x, y) on the values of a PBM image, plain or raw; black is an obstacle.
     Change stamp(Cell corner, const std::string& image) {
         if (corner.x < 0 || corner.y < 0 || image.size() > 17100000) throw std::invalid_argument("no such cell, or an image of over 17100000 bytes");
-        wire_.send("STAMP" + detail::points({corner}) + ' ' + std::to_string(image.size()) + '\n' + image);
-        auto n = wire_.numbers(wire_.reply(), 2);
-        return {n[0], n[1]};
+        return draw("STAMP" + detail::points({corner}) + ' ' + std::to_string(image.size()) + '\n' + image);
     }
 
     /// Appends the draft as the next version, and answers its number.
-    std::uint32_t publish() { return wire_.numbers(wire_.call("PUBLISH"), 2)[1]; }
+    std::uint32_t publish() { return change("PUBLISH\n", 2)[1]; }
 
     /// Makes the draft the newest version again, and answers the place in the log.
-    std::uint32_t revert() { return wire_.numbers(wire_.call("REVERT"), 1)[0]; }
+    std::uint32_t revert() { return change("REVERT\n", 1)[0]; }
 
     /// Gives back what only versions below the floor use: the least version that a pin has announced, or the newest.
     Collected collect() {
-        auto n = wire_.numbers(wire_.call("COLLECT"), 3);
+        auto n = change("COLLECT\n", 3);
         return {n[0], n[1], n[2]};
     }
+
+    /// Drops the entries of the log that the server keeps, so that a full log goes on, and answers its own place. Places go on counting, and no bitmap
+    /// and no version changes.
+    std::uint32_t checkpoint() { return wire_.numbers(wire_.call("CHECKPOINT"), 1)[0]; }
 
     /// Pins the newest version. One at a time on a connection.
     Pinned pin() { return Pinned(&wire_, wire_.numbers(wire_.call("PIN"), 1)[0]); }
 
 private:
-    Change change(const std::string& line) {
-        auto n = wire_.numbers(wire_.call(line), 2);
+    /// The numbers of the reply to a command's line and bytes.
+    std::vector<std::uint32_t> change(const std::string& request, std::size_t count) {
+        try {
+            wire_.send(request);
+            return wire_.numbers(wire_.reply(), count);
+        } catch (const Refused& refused) {
+            if (refused.number != LogFull || full_log_ == FullLog::thrown) throw;
+        }
+        checkpoint();
+        wire_.send(request);
+        return wire_.numbers(wire_.reply(), count);
+    }
+
+    Change draw(const std::string& request) {
+        auto n = change(request, 2);
         return {n[0], n[1]};
     }
 
     detail::Wire wire_;
+    FullLog full_log_;
 };
 
 /// A point in metres, y upwards.

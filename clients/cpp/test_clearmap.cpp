@@ -181,6 +181,28 @@ static void refusals(std::uint16_t port) {
     }
 }
 
+/// The second server's log of three is full here, at place 3, with its two versions.
+static void checkpoints(std::uint16_t port) {
+    Client plain(port), client(port, std::chrono::seconds(10), FullLog::checkpointed);
+    CHECK(refused(LogFull, "LogFull", {}, [&] { plain.collect(); }));
+    CHECK(plain.checkpoint() == 4);
+    CHECK(plain.collect().place == 5);
+    CHECK(client.paint(0, 0, 2, 1).place == 6 && client.clear(1, 0, 2, 1).place == 7);
+    CHECK(refused(LogFull, "LogFull", {}, [&] { plain.revert(); }));
+    Change stamped = client.stamp({0, 3}, "P1\n2 1\n11");
+    CHECK(stamped.place == 9 && stamped.changed == 2);
+    CHECK(client.publish() == 2 && client.revert() == 11);
+    CHECK(client.revert() == 13);
+    CHECK(client.pin().dump() == "P1\n6 4\n100000\n001000\n000000\n110000\n");
+    CHECK(refused(OutOfRange, "OutOfRange", {}, [&] { client.paint(0, 0, 7, 1); }));
+    Fake others({"ERR 4 LogFull\n", "OK 9\n", "ERR 4 LogFull\n"}, false);
+    Client late(others.port, std::chrono::seconds(2), FullLog::checkpointed);
+    CHECK(refused(LogFull, "LogFull", {}, [&] { late.publish(); }));
+    Fake used({"ERR 17 PlacesUsed\n"}, false);
+    Client last(used.port, std::chrono::seconds(2));
+    CHECK(refused(PlacesUsed, "PlacesUsed", {}, [&] { last.checkpoint(); }));
+}
+
 static void failures() {
     const std::chrono::milliseconds soon(200);
     {
@@ -199,7 +221,7 @@ static void failures() {
     }
     CHECK(throws<ConnectionLost>([&] { Client client(gone); }));
     for (const char* answer : {"OK\n", "OK 1\n", "OK 1 2 3\n", "OK 1 x\n", "OK  1 2\n", "OK 1 4294967296\n", "NONE\n", "OK CLEAR\n", "HTTP/1.1 400 Bad Request\r\n",
-                               "ERR\n", "ERR 6\n", "ERR 10 Nothing\n", "ERR 2 BlocksFull 1\n", "ERR 2 BlocksFull 1 x\n", "ERR 4 VersionsFull\n", "ERR 15 BadImage\n", "\n"}) {
+                               "ERR\n", "ERR 6\n", "ERR 10 Nothing\n", "ERR 2 BlocksFull 1\n", "ERR 2 BlocksFull 1 x\n", "ERR 4 VersionsFull\n", "ERR 15 BadImage\n", "ERR 17 LogFull\n", "\n"}) {
         Fake fake({answer}, false);
         Client client(fake.port, std::chrono::seconds(2));
         CHECK(throws<WrongAnswer>([&] { client.publish(); }));
@@ -240,6 +262,7 @@ int main(int count, char** words) {
     queries(static_cast<std::uint16_t>(std::atoi(words[1])));
     commands(static_cast<std::uint16_t>(std::atoi(words[1])));
     refusals(static_cast<std::uint16_t>(std::atoi(words[2])));
+    checkpoints(static_cast<std::uint16_t>(std::atoi(words[2])));
     failures();
     frames();
     std::printf("tests of clearmap.hpp: %d, all good\n", tried);

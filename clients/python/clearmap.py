@@ -24,7 +24,7 @@ from typing import Callable, Dict, Iterable, List, NamedTuple, Optional, Sequenc
 __all__ = [
     "Client", "Pinned", "Queries", "Near", "Tightest", "Change", "Collected", "Entry", "read_distances",
     "ClearmapError", "ConnectionLost", "TimedOut", "WrongAnswer", "Refused", "OutOfRange", "BlocksFull", "VersionsFull", "LogFull", "NoMemory",
-    "NotPinned", "AlreadyPinned", "BadPath", "Crooked", "BadArguments", "BadImage", "EUCLID2", "CITY", "CHESS",
+    "NotPinned", "AlreadyPinned", "BadPath", "Crooked", "BadArguments", "BadImage", "PlacesUsed", "EUCLID2", "CITY", "CHESS",
 ]
 
 EUCLID2, CITY, CHESS = "euclid2", "city", "chess"
@@ -88,7 +88,7 @@ class VersionsFull(Refused):
 
 
 class LogFull(Refused):
-    """No further change is accepted; pins and queries go on."""
+    """No further change is accepted before a checkpoint; pins and queries go on."""
 
 
 class NoMemory(Refused):
@@ -129,6 +129,10 @@ class BadImage(Refused):
         return str(self.details[0])
 
 
+class PlacesUsed(Refused):
+    """The log has had as many entries as places can count: no command is accepted any more."""
+
+
 REFUSALS: Dict[int, Tuple[str, Type[Refused]]] = {
     1: ("OutOfRange", OutOfRange),
     2: ("BlocksFull", BlocksFull),
@@ -144,6 +148,7 @@ REFUSALS: Dict[int, Tuple[str, Type[Refused]]] = {
     13: ("LineTooLong", Refused),
     14: ("TooMuchData", Refused),
     15: ("BadImage", BadImage),
+    17: ("PlacesUsed", PlacesUsed),
 }
 DETAILS = {2: r" \d{1,10} \d{1,10}", 9: r" \d{1,10}", 15: r" [A-Za-z]+"}
 ENDING = (13, 14)  # the server ends the connection behind these
@@ -299,10 +304,15 @@ def _clear_of(distance: int, points: Iterable[Cell], metric: str) -> str:
 
 
 class Client:
-    """A connection to a server on this machine. `timeout` is in seconds, for each wait for bytes; None waits for ever."""
+    """A connection to a server on this machine. `timeout` is in seconds, for each wait for bytes; None waits for ever.
 
-    def __init__(self, port: int, host: str = "127.0.0.1", timeout: Optional[float] = 10.0) -> None:
+    With `checkpoints` a command that is answered LogFull is sent once more after a checkpoint. **That drops the entries of the log, those of other
+    painters too**: no bitmap and no version changes by it. A log that others have filled again by then is a LogFull as without the flag.
+    """
+
+    def __init__(self, port: int, host: str = "127.0.0.1", timeout: Optional[float] = 10.0, checkpoints: bool = False) -> None:
         self._buffer = bytearray()
+        self._checkpoints = checkpoints
         self._socket: Optional[socket.socket] = None
         try:
             self._socket = socket.create_connection((host, port), timeout)
@@ -331,11 +341,11 @@ class Client:
 
     def paint(self, x0: int, y0: int, x1: int, y1: int) -> Change:
         """Makes columns x0 up to x1 - 1 of rows y0 up to y1 - 1 of the draft obstacles."""
-        return Change(*self._call(f"PAINT {x0:d} {y0:d} {x1:d} {y1:d}", _two))
+        return Change(*self._change(f"PAINT {x0:d} {y0:d} {x1:d} {y1:d}", _two))
 
     def clear(self, x0: int, y0: int, x1: int, y1: int) -> Change:
         """Makes them free."""
-        return Change(*self._call(f"CLEAR {x0:d} {y0:d} {x1:d} {y1:d}", _two))
+        return Change(*self._change(f"CLEAR {x0:d} {y0:d} {x1:d} {y1:d}", _two))
 
     def stamp(self, x: int, y: int, image: bytes) -> Change:
         """Gives the cells from (x, y) on the values of a PBM image, plain or raw; black is an obstacle."""
@@ -345,21 +355,24 @@ class Client:
             raise ValueError(f"({x}, {y}) is no cell")
         if max(x, y) > 4095:
             raise OutOfRange(1, "OutOfRange", (), f"STAMP {x} {y} {len(image)}")
-        line = f"STAMP {x:d} {y:d} {len(image)}"
-        self._send(line.encode() + b"\n" + image)
-        return Change(*self._read(line, _two))
+        return Change(*self._change(f"STAMP {x:d} {y:d} {len(image)}", _two, image))
 
     def publish(self) -> int:
         """Appends the draft as the next version, and answers its number."""
-        return int(self._call("PUBLISH", _two)[1])
+        return int(self._change("PUBLISH", _two)[1])
 
     def revert(self) -> int:
         """Makes the draft the newest version again, and answers the place in the log."""
-        return int(self._call("REVERT", _one)[0])
+        return int(self._change("REVERT", _one)[0])
 
     def collect(self) -> Collected:
         """Gives back what only versions below the floor use: the least version that a pin has announced, or the newest."""
-        return Collected(*self._call("COLLECT", _three))
+        return Collected(*self._change("COLLECT", _three))
+
+    def checkpoint(self) -> int:
+        """Drops the entries of the log that the server keeps, so that a full log goes on, and answers its own place. Places go on counting, and no bitmap
+        and no version changes."""
+        return int(self._call("CHECKPOINT", _one)[0])
 
     # planners
 
@@ -369,10 +382,20 @@ class Client:
 
     # the connection
 
-    def _call(self, line: str, read: Callable[[str, str], T]) -> T:
-        """Sends a line, and reads its reply."""
-        self._send(_checked(line).encode("ascii") + b"\n")
+    def _call(self, line: str, read: Callable[[str, str], T], data: bytes = b"") -> T:
+        """Sends a line and the bytes that it counts, and reads its reply."""
+        self._send(_checked(line).encode("ascii") + b"\n" + data)
         return self._read(line, read)
+
+    def _change(self, line: str, read: Callable[[str, str], T], data: bytes = b"") -> T:
+        """Sends a command; where the log is full and `checkpoints` is set, a checkpoint and the command again."""
+        try:
+            return self._call(line, read, data)
+        except LogFull:
+            if not self._checkpoints:
+                raise
+        self.checkpoint()
+        return self._call(line, read, data)
 
     def _read(self, line: str, read: Callable[[str, str], T]) -> T:
         """The reply to a line; a wrong one closes the connection, since what follows can't be told apart any more."""

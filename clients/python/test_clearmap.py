@@ -98,6 +98,36 @@ class Serving(unittest.TestCase):
                 self.assertEqual((pinned.version, pinned.at(5, 3, "city")), (1, (0, (5, 3))))
                 self.assertEqual(pinned.dump(), b"P1\n6 4\n000000\n001000\n011000\n101011\n")
 
+    def test_checkpoints(self):
+        with Server(POST, "--log", "3") as server, clearmap.Client(server.port) as client, client.pin() as pinned:
+            for place in (1, 2, 3):
+                self.assertEqual(client.paint(0, 0, place, 1).place, place)
+            self.assertRaises(clearmap.LogFull, client.publish)
+            self.assertEqual(client.checkpoint(), 4)
+            self.assertEqual(client.publish(), 1)  # what was painted before the checkpoint is in the version
+            self.assertEqual(client.collect().place, 6)
+            self.assertEqual(client.checkpoint(), 7)  # of a log with room, too
+            self.assertEqual(client.checkpoint(), 8)
+            self.assertEqual(pinned.dump(), POST)
+        with Server(POST, "--log", "3") as server, clearmap.Client(server.port, checkpoints=True) as client:
+            places = [client.paint(x, 0, x + 1, 1).place for x in range(6)]
+            self.assertEqual(places, [1, 2, 3, 5, 6, 7])  # 4 is the checkpoint's
+            self.assertEqual(client.stamp(0, 3, b"P1\n2 1\n11"), clearmap.Change(9, 2))  # after 8; its bytes are sent again
+            self.assertEqual((client.revert(), client.collect().place, client.publish()), (10, 11, 1))
+            with client.pin() as pinned:
+                self.assertEqual(pinned.dump(), POST)
+            self.assertRaises(clearmap.OutOfRange, client.paint, 0, 0, 7, 1)
+            self.assertEqual(client.paint(0, 0, 1, 1), clearmap.Change(14, 1))
+
+    def test_a_log_that_others_fill(self):
+        full = b"ERR 4 LogFull\n"
+        with Fake(full, b"OK 7\n", full, closes=False) as fake, clearmap.Client(fake.port, timeout=5, checkpoints=True) as client:
+            self.assertRaises(clearmap.LogFull, client.publish)
+        with Fake(full, b"ERR 17 PlacesUsed\n", closes=False) as fake, clearmap.Client(fake.port, timeout=5, checkpoints=True) as client:
+            with self.assertRaises(clearmap.PlacesUsed) as caught:
+                client.publish()
+            self.assertEqual((caught.exception.number, caught.exception.line), (17, "CHECKPOINT"))
+
     def test_a_pin_stays(self):
         with Server() as server, clearmap.Client(server.port) as painter, clearmap.Client(server.port) as planner:
             with planner.pin() as before:
@@ -233,6 +263,8 @@ class Failures(unittest.TestCase):
             (b"OK  1 2\n", lambda client: client.publish()),
             (b"NONE\n", lambda client: client.pin()),
             (b"OK CLEAR\n", lambda client: client.collect()),
+            (b"OK 4 1\n", lambda client: client.checkpoint()),
+            (b"ERR 17 LogFull\n", lambda client: client.checkpoint()),
             (b"HTTP/1.1 400 Bad Request\r\n", lambda client: client.pin()),
             (b"ERR 6\n", lambda client: client.pin()),
             (b"ERR 10 Nothing\n", lambda client: client.pin()),
