@@ -143,9 +143,7 @@ fn with_left<M: Metric, R: Rows>(
     ensures rows { rows.new ≡ rows.old }
 {
     let (mut best, mut end) = (right, cell.x);
-    'left: while let Some(x) =
-        last_nearer::<M, R>(rows, row, end, cell.x, gap, limit_of(best))
-    {
+    'left: while let Some(x) = last_nearer::<M, R>(rows, row, end, cell.x, gap, limit_of(best)) {
         let dist = M::of(cell.x - x, gap);
         let next = Near {
             dist,

@@ -108,13 +108,7 @@ pub fn is_passed<R: Rows>(rows: &mut R, y: u16, gap: u16) -> bool
 
 /// The least so far, or a lesser distance to an obstacle of the row in the rectangle's columns or to the right of them.
 #[inline(always)]
-fn lowered_right<M: Metric, R: Rows>(
-    rows: &mut R,
-    rect: Rect,
-    y: u16,
-    gap: u16,
-    least: u64,
-) -> u64
+fn lowered_right<M: Metric, R: Rows>(rows: &mut R, rect: Rect, y: u16, gap: u16, least: u64) -> u64
     requires rect { IsRectIn (R.cells rows.old) rect }
     requires row { y < (R.cells rows.old).height }
     requires gap { gap ≤ 4095 }
@@ -130,13 +124,7 @@ fn lowered_right<M: Metric, R: Rows>(
 
 /// The least so far, or a lesser distance to an obstacle of the row to the left of the rectangle.
 #[inline(always)]
-fn lowered_left<M: Metric, R: Rows>(
-    rows: &mut R,
-    rect: Rect,
-    y: u16,
-    gap: u16,
-    least: u64,
-) -> u64
+fn lowered_left<M: Metric, R: Rows>(rows: &mut R, rect: Rect, y: u16, gap: u16, least: u64) -> u64
     requires rect { IsRectIn (R.cells rows.old) rect }
     requires row { y < (R.cells rows.old).height }
     requires gap { gap ≤ 4095 }

@@ -40,7 +40,8 @@ impl Plan {
         ensures { (k : Base) (s : Story) → IsPlan k self → result ≡ map_at k (slot_of k s version) position }
     {
         let slot = (version % self.setting.versions) as usize;
-        8 + 8 * self.setting.sessions as usize + (slot * usize::from(self.tiles) + position as usize)
+        8 + 8 * self.setting.sessions as usize
+            + (slot * usize::from(self.tiles) + position as usize)
     }
 
     /// Where the word stands that has a row of a block.

@@ -36,7 +36,8 @@ pub use closing::Closing;
 pub use fresh::{FreshKeeper, FreshReader};
 pub use keeper::KeeperSeat;
 pub use laws::{
-    handings_are_no_events, rule_has_one_keeper, rule_is_a_state, schedules_are_runs, seats_do_events, seats_have_one_log,
+    handings_are_no_events, rule_has_one_keeper, rule_is_a_state, schedules_are_runs,
+    seats_do_events, seats_have_one_log,
 };
 pub use meeting::meet;
 pub use name::StoreName;
