@@ -310,10 +310,10 @@ def query_lines(command: str, path: Sequence[Cell]) -> List[str]:
 
 def least_whole(holds_from: Fraction, root_two_times: Fraction) -> int:
     """The least whole number that isn't below a + b * sqrt 2, for a and b from 0 on."""
-    n = math.floor(holds_from + root_two_times * Fraction(14, 10))
-    while n < holds_from or (n - holds_from) ** 2 < 2 * root_two_times**2:
-        n += 1
-    return n
+    parts = math.lcm(holds_from.denominator, root_two_times.denominator)  # a and b are whole numbers of these
+    a, square = int(holds_from * parts), 2 * int(root_two_times * parts) ** 2
+    root = math.isqrt(square - 1) + 1 if square else 0  # rounded up, as what it is compared with is whole
+    return -(-(a + root) // parts)
 
 
 def clear_distance(radius: Number, resolution: Number, metric: str = "euclid2", whole_cells: bool = True) -> int:

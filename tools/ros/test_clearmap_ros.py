@@ -166,6 +166,7 @@ class Places(unittest.TestCase):
             (0.22, "0.05", "city", 9, 7),
             (0.22, "0.05", "chess", 6, 5),
             (0.15, "0.05", "chess", 4, 3),
+            ("1e12", "1", "city", 1414213562376, 1414213562374),
         )
         for radius, resolution, metric, safe, centres in rows:
             self.assertEqual(ros.clear_distance(radius, resolution, metric), safe, (radius, metric))

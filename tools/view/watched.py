@@ -1,0 +1,89 @@
+"""A running server as `clearmap-view` sees it: one connection, whose pin follows the newest version. Its calls may come from any thread."""
+import contextlib
+import threading
+from typing import Callable, Iterator, List, Optional, Tuple, TypeVar
+
+import clearmap
+
+T = TypeVar("T")
+PATIENCE = 5.0  # seconds for a reply
+
+WORDS = {
+    1: "that isn't wholly on the map",
+    2: "it needs {} new blocks, and {} are free: collect, or revert",
+    3: "as many versions are kept as may be: collect, once old pins are left",
+    4: "the log is full: a checkpoint drops its entries, and then it goes on",
+    5: "the server has no memory for it",
+    9: "point {} isn't in the row or the column of the one before",
+    12: "a rectangle has one cell at least, and lies on the map",
+    17: "the places of the log are used up: start another server from the newest version",
+}
+
+
+def in_words(refusal: clearmap.Refused) -> str:
+    """A refusal as a sentence, with its number and name."""
+    why = WORDS.get(refusal.number, "the server refuses it").format(*refusal.details)
+    return f"Refused: {why} (ERR {refusal.number} {refusal.name})."
+
+
+class Watched:
+    """The connection and its pin. Whatever fails drops both, and the next call connects again."""
+
+    def __init__(self, port: int) -> None:
+        self._port, self._lock = port, threading.Lock()
+        self._client: Optional[clearmap.Client] = None
+        self._pinned: Optional[clearmap.Pinned] = None
+        self._connections = 0
+
+    @contextlib.contextmanager
+    def _connected(self) -> Iterator[clearmap.Client]:
+        with self._lock:
+            try:
+                if self._client is None:
+                    self._client = clearmap.Client(self._port, timeout=PATIENCE)
+                    self._connections += 1
+                yield self._client
+            except (clearmap.ConnectionLost, clearmap.WrongAnswer):
+                self._client = self._pinned = None
+                raise
+
+    def renew(self) -> Tuple[int, int]:
+        """Pins the newest version: which connection it is, counted from 1, and the version."""
+        with self._connected() as client:
+            if self._pinned is not None:
+                self._pinned.unpin()
+            self._pinned = None
+            self._pinned = client.pin()
+            return self._connections, self._pinned.version
+
+    def rest(self) -> None:
+        """Ends the connection, so that neither a worker of the server nor a version is held."""
+        with self._lock:
+            if self._client is not None:
+                self._client.close()
+            self._client = self._pinned = None
+
+    def _pin(self) -> clearmap.Pinned:
+        if self._pinned is None:
+            raise clearmap.ConnectionLost("no version is pinned")
+        return self._pinned
+
+    def dump(self) -> bytes:
+        """The pinned version as a plain PBM image."""
+        with self._connected():
+            return self._pin().dump()
+
+    def ask(self, queries: clearmap.Queries) -> Tuple[int, List[object]]:
+        """The pinned version, and what it answers. A refused query is raised."""
+        with self._connected():
+            pinned = self._pin()
+            answers = pinned.ask(queries)
+        for answer in answers:
+            if isinstance(answer, clearmap.Refused):
+                raise answer
+        return pinned.version, answers
+
+    def change(self, call: Callable[[clearmap.Client], T]) -> T:
+        """What a command answers."""
+        with self._connected() as client:
+            return call(client)
