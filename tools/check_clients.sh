@@ -1,6 +1,6 @@
 #!/bin/sh
 # Runs the tests of tools/ros and of the clients against the built program; CLEARMAP names another one. Loopback alone, and nothing is left.
-# Wants python3; for the client in C++ a compiler, as Debian's g++, and leaves it out with a word where there is none.
+# Wants python3; for the client in C++ a compiler, as Debian's g++, and for the node of ROS a master. What isn't installed is left out with a word.
 set -u
 cd "$(dirname "$0")/.." || exit 1
 CLEARMAP=${CLEARMAP:-$PWD/crates/clearmap/out/clearmap}
@@ -16,10 +16,23 @@ trap finish EXIT
 trap 'exit 1' INT TERM
 failed=0
 
-for test in tools/ros/test_clearmap_ros.py clients/python/test_clearmap.py; do
-    python3 "$test" > "$scratch/log" 2>&1 || { failed=1; cat "$scratch/log"; }
-    echo "$test: $(sed -n 's/^Ran \([0-9]* tests\).*/\1/p' "$scratch/log"), $(tail -n 1 "$scratch/log")"
+tried() { # tried PYTHON TEST
+    "$1" "$2" > "$scratch/log" 2>&1 || { failed=1; cat "$scratch/log"; }
+    echo "$2: $(sed -n 's/^Ran \([0-9]* tests\).*/\1/p' "$scratch/log"), $(tail -n 1 "$scratch/log")"
+}
+for test in tools/ros/test_clearmap_ros.py tools/ros/test_clearmap_grid.py clients/python/test_clearmap.py; do tried python3 "$test"; done
+
+# Debian's packages of ROS are for its own python3.
+ros=''
+for python in python3 /usr/bin/python3; do
+    if "$python" -c 'import rospy, nav_msgs.msg, map_msgs.msg, visualization_msgs.msg' 2> /dev/null; then ros=$python; fi
 done
+if [ -n "$ros" ] && command -v roscore > /dev/null; then
+    tried "$ros" tools/ros/test_clearmap_node.py
+    sed -n '/^[.]*seconds for a map/s/^[.]*/  /p' "$scratch/log"
+else
+    echo 'tools/ros/test_clearmap_node.py left out: there is no roscore, or no python3 with rospy, nav_msgs, map_msgs and visualization_msgs'
+fi
 
 # A server of the map with one obstacle, with these settings; its port comes into the variable `port`.
 serve() {

@@ -1,7 +1,7 @@
 #!/bin/sh
 # Runs each transcript of examples/ with the built program (or that of CLEARMAP), and compares what it prints with the file beside it.
 # With --write it writes those files instead: look at what changed before you commit it.
-# A transcript that says "# Needs netpbm: TOOL .." is left out, and counted, where a tool of these isn't installed.
+# A transcript that says "# Needs netpbm: TOOL .." or "# Needs the header: HEADER" is left out, and counted, where one of these isn't installed.
 set -u
 cd "$(dirname "$0")/.." || exit 1
 program=${CLEARMAP:-$PWD/crates/clearmap/out/clearmap}
@@ -19,6 +19,9 @@ left_out=0
 has_tools() {
     for tool in $(sed -n 's/^# Needs [a-z]*: //p' "$1"); do
         command -v "$tool" > /dev/null || return 1
+    done
+    for header in $(sed -n 's/^# Needs the header: //p' "$1"); do
+        echo "#include <$header>" | g++ -std=c++17 -x c++ -fsyntax-only $(pkg-config --cflags-only-I ompl 2> /dev/null) - 2> /dev/null || return 1
     done
 }
 for example in examples/*.sh; do

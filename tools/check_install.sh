@@ -1,6 +1,6 @@
 #!/bin/sh
-# Installs what is built into a scratch folder, and tries it there: the program, the pages of the manual, completion, the unit, the clients, and
-# the wrapper ./clearmap through a symbolic link and without rt. Leaves out, with a word, what wants make, man or systemd-analyze.
+# Installs what is built into a scratch folder, and tries it there: the program, the pages of the manual, completion, the unit, the clients, the scripts,
+# the package for Debian, and the wrapper ./clearmap through a symbolic link and without rt. Leaves out, with a word, what isn't installed here.
 set -u
 cd "$(dirname "$0")/.." || exit 1
 top=$PWD
@@ -28,6 +28,35 @@ expect 'through a link, without rt' "$(printf "$room" | PATH=$scratch "$scratch/
 (cd "$scratch" && ln -s linked twice && printf "$room" | PATH=$scratch ./twice dist --metric foo 2> /dev/null)
 expect 'its status' "$?" 2
 
+# The wrapper's first run, with an rt of two crates that takes its time: what is being proved is told on a terminal alone.
+mkdir -p "$scratch/fresh/bin" "$scratch/fresh/crates/low" "$scratch/fresh/crates/clearmap"
+cp clearmap "$scratch/fresh/"
+printf 'low:\nclearmap: low\n' > "$scratch/fresh/crates.txt"
+cat > "$scratch/fresh/bin/rt" << 'RT'
+#!/bin/sh
+if [ "$1" = all ]; then
+    for crate in low clearmap; do
+        mkdir -p "crates/$crate/out/incremental"
+        sleep 3
+        echo "== $crate"
+    done
+else
+    printf '#!/bin/sh\necho "ran $*"\n' > out/clearmap
+    chmod +x out/clearmap
+fi
+RT
+chmod +x "$scratch/fresh/bin/rt"
+if command -v script > /dev/null; then
+    told=$(PATH=$scratch/fresh/bin:$PATH script -qec "$scratch/fresh/clearmap one two" /dev/null < /dev/null | tr '\r' '\n' | sed 's/\x1b\[K//')
+    expect 'a first run at a terminal' "$(echo "$told" | sed -n 's/ took [0-9]* s/ took so long/; /^clearmap: proved.*work: [a-z]*$/p; /^ran/p' | uniq)" \
+        "$(printf '%s\n' 'clearmap: proved 0 of 2 crates; at work: low' 'clearmap: proved 1 of 2 crates; low took so long; at work: clearmap' 'ran one two')"
+    rm -r "$scratch/fresh/crates/clearmap/out" "$scratch/fresh/crates/low/out"
+else
+    echo 'the first run at a terminal left out: there is no script'
+fi
+expect 'a first run without a terminal' "$(PATH=$scratch/fresh/bin:$PATH "$scratch/fresh/clearmap" one 2>&1)" \
+    "$(printf '%s\n' 'clearmap: the first run proves and builds all crates, which takes some minutes' 'ran one')"
+
 # What make install puts in place; `all` is left to the program that stands.
 if command -v make > /dev/null; then
     make -s -o all install DESTDIR="$scratch/root" PREFIX=/usr || wrong=$((wrong + 1))
@@ -37,13 +66,18 @@ else
 fi
 usr=$scratch/root/usr
 expect 'the installed program' "$("$usr/bin/clearmap" --version)" "$version"
-expect 'clearmap-ros' "$("$usr/bin/clearmap-ros" --help | head -n 1 | cut -c1-5)" 'usage'
+tried_scripts() { # tried_scripts PREFIX: the scripts and the client there
+    for script in clearmap-ros clearmap-ros-node clearmap-view; do
+        expect "$1/bin/$script" "$("$1/bin/$script" --help | sed -n "1s/^usage: \($script\) .*/\1/p")" "$script"
+    done
+    expect 'the client in Python' "$(PYTHONPATH=$1/share/clearmap/python python3 -c 'import clearmap, clearmap_feed, clearmap_grid, clearmap_ros; print(clearmap.CITY)')" city
+}
+tried_scripts "$usr"
 expect 'what it links' "$(ldd "$usr/bin/clearmap" | grep -v 'vdso\|libc.so\|ld-linux')" ''
-expect 'the client in Python' "$(PYTHONPATH=$usr/share/clearmap/python python3 -c 'import clearmap, clearmap_ros; print(clearmap.CITY)')" city
-expect 'the unit' "$(grep '^ExecStart' "$usr/lib/systemd/system/clearmap.service")" 'ExecStart=/usr/bin/clearmap serve --connections 1000000 --port 7400'
+expect 'the unit' "$(grep '^ExecStart' "$usr/lib/systemd/system/clearmap@.service")" 'ExecStart=/usr/bin/clearmap serve --connections 1000000 --port %i'
 if command -v systemd-analyze > /dev/null; then
-    sed "s|/usr/bin/clearmap |$usr/bin/clearmap |" "$usr/lib/systemd/system/clearmap.service" > "$scratch/clearmap.service"
-    expect 'systemd-analyze' "$(systemd-analyze verify --man=no "$scratch/clearmap.service" 2>&1 | grep clearmap)" ''
+    sed "s|/usr/bin/clearmap |$usr/bin/clearmap |" "$usr/lib/systemd/system/clearmap@.service" > "$scratch/clearmap@.service"
+    expect 'systemd-analyze' "$(systemd-analyze verify --man=no "$scratch/clearmap@7400.service" 2>&1 | grep clearmap)" ''
 else
     echo 'the unit is not verified: there is no systemd-analyze'
 fi
@@ -51,7 +85,7 @@ fi
 # The pages are what --help and docs/PROTOCOL.md say, and man has nothing to complain of.
 tools/make_man.py --check "$program" || wrong=$((wrong + 1))
 if command -v man > /dev/null; then
-    for page in man1/clearmap.1 man7/clearmap-protocol.7; do
+    for page in man1/clearmap.1 man1/clearmap-ros.1 man1/clearmap-ros-node.1 man1/clearmap-view.1 man7/clearmap-protocol.7; do
         expect "man $page" "$(man --warnings -l "$usr/share/man/$page" 2>&1 > /dev/null)" ''
     done
 else
@@ -71,6 +105,81 @@ for command in $commands; do
 done
 expect 'metrics' "$(offered dist --metric c)" "$(printf 'chess\ncity')"
 
-expect 'what is left' "$(make -s uninstall DESTDIR="$scratch/root" PREFIX=/usr && find "$scratch/root" -type f)" ''
+# The header, as pkg-config and CMake find it, in a project of ten lines.
+cat > "$scratch/main.cpp" << 'CPP'
+#include <clearmap.hpp>
+#include <cstdio>
+int main(int, char** words) {
+    clearmap::Client client(static_cast<std::uint16_t>(std::atoi(words[1])));
+    clearmap::Pinned map = client.pin();
+    std::printf("%g\n", map.clearance({{2, 0}, {2, 1}}));
+}
+CPP
+cat > "$scratch/CMakeLists.txt" << 'CMAKE'
+cmake_minimum_required(VERSION 3.13)
+project(ten_lines CXX)
+find_package(clearmap 0.1 REQUIRED)
+add_executable(by_cmake main.cpp)
+target_link_libraries(by_cmake clearmap::clearmap)
+CMAKE
+: > "$scratch/port"
+printf "$room" | "$program" serve --connections 20 > "$scratch/port" &
+server=$!
+until port=$(sed -n 's/^LISTENING //p' "$scratch/port") && [ -n "$port" ]; do kill -0 "$server" && sleep 0.1 || break; done
+if command -v pkg-config > /dev/null && command -v g++ > /dev/null; then
+    flags=$(PKG_CONFIG_SYSROOT_DIR=$scratch/root PKG_CONFIG_PATH=$usr/share/pkgconfig PKG_CONFIG_ALLOW_SYSTEM_CFLAGS=1 pkg-config --cflags 'clearmap >= 0.1')
+    g++ -std=c++17 $flags -o "$scratch/by_pkg_config" "$scratch/main.cpp"
+    expect 'by pkg-config' "$("$scratch/by_pkg_config" "$port")" 2
+else
+    echo 'clearmap.pc left out: there is no pkg-config, or no g++'
+fi
+if command -v cmake > /dev/null && command -v g++ > /dev/null; then
+    (cd "$scratch" && cmake -S . -B by -DCMAKE_PREFIX_PATH="$usr" && cmake --build by) > "$scratch/log" 2>&1 || cat "$scratch/log"
+    expect 'by CMake' "$("$scratch/by/by_cmake" "$port")" 2
+else
+    echo 'clearmapConfig.cmake left out: there is no cmake, or no g++'
+fi
+# The installed page of this server.
+web=''
+for python in python3 /usr/bin/python3; do
+    if "$python" -c 'import aiohttp, numpy' 2> /dev/null; then web=$python; fi
+done
+if [ -n "$web" ]; then
+    : > "$scratch/url"
+    "$web" "$usr/bin/clearmap-view" --port "$port" --web 0 > "$scratch/url" &
+    view=$!
+    until url=$(sed -n 's/^VIEW //p' "$scratch/url") && [ -n "$url" ]; do kill -0 "$view" && sleep 0.1 || break; done
+    expect 'the installed page' "$("$web" -c 'import sys, urllib.request as it; print(it.urlopen(sys.argv[1]).read().decode())' "$url" | grep '^<title>')" '<title>clearmap</title>'
+    kill "$view"
+else
+    echo 'the installed page left out: there is no python3 with aiohttp and numpy'
+fi
+kill "$server" 2> /dev/null
+
+# The client by pip, without a network.
+if python3 -m pip --version > /dev/null 2>&1; then
+    PIP_NO_INDEX=1 PIP_DISABLE_PIP_VERSION_CHECK=1 python3 -m pip install --no-cache-dir --root-user-action ignore -q --target "$scratch/pip" clients/python || wrong=$((wrong + 1))
+    expect 'the client by pip' "clearmap $(PYTHONPATH=$scratch/pip python3 -c 'import clearmap, importlib.metadata as it; print(it.version("clearmap"))')" "$version"
+    expect 'its types' "$(ls "$scratch/pip/clearmap/py.typed")" "$scratch/pip/clearmap/py.typed"
+else
+    echo 'pip install ./clients/python left out: there is no pip'
+fi
+
+# The package for Debian, unpacked.
+if command -v dpkg-deb > /dev/null && command -v strip > /dev/null; then
+    deb=$(tools/make_deb.sh "$scratch/packages") && dpkg-deb -x "$deb" "$scratch/unpacked" || wrong=$((wrong + 1))
+    expect 'the unpacked program' "$(printf "$room" | "$scratch/unpacked/usr/bin/clearmap" dist)" "$(printf '0 1 4\n1 2 5')"
+    expect 'its version' "clearmap $(dpkg-deb -f "$deb" Version)" "$version"
+    tried_scripts "$scratch/unpacked/usr"
+    if command -v lintian > /dev/null; then
+        expect 'lintian' "$(lintian --allow-root "$deb" 2>&1 | grep '^E:')" ''
+    else
+        echo 'the package is not read by lintian: there is none'
+    fi
+else
+    echo 'the package for Debian left out: there is no dpkg-deb, or no strip'
+fi
+
+expect 'what is left' "$(make -s uninstall DESTDIR="$scratch/root" PREFIX=/usr && find "$scratch/root" ! -type d)" ''
 echo "install: wrong $wrong"
 [ "$wrong" = 0 ]

@@ -25,6 +25,6 @@ trap 'exit 1' INT TERM
 "$python" tools/view/test_clearmap_view.py > "$log" 2>&1
 status=$?
 [ "$status" = 0 ] || cat "$log"
-sed -n "s/.*skipped [\"']\(the page isn't tried.*\)[\"']$/\1/p; /^a publish by another/p" "$log"
+sed -n "s/^[.]*\(the page isn't tried.*\|a publish by another.*\|the first picture of.*\)/  \1/p" "$log"
 echo "tools/view/test_clearmap_view.py: $(sed -n 's/^Ran \([0-9]* tests\).*/\1/p' "$log"), $(tail -n 1 "$log")"
 exit "$status"

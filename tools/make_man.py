@@ -1,8 +1,11 @@
 #!/usr/bin/env python3
-"""Writes man/clearmap.1 from the program's --help, and man/clearmap-protocol.7 from docs/PROTOCOL.md. With --check it compares instead.
+"""Writes man/clearmap.1 from the program's --help, man/clearmap-protocol.7 from docs/PROTOCOL.md, and the pages of the scripts from what they read their
+command lines with. With --check it compares instead.
 
     tools/make_man.py [--check] [PROGRAM]
 """
+import argparse
+import os
 import pathlib
 import re
 import subprocess
@@ -117,8 +120,44 @@ def protocol_page():
     return page + [".SH SEE ALSO", ".BR clearmap (1),", ".BR pbm (5)"]
 
 
+def words_of(action):
+    """How an argument of a script is written, and what it is for."""
+    value = action.metavar or action.dest.upper()
+    words = ", ".join(action.option_strings) if action.nargs == 0 else f"{', '.join(action.option_strings)} {value}"
+    return (words if action.option_strings else value.lower()), action.help or ""
+
+
+def script_page(name, about, parser, behind, related):
+    """The page of a script, from its parser of arguments; a line in the fixed font for each line of `behind` that is moved in."""
+    page = heading(plain(name.upper()), 1, "Clearance maps") + [".SH NAME", f"{plain(name)} \\- {about}", ".SH SYNOPSIS"]
+    page += [plain(re.sub(r"\s+", " ", parser.format_usage()).replace("usage: ", "").strip()), ".SH DESCRIPTION", plain(parser.description)]
+    commands = next((action for action in parser._actions if isinstance(action, argparse._SubParsersAction)), None)
+    page += options(words_of(action) for action in parser._actions if action is not commands)
+    for command, below in (commands.choices if commands else {}).items():
+        page += [f".SH {command.upper()}", plain(below.description) + ".", *options(words_of(action) for action in below._actions if action.dest != "help")]
+    return page + paragraphs(behind) + [".SH SEE ALSO", *(f".BR {plain(page)} ({section})" for page, section in related)]
+
+
+def script_pages():
+    """The pages of the scripts that are installed."""
+    sys.path[:0] = [str(TOP / folder) for folder in ("clients/python", "tools/ros", "tools/view")]
+    import clearmap_node
+    import clearmap_ros
+    import clearmap_view
+
+    return {
+        "clearmap-ros.1": script_page("clearmap-ros", "maps, plans and radii of ROS for clearmap", clearmap_ros.parser(), (), (("clearmap", 1),)),
+        "clearmap-ros-node.1": script_page(
+            "clearmap-ros-node", "a node of ROS over a clearance map server", clearmap_node.parser(), clearmap_node.TOPICS.split("\n\n"), (("clearmap", 1),)
+        ),
+        "clearmap-view.1": script_page(
+            "clearmap-view", "a page in the browser that shows a clearance map", clearmap_view.parser(), ("Example:\n  clearmap-view --port 7400 --map map.yaml",), (("clearmap", 1),)
+        ),
+    }
+
+
 def main():
-    pages = {"clearmap.1": program_page(), "clearmap-protocol.7": protocol_page()}
+    pages = {"clearmap.1": program_page(), "clearmap-protocol.7": protocol_page(), **script_pages()}
     wrong = 0
     for name, lines in pages.items():
         text = '.\\" Written by tools/make_man.py.\n' + "\n".join(lines) + "\n"
@@ -127,11 +166,13 @@ def main():
             path.write_text(text)
         elif not path.exists() or path.read_text() != text:
             wrong += 1
-            print(f"man/{name} isn't what --help and docs/PROTOCOL.md say: run tools/make_man.py")
+            print(f"man/{name} isn't what --help, the scripts and docs/PROTOCOL.md say: run tools/make_man.py")
     return 1 if wrong else 0
 
 
 if __name__ == "__main__":
+    os.environ["COLUMNS"] = "1000"  # so that a usage is one line
+    sys.dont_write_bytecode = True
     WORDS = [word for word in sys.argv[1:] if word != "--check"]
     CHECKS = "--check" in sys.argv
     PROGRAM = WORDS[0] if WORDS else str(TOP / "crates/clearmap/out/clearmap")

@@ -386,6 +386,29 @@ public:
         return clearance > 0;
     }
 
+    /// For each cell its straight distance to the nearest obstacle, in cells: 0 for an obstacle and for a cell that isn't on the map, infinite where the map
+    /// has none. Cells are sent 64 in one write.
+    std::vector<double> clearances(const std::vector<Cell>& cells) {
+        Queries queries;
+        for (Cell c : cells) queries.at(c.x < 0 || c.y < 0 ? Cell{4096, 4096} : c);
+        std::vector<double> found;
+        for (const Answer& answer : ask(queries)) {
+            if (answer.refused && answer.refused->number != OutOfRange) throw *answer.refused;
+            double distance = answer.found ? std::sqrt(static_cast<double>(answer.found->distance)) : std::numeric_limits<double>::infinity();
+            found.push_back(answer.refused ? 0 : distance);
+        }
+        return found;
+    }
+
+    /// Moves the pin to the newest version, and answers its number.
+    std::uint32_t renew() {
+        detail::Wire& wire = this->wire();
+        unpin();
+        version_ = wire.numbers(wire.call("PIN"), 1)[0];
+        wire_ = &wire;
+        return version_;
+    }
+
     /// The version as a plain PBM image.
     std::string dump() { return wire().bytes(wire().numbers(wire().call("DUMP"), 1)[0]); }
 
@@ -538,6 +561,13 @@ struct Frame {
 
     /// A length in cells, as `clearance` answers it, in metres.
     double metres(double cells) const { return cells * resolution; }
+
+    /// The `d` of `clear_of` by euclid2 for a round robot of this radius in metres, which may be anywhere in its cell: so much that it touches no obstacle's cell.
+    std::uint32_t clear_distance(double radius) const {
+        double cells = radius / resolution;
+        if (!(cells >= 0 && cells < 10000)) throw std::invalid_argument("a radius is 0 or more, and not larger than any map");
+        return static_cast<std::uint32_t>(std::ceil(2 + (cells + 2 * std::sqrt(2.0)) * cells * (1 + 1e-12)));  // the square of cells and a diagonal
+    }
 
 private:
     /// A number of cells, where it is that of an edge but for rounding: decimals such as 0.05 have no double.

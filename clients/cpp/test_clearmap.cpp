@@ -122,6 +122,9 @@ static void queries(std::uint16_t port) {
         cells = -1;
         CHECK(!map.is_valid(c.x, c.y, cells) && cells == 0.0);
     }
+    CHECK((map.clearances({{5, 1}, {2, 1}, {6, 1}, {-1, 1}, {0, 1}}) == std::vector<double>{3, 0, 0, 0, 2}));
+    CHECK(map.clearances({}).empty());
+    CHECK(map.clearances(std::vector<Cell>(1000, {5, 1})) == std::vector<double>(1000, 3.0));
     Queries many;
     for (int turn = 0; turn < 300; ++turn) many.at({turn % 6, 1}, Metric::chess).clear_of(1, {{0, 0}, {5, 0}}).at({6, 0});
     auto answers = map.ask(many.rect(0, 0, 1, 1).path({{0, 0}, {1, 1}}));
@@ -152,7 +155,13 @@ static void commands(std::uint16_t port) {
     Collected collected = painter.collect();
     CHECK(collected.place == 7 && collected.floor == 1 && collected.freed == 1);
     CHECK(planner.pin().at({5, 3}, Metric::city)->distance == 0);
-    CHECK(planner.pin().version() == 1);  // the pin before was left at its end
+    Pinned renewed = planner.pin();  // the pin before was left at its end
+    CHECK(renewed.version() == 1 && renewed.renew() == 1);
+    painter.paint(0, 0, 1, 1);
+    CHECK(painter.publish() == 2 && renewed.at({0, 0})->distance > 0);
+    CHECK(renewed.renew() == 2 && renewed.version() == 2 && renewed.at({0, 0})->distance == 0);
+    renewed.unpin();
+    CHECK(throws<ConnectionLost>([&] { renewed.renew(); }));
 }
 
 static void refusals(std::uint16_t port) {
@@ -248,6 +257,8 @@ static void frames() {
     for (int x = 0; x < 384; ++x)  // the left edge of each column belongs to it, as in decimals
         CHECK(Frame({384, 1, 0.05, -9.6, 0}).cell((-960 + 5 * x) / 100.0, 0)->x == x);
     CHECK(*Frame({384, 256, 0.05, -9.6, -6.4}).staircase({{0.5, 0.5}, {1.5, 0.8}}) == (Path{{202, 117}, {205, 117}, {205, 116}, {208, 116}, {208, 115}, {212, 115}, {212, 114}, {215, 114}, {215, 113}, {218, 113}, {218, 112}, {222, 112}, {222, 111}}));
+    for (auto [radius, wanted] : {std::pair<double, std::uint32_t>{0, 2}, {0.22, 34}, {0.05, 6}, {1, 459}}) CHECK(frame.clear_distance(radius) == wanted);
+    for (double radius : {-0.1, 501.0, std::nan("")}) CHECK(throws<std::invalid_argument>([&] { frame.clear_distance(radius); }));
     Frame wide{10, 10, 1, 0, 0};
     CHECK(*wide.staircase({{0.5, 0.5}, {0.6, 0.7}}) == (Path{{0, 9}}));
     CHECK(*wide.staircase({{0.5, 0.5}, {5.5, 0.5}, {5.5, 4.5}}) == (Path{{0, 9}, {5, 9}, {5, 5}}));

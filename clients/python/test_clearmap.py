@@ -1,5 +1,5 @@
 #!/usr/bin/env python3
-"""Tests of clearmap.py against the built `clearmap serve`, named by CLEARMAP, and against servers that answer wrongly, late or not at all."""
+"""Tests of the client against the built `clearmap serve`, named by CLEARMAP, and against servers that answer wrongly, late or not at all."""
 import io
 import math
 import os

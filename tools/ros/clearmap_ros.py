@@ -20,6 +20,7 @@ Point = Tuple[Number, Number]
 
 LARGEST_SIDE = 4096  # cells
 LONGEST_PATH = 1000  # points of one line
+LONGEST_NUMBER = 400  # characters; what a float is written as is below it
 METRICS = ("euclid2", "city", "chess")
 
 
@@ -29,8 +30,13 @@ class RosError(Exception):
 
 def exact(number: Number) -> Fraction:
     """A number as the fraction that its decimals say: 0.05 is 1/20, and not the double beside it."""
+    if isinstance(number, Fraction):
+        return number
+    word = str(number).strip()
+    if len(word) > LONGEST_NUMBER or "_" in word or re.search(r"[eE][+-]?0*[1-9]\d{3}", word):  # a fraction of so many digits would take for ever
+        raise RosError(f"'{word[:40]}' is no number of a map")
     try:
-        return number if isinstance(number, Fraction) else Fraction(str(number).strip())
+        return Fraction(word)
     except (ValueError, ZeroDivisionError):
         raise RosError(f"'{number}' is no number") from None
 
@@ -393,7 +399,7 @@ def answer(options: argparse.Namespace) -> Iterator[str]:
 
 def parser() -> argparse.ArgumentParser:
     """The command line."""
-    top = argparse.ArgumentParser(description="Maps and plans of ROS for clearmap: map.yaml and PGM to PBM, metres to cells and back.")
+    top = argparse.ArgumentParser(prog="clearmap-ros", description="Maps and plans of ROS for clearmap: map.yaml and PGM to PBM, metres to cells and back.")
     commands = top.add_subparsers(dest="command", required=True)
 
     def add(name: str, text: str) -> argparse.ArgumentParser:
@@ -404,10 +410,10 @@ def parser() -> argparse.ArgumentParser:
     add("pbm", "write the map as PBM; unknown cells are obstacles").add_argument("--unknown-is-free", action="store_true", help="unknown cells are free, which isn't safe for a planner")
     for name, text in (("cell", "the cell of a point in metres"), ("centre", "the middle of a cell, in metres")):
         command = add(name, text)
-        command.add_argument("x", type=str if name == "cell" else int)
-        command.add_argument("y", type=str if name == "cell" else int)
-    add("metres", "a euclid2 distance in metres").add_argument("square", type=int)
-    add("radius", "the d of CLEAROF for a robot's radius in metres").add_argument("metres")
+        command.add_argument("x", type=str if name == "cell" else int, help="metres to the right" if name == "cell" else "the column")
+        command.add_argument("y", type=str if name == "cell" else int, help="metres upwards" if name == "cell" else "the row, from the top")
+    add("metres", "a euclid2 distance in metres").add_argument("square", type=int, help="the distance, a square in cells")
+    add("radius", "the d of CLEAROF for a robot's radius in metres").add_argument("metres", help="the radius")
     add("path", "query lines along a plan: X Y in metres, a point a line, on standard input").add_argument("--radius", help="ask by CLEAROF for a robot of this radius in metres, against whole cells")
     return top
 

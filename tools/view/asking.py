@@ -61,7 +61,7 @@ class Asking:
         """A distance in cells or steps, and in metres where they are known; metres are rounded down."""
         frame = self.site.frame_of(self.site.newest())
         if metric == "euclid2":
-            metres = f", {math.floor(1000 * frame.metres(distance)) / 1000:.3f} m" if frame else ""
+            metres = f", {math.floor(1000 * ros.root_below(distance) * frame.resolution) / 1000:.3f} m" if frame else ""
             return f"{math.sqrt(distance):.2f} cells{metres}"
         metres = f", {float(distance * frame.resolution):.3f} m" if frame else ""
         return f"{distance} {'step' if distance == 1 else 'steps'}{metres}"
@@ -128,7 +128,10 @@ class Asking:
             raise BadRequest("a radius is a number from 0 on")
         if cells > MOST_RADIUS:
             raise BadRequest("the radius is larger than any map")
-        return ros.clear_distance(str(radius), resolution, metric)
+        try:
+            return ros.clear_distance(str(radius), resolution, metric)
+        except ros.RosError as fault:
+            raise BadRequest(str(fault)) from None
 
     def answer(self, tight: Optional[clearmap.Tightest], near: Optional[clearmap.Tightest], distance: Optional[int], metric: str) -> Dict[str, object]:
         """What the page shows of a path's answers."""

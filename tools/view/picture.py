@@ -3,10 +3,12 @@
 Byte 0 is an obstacle, 1 to 254 a distance from none to the farthest, and 255 lies beside the map. A level has half the columns and rows of the one
 below it, and of four cells the least byte, so that a wall of one cell is still seen from far away.
 """
+import contextlib
 import struct
 import subprocess
+import threading
 import zlib
-from typing import List
+from typing import BinaryIO, List
 
 import numpy
 
@@ -14,6 +16,7 @@ SIDE = 512  # pixels of a piece's side
 FARTHEST = 254
 BESIDE = 255
 LONGEST = 120  # seconds for one picture
+AT_ONCE = 2**22  # bytes of a table that are read at once
 ANCHORS = ((178, 24, 43), (239, 138, 98), (253, 219, 199), (209, 229, 240), (103, 169, 207), (33, 102, 172))  # from near to far
 OBSTACLE = (16, 18, 24)
 
@@ -80,14 +83,24 @@ class Picture:
         return png(pixels)
 
 
-def read_table(table: bytes, width: int, height: int) -> "numpy.ndarray[object, object]":
-    """The numbers of a table of distances; all are -1 where it has none."""
-    if table.startswith(b"-"):
-        return numpy.full((height, width), -1, numpy.int32)
-    numbers = numpy.fromstring(table, numpy.int32, sep=" ")
-    if numbers.size != width * height:
-        raise PictureError(f"clearmap dist wrote {numbers.size} distances of {width} by {height} cells")
-    return numbers.reshape(height, width)
+def read_table(table: BinaryIO, width: int, height: int) -> "numpy.ndarray[object, object]":
+    """The numbers of a table of distances, read while it is being written; all are -1 where the map has no obstacle."""
+    distances = numpy.full(width * height, -1, numpy.int32)
+    done, rest = 0, b""
+    while data := table.read(AT_ONCE):
+        lines, _, rest = (rest + data).rpartition(b"\n")
+        if not (lines or rest)[:1].isdigit():
+            while table.read(AT_ONCE):
+                pass
+            if (lines or rest).startswith(b"-"):
+                return distances.reshape(height, width)
+            raise PictureError((lines or rest)[:100].decode("ascii", "replace").strip())
+        numbers = numpy.fromstring(lines, numpy.int32, sep=" ")
+        distances[done : done + numbers.size] = numbers[: distances.size - done]
+        done += numbers.size
+    if done != width * height or rest:
+        raise PictureError(f"clearmap dist wrote {done} distances of {width} by {height} cells")
+    return distances.reshape(height, width)
 
 
 def make_picture(program: str, image: bytes, metric: str, workers: int) -> Picture:
@@ -95,9 +108,23 @@ def make_picture(program: str, image: bytes, metric: str, workers: int) -> Pictu
     width, height = map(int, image.split(b"\n", 2)[1].split())
     words = [program, "dist", "--metric", metric, "--workers", str(workers)]
     try:
-        run = subprocess.run(words, input=image, stdout=subprocess.PIPE, timeout=LONGEST)
-    except (OSError, subprocess.TimeoutExpired) as fault:
+        run = subprocess.Popen(words, stdin=subprocess.PIPE, stdout=subprocess.PIPE)
+    except OSError as fault:
         raise PictureError(f"clearmap dist can't be run: {fault}") from None
-    if run.returncode != 0:
-        raise PictureError(f"clearmap dist ends with status {run.returncode}: {run.stdout[:100].decode('ascii', 'replace').strip()}")
-    return Picture(read_table(run.stdout, width, height), metric == "euclid2")
+
+    def feed() -> None:
+        with contextlib.suppress(BrokenPipeError), run.stdin:
+            run.stdin.write(image)
+
+    late = threading.Timer(LONGEST, run.kill)
+    late.start()
+    threading.Thread(target=feed, daemon=True).start()
+    try:
+        with run.stdout:
+            distances = read_table(run.stdout, width, height)
+    except PictureError as fault:
+        raise PictureError(f"clearmap dist ends with status {run.wait()}: {fault}") from None
+    finally:
+        late.cancel()
+        run.wait()
+    return Picture(distances, metric == "euclid2")

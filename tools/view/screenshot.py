@@ -37,7 +37,7 @@ class Screenshot(tests.Page):
         self.mode("path")
         field = self.driver.find_element(By.ID, "radius")
         field.send_keys("0.22\n")
-        for cell in ((12, 46), (56, 61), (84, 61), (125, 43), (150, 43), (186, 62)):
+        for cell in ((12, 46), (56, 61), (80, 63), (100, 70), (114, 64), (125, 43), (150, 43), (186, 62)):
             self.to(*cell).click().perform()
         self.to(150, 62).perform()
         self.until(lambda: "has room" in self.text("path") and "cell 150, 62" in self.text("point"))

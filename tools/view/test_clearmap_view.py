@@ -34,7 +34,7 @@ try:
     from selenium.webdriver.common.action_chains import ActionChains
     from selenium.webdriver.common.by import By
     from selenium.webdriver.support.ui import Select, WebDriverWait
-except ModuleNotFoundError:
+except ImportError:
     webdriver = None
 
 PROGRAM = os.environ["CLEARMAP"]
@@ -204,6 +204,7 @@ class Requests(unittest.TestCase):
             ("POST", "/path", '{"metric": "city", "points": [[0, 0]], "radius": "-1"}', 400, "a radius is a number"),
             ("POST", "/path", '{"metric": "city", "points": [[0, 0]], "radius": "1e12"}', 400, "larger than any map"),
             ("POST", "/path", '{"metric": "city", "points": [[0, 0]], "radius": "1e999999999"}', 400, "larger than any map"),
+            ("POST", "/path", '{"metric": "city", "points": [[0, 0]], "radius": "1e-999999999"}', 400, "is no number of a map"),
             ("POST", "/path", '{"metric": "city", "points": [[0, 0]], "radius": "nan"}', 400, "a radius is a number"),
         )
         for method, path, body, status, text in rows:
@@ -347,7 +348,8 @@ class Page(unittest.TestCase):
     def setUpClass(cls):
         cls.driver = browser()
         if cls.driver is None:
-            raise unittest.SkipTest("the page isn't tried: install chromium, chromium-driver and python3-selenium")
+            print("the page isn't tried: install chromium, chromium-driver and python3-selenium", file=sys.stderr)
+            raise unittest.SkipTest("no browser")
         cls.addClassCleanup(cls.driver.quit)
 
     def open(self, image=POST, *words, view=()):
@@ -402,6 +404,27 @@ class Page(unittest.TestCase):
         Select(self.driver.find_element(By.ID, "metric")).select_by_value("city")
         self.until(lambda: self.colour(5, 3) == [*colours[254], 255] and self.colour(0, 0) == [*colours[int(1 + 3 * 253 / 5)], 255])
         self.assertEqual(self.text("ticks").split("\n"), ["0.0", "2.5", "5.0 steps"])
+
+    def test_the_largest(self):
+        """The first picture of the largest map comes within three seconds, and pointing stays smooth: five times that is allowed on a busy machine."""
+        side = 4096
+        rows = numpy.zeros((side, side), numpy.uint8)
+        rows[::256, :] = rows[:, ::512] = rows[1024:1152, 1024:1152] = 1
+        start = time.monotonic()
+        self.open(b"P4\n%d %d\n" % (side, side) + numpy.packbits(rows).tobytes())
+        first = time.monotonic() - start
+        self.until(lambda: self.colour(1088, 1088) == [*picture.OBSTACLE, 255])
+        took = []
+        for step in range(20):
+            start = time.monotonic()
+            answer = self.viewed.ask("GET", f"/at?metric=euclid2&x={200 * step + 100}&y=1000")
+            took.append(time.monotonic() - start)
+            self.assertEqual(answer[0], 200)
+        self.to(100, 1000).perform()
+        self.until(lambda: "from the obstacle at" in self.text("point"))
+        print(f"the first picture of {side} by {side} cells came {first:.1f} s after the server was started, and an answer to pointing {1000 * max(took):.0f} ms after its request", flush=True)
+        self.assertLess(first, 15)
+        self.assertLess(max(took), 0.5)
 
     def test_pointing(self):
         self.open()

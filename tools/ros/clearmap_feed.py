@@ -1,0 +1,173 @@
+"""One map on a server as a robot's topics have it: what changed is put and published, and plans are asked about. No ROS is wanted, and nothing here is proved.
+
+The server is one that runs, by its port, or one that is started with the first map. A server that went away is asked for again at the next call.
+"""
+import math
+import subprocess
+import threading
+from dataclasses import dataclass
+from typing import Callable, List, Optional, Sequence, Tuple, TypeVar
+
+import clearmap
+import clearmap_grid as grids
+from clearmap_ros import Frame, Point, RosError, pieces
+
+T = TypeVar("T")
+PATIENCE = 10.0  # seconds for a reply
+CONNECTIONS = "1000000"
+
+
+@dataclass(frozen=True)
+class Clearance:
+    """What a plan's tightest cell is, in metres: from middle to middle, free in any case, and where the two middles are."""
+
+    version: int
+    metres: float
+    free_metres: float
+    cell: Optional[Tuple[float, float]] = None
+    obstacle: Optional[Tuple[float, float]] = None
+
+
+class Feed:
+    """A map's way to a server. Its calls may come from any thread, and wait for one another."""
+
+    def __init__(self, port: int = 0, program: str = "clearmap", checkpoints: bool = False) -> None:
+        self.port, self._given, self._program = port, port != 0, program
+        self._checkpoints = checkpoints or not self._given
+        self._lock = threading.Lock()
+        self._server: Optional["subprocess.Popen[bytes]"] = None
+        self._client: Optional[clearmap.Client] = None
+        self._grid: Optional[grids.Grid] = None  # what the topic said last
+        self._there = False  # whether this connection's server has it
+        self.frame: Optional[Frame] = None
+
+    def close(self) -> None:
+        """Ends the connection, and a server that was started here."""
+        with self._lock:
+            self._lose()
+            if self._server is not None:
+                self._server.kill()
+                self._server.wait()
+                self._server = None
+
+    def put(self, grid: grids.Grid, frame: Frame) -> str:
+        """Puts a map, and says what was done."""
+        with self._lock:
+            said = self._tried(lambda: self._put(grid))
+            self._grid, self.frame = grid, frame
+            return said
+
+    def update(self, left: int, low: int, width: int, height: int, cells: bytes) -> str:
+        """Puts an update of the last map; its lower left cell is at column `left` and row `low`, counted upwards."""
+        with self._lock:
+            if self._grid is None:
+                raise RosError("an update came before its map")
+            grid = self._grid.updated(left, low, width, height, cells)
+            said = self._tried(lambda: self._put(grid))
+            self._grid = grid
+            return said
+
+    def clearance(self, plan: Sequence[Point]) -> Clearance:
+        """How far a plan in metres keeps from the obstacles of the newest version; infinite where it has none."""
+        with self._lock:
+            if self.frame is None:
+                raise RosError("no map has come yet")
+            frame = self.frame
+            path = frame.staircase(plan)
+            version, found = self._tried(lambda: self._ask(path))
+        tightest = min(found, key=lambda it: it.distance, default=None)
+        if tightest is None:
+            return Clearance(version, math.inf, math.inf)
+        places = (frame.centre(tightest.cell), frame.centre(tightest.obstacle))
+        return Clearance(version, frame.metres(tightest.distance), frame.free_metres(tightest.distance), *places)
+
+    # the server
+
+    def _tried(self, call: Callable[[], T]) -> T:
+        """What a call gives. Where the server has gone since the last one, the call is made once more with a fresh connection."""
+        fresh = self._client is None
+        try:
+            return call()
+        except (clearmap.ConnectionLost, clearmap.WrongAnswer):
+            self._lose()
+            if fresh:
+                raise
+        try:
+            return call()
+        except (clearmap.ConnectionLost, clearmap.WrongAnswer):
+            self._lose()
+            raise
+
+    def _lose(self) -> None:
+        if self._client is not None:
+            self._client.close()
+        self._client, self._there = None, False
+
+    def _connected(self, grid: Optional[grids.Grid]) -> clearmap.Client:
+        """The connection. A server of one's own that has ended, or wasn't started yet, is started with this map."""
+        if not self._given and (self._server is None or self._server.poll() is not None):
+            self._lose()
+            self._start(grid)
+        if self._client is None:
+            self._client = clearmap.Client(self.port, timeout=PATIENCE, checkpoints=self._checkpoints)
+        return self._client
+
+    def _start(self, grid: Optional[grids.Grid]) -> None:
+        if grid is None:
+            raise clearmap.ConnectionLost("the server has ended; the next map starts another")
+        words = [self._program, "serve", "--connections", CONNECTIONS, "--port", "0"]
+        try:
+            server = subprocess.Popen(words, stdin=subprocess.PIPE, stdout=subprocess.PIPE)
+        except OSError as fault:
+            raise RosError(f"the program '{self._program}' can't be run: {fault.strerror}") from None
+        assert server.stdin is not None and server.stdout is not None
+        try:
+            with server.stdin:
+                server.stdin.write(grid.pbm())
+        except BrokenPipeError:
+            pass  # what it prints says why
+        said = server.stdout.readline().split()
+        server.stdout.close()
+        if len(said) != 2 or said[0] != b"LISTENING":
+            server.kill()
+            server.wait()
+            raise RosError(f"'{self._program} serve' said '{b' '.join(said).decode('ascii', 'replace')}'")
+        self._server, self.port = server, int(said[1])
+
+    def _put(self, grid: grids.Grid) -> str:
+        client = self._connected(grid)
+        before = self._grid if self._there else None
+        if before is None:
+            with client.pin() as pinned:
+                before = grids.grid_of_dump(pinned.dump())
+        if (before.width, before.height) != (grid.width, grid.height):
+            raise RosError(f"the map has {grid.width} by {grid.height} cells, and that of the server {before.width} by {before.height}: it isn't put")
+        area = before.changed(grid)
+        if area is None:
+            self._there = True
+            return "nothing changed"
+        image, self._there = grid.pbm(area), False
+        change = self._with_room(client, lambda: client.stamp(area.x0, area.y0, image))
+        version = self._with_room(client, client.publish)
+        self._there = True
+        return f"version {version}: {change.changed} cells of columns {area.x0} to {area.x1 - 1}, rows {area.y0} to {area.y1 - 1}"
+
+    @staticmethod
+    def _with_room(client: clearmap.Client, call: Callable[[], T]) -> T:
+        """What a command gives; where versions or blocks are full, it is given once more after a collect."""
+        try:
+            return call()
+        except (clearmap.VersionsFull, clearmap.BlocksFull):
+            client.collect()
+        return call()
+
+    def _ask(self, path: Sequence[Tuple[int, int]]) -> Tuple[int, List[clearmap.Tightest]]:
+        queries = clearmap.Queries()
+        for piece in pieces(path):
+            queries.path(piece)
+        with self._connected(None).pin() as pinned:
+            answers = pinned.ask(queries)
+        for answer in answers:
+            if isinstance(answer, clearmap.Refused):
+                raise answer
+        return pinned.version, [answer for answer in answers if isinstance(answer, clearmap.Tightest)]

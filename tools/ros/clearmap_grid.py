@@ -1,0 +1,135 @@
+"""Grids as ROS sends them, for clearmap: thresholds, what changed from one to the next, and metres. Standard library alone, and no ROS. Nothing here is proved.
+
+A grid of `nav_msgs/OccupancyGrid` counts its cells from the lower left, y upwards: 0 to 100 is how likely a cell is occupied, and -1 is unknown. Here it
+becomes one byte a cell, by rows from the top, as clearmap counts them: 1 is an obstacle.
+"""
+import array
+import math
+import struct
+from dataclasses import dataclass
+from fractions import Fraction
+from typing import Optional, Sequence, Tuple
+
+from clearmap_ros import LARGEST_SIDE, Frame, Number, RosError, exact
+
+DIGITS = bytes.maketrans(b"\0\1", b"01")
+BITS = bytes.maketrans(b"01", b"\0\1")
+NO_TURN = 1e-6  # the largest part of a quaternion, its w apart, that is taken for no turn
+
+
+def decimal_of(single: float) -> Fraction:
+    """The shortest decimal that a number of 32 bits may stand for: a message's 0.05000000074505806 is 1/20."""
+    for digits in range(1, 10):
+        word = f"{single:.{digits}g}"
+        if struct.pack("f", float(word)) == struct.pack("f", single):
+            return Fraction(word)
+    return exact(single)
+
+
+@dataclass(frozen=True)
+class Reading:
+    """Which values are obstacles: those above `occupied_thresh`, and all but those below `free_thresh` where unknown cells aren't free."""
+
+    occupied_thresh: Number = "0.65"
+    free_thresh: Number = "0.196"
+    unknown_is_free: bool = False
+
+    def table(self) -> bytes:
+        """What each byte of a message becomes. A value that is neither -1 nor 0 to 100 is an obstacle."""
+        occupied, free = exact(self.occupied_thresh), exact(self.free_thresh)
+        if not 0 <= free <= occupied <= 1:
+            raise RosError("the thresholds aren't 0 <= free_thresh <= occupied_thresh <= 1")
+
+        def blocked(value: int) -> bool:
+            if value == 255:
+                return not self.unknown_is_free
+            share = Fraction(value, 100)
+            return share > occupied or (not self.unknown_is_free and share >= free)
+
+        return bytes(blocked(value) for value in range(256))
+
+
+def cells_of(values: Sequence[int], width: int, height: int, table: bytes) -> bytes:
+    """The cells of a message's values, by rows from the top."""
+    if len(values) != width * height:
+        raise RosError(f"the message has {len(values)} values, where {width} by {height} cells are told")
+    data = bytes(values) if isinstance(values, (bytes, bytearray)) else array.array("b", values).tobytes()
+    cells = data.translate(table)
+    return b"".join(cells[row * width : (row + 1) * width] for row in reversed(range(height)))
+
+
+@dataclass(frozen=True)
+class Area:
+    """Columns x0 up to x1 - 1 of rows y0 up to y1 - 1."""
+
+    x0: int
+    y0: int
+    x1: int
+    y1: int
+
+
+@dataclass(frozen=True)
+class Grid:
+    """The cells of a map, one byte each, by rows from the top; 1 is an obstacle."""
+
+    width: int
+    height: int
+    cells: bytes
+
+    def changed(self, newer: "Grid") -> Optional[Area]:
+        """The least rectangle that has each cell that another grid of the same size has otherwise; None where there is none."""
+        width = self.width
+        pairs = [(self.row(y, 0, width), newer.row(y, 0, width)) for y in range(self.height)]
+        rows = [y for y, (old, new) in enumerate(pairs) if old != new]
+        if not rows:
+            return None
+        columns = 0
+        for y in rows:
+            old, new = pairs[y]
+            columns |= int.from_bytes(old, "little") ^ int.from_bytes(new, "little")
+        first = ((columns & -columns).bit_length() - 1) // 8
+        last = (columns.bit_length() - 1) // 8
+        return Area(first, rows[0], last + 1, rows[-1] + 1)
+
+    def row(self, y: int, x0: int, x1: int) -> bytes:
+        """Columns x0 up to x1 - 1 of a row."""
+        return self.cells[y * self.width + x0 : y * self.width + x1]
+
+    def pbm(self, area: Optional[Area] = None) -> bytes:
+        """An area, or the whole, as a raw PBM image."""
+        area = area or Area(0, 0, self.width, self.height)
+        width = area.x1 - area.x0
+        packed = bytearray()
+        for y in range(area.y0, area.y1):
+            digits = self.row(y, area.x0, area.x1).translate(DIGITS).ljust((width + 7) // 8 * 8, b"0")
+            packed += int(digits, 2).to_bytes(len(digits) // 8, "big")
+        return b"P4\n%d %d\n" % (width, area.y1 - area.y0) + bytes(packed)
+
+    def updated(self, left: int, low: int, width: int, height: int, cells: bytes) -> "Grid":
+        """The grid with an update's cells in it, whose lower left one is at column `left` and at row `low`, counted upwards from the lowest."""
+        if not (0 <= left and 0 <= low and left + width <= self.width and low + height <= self.height):
+            raise RosError(f"the update of {width} by {height} cells at {left}, {low} isn't wholly on the map of {self.width} by {self.height}")
+        changed = bytearray(self.cells)
+        top = self.height - low - height
+        for row in range(height):
+            start = (top + row) * self.width + left
+            changed[start : start + width] = cells[row * width : (row + 1) * width]
+        return Grid(self.width, self.height, bytes(changed))
+
+
+def grid_of_dump(image: bytes) -> Grid:
+    """The grid of a plain PBM image as `DUMP` answers it."""
+    _, size, digits = image.split(b"\n", 2)
+    width, height = map(int, size.split())
+    return Grid(width, height, digits.translate(BITS, b" \n"))
+
+
+def frame_of(width: int, height: int, resolution: float, origin: Tuple[float, float], turn: Tuple[float, float, float]) -> Frame:
+    """Where a message's map lies: metres a cell, the lower left corner, and the x, y and z of its quaternion, which have to be 0."""
+    if not (1 <= width <= LARGEST_SIDE and 1 <= height <= LARGEST_SIDE):
+        raise RosError(f"the map has {width} by {height} cells, and clearmap has 1 to {LARGEST_SIDE} a side")
+    if not 0 < resolution < math.inf:
+        raise RosError(f"the map's resolution is {resolution}, which isn't above 0")
+    if not all(abs(part) <= NO_TURN for part in turn):
+        raise RosError("the map's origin is turned, and a map that is turned isn't supported")
+    return Frame(width, height, decimal_of(resolution), exact(origin[0]), exact(origin[1]))

@@ -1,0 +1,184 @@
+#!/usr/bin/env python3
+"""A node of ROS: puts the map of a topic on a clearmap server, and answers how far plans keep from its obstacles.
+
+    clearmap-ros-node [_port:=7400] [map:=/map] [plan:=/move_base/NavfnROS/plan]
+
+Wants rospy of ROS 1; nothing here is proved.
+"""
+import argparse
+import math
+import os
+import pathlib
+import shutil
+import sys
+import threading
+
+HERE = pathlib.Path(__file__).resolve().parent
+TOP = HERE.parent.parent
+sys.path[:0] = [str(folder) for folder in (HERE, TOP / "clients/python", HERE.parent / "python") if folder.is_dir()]
+
+import clearmap
+import clearmap_grid as grids
+from clearmap_feed import Feed
+from clearmap_ros import RosError
+
+
+def program() -> str:
+    """The program that serves: the one that CLEARMAP names, this repository's, the one installed with this node, or that on the path."""
+    built = (TOP / "crates/clearmap/out/clearmap", HERE.parent.parent.parent / "bin/clearmap")
+    found = [str(path) for path in built if os.access(path, os.X_OK)]
+    return os.environ.get("CLEARMAP") or (found[0] if found else shutil.which("clearmap") or "clearmap")
+
+
+TOPICS = """It takes these topics, which may be named otherwise as usual (map:=/costmap):
+
+  map          nav_msgs/OccupancyGrid: the map; what changed is stamped and published
+  map_updates  map_msgs/OccupancyGridUpdate: a part of the last map
+  plan         nav_msgs/Path: a plan in the map's frame, in metres
+
+and publishes these:
+
+  ~clearance  std_msgs/Float64: metres from the middle of the plan's tightest cell to that of its nearest obstacle;
+              infinite where the map has no obstacle, and NaN where a plan isn't taken
+  ~tightest   visualization_msgs/Marker: a ball at that cell
+
+Its parameters:
+
+  ~port              the server's port; 0, which is the default, starts a server with the first map, whose port is ~server_port
+  ~occupied_thresh   0.65: a cell above it is an obstacle
+  ~free_thresh       0.196: a cell below it is free, and one between the two an obstacle
+  ~unknown_is_free   false: unknown cells are obstacles, which is the safe choice
+  ~free_in_any_case  false: with true the clearance is the least one between any points of the two cells
+  ~checkpoints       false: with true a full log of a server that was given is emptied"""
+
+
+def parser() -> argparse.ArgumentParser:
+    """The command line; the parameters and names of ROS are read by rospy."""
+    words = argparse.ArgumentParser(prog="clearmap-ros-node", usage="clearmap-ros-node [_port:=PORT] [TOPIC:=NAME ..]", description="Puts the map of a topic of ROS 1 on a clearmap server, and answers how far plans keep from its obstacles.")
+    words.epilog, words.formatter_class = TOPICS, argparse.RawDescriptionHelpFormatter
+    return words
+
+
+class Node:
+    """The topics of one map."""
+
+    def __init__(self, rospy: object) -> None:
+        from map_msgs.msg import OccupancyGridUpdate
+        from nav_msgs.msg import OccupancyGrid, Path
+        from std_msgs.msg import Float64
+        from visualization_msgs.msg import Marker
+
+        self.rospy, self.number, self.marker = rospy, Float64, Marker
+        reading = grids.Reading(*(rospy.get_param("~" + name, default) for name, default in (("occupied_thresh", 0.65), ("free_thresh", 0.196), ("unknown_is_free", False))))
+        self.table = reading.table()
+        self.safe = rospy.get_param("~free_in_any_case", False)
+        self.feed = Feed(self.port(), program(), rospy.get_param("~checkpoints", False))
+        self.turns = threading.Lock()
+        self.frame_id = ""
+        self.clearances = rospy.Publisher("~clearance", Float64, queue_size=10)
+        self.markers = rospy.Publisher("~tightest", Marker, queue_size=10, latch=True)
+        rospy.on_shutdown(self.feed.close)
+        rospy.Subscriber("map", OccupancyGrid, self.take_map, queue_size=1, buff_size=2**25)
+        rospy.Subscriber("map_updates", OccupancyGridUpdate, self.take_update, queue_size=100)
+        rospy.Subscriber("plan", Path, self.take_plan, queue_size=1)
+
+    def port(self) -> int:
+        """The port that is told; 0 where a server is to be started."""
+        port = self.rospy.get_param("~port", 0)
+        if not isinstance(port, int) or not 0 <= port <= 65535:
+            raise RosError(f"'{port}' is no port: 1 to 65535, or 0 for a server of the node's own")
+        return port
+
+    def told(self, what: str, call) -> object:
+        """What a call gives, or None and one line of the log."""
+        try:
+            return call()
+        except (RosError, clearmap.ClearmapError) as fault:
+            self.rospy.logwarn("%s isn't taken: %s", what, fault)
+            return None
+
+    def take_map(self, message: object) -> None:
+        """Puts a map."""
+        info = message.info
+        width, height = info.width, info.height
+        at, turn = info.origin.position, info.origin.orientation
+
+        def put() -> str:
+            frame = grids.frame_of(width, height, info.resolution, (at.x, at.y), (turn.x, turn.y, turn.z))
+            cells = grids.cells_of(message.data, width, height, self.table)
+            return self.feed.put(grids.Grid(width, height, cells), frame)
+
+        with self.turns:
+            said = self.told("a map", put)
+            if said is not None:
+                self.frame_id = message.header.frame_id
+                self.rospy.set_param("~server_port", self.feed.port)
+                self.rospy.loginfo("a map, at port %d: %s", self.feed.port, said)
+
+    def take_update(self, message: object) -> None:
+        """Puts an update of the map."""
+        width, height = message.width, message.height
+
+        def put() -> str:
+            cells = grids.cells_of(message.data, width, height, self.table)
+            return self.feed.update(message.x, message.y, width, height, cells)
+
+        with self.turns:
+            said = self.told("an update", put)
+        if said is not None:
+            self.rospy.loginfo("an update: %s", said)
+
+    def take_plan(self, message: object) -> None:
+        """Answers a plan's clearance; one that can't be asked about gets NaN, so that nobody goes on with an older answer."""
+        frame_id = message.header.frame_id
+
+        def ask() -> object:
+            if frame_id != self.frame_id and self.frame_id:
+                raise RosError(f"it is in the frame '{frame_id}', and the map in '{self.frame_id}'")
+            return self.feed.clearance([(pose.pose.position.x, pose.pose.position.y) for pose in message.poses])
+
+        found = self.told("a plan", ask)
+        metres = math.nan if found is None else found.free_metres if self.safe else found.metres
+        self.clearances.publish(self.number(metres))
+        self.markers.publish(self.mark(found))
+
+    def mark(self, found: object) -> object:
+        """A ball at the tightest cell, two cells wide; none where there is no such cell."""
+        marker = self.marker()
+        marker.header.frame_id, marker.header.stamp, marker.ns = self.frame_id, self.rospy.Time.now(), "clearmap"
+        marker.type, marker.action = self.marker.SPHERE, self.marker.DELETE
+        marker.pose.orientation.w = 1.0
+        if found is not None and found.cell is not None:
+            marker.action = self.marker.ADD
+            marker.pose.position.x, marker.pose.position.y = found.cell
+            marker.scale.x = marker.scale.y = marker.scale.z = 2 * float(self.feed.frame.resolution)
+            marker.color.r, marker.color.g, marker.color.a = 0.82, 0.14, 1.0
+        return marker
+
+
+def main() -> int:
+    """Runs until the master, or a signal, ends it. Status 1 where something isn't installed, or a parameter is refused, with one line on standard error."""
+    parser().parse_args([word for word in sys.argv[1:] if ":=" not in word])
+    try:
+        import rospy
+    except ModuleNotFoundError:
+        print(f"clearmap-ros-node: {sys.executable} has no rospy: it comes with ROS 1, as Debian's python3-rospy", file=sys.stderr)
+        return 1
+    try:
+        rospy.init_node("clearmap")
+        Node(rospy)
+    except rospy.ROSException as fault:
+        print(f"clearmap-ros-node: there is no master to go on with: {fault}", file=sys.stderr)
+        return 1
+    except ModuleNotFoundError as missing:
+        rospy.logfatal("%s isn't installed: Debian has python3-nav-msgs, python3-map-msgs and python3-visualization-msgs", missing.name)
+        return 1
+    except RosError as fault:
+        rospy.logfatal("%s", fault)
+        return 1
+    rospy.spin()
+    return 0
+
+
+if __name__ == "__main__":
+    sys.exit(main())

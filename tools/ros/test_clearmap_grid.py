@@ -1,0 +1,202 @@
+#!/usr/bin/env python3
+"""Tests of clearmap_grid.py against small grids made by hand, and of clearmap_feed.py with the built program, which CLEARMAP names. No ROS is wanted."""
+import math
+import os
+import pathlib
+import random
+import subprocess
+import sys
+import unittest
+from fractions import Fraction
+
+HERE = pathlib.Path(__file__).resolve().parent
+sys.path[:0] = [str(HERE), str(HERE.parent.parent / "clients/python")]
+
+import clearmap
+import clearmap_feed as feeds
+import clearmap_grid as grids
+from clearmap_ros import Frame, RosError
+
+PROGRAM = os.environ["CLEARMAP"]
+FRAME = Frame(6, 4, Fraction(1, 2), Fraction(-1), Fraction(-2))
+SINGLE = 0.05000000074505806  # 0.05 as a message of 32 bits has it
+
+
+def grid(*rows):
+    """A grid of rows of 0 and 1, from the top."""
+    return grids.Grid(len(rows[0]), len(rows), bytes(int(digit) for row in rows for digit in row))
+
+
+POST = grid("000000", "001000", "000000", "000000")
+
+
+class Grids(unittest.TestCase):
+    def test_thresholds(self):
+        values = [-1, 0, 19, 20, 65, 66, 100, 101, 127, -2, -128]
+        for unknown_is_free, wanted in ((False, [1, 0, 0, 1, 1, 1, 1, 1, 1, 1, 1]), (True, [0, 0, 0, 0, 0, 1, 1, 1, 1, 1, 1])):
+            table = grids.Reading(0.65, 0.196, unknown_is_free).table()
+            self.assertEqual(list(grids.cells_of(values, len(values), 1, table)), wanted)
+        self.assertRaisesRegex(RosError, "thresholds", grids.Reading(0.1, 0.2).table)
+        self.assertRaisesRegex(RosError, "no number", grids.Reading("high").table)
+
+    def test_rows_begin_at_the_top(self):
+        table = grids.Reading().table()
+        self.assertEqual(grids.cells_of((100, 0, 0, 0, 0, 100), 3, 2, table), bytes([0, 0, 1, 1, 0, 0]))
+        self.assertEqual(grids.cells_of(bytes([100, 255, 0]), 3, 1, table), bytes([1, 1, 0]))
+        self.assertRaisesRegex(RosError, "5 values, where 3 by 2 cells are told", grids.cells_of, (0,) * 5, 3, 2, table)
+
+    def test_changed(self):
+        self.assertIsNone(POST.changed(POST))
+        self.assertEqual(POST.changed(grid("000000", "000000", "000000", "000001")), grids.Area(2, 1, 6, 4))
+        self.assertEqual(POST.changed(grid("100000", "001000", "000000", "000000")), grids.Area(0, 0, 1, 1))
+
+    def test_changed_of_random_grids(self):
+        draw = random.Random(7)
+        for _ in range(300):
+            width, height = draw.randint(1, 20), draw.randint(1, 20)
+            old = bytearray(draw.randint(0, 1) for _ in range(width * height))
+            new = bytearray(old)
+            places = {draw.randrange(width * height) for _ in range(draw.randint(0, 4))}
+            for place in places:
+                new[place] ^= 1
+            area = grids.Grid(width, height, bytes(old)).changed(grids.Grid(width, height, bytes(new)))
+            xs, ys = [place % width for place in places], [place // width for place in places]
+            self.assertEqual(area, grids.Area(min(xs), min(ys), max(xs) + 1, max(ys) + 1) if places else None)
+
+    def test_images(self):
+        self.assertEqual(POST.pbm(), b"P4\n6 4\n\x00\x20\x00\x00")
+        self.assertEqual(POST.pbm(grids.Area(1, 1, 4, 3)), b"P4\n3 2\n\x40\x00")
+        wide = grid("1" + "0" * 8 + "1")
+        self.assertEqual(wide.pbm(), b"P4\n10 1\n\x80\x40")
+        self.assertEqual(grids.grid_of_dump(b"P1\n6 4\n000000\n001000\n000000\n000000\n"), POST)
+        self.assertEqual(grids.grid_of_dump(b"P1\n3 1\n01\n1\n"), grid("011"))
+
+    def test_updates(self):
+        low = POST.updated(1, 0, 2, 1, bytes([1, 1]))
+        self.assertEqual(low, grid("000000", "001000", "000000", "011000"))
+        self.assertEqual(low.updated(0, 2, 3, 2, bytes(6)), grid("000000", "000000", "000000", "011000"))
+        for place in ((5, 0, 2, 1), (0, 4, 1, 1), (-1, 0, 1, 1), (0, -1, 1, 1)):
+            self.assertRaisesRegex(RosError, "isn't wholly on the map of 6 by 4", POST.updated, *place, bytes(2))
+
+    def test_frames(self):
+        frame = grids.frame_of(400, 300, SINGLE, (-10.0, -7.5), (0.0, 0.0, 0.0))
+        self.assertEqual(frame, Frame(400, 300, Fraction(1, 20), Fraction(-10), Fraction(-15, 2)))
+        self.assertEqual(grids.decimal_of(0.02500000037252903), Fraction(1, 40))
+        self.assertEqual(grids.decimal_of(0.30000001192092896), Fraction(3, 10))
+        rows = (
+            ((0, 300, 0.05), (0, 0), (0, 0, 0), "0 by 300 cells"),
+            ((400, 4097, 0.05), (0, 0), (0, 0, 0), "400 by 4097 cells"),
+            ((400, 300, 0.0), (0, 0), (0, 0, 0), "resolution"),
+            ((400, 300, math.nan), (0, 0), (0, 0, 0), "resolution"),
+            ((400, 300, math.inf), (0, 0), (0, 0, 0), "resolution"),
+            ((400, 300, 0.05), (math.nan, 0), (0, 0, 0), "no number"),
+            ((400, 300, 0.05), (0, 0), (0, 0, 0.38), "turned"),
+            ((400, 300, 0.05), (0, 0), (0, 0, math.nan), "turned"),
+        )
+        for size, origin, turn, sentence in rows:
+            self.assertRaisesRegex(RosError, sentence, grids.frame_of, *size, origin, turn)
+
+
+class Served:
+    """A server of a map, on the port that is asked for, or one that the system picks."""
+
+    def __init__(self, image, *words, port=0):
+        self.process = subprocess.Popen([PROGRAM, "serve", "--connections", "1000", "--port", str(port), *words], stdin=subprocess.PIPE, stdout=subprocess.PIPE)
+        self.process.stdin.write(image)
+        self.process.stdin.close()
+        self.port = int(self.process.stdout.readline().split()[1])
+
+    def end(self):
+        self.process.kill()
+        self.process.wait()
+        self.process.stdout.close()
+
+
+def dump_of(port):
+    """The newest version of a server, and its number."""
+    with clearmap.Client(port) as client, client.pin() as pinned:
+        return pinned.version, grids.grid_of_dump(pinned.dump())
+
+
+class Feeds(unittest.TestCase):
+    def feed(self, *words, **settings):
+        feed = feeds.Feed(*words, **settings)
+        self.addCleanup(feed.close)
+        return feed
+
+    def served(self, image, *words, port=0):
+        served = Served(image, *words, port=port)
+        self.addCleanup(served.end)
+        return served
+
+    def test_a_server_of_its_own(self):
+        feed = self.feed(program=PROGRAM)
+        self.assertRaisesRegex(RosError, "no map has come", feed.clearance, [(0, 0)])
+        self.assertRaisesRegex(RosError, "before its map", feed.update, 0, 0, 1, 1, b"\1")
+        self.assertEqual(feed.put(POST, FRAME), "nothing changed")
+        self.assertEqual(dump_of(feed.port), (0, POST))
+        wall = grid("000000", "001000", "001000", "001000")
+        self.assertEqual(feed.put(wall, FRAME), "version 1: 2 cells of columns 2 to 2, rows 2 to 3")
+        self.assertEqual(feed.put(wall, FRAME), "nothing changed")
+        self.assertEqual(feed.update(5, 3, 1, 1, b"\1"), "version 2: 1 cells of columns 5 to 5, rows 0 to 0")
+        self.assertEqual(dump_of(feed.port), (2, grid("000001", "001000", "001000", "001000")))
+        small = grid("00", "00")
+        self.assertRaisesRegex(RosError, "2 by 2 cells, and that of the server 6 by 4", feed.put, small, FRAME)
+        feed._server.kill()
+        feed._server.wait()
+        self.assertRaisesRegex(clearmap.ConnectionLost, "the next map starts another", feed.clearance, [(-1, -2)])
+        self.assertEqual(feed.put(POST, FRAME), "nothing changed")
+        self.assertEqual(dump_of(feed.port), (0, POST))
+
+    def test_plans(self):
+        feed = self.feed(program=PROGRAM)
+        feed.put(POST, FRAME)
+        # the post's middle is at (0.25, -0.75); the plan goes along the lowest row, two rows below it
+        found = feed.clearance([(-0.9, -1.9), (1.9, -1.9)])
+        self.assertEqual((found.version, found.metres, found.cell, found.obstacle), (0, 1.0, (0.25, -1.75), (0.25, -0.75)))
+        self.assertAlmostEqual(found.free_metres, 1.0 - math.sqrt(2) / 2)
+        self.assertRaisesRegex(RosError, "isn't on the map", feed.clearance, [(-0.9, -1.9), (3.0, -1.9)])
+        self.assertRaisesRegex(RosError, "has no point", feed.clearance, [])
+        feed.put(grid("000000", "000000", "000000", "000000"), FRAME)
+        self.assertEqual(feed.clearance([(0, 0 - 0.1)]), feeds.Clearance(1, math.inf, math.inf))
+        long = [(-0.9 + 2.8 * (turn % 2), -1.9 + 0.5 * (turn // 2 % 2)) for turn in range(3000)]
+        feed.put(POST, FRAME)
+        self.assertEqual(feed.clearance(long).metres, 0.5)
+
+    def test_a_given_server(self):
+        served = self.served(b"P1\n6 4\n000000\n000000\n000000\n000000\n")
+        feed = self.feed(served.port)
+        with clearmap.Client(served.port) as other:
+            other.paint(5, 0, 6, 1)
+            other.publish()
+            self.assertEqual(feed.put(POST, FRAME), "version 2: 2 cells of columns 2 to 5, rows 0 to 1")
+            other.paint(5, 0, 6, 1)
+            other.publish()
+        # what another painter published stays, where the topic's map doesn't change
+        self.assertEqual(feed.put(grid("000000", "001000", "000000", "100000"), FRAME), "version 4: 1 cells of columns 0 to 0, rows 3 to 3")
+        self.assertEqual(dump_of(served.port), (4, grid("000001", "001000", "000000", "100000")))
+        served.end()
+        self.assertRaises(clearmap.ConnectionLost, feed.put, POST, FRAME)
+        again = self.served(b"P1\n6 4\n000000\n000000\n000000\n000000\n", port=served.port)
+        self.assertEqual(feed.put(POST, FRAME), "version 1: 1 cells of columns 2 to 2, rows 1 to 1")
+        self.assertEqual(dump_of(again.port), (1, POST))
+
+    def test_full_versions_and_a_full_log(self):
+        served = self.served(b"P1\n6 4\n000000\n000000\n000000\n000000\n", "--versions", "2", "--log", "100")
+        feed = self.feed(served.port, checkpoints=True)
+        for turn in range(100):
+            feed.put(POST if turn % 2 == 0 else grid("000000", "000000", "000000", "000000"), FRAME)
+        self.assertEqual(dump_of(served.port)[0], 100)
+        plain = self.served(b"P1\n6 4\n000000\n000000\n000000\n000000\n", "--log", "1")
+        self.assertRaises(clearmap.LogFull, self.feed(plain.port).put, POST, FRAME)
+
+    def test_no_server_and_no_program(self):
+        served = self.served(POST.pbm())
+        served.end()
+        self.assertRaisesRegex(clearmap.ConnectionLost, "no server at", self.feed(served.port).put, POST, FRAME)
+        self.assertRaisesRegex(RosError, "can't be run", self.feed(program="/nowhere/clearmap").put, POST, FRAME)
+        self.assertRaisesRegex(RosError, "said ''", self.feed(program="/bin/true").put, POST, FRAME)
+
+
+if __name__ == "__main__":
+    unittest.main()

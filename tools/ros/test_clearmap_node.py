@@ -1,0 +1,228 @@
+#!/usr/bin/env python3
+"""Tests of clearmap_node.py with a real master, publishers and subscribers of ROS 1; CLEARMAP names the built program.
+
+Wants Debian's ros-core, python3-rospy, python3-nav-msgs, python3-map-msgs and python3-visualization-msgs. Loopback alone, and nothing is left.
+"""
+import math
+import os
+import pathlib
+import queue
+import socket
+import subprocess
+import sys
+import tempfile
+import time
+import unittest
+
+HERE = pathlib.Path(__file__).resolve().parent
+sys.path[:0] = [str(HERE), str(HERE.parent.parent / "clients/python")]
+
+import rospy
+from geometry_msgs.msg import PoseStamped
+from map_msgs.msg import OccupancyGridUpdate
+from nav_msgs.msg import OccupancyGrid, Path
+from rosgraph_msgs.msg import Log
+from std_msgs.msg import Float64
+from visualization_msgs.msg import Marker
+
+import clearmap
+
+PROGRAM = os.environ["CLEARMAP"]
+WIDTH, HEIGHT, RESOLUTION = 400, 300, 0.05
+PATIENCE = 30  # seconds for what a busy machine takes its time for
+SOON = 1.0  # seconds that an answer may take
+
+
+def free_port():
+    """A port that nobody listens on."""
+    with socket.create_server(("127.0.0.1", 0)) as listener:
+        return listener.getsockname()[1]
+
+
+def until(holds, what):
+    """Waits for something, and says how long it took."""
+    start = time.monotonic()
+    while not holds():
+        if time.monotonic() - start > PATIENCE:
+            raise AssertionError(f"{what} never came")
+        time.sleep(0.01)
+    return time.monotonic() - start
+
+
+def map_message(walls=(), width=WIDTH, height=HEIGHT, frame_id="map"):
+    """A free map with a border, and walls of cells as column, row, and the first column and row behind, counted from the lower left."""
+    cells = bytearray(width * height)
+    for x0, y0, x1, y1 in ((0, 0, width, 1), (0, height - 1, width, height), (0, 0, 1, height), (width - 1, 0, width, height), *walls):
+        for y in range(y0, y1):
+            cells[y * width + x0 : y * width + x1] = bytes([100]) * (x1 - x0)
+    message = OccupancyGrid(data=list(cells))
+    message.header.frame_id = frame_id
+    message.info.width, message.info.height, message.info.resolution = width, height, RESOLUTION
+    message.info.origin.position.x, message.info.origin.position.y = -10.0, -7.5
+    message.info.origin.orientation.w = 1.0
+    return message
+
+
+def plan_message(*points, frame_id="map"):
+    """A plan of points in metres."""
+    message = Path()
+    message.header.frame_id = frame_id
+    for x, y in points:
+        pose = PoseStamped()
+        pose.pose.position.x, pose.pose.position.y = x, y
+        message.poses.append(pose)
+    return message
+
+
+PLAN = plan_message((-5.0, 0.02), (5.0, 0.02))  # row 150 from below; the border is 150 rows below it, and 149 above
+
+
+class Running(unittest.TestCase):
+    """A master for all tests, and this process as one node of it."""
+
+    @classmethod
+    def setUpClass(cls):
+        cls.folder = tempfile.TemporaryDirectory()
+        port = free_port()
+        os.environ.update(ROS_MASTER_URI=f"http://127.0.0.1:{port}", ROS_IP="127.0.0.1", ROS_HOME=cls.folder.name, ROS_LOG_DIR=cls.folder.name)
+        cls.master = subprocess.Popen(["roscore", "-p", str(port)], stdout=subprocess.DEVNULL, stderr=subprocess.DEVNULL)
+        cls.addClassCleanup(cls.folder.cleanup)
+        cls.addClassCleanup(cls.end, cls.master)
+
+        def answers():
+            try:
+                return rospy.get_master().getPid()[0] == 1
+            except OSError:
+                return False
+
+        until(answers, "the master")
+        rospy.init_node("test_clearmap_node", disable_signals=True)
+        cls.said, cls.clearances, cls.markers = queue.Queue(), queue.Queue(), queue.Queue()
+        cls.logs = rospy.Subscriber("/rosout", Log, lambda log: cls.said.put(log.msg) if log.name == "/clearmap" else None)
+        cls.subscribers = [rospy.Subscriber("/clearmap/clearance", Float64, lambda number: cls.clearances.put(number.data)), rospy.Subscriber("/clearmap/tightest", Marker, cls.markers.put)]
+        topics = (("/map", OccupancyGrid), ("/map_updates", OccupancyGridUpdate), ("/plan", Path))
+        cls.publishers = [rospy.Publisher(name, kind, queue_size=1) for name, kind in topics]
+
+    @staticmethod
+    def end(process):
+        process.terminate()
+        process.wait(PATIENCE)
+
+    def start(self, *words):
+        """A node, once it takes what is published: the publishers of the map, of updates and of plans."""
+        both = [*self.publishers, *self.subscribers]
+        until(lambda: not any(topic.get_num_connections() for topic in both) and self.logs.get_num_connections() < 2, "the end of the node before")
+        for kept in (self.said, self.clearances, self.markers):
+            while not kept.empty():
+                kept.get()
+        if rospy.has_param("/clearmap"):
+            rospy.delete_param("/clearmap")  # the master keeps what the node before was told
+        node = subprocess.Popen([sys.executable, str(HERE / "clearmap_node.py"), *words], stdout=subprocess.DEVNULL, stderr=subprocess.DEVNULL)
+        self.addCleanup(self.end, node)
+        until(lambda: all(topic.get_num_connections() for topic in both) and self.logs.get_num_connections() > 1, "the node")  # this process logs, too
+        return self.publishers
+
+    def line(self, part):
+        """Waits for a line of the node's log with these words, and says how many seconds that took."""
+        start = time.monotonic()
+        while True:
+            said = self.said.get(timeout=PATIENCE)
+            if part in said:
+                return time.monotonic() - start
+
+    def answer(self, plans, plan):
+        """The clearance of a plan and its marker, and how many seconds they took."""
+        start = time.monotonic()
+        plans.publish(plan)
+        found = self.clearances.get(timeout=PATIENCE), self.markers.get(timeout=PATIENCE)
+        return (*found, time.monotonic() - start)
+
+
+class Node(Running):
+    def test_a_wall_and_a_plan(self):
+        maps, updates, plans = self.start()
+        maps.publish(map_message())
+        took = [self.line("a map, at port")]
+        metres, marker, seconds = self.answer(plans, PLAN)
+        self.assertAlmostEqual(metres, 99 * RESOLUTION)  # the plan ends in column 300, and the border is column 399
+        took.append(seconds)
+        maps.publish(map_message([(200, 160, 203, 299)]))
+        took.append(self.line("cells of columns 200 to 202, rows 1 to 139"))
+        metres, marker, seconds = self.answer(plans, PLAN)
+        self.assertAlmostEqual(metres, 10 * RESOLUTION)
+        self.assertEqual((marker.action, marker.header.frame_id), (Marker.ADD, "map"))
+        self.assertAlmostEqual(marker.pose.position.x, -10 + 200.5 * RESOLUTION)
+        self.assertAlmostEqual(marker.pose.position.y, -7.5 + 150.5 * RESOLUTION)
+        took.append(seconds)
+        update = OccupancyGridUpdate(x=250, y=155, width=2, height=3, data=[100] * 6)
+        updates.publish(update)
+        took.append(self.line("an update: version 2: 6 cells of columns 250 to 251, rows 142 to 144"))
+        metres, marker, seconds = self.answer(plans, PLAN)
+        self.assertAlmostEqual(metres, 5 * RESOLUTION)
+        took.append(seconds)
+        with clearmap.Client(rospy.get_param("/clearmap/server_port")) as client, client.pin() as pinned:
+            self.assertEqual((pinned.version, pinned.at(250, 144).distance, pinned.at(250, 149).distance), (2, 0, 25))
+        print("seconds for a map, a plan, a wall, a plan, an update, a plan: " + ", ".join(f"{seconds:.2f}" for seconds in took))
+        self.assertLess(max(took), SOON * (1 if os.environ.get("STRICT") else 5))
+
+    def test_what_is_refused(self):
+        maps, updates, plans = self.start()
+        metres, marker, _ = self.answer(plans, PLAN)
+        self.assertTrue(math.isnan(metres))
+        self.assertEqual(marker.action, Marker.DELETE)
+        self.line("a plan isn't taken: no map has come yet")
+        updates.publish(OccupancyGridUpdate(width=1, height=1, data=[0]))
+        self.line("an update isn't taken: an update came before its map")
+        maps.publish(map_message())
+        self.line("a map, at port")
+        maps.publish(map_message(width=200, height=100))
+        self.line("a map isn't taken: the map has 200 by 100 cells, and that of the server 400 by 300: it isn't put")
+        turned = map_message()
+        turned.info.origin.orientation.z, turned.info.origin.orientation.w = 0.6, 0.8
+        maps.publish(turned)
+        self.line("a map that is turned isn't supported")
+        short = map_message()
+        short.data = short.data[:-1]
+        maps.publish(short)
+        self.line("the message has 119999 values, where 400 by 300 cells are told")
+        self.assertTrue(math.isnan(self.answer(plans, plan_message((0, 0), frame_id="odom"))[0]))
+        self.line("it is in the frame 'odom', and the map in 'map'")
+        self.assertTrue(math.isnan(self.answer(plans, plan_message((0, 0), (50, 0)))[0]))
+        self.line("the point (50.0, 0.0) isn't on the map")
+        self.assertAlmostEqual(self.answer(plans, PLAN)[0], 99 * RESOLUTION)
+
+    def test_a_given_server_that_ends(self):
+        words = [PROGRAM, "serve", "--connections", "1000", "--port"]
+        image = b"P4\n400 300\n" + bytes(50 * 300)
+
+        def serve(port):
+            served = subprocess.Popen([*words, str(port)], stdin=subprocess.PIPE, stdout=subprocess.PIPE)
+            self.addCleanup(served.wait)
+            self.addCleanup(served.kill)
+            self.addCleanup(served.stdout.close)
+            with served.stdin:
+                served.stdin.write(image)
+            return served, int(served.stdout.readline().split()[1])
+
+        served, port = serve(0)
+        maps, _, plans = self.start(f"_port:={port}")
+        maps.publish(map_message())
+        self.line(f"a map, at port {port}: version 1: 1396 cells of columns 0 to 399, rows 0 to 299")
+        served.kill()
+        served.wait()
+        self.assertTrue(math.isnan(self.answer(plans, PLAN)[0]))
+        self.line("a plan isn't taken: no server at")
+        serve(port)
+        self.assertEqual(self.answer(plans, PLAN)[0], math.inf)  # the map isn't there again yet
+        maps.publish(map_message())
+        self.line("version 1: 1396 cells")
+        self.assertAlmostEqual(self.answer(plans, PLAN)[0], 99 * RESOLUTION)
+
+    def test_a_port_that_is_none(self):
+        node = subprocess.run([sys.executable, str(HERE / "clearmap_node.py"), "_port:=70000"], capture_output=True, text=True, timeout=PATIENCE)
+        self.assertEqual(node.returncode, 1)
+        self.assertIn("'70000' is no port", node.stderr + node.stdout)
+
+
+if __name__ == "__main__":
+    unittest.main(warnings="ignore")
