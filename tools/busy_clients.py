@@ -3,7 +3,7 @@
 
 Each accepted command has a place in the log, which is short: it is full now and then, until the next checkpoint. In the end one more connection asks what was left: the places from 1 to the last
 are each answered once, or belong to a client that was killed before its reply; the next command has the place behind the last;
-and a collect raises the floor to the newest version, so that no pin of a killed client is left.
+and the least version that a collect keeps is the newest one, so that no pin of a killed client is left.
 
     tools/busy_clients.py [SECONDS]
 """

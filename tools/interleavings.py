@@ -1,7 +1,7 @@
 #!/usr/bin/python3
 """Every interleaving of two readers with a publish, a checkpoint and a collect, through `clearmap steps`, against a plain model.
 
-Each reader announces, loads, looks and leaves. The keeper publishes a painted cell (its stores as one lump, then the commit), then does a
+The first reader announces, loads, announces what it holds exactly, and looks and leaves; the second one announces, loads, looks and leaves. The keeper publishes a painted cell (its stores as one lump, then the commit), then does a
 checkpoint (its one step), without which the log has no room for more, and then collects (two scans, then the commit); each order stands directly
 before its first step. That is 210,210 orders of 14 events. Each is one run of the built program, whose answers are compared line by line with those of `steps_model`.
 Prints how many were run and how many disagreed; status 1 where one did.
@@ -23,8 +23,11 @@ KEEPER = [["C PUBLISH", "K 65"], ["K 1"], ["C COLLECT", "C CHECKPOINT", "K 1"], 
 EVENTS = len(KEEPER) + 8
 
 
-def reader(r):
-    return [[f"A {r}"], [f"L {r}"], [f"M {r} 0", f"T {r} 0 0", f"T {r} 1 0"], [f"V {r}"]]
+def looks(r):
+    return [f"M {r} 0", f"T {r} 0 0", f"T {r} 1 0"]
+
+
+READERS = [[["A 0"], ["L 0"], ["E 0"], looks(0) + ["V 0"]], [["A 1"], ["L 1"], looks(1), ["V 1"]]]
 
 
 def orders():
@@ -37,7 +40,7 @@ def orders():
 
 def lines_of(order):
     first, second = order
-    events = {"keeper": iter(KEEPER), 0: iter(reader(0)), 1: iter(reader(1))}
+    events = {"keeper": iter(KEEPER), 0: iter(READERS[0]), 1: iter(READERS[1])}
     lines = list(BEFORE)
     for place in range(EVENTS):
         lines += next(events[0 if place in first else 1 if place in second else "keeper"])

@@ -56,13 +56,13 @@ class Map(steps_model.World):
     def pin(self, session):
         if self.pins[session]:
             return "ERR 7 AlreadyPinned"
-        self.pins[session] = self.newest + 1
+        self.pins[session] = 2 * self.newest + 2
         return f"OK {self.newest}"
 
     def unpin(self, session):
         if not self.pins[session]:
             return "ERR 6 NotPinned"
-        version, self.pins[session] = self.pins[session] - 1, 0
+        version, self.pins[session] = self.pins[session] // 2 - 1, 0
         return f"OK {version}"
 
 
@@ -128,7 +128,7 @@ def one(rng, world, connections):
         return name, connection.ask(b"UNPIN\n"), world.unpin(session)
     if name == "DUMP":
         pinned = world.pins[session]
-        return name, connection.dump(), world.published[pinned - 1] if pinned else "ERR 6 NotPinned"
+        return name, connection.dump(), world.published[pinned // 2 - 1] if pinned else "ERR 6 NotPinned"
     return name, connection.ask(name.encode() + b"\n"), world.command(world.order, [name])
 
 

@@ -25,9 +25,11 @@ class World:
         self.across = (width + 63) // 64
         self.tiles = self.across * ((height + 63) // 64)
         self.blocks, self.versions, self.limit = blocks, versions, log
-        self.place, self.checkpointed, self.floor, self.hand = 0, 0, 0, None
+        self.place, self.checkpointed, self.hand = 0, 0, None
+        self.slots, self.slot_of = [0] + [None] * (versions - 1), {0: 0}
         self.draft, self.published = set(), [set()]
         self.own, self.free, self.retired = {}, list(range(self.tiles, blocks)), []
+        self.came = [0] * self.tiles
         self.directories = [list(range(self.tiles))]
         self.now = (0, 0)
         self.pins = [0] * sessions
@@ -74,7 +76,7 @@ class World:
             return self.take_up([("checkpoint",)])
         self.check_log()
         if command == "PUBLISH":
-            if self.newest - self.floor + 1 >= self.versions:
+            if None not in self.slots:
                 raise Refused("ERR 3 VersionsFull")
             return self.take_up([("tile", k, i) for k in sorted(self.own) for i in range(64)] +
                                 [("map", k) for k in range(self.tiles)] + [("publish",)])
@@ -114,7 +116,7 @@ class World:
             return "WRITE"
         if kind == "map":
             k = what[0]
-            self.maps[(self.newest + 1) % self.versions, k] = self.own.get(k, self.directories[-1][k])
+            self.maps[self.slots.index(None), k] = self.own.get(k, self.directories[-1][k])
             return "WRITE"
         if kind == "scan":
             self.scanned.append(self.pins[what[0]])
@@ -133,9 +135,13 @@ class World:
 
     def commit_publish(self):
         before = self.directories[-1]
-        self.retired += [(before[k], self.newest) for k in sorted(self.own)]
+        self.retired += [(before[k], self.came[k], self.newest) for k in sorted(self.own)]
         self.directories.append([self.own.get(k, before[k]) for k in range(self.tiles)])
         self.published.append(set(self.draft))
+        for k in self.own:
+            self.came[k] = self.newest
+        self.slot_of[self.newest] = self.slots.index(None)
+        self.slots[self.slot_of[self.newest]] = self.newest
         self.own = {}
         return [self.newest]
 
@@ -150,12 +156,21 @@ class World:
         return []
 
     def commit_collect(self):
-        self.floor = max(self.floor, min([self.newest] + [word - 1 for word in self.scanned if word]))
-        gone = [block for block, last in self.retired if last < self.floor]
-        self.retired = [(block, last) for block, last in self.retired if last >= self.floor]
+        self.slots = [version if self.stays(version) else None for version in self.slots]
+        kept = [version for version in self.slots if version is not None]
+        used = [any(first <= version <= last for version in kept) for _, first, last in self.retired]
+        gone = [entry[0] for entry, is_used in zip(self.retired, used) if not is_used]
+        self.retired = [entry for entry, is_used in zip(self.retired, used) if is_used]
         for block in gone:
             self.free.insert(0, block)
-        return [self.floor, len(gone)]
+        return [min(kept), len(gone)]
+
+    def stays(self, version):
+        """Newest is kept, and what a word of the scan asks for: an odd one its version and those after it, an even one its version alone."""
+        if version is None:
+            return False
+        asked = any(word // 2 <= version if word % 2 else word // 2 - 1 == version for word in self.scanned if word)
+        return version == self.newest or asked
 
     # ---- steps of the readers
 
@@ -166,8 +181,13 @@ class World:
             if self.announced[r] is not None:
                 raise NotEnabled
             self.announced[r] = self.seen[r]
-            self.pins[r] = self.seen[r] + 1
+            self.pins[r] = 2 * self.seen[r] + 1
             return f"PIN {self.seen[r]}"
+        if kind == "E":
+            if self.holds[r] is None or self.pins[r] % 2 == 0:
+                raise NotEnabled
+            self.pins[r] = 2 * self.holds[r] + 2
+            return f"EXACT {self.holds[r]}"
         if kind == "L":
             self.seen[r] = self.now[1]
             if self.announced[r] is not None and self.holds[r] is None:
@@ -184,7 +204,7 @@ class World:
         if held is None:
             raise NotEnabled
         if kind == "M" and what[0] < self.tiles:
-            return f"BLOCK {self.maps[held % self.versions, what[0]]}"
+            return f"BLOCK {self.maps[self.slot_of[held], what[0]]}"
         if kind == "T" and what[0] in self.directories[held] and what[1] < 64:
             return f"WORD {self.rows.get(what, 0):016x}"
         raise NotEnabled
@@ -203,7 +223,7 @@ class World:
         if words[0] == "C" and len(words) > 1 and words[1] in COMMANDS:
             return self.order(words[1:])
         numbers = [number(word) for word in words[1:]]
-        if None in numbers or {"A": 1, "L": 1, "V": 1, "M": 2, "T": 3, "K": 1}.get(words[0]) != len(numbers):
+        if None in numbers or {"A": 1, "L": 1, "E": 1, "V": 1, "M": 2, "T": 3, "K": 1}.get(words[0]) != len(numbers):
             return "BAD LINE"
         if words[0] == "K":
             return self.keep(numbers[0])

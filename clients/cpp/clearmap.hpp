@@ -492,7 +492,7 @@ public:
     /// Makes the draft the newest version again, and answers the place in the log.
     std::uint32_t revert() { return change("REVERT\n", 1)[0]; }
 
-    /// Gives back what only versions below the floor use: the least version that a pin has announced, or the newest.
+    /// Gives back what no kept version uses: the newest is kept, and each that a pin holds.
     Collected collect() {
         auto n = change("COLLECT\n", 3);
         return {n[0], n[1], n[2]};

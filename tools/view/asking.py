@@ -161,7 +161,7 @@ class Asking:
         calls = {
             "publish": lambda client: f"Published as version {client.publish()}.",
             "revert": lambda client: f"The draft is the newest version again, place {client.revert()} of the log.",
-            "collect": lambda client: "Collected: versions from {0.floor} on are kept, and {0.freed} blocks came back.".format(client.collect()),
+            "collect": lambda client: "Collected: {0.floor} is the least version that is kept, and {0.freed} blocks came back.".format(client.collect()),
             "checkpoint": lambda client: f"The log's entries are dropped, place {client.checkpoint()}.",
         }
         if name not in calls:

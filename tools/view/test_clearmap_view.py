@@ -486,7 +486,7 @@ class Page(unittest.TestCase):
             self.press("publish")
             self.until(lambda: self.text("said").startswith("Refused: as many versions are kept as may be"))
             self.press("collect")
-            self.until(lambda: self.text("said").startswith("Collected: versions from 1 on are kept"))
+            self.until(lambda: self.text("said").startswith("Collected: 1 is the least version that is kept"))
             self.press("revert")
             self.until(lambda: "place 5 of the log" in self.text("said"))
             self.press("checkpoint")

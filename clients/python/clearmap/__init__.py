@@ -366,7 +366,7 @@ class Client:
         return int(self._change("REVERT", _one)[0])
 
     def collect(self) -> Collected:
-        """Gives back what only versions below the floor use: the least version that a pin has announced, or the newest."""
+        """Gives back what no kept version uses: the newest is kept, and each that a pin holds."""
         return Collected(*self._change("COLLECT", _three))
 
     def checkpoint(self) -> int:

@@ -1,20 +1,24 @@
 -- A command that the keeper commits is carried out: the reply that is computed is the one that its log has.
-use Rattle.std.proofs.Common.{◌≡◌, ℕ, ◌+◌, ◌^◌, ◌<◌, List, [], ◌∷◌, ◌++◌, refl, ap, subst, sym, ◌∙◌, arith}
+use Rattle.std.proofs.Common.{◌≡◌, ℕ, ◌+◌, ◌^◌, ◌<◌, List, [], ◌∷◌, ◌++◌, get_or, refl, ap, subst, sym, ◌∙◌, arith}
 use Rattle.std.specs.Prelude.{false, Some, None}
 use Rattle.map_core.specs.declared.command.Command.{Command}
 use Rattle.map_core.specs.declared.command.Command.TheVariants.{Paint, Stamp, Publish, Revert, Collect, Checkpoint}
+use Rattle.map_core.specs.declared.command.Entry.{Entry}
 use Rattle.map_core.specs.declared.command.Reply.{Reply}
+use Rattle.map_core.specs.Story.{newest}
 use Rattle.map_core.specs.Blocks.{Blocks}
 use Rattle.map_core.specs.Drawing.{draws}
 use Rattle.map_core.specs.Legal.{refused}
 use Rattle.map_core.specs.Ledger.{refused_by_ledger}
 use Rattle.map_core.specs.Steps.{steps_before}
-use Rattle.map_core.specs.Words.{Base}
+use Rattle.map_core.specs.Words.{Base, slot_of}
 use Rattle.map_core.specs.Views.{story, blocks}
 use Rattle.shelf.specs.Store.{StoreId, readers_of}
 use Rattle.shelf.specs.Roles.{Task, KeeperView, entries}
-use Rattle.shelf.specs.Steps.{ordered, committed, MayCommit}
-use Rattle.map_core.proofs.Replies.{HasFloor, the_reply}
+use Rattle.shelf.specs.Steps.{ordered, committed, signed_of, newest_slot, MayCommit}
+use Rattle.shelf.proofs.KeeperSeats.{the_task}
+use Rattle.shelf.proofs.LogParts.{entries-push}
+use Rattle.map_core.proofs.Replies.{HasKept, the_reply}
 use Rattle.desk.specs.declared.holding.Holding.{Holding}
 use Rattle.desk.specs.Holdings.{IsTold, IsOneStep, Does}
 use Rattle.desk.specs.Carries.{CanCarry, IsCarried, signed}
@@ -68,22 +72,44 @@ committed_is z k u l t is step = step t (ap (λ (q : KeeperView). q.task) is) �
 
 -- what is committed is what is answered
 pub carried_is : (z : StoreId) (k after : KeeperView) (h new : Holding) (by done : ℕ) (c : Command) (words : List ℕ) (reply : Reply) → IsTold z.base (entries k.log) h → Does h c reply new
-    → HasFloor (story z.base (entries k.log)) c reply words → after ≡ committed z.base (with_task k (task_of by c done words)) (task_of by c done words) → IsCarried k h by c reply after new
-carried_is z k after h new by done c words reply told does floor is =
-    let same = the_reply (story z.base (entries k.log)) c reply words (does z.base (entries k.log) told).0.reply_is floor in
+    → HasKept (story z.base (entries k.log)) c reply words → after ≡ committed z.base (with_task k (task_of by c done words)) (task_of by c done words) → IsCarried k h by c reply after new
+carried_is z k after h new by done c words reply told does kept is =
+    let same = the_reply (story z.base (entries k.log)) c reply words (does z.base (entries k.log) told).0.reply_is kept in
     record {
       keeper_is = is ∙ ap (λ (r : Reply). record k { log = k.log ++ signed by c r ∷ []; task = None; unmet = Some by }) (sym same);
       does = does;
     }
 
--- a command of one step has no floor
-pub no_floor : (z : StoreId) (k : KeeperView) (c : Command) (reply : Reply) → IsOneStep c → HasFloor (story z.base (entries k.log)) c reply []
-no_floor z k (Paint r black) reply one = tt
-no_floor z k (Stamp x y b) reply one = tt
-no_floor z k Publish reply one = absurd one
-no_floor z k Revert reply one = tt
-no_floor z k Collect reply one = absurd one
-no_floor z k Checkpoint reply one = tt
+-- the slot of newest after a commit, by what is held then
+slot_committed : (z : StoreId) (k : KeeperView) (h new : Holding) (by done : ℕ) (c : Command) (words : List ℕ) (reply : Reply) → IsTold z.base (entries k.log) h → Does h c reply new
+    → HasKept (story z.base (entries k.log)) c reply words → new.ledger.slot ≡ newest_slot z.base (committed z.base (with_task k (task_of by c done words)) (task_of by c done words)).log
+unfolding slot_of
+slot_committed z k h new by done c words reply told does kept =
+    let same = the_reply (story z.base (entries k.log)) c reply words (does z.base (entries k.log) told).0.reply_is kept in
+    (does z.base (entries k.log) told).1.holds.summary.ledger_is.slot_is
+    ∙ (ap (λ (r : Reply). slot_after z.base (entries k.log ++ record { command = c; reply = r } ∷ [])) same
+    ∙ sym (ap (slot_after z.base) (entries-push k.log (signed_of z.base (with_task k (task_of by c done words)) (task_of by c done words)))))
+  where
+    slot_after : Base → List Entry → ℕ
+    slot_after base log = get_or (story base log).slots (newest (story base log)) 0
+
+-- and so the slot that the keeper is told
+pub slot_told : (z : StoreId) (k u : KeeperView) (h new : Holding) (by done : ℕ) (c : Command) (words : List ℕ) (reply : Reply) → IsTold z.base (entries k.log) h → Does h c reply new
+    → HasKept (story z.base (entries k.log)) c reply words → u ≡ with_task k (task_of by c done words)
+    → (t : Task) → u.task ≡ Some t → new.ledger.slot ≡ newest_slot z.base (committed z.base u t).log
+slot_told z k u h new by done c words reply told does kept is t there =
+    let one : task_of by c done words ≡ t = the_task (sym (ap (λ (q : KeeperView). q.task) is) ∙ there) in
+    slot_committed z k h new by done c words reply told does kept
+    ∙ ap (λ (q : KeeperView × Task). newest_slot z.base (committed z.base q.0 q.1).log) (λ j. (sym is j, one j))
+
+-- a command of one step has no scan
+pub no_scan : (z : StoreId) (k : KeeperView) (c : Command) (reply : Reply) → IsOneStep c → HasKept (story z.base (entries k.log)) c reply []
+no_scan z k (Paint r black) reply one = tt
+no_scan z k (Stamp x y b) reply one = tt
+no_scan z k Publish reply one = absurd one
+no_scan z k Revert reply one = tt
+no_scan z k Collect reply one = absurd one
+no_scan z k Checkpoint reply one = tt
 
 -- a command that the ledger doesn't refuse: one more version can be counted
 pub next_version : (z : Base) (k : KeeperView) (h : Holding) (c : Command) → IsTold z (entries k.log) h → refused_by_ledger h.ledger c ≡ None → h.ledger.newest + 1 < 2 ^ 32

@@ -2,6 +2,7 @@
 use Rattle.std.proofs.Common.{◌≡◌, ℕ, ◌+◌, ◌≤◌, ◌==◌, cond, Bool, true, false, if◌then◌else◌, List, [], ◌∷◌, ◌++◌, length, drop, refl, ap, subst, sym, ◌∙◌, arith, add-zero}
 use Rattle.std.specs.Prelude.{◌⊎◌, Option, Some, None}
 use Rattle.metric.specs.declared.refusal.Refusal.TheVariants.{PlacesUsed, Memory}
+use Rattle.map_core.specs.declared.kept.Seen.{Seen}
 use Rattle.map_core.specs.declared.command.Command.TheVariants.{Paint, Stamp, Publish, Revert, Collect, Checkpoint}
 use Rattle.std.proofs.lemmas.Bool.Decides.{nat_tests}
 use mathlib.Core.Logic.{inl, inr}
@@ -44,11 +45,11 @@ met_steady : (z : Base) (k : KeeperView) (x : ReaderView) (more : ℕ) → IsSte
 met_steady z k x more steady count = λ i. record x { seen = k.log; made = x.made + count i; holds = hold_stays x (newest (story z (entries k.log))) steady i }
 
 -- the keeper of a desk once a reader has met it
-pub keeper_met : (z : StoreId) (d : DeskView) (k after : KeeperView) (h : Holding) (kept : List Signed) (as' : List (Option ℕ)) → IsDesk z d k h kept as' → after ≡ met k → after ≡ resting (readers_of z) d.log
+pub keeper_met : (z : StoreId) (d : DeskView) (k after : KeeperView) (h : Holding) (kept : List Signed) (as' : List (Option Seen)) → IsDesk z d k h kept as' → after ≡ met k → after ≡ resting (readers_of z) d.log
 keeper_met z d k after h kept as' desk is = is ∙ ap met desk.keeper_is
 
 -- the reader has then seen the desk's log
-pub reader_met : (z : StoreId) (d : DeskView) (k : KeeperView) (h : Holding) (kept : List Signed) (as' : List (Option ℕ)) (x y : ReaderView) → IsDesk z d k h kept as' → IsSteady x → y ≡ met_by z.base k x
+pub reader_met : (z : StoreId) (d : DeskView) (k : KeeperView) (h : Holding) (kept : List Signed) (as' : List (Option Seen)) (x y : ReaderView) → IsDesk z d k h kept as' → IsSteady x → y ≡ met_by z.base k x
     → y ≡ record x { seen = d.log }
 reader_met z d k h kept as' x y desk steady is =
     is ∙ (ap (λ (u : KeeperView). met_by z.base u x) desk.keeper_is
@@ -62,7 +63,7 @@ can_carry z d k h told is = record {
 }
 
 -- after a refusal
-pub refused_is : (z : StoreId) (d new : DeskView) (k : KeeperView) (h : Holding) (kept : List Signed) (as' : List (Option ℕ)) (x y : ReaderView) (c : Command) (has_room : Bool) (refusal : Refusal) → IsDesk z d k h kept as'
+pub refused_is : (z : StoreId) (d new : DeskView) (k : KeeperView) (h : Holding) (kept : List Signed) (as' : List (Option Seen)) (x y : ReaderView) (c : Command) (has_room : Bool) (refusal : Refusal) → IsDesk z d k h kept as'
     → IsSteady x → (takes_room c ≡ false → has_room ≡ true) → Refuses h c has_room refusal → new ≡ d → y ≡ met_by z.base k x → IsRefused z d x c refusal new y
 refused_is z d new k h kept as' x y c has_room refusal desk steady checkpoint judged same met_is =
     record { why = why_is z d h c has_room refusal desk.told checkpoint judged; same = same; seat_is = reader_met z d k h kept as' x y desk steady met_is }
@@ -119,7 +120,7 @@ pub log_after : (z : StoreId) (d : DeskView) (k : KeeperView) (h : Holding) (by 
 log_after z d k h by c reply after last new done last_is = ap (λ (q : KeeperView). q.log) (last_is ∙ ap met (keeper_after z d k h by c reply after new done))
 
 -- the desk after a command that is accepted
-pub desk_after : (z : StoreId) (d : DeskView) (k : KeeperView) (h : Holding) (by : ℕ) (c : Command) (reply : Reply) (after last : KeeperView) (new : Holding) (before kept : List Signed) (as' : List (Option ℕ))
+pub desk_after : (z : StoreId) (d : DeskView) (k : KeeperView) (h : Holding) (by : ℕ) (c : Command) (reply : Reply) (after last : KeeperView) (new : Holding) (before kept : List Signed) (as' : List (Option Seen))
     → IsDone z d k h by c reply after new → before ≡ kept_part z d.log → kept ≡ kept_after before (signed by c reply) → last ≡ met after → length as' ≡ readers_of z → IsDesk z record { log = last.log } last new kept as'
 desk_after z d k h by c reply after last new before kept as' done before_is kept_is last_is place_each =
     let e = signed by c reply in

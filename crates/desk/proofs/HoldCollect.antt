@@ -1,17 +1,17 @@
 -- What is held after a collect.
-use Rattle.std.proofs.Common.{◌≡◌, ℕ, suc, ◌+◌, ◌-◌, ◌≤◌, Bool, true, false, not, cond, List, [], ◌∷◌, ◌++◌, length, map, get_or, refl, ap, subst, sym, ◌∙◌, arith}
+use Rattle.std.proofs.Common.{◌≡◌, ℕ, ◌+◌, Bool, true, false, cond, List, [], ◌∷◌, ◌++◌, length, map, get_or, refl, ap, subst, sym, ◌∙◌, arith}
 use Rattle.std.specs.Prelude.{None, Contains, filter}
-use Rattle.std.specs.List.{range_with_len}
 use Rattle.std.proofs.lemmas.List.{length-map}
-use Rattle.std.proofs.lemmas.List.FromFn.{get_or-range_with_len, length-range_with_len}
 use Rattle.arena.specs.Blocks.{Home}
 use Rattle.map_core.specs.declared.blocks.Retired.{Retired}
 use Rattle.map_core.specs.declared.command.Command.TheVariants.{Collect}
 use Rattle.map_core.specs.declared.command.Reply.{Reply}
 use Rattle.map_core.specs.declared.command.Reply.TheVariants.{Collected}
-use Rattle.map_core.specs.Story.{Story, newest, bitmap_of, kept, IsKept, with_floor, inuse}
+use Rattle.map_core.specs.declared.kept.Kept.{Kept}
+use Rattle.map_core.specs.Kept.{members, IsIn, IsPart, least_kept}
+use Rattle.map_core.specs.Story.{Story, newest, bitmap_of, kept, IsKept, with_kept, inuse}
 use Rattle.map_core.specs.Legal.{IsAnswer, told}
-use Rattle.map_core.specs.Blocks.{Blocks, directory_of, is_used, blocks_of, given_back, moved}
+use Rattle.map_core.specs.Blocks.{Blocks, directory_of, is_used, moved}
 use Rattle.map_core.specs.Ledger.{refused_by_ledger}
 use Rattle.map_core.specs.Summary.{IsSummary}
 use Rattle.map_core.specs.Words.{Base}
@@ -20,25 +20,17 @@ use Rattle.map_core.specs.Tidy.{IsTidy}
 use Rattle.map_core.proofs.FreedLemmas.{freed_is}
 use Rattle.map_core.proofs.LedgerLemmas.{refused_next, ledger_collect}
 use Rattle.map_core.proofs.SummaryCollect.{summary_swept}
-use Rattle.map_core.proofs.TidyCollect.{collected_story}
+use Rattle.map_core.proofs.TidyCollect.{IsChoice, kept_of}
+use Rattle.grid.proofs.GridSweep.{contains_member}
 use Rattle.map_core.proofs.TimesLemmas.{length-filter}
 use Rattle.grid.specs.Grids.{Tiled, OldPiece, Sweeps, draft, bitmap_at, own_blocks, newest_blocks, retired_of, retired_blocks}
 use Rattle.desk.specs.declared.holding.Holding.{Holding}
 use Rattle.desk.specs.Holdings.{summary_of, Holds, IsTold, Does}
 use Rattle.desk.proofs.HoldLemmas.{tidy_told, told_more}
 
--- the versions from the floor to newest, by the grid
-abbrev versions_from : ℕ → ℕ → List ℕ
-versions_from f n = range_with_len f (n + 1 - f)
-
--- they are those that the log keeps
-versions_are : (s : Story) (f n : ℕ) → n ≡ newest s → versions_from f n ≡ kept (collected_story s f)
-unfolding kept newest
-versions_are s f n is = let count : n + 1 - f ≡ suc (newest s) - f = omega arith in ap (range_with_len f) count
-
--- each of them is among them
-among_versions : (f n v : ℕ) → f ≤ v → v ≤ n → Contains (versions_from f n) v
-among_versions f n v low high = (v - f, omega (arith, length-range_with_len f (n + 1 - f)), get_or-range_with_len f (n + 1 - f) (v - f) v (omega arith) ∙ omega arith)
+-- a version that is kept is one of those in the slots
+kept_member : (kept_now : Kept) (v : ℕ) → IsIn kept_now v → Contains (members kept_now.slots) v
+kept_member kept_now v h = contains_member kept_now.slots h.slot v h.there
 
 -- the retired pieces that stay, as retired blocks
 stay_as_blocks : (p : Retired → Bool) (rs : List OldPiece) → map retired_of (filter (λ r. p (retired_of r)) rs) ≡ filter p (map retired_of rs)
@@ -51,22 +43,19 @@ stay_as_blocks p (r ∷ rs) = by_test (p (retired_of r)) r (filter (λ q. p (ret
     by_test false r qs = refl
 
 -- what is kept of the log then
-summary_collected : (k : Base) (s : Story) (m : Blocks) (old new : Holding) (place f freed : ℕ) → IsTidy k s m → Holds k s m old → f ≤ newest s
-    → Sweeps (versions_from f old.grid.newest) old.grid old.arena.free freed new.grid new.arena.free
-    → new.ledger ≡ record old.ledger { places = old.ledger.places + 1; floor = f }
-    → IsSummary k (told s Collect (Collected place f freed)) (moved s Collect (Collected place f freed) m) (summary_of new)
-summary_collected k s m old new place f freed tidy holds high sweeps entered =
+summary_collected : (k : Base) (s : Story) (m : Blocks) (old new : Holding) (place f freed : ℕ) (kept_now : Kept) → IsTidy k s m → Holds k s m old → IsChoice s kept_now
+    → Sweeps (members kept_now.slots) old.grid old.arena.free freed new.grid new.arena.free
+    → new.ledger ≡ record old.ledger { places = old.ledger.places + 1; kept = kept_now }
+    → IsSummary k (told s Collect (Collected place f freed kept_now)) (moved s Collect (Collected place f freed kept_now) m) (summary_of new)
+summary_collected k s m old new place f freed kept_now tidy holds choice sweeps entered =
     let held = holds.summary in
-    let versions = versions_are s f old.grid.newest holds.newest_is in
-    let stay : retired_blocks new.grid ≡ filter (is_used (kept (collected_story s f))) (retired_blocks old.grid) =
-    ap (map retired_of) sweeps.retired_is ∙ (stay_as_blocks (is_used (versions_from f old.grid.newest)) old.grid.retired ∙ ap (λ (vs : List ℕ). filter (is_used vs) (retired_blocks old.grid)) versions) in
-    let back : new.arena.free ≡ given_back (blocks_of (filter (λ r. not (is_used (kept (collected_story s f)) r)) (retired_blocks old.grid))) old.arena.free =
-    sweeps.free_is ∙ ap (λ (vs : List ℕ). given_back (blocks_of (filter (λ r. not (is_used vs r)) (retired_blocks old.grid))) old.arena.free) versions in
-    let swept = summary_swept k s m (summary_of old) new.ledger place f freed new.arena.free (retired_blocks new.grid) held (ledger_collect k s old.ledger new.ledger _ place f freed held.ledger_is refl entered) stay back in
+    let stay : retired_blocks new.grid ≡ filter (is_used (members kept_now.slots)) (retired_blocks old.grid) =
+    ap (map retired_of) sweeps.retired_is ∙ stay_as_blocks (is_used (members kept_now.slots)) old.grid.retired in
+    let swept = summary_swept k s m (summary_of old) new.ledger place f freed kept_now new.arena.free (retired_blocks new.grid) held (ledger_collect k s old.ledger new.ledger _ place f freed kept_now held.ledger_is refl entered) stay sweeps.free_is in
     record {
       ledger_is = swept.ledger_is;
       draft_is = ap draft sweeps.others ∙ swept.draft_is;
-      published_is = ap (λ (g : Tiled). bitmap_at new.grid g.newest) sweeps.others ∙ (sweeps.bitmaps old.grid.newest (among_versions f old.grid.newest old.grid.newest (omega (arith, holds.newest_is)) (omega arith)) ∙ swept.published_is);
+      published_is = ap (λ (g : Tiled). bitmap_at new.grid g.newest) sweeps.others ∙ (sweeps.bitmaps old.grid.newest (kept_member kept_now old.grid.newest (subst (λ (n : ℕ). IsIn kept_now n) (sym holds.newest_is) choice.newest_in)) ∙ swept.published_is);
       came_long = ap (λ (g : Tiled). length g.came) sweeps.others ∙ swept.came_long;
       came_is = λ p h. ap (λ (g : Tiled). get_or g.came p 0) sweeps.others ∙ swept.came_is p h;
       own_is = ap own_blocks sweeps.others ∙ swept.own_is;
@@ -75,51 +64,56 @@ summary_collected k s m old new place f freed tidy holds high sweeps entered =
     }
 
 -- what is held then
-holds_collected : (k : Base) (s : Story) (m : Blocks) (old new : Holding) (place f freed : ℕ) → IsTidy k s m → Holds k s m old → s.floor ≤ f → f ≤ newest s
-    → Sweeps (versions_from f old.grid.newest) old.grid old.arena.free freed new.grid new.arena.free → new.arena.home ≡ old.arena.home
-    → new.ledger ≡ record old.ledger { places = old.ledger.places + 1; floor = f }
-    → Holds k (told s Collect (Collected place f freed)) (moved s Collect (Collected place f freed) m) new
+holds_collected : (k : Base) (s : Story) (m : Blocks) (old new : Holding) (place f freed : ℕ) (kept_now : Kept) → IsTidy k s m → Holds k s m old → IsChoice s kept_now
+    → Sweeps (members kept_now.slots) old.grid old.arena.free freed new.grid new.arena.free → new.arena.home ≡ old.arena.home
+    → new.ledger ≡ record old.ledger { places = old.ledger.places + 1; kept = kept_now }
+    → Holds k (told s Collect (Collected place f freed kept_now)) (moved s Collect (Collected place f freed kept_now) m) new
 unfolding told moved newest bitmap_of directory_of IsKept
-holds_collected k s m old new place f freed tidy holds low high sweeps home entered = record {
-  summary = summary_collected k s m old new place f freed tidy holds high sweeps entered;
+holds_collected k s m old new place f freed kept_now tidy holds choice sweeps home entered = record {
+  summary = summary_collected k s m old new place f freed kept_now tidy holds choice sweeps entered;
   newest_is = ap (λ (g : Tiled). g.newest) sweeps.others ∙ holds.newest_is;
   mapped = ap newest_blocks sweeps.others ∙ holds.mapped;
-  versions = λ v is_kept. sweeps.bitmaps v (among_versions f old.grid.newest v is_kept.0 (omega (arith, is_kept.1, holds.newest_is))) ∙ holds.versions v (omega (arith, is_kept.0), is_kept.1);
+  versions = λ v is_kept. sweeps.bitmaps v (kept_member kept_now v is_kept) ∙ holds.versions v (kept_of s kept_now choice v is_kept);
   home_is = ap (λ (g : Tiled). g.home) sweeps.others ∙ (holds.home_is ∙ sym home);
   count_is = ap (λ (x : Home). x.count) home ∙ holds.count_is;
   room_is = ap (λ (g : Tiled). g.room) sweeps.others ∙ holds.room_is;
 }
 
 -- so many blocks fewer are in use as go back
-freed_told : (k : Base) (s : Story) (m : Blocks) (old new : Holding) (f freed : ℕ) → IsTidy k s m → Holds k s m old → s.floor ≤ f → f ≤ newest s
-    → Sweeps (versions_from f old.grid.newest) old.grid old.arena.free freed new.grid new.arena.free → freed + inuse (with_floor s f) ≡ inuse s
-freed_told k s m old new f freed tidy holds low high sweeps =
-    let all = freed_is k s m tidy f low high in
-    let versions = versions_are s f old.grid.newest holds.newest_is in
-    let parts = length-filter (is_used (kept (collected_story s f))) m.retired in
-    let stay : length new.grid.retired ≡ length (filter (is_used (kept (collected_story s f))) m.retired) =
-    sym (length-map new.grid.retired retired_of) ∙ (ap length (ap (map retired_of) sweeps.retired_is ∙ (stay_as_blocks (is_used (versions_from f old.grid.newest)) old.grid.retired
-    ∙ (ap (λ (vs : List ℕ). filter (is_used vs) (retired_blocks old.grid)) versions ∙ ap (filter (is_used (kept (collected_story s f)))) holds.summary.retired_is)))) in
+freed_told : (k : Base) (s : Story) (m : Blocks) (old new : Holding) (freed : ℕ) (kept_now : Kept) → IsTidy k s m → Holds k s m old → IsChoice s kept_now
+    → Sweeps (members kept_now.slots) old.grid old.arena.free freed new.grid new.arena.free → freed + inuse (with_kept s kept_now) ≡ inuse s
+unfolding kept
+freed_told k s m old new freed kept_now tidy holds choice sweeps =
+    let all = freed_is k s m tidy kept_now choice in
+    let parts = length-filter (is_used (members kept_now.slots)) m.retired in
+    let stay : length new.grid.retired ≡ length (filter (is_used (members kept_now.slots)) m.retired) =
+    sym (length-map new.grid.retired retired_of) ∙ (ap length (ap (map retired_of) sweeps.retired_is ∙ (stay_as_blocks (is_used (members kept_now.slots)) old.grid.retired
+    ∙ ap (filter (is_used (members kept_now.slots))) holds.summary.retired_is))) in
     let before : length old.grid.retired ≡ length m.retired = sym (length-map old.grid.retired retired_of) ∙ ap length holds.summary.retired_is in
     let counted = sweeps.freed_is in
     omega arith
 
 -- a collect is done
-pub collect_done : (old new : Holding) (f freed : ℕ) (reply : Reply) → refused_by_ledger old.ledger Collect ≡ None → old.ledger.floor ≤ f → f ≤ old.ledger.newest
-    → Sweeps (versions_from f old.grid.newest) old.grid old.arena.free freed new.grid new.arena.free → new.arena.home ≡ old.arena.home
-    → new.ledger ≡ record old.ledger { places = old.ledger.places + 1; floor = f } → reply ≡ Collected (old.ledger.places + 1) f freed → Does old Collect reply new
-collect_done old new f freed reply by risen within sweeps home entered said k log tells =
+pub collect_done : (old new : Holding) (kept_now : Kept) (freed : ℕ) (reply : Reply) → refused_by_ledger old.ledger Collect ≡ None → IsPart kept_now.slots old.ledger.kept.slots → IsIn kept_now old.ledger.newest
+    → Sweeps (members kept_now.slots) old.grid old.arena.free freed new.grid new.arena.free → new.arena.home ≡ old.arena.home
+    → new.ledger ≡ record old.ledger { places = old.ledger.places + 1; kept = kept_now } → reply ≡ Collected (old.ledger.places + 1) (least_kept old.ledger.newest kept_now) freed kept_now → Does old Collect reply new
+collect_done old new kept_now freed reply by part newest_in sweeps home entered said k log tells =
     let s = story k log in
     let m = blocks k log in
     let tidy = tidy_told k log old tells in
     let held = tells.holds.summary.ledger_is in
-    let floor_is = held.floor_is in
-    let newest_is = held.newest_is in
-    let low : s.floor ≤ f = omega arith in
-    let high : f ≤ newest s = omega arith in
-    let answer : IsAnswer k.setting s Collect (Collected (old.ledger.places + 1) f freed) = record {
-      accepted = refused_next k s old.ledger held tidy.draft Collect by;
-      reply_is = (ap (λ (n : ℕ). n + 1) held.places_is, record { risen = low; within = high; freed_is = freed_told k s m old new f freed tidy tells.holds low high sweeps });
+    let place = old.ledger.places + 1 in
+    let least = least_kept old.ledger.newest kept_now in
+    let choice : IsChoice s kept_now = record {
+      part = subst (λ (q : Kept). IsPart kept_now.slots q.slots) held.kept_is part;
+      newest_in = subst (λ (n : ℕ). IsIn kept_now n) held.newest_is newest_in;
     } in
-    let all = told_more k log old new Collect (Collected (old.ledger.places + 1) f freed) tells answer (holds_collected k s m old new (old.ledger.places + 1) f freed tidy tells.holds low high sweeps home entered) in
+    let answer : IsAnswer k.setting s Collect (Collected place least freed kept_now) = record {
+      accepted = refused_next k s old.ledger held tidy.draft Collect by;
+      reply_is = (
+        ap (λ (n : ℕ). n + 1) held.places_is,
+        record { part = choice.part; newest_in = choice.newest_in; floor_is = ap (λ (n : ℕ). least_kept n kept_now) held.newest_is; freed_is = freed_told k s m old new freed kept_now tidy tells.holds choice sweeps },
+      );
+    } in
+    let all = told_more k log old new Collect (Collected place least freed kept_now) tells answer (holds_collected k s m old new place least freed kept_now tidy tells.holds choice sweeps home entered) in
     subst (λ (x : Reply). IsAnswer k.setting s Collect x × IsTold k (log ++ record { command = Collect; reply = x } ∷ []) new) (sym said) (answer, all)

@@ -1,8 +1,16 @@
 -- What is held goes with one more entry of the log.
-use Rattle.std.proofs.Common.{◌≡◌, ℕ, List, [], ◌∷◌, ◌++◌, length, get_or, ap, subst, sym, ◌∙◌, arith}
+use Rattle.std.proofs.Common.{◌≡◌, ℕ, ◌<◌, ◌&&◌, Bool, true, false, if◌then◌else◌, List, [], ◌∷◌, ◌++◌, length, get_or, ap, subst, sym, ◌∙◌, arith}
+use Rattle.std.specs.Prelude.{Some, None, nat_le}
+use Rattle.std.proofs.lemmas.Bool.Decides.{nat_tests}
+use Rattle.metric.specs.declared.refusal.Refusal.TheVariants.{VersionsFull, LogFull, PlacesUsed}
+use Rattle.map_core.specs.declared.command.Command.TheVariants.{Publish}
 use Rattle.map_core.specs.declared.command.Command.{Command}
 use Rattle.map_core.specs.declared.command.Entry.{Entry}
 use Rattle.map_core.specs.declared.command.Reply.{Reply}
+use Rattle.map_core.specs.declared.kept.Kept.{Kept}
+use Rattle.map_core.specs.declared.ledger.Ledger.{Ledger}
+use Rattle.map_core.specs.Kept.{members, IsIn}
+use Rattle.map_core.specs.Ledger.{IsBalanced, takes_room, has_no_room, has_no_place, has_no_slot, refused_by_ledger}
 use Rattle.map_core.specs.Story.{Story, newest, bitmap_of, IsKept}
 use Rattle.map_core.specs.Legal.{IsAnswer, told}
 use Rattle.map_core.specs.Blocks.{Blocks, directory_of, moved}
@@ -48,9 +56,9 @@ same_published g new others = ap (λ (x : Tiled). bitmap_at x x.newest) others
 -- what is held where only the draft has changed, and the log's versions are the same
 pub holds_draft : (k : Base) (s t : Story) (m n : Blocks) (old new : Holding) → Holds k s m old → new.grid ≡ record old.grid { own = new.grid.own } → new.arena.home ≡ old.arena.home
     → IsSummary k t n record (summary_of old) { ledger = new.ledger; draft = draft new.grid; own = own_blocks new.grid; free = new.arena.free }
-    → newest t ≡ newest s → t.floor ≡ s.floor → ((v : ℕ) → bitmap_of t v ≡ bitmap_of s v) → directory_of n (newest t) ≡ directory_of m (newest s) → Holds k t n new
+    → newest t ≡ newest s → t.kept ≡ s.kept → ((v : ℕ) → bitmap_of t v ≡ bitmap_of s v) → directory_of n (newest t) ≡ directory_of m (newest s) → Holds k t n new
 unfolding IsKept
-holds_draft k s t m n old new holds others home kept newest_same floor_same bitmaps directory = record {
+holds_draft k s t m n old new holds others home kept newest_same kept_same bitmaps directory = record {
   summary = record {
     ledger_is = kept.ledger_is;
     draft_is = kept.draft_is;
@@ -63,8 +71,29 @@ holds_draft k s t m n old new holds others home kept newest_same floor_same bitm
   };
   newest_is = ap (λ (g : Tiled). g.newest) others ∙ (holds.newest_is ∙ sym newest_same);
   mapped = ap newest_blocks others ∙ (holds.mapped ∙ sym directory);
-  versions = λ v is_kept. same_versions old.grid new.grid others v ∙ (holds.versions v (omega (arith, is_kept.0, floor_same), omega (arith, is_kept.1, newest_same)) ∙ sym (bitmaps v));
+  versions = λ v is_kept. same_versions old.grid new.grid others v ∙ (holds.versions v (subst (λ (q : Kept). IsIn q v) kept_same is_kept) ∙ sym (bitmaps v));
   home_is = ap (λ (g : Tiled). g.home) others ∙ (holds.home_is ∙ sym home);
   count_is = ap (λ (x : Home). x.count) home ∙ holds.count_is;
   room_is = ap (λ (g : Tiled). g.room) others ∙ holds.room_is;
 }
+
+-- a publish that a ledger doesn't refuse finds a slot
+pub slot_of_ledger : (l : Ledger) → IsBalanced l → refused_by_ledger l Publish ≡ None → length (members l.kept.slots) < 64
+unfolding refused_by_ledger
+slot_of_ledger l balanced by =
+    let few = balanced.few_slots in
+    let free = from_test l.setting.versions (length (members l.kept.slots)) (tested (takes_room Publish && has_no_room l) (has_no_place l) (has_no_slot l) by) in
+    omega arith
+  where
+    tested : (full used none : Bool) → (if full then Some LogFull else (if used then Some PlacesUsed else (if none then Some VersionsFull else None))) ≡ None → none ≡ false
+    tested true used none is = absurd (cc)
+    tested false true none is = absurd (cc)
+    tested false false true is = absurd (cc)
+    tested false false false is = cc
+
+    from_test : (versions n : ℕ) → nat_le versions n ≡ false → n < versions
+    from_test versions n is = grind (arith, nat_tests)
+
+-- so does a command that is one
+pub publish_room : (l : Ledger) (c : Command) → IsBalanced l → c ≡ Publish → refused_by_ledger l c ≡ None → length (members l.kept.slots) < 64
+publish_room l c balanced publish by = slot_of_ledger l balanced (sym (ap (refused_by_ledger l) publish) ∙ by)

@@ -9,6 +9,7 @@ use Rattle.map_core.specs.declared.ledger.Ledger.{Ledger}
 use Rattle.map_core.specs.declared.setting.Setting.{Setting}
 use Rattle.map_core.specs.declared.command.Entry.{Entry}
 use Rattle.map_core.specs.Setting.{bad_field}
+use Rattle.map_core.specs.Kept.{first_kept}
 use Rattle.map_core.specs.Story.{opened, newest, bitmap_of, IsKept}
 use Rattle.map_core.specs.Blocks.{opened_blocks, directory_of, own_list}
 use Rattle.map_core.specs.Ledger.{IsLedger}
@@ -19,13 +20,14 @@ use Rattle.map_core.proofs.OpenWorld.{fits_ready, bad_field-none}
 use Rattle.grid.specs.Grids.{draft, bitmap_at, own_blocks, newest_blocks, retired_of}
 use Rattle.desk.specs.declared.holding.Holding.{Holding}
 use Rattle.desk.specs.Holdings.{IsTold, CanAnswer}
+use Rattle.map_core.proofs.TidyOpened.{opened_at}
 use Rattle.desk.proofs.HoldLemmas.{tidy_told}
 
 -- what the parts of a holding are at its opening
 pub record IsNew (g : Setting) (b : Cells) (h : Holding) : Type 0 where
   pub fits : bad_field (tile_count b) g ≡ None
   pub bitmap : IsBitmap b
-  pub ledger_is : h.ledger ≡ record { setting = g; width = b.width; height = b.height; places = 0; base = 0; newest = 0; floor = 0 }
+  pub ledger_is : h.ledger ≡ record { setting = g; width = b.width; height = b.height; places = 0; base = 0; newest = 0; slot = 0; kept = first_kept }
   pub draft_is : draft h.grid ≡ b
   pub version_0 : bitmap_at h.grid 0 ≡ b
   pub newest_is : h.grid.newest ≡ 0
@@ -68,7 +70,7 @@ told_new g b h new =
       legal = tt;
       holds = record {
         summary = record {
-          ledger_is = subst (λ (l : Ledger). IsLedger k (story k []) l) (sym new.ledger_is) record { setting_is = refl; width_is = refl; height_is = refl; places_is = refl; base_is = refl; newest_is = refl; floor_is = refl };
+          ledger_is = subst (λ (l : Ledger). IsLedger k (story k []) l) (sym new.ledger_is) record { setting_is = refl; width_is = refl; height_is = refl; places_is = refl; base_is = refl; newest_is = refl; slot_is = refl; kept_is = refl };
           draft_is = new.draft_is;
           published_is = ap (bitmap_at h.grid) new.newest_is ∙ new.version_0;
           came_long = ap length new.came_is ∙ length-replicate (tile_count b) 0;
@@ -79,7 +81,7 @@ told_new g b h new =
         };
         newest_is = new.newest_is;
         mapped = parts.0 ∙ ap (range_with_len 0) long;
-        versions = λ v is_kept. let first : v ≡ 0 = omega (arith, is_kept.1) in ap (bitmap_at h.grid) first ∙ (new.version_0 ∙ ap (bitmap_of (story k [])) (sym first));
+        versions = λ v is_kept. let first : v ≡ 0 = (opened_at is_kept.slot v is_kept.there).1 in ap (bitmap_at h.grid) first ∙ (new.version_0 ∙ ap (bitmap_of (story k [])) (sym first));
         home_is = new.home_is;
         count_is = new.count_is;
         room_is = new.room_is;

@@ -1,14 +1,14 @@
 -- What is held after a publish.
 use Rattle.std.proofs.Common.{◌≡◌, ℕ, ◌+◌, List, ◌++◌, replicate, ap, subst, sym, ◌∙◌, arith}
 use Rattle.std.specs.Prelude.{Option, None}
-use Rattle.std.proofs.lemmas.Bool.{cases_lt}
 use Rattle.std.proofs.lemmas.List.{length-map}
 use mathlib.Core.Logic.{inl, inr}
 use Rattle.arena.specs.Chain.{Pool}
 use Rattle.map_core.specs.declared.command.Command.TheVariants.{Publish}
 use Rattle.map_core.specs.declared.command.Reply.{Reply}
 use Rattle.map_core.specs.declared.command.Reply.TheVariants.{Published}
-use Rattle.map_core.specs.Story.{Story, newest, bitmap_of, IsKept}
+use Rattle.map_core.specs.Kept.{first_free, with_version}
+use Rattle.map_core.specs.Story.{Story, bitmap_of, IsKept}
 use Rattle.map_core.specs.Legal.{IsReply, IsAnswer, told}
 use Rattle.map_core.specs.Blocks.{Blocks, mapped, moved}
 use Rattle.map_core.specs.Ledger.{refused_by_ledger}
@@ -17,8 +17,8 @@ use Rattle.map_core.specs.Words.{Base}
 use Rattle.map_core.specs.Views.{story, blocks}
 use Rattle.map_core.specs.Tidy.{IsTidy}
 use Rattle.map_core.proofs.LedgerLemmas.{refused_next, ledger_publish}
-use Rattle.map_core.proofs.SummaryPublish.{newest_published, summary_publish}
-use Rattle.map_core.proofs.TidyPublish.{newest-publish, bitmap_of-publish, bitmap_of-new, directory_of-new}
+use Rattle.map_core.proofs.SummaryPublish.{newest_published, slots_published, summary_publish}
+use Rattle.map_core.proofs.TidyPublish.{newest-publish, bitmap_of-publish, bitmap_of-new, directory_of-new, kept_published}
 use Rattle.grid.specs.Grids.{Seals, bitmap_at, own_blocks, newest_blocks, retired_blocks}
 use Rattle.grid.specs.Pieces.{block_if}
 use Rattle.desk.specs.declared.holding.Holding.{Holding}
@@ -33,22 +33,21 @@ versions_published k s m old new reply tidy holds seals v is_kept =
     let shape = tidy.shape in
     let next = newest-publish k s m shape in
     let newest_same = holds.newest_is in
-    elim (cases_lt (newest s) v) [
-      | inl over ↦
-          let now : v ≡ newest s + 1 = omega (arith, is_kept.1, next) in
+    elim (kept_published s v is_kept) [
+      | inr now ↦
           let number : v ≡ new.grid.newest = omega (arith, seals.newest_is) in
           ap (bitmap_at new.grid) number ∙ (seals.bitmap_is ∙ (holds.summary.draft_is ∙ sym (bitmap_of-new k s m shape v now)))
-      | inr low ↦ seals.versions v (omega arith) ∙ (holds.versions v (is_kept.0, low) ∙ sym (bitmap_of-publish k s m shape v low))
+      | inl old_one ↦ let low = tidy.slots.published v old_one in seals.versions v (omega arith) ∙ (holds.versions v old_one ∙ sym (bitmap_of-publish k s m shape v low))
     ]
 
 -- what is kept then
 summary_sealed : (k : Base) (s : Story) (m : Blocks) (old new : Holding) (reply : Reply) → IsTidy k s m → Holds k s m old → Seals old.grid new.grid → new.arena ≡ old.arena
-    → new.ledger ≡ record old.ledger { places = old.ledger.places + 1; newest = old.ledger.newest + 1 } → IsSummary k (told s Publish reply) (moved s Publish reply m) (summary_of new)
+    → new.ledger ≡ record old.ledger { places = old.ledger.places + 1; newest = old.ledger.newest + 1; slot = first_free old.ledger.kept.slots; kept = with_version old.ledger.kept (old.ledger.newest + 1) } → IsSummary k (told s Publish reply) (moved s Publish reply m) (summary_of new)
 summary_sealed k s m old new reply tidy holds seals arena entered =
     let kept = holds.summary in
     let newest_same : old.grid.newest ≡ old.ledger.newest = holds.newest_is ∙ sym kept.ledger_is.newest_is in
     let sealed = summary_publish k s m (summary_of old) reply new.ledger (bitmap_at new.grid new.grid.newest) new.grid.came (own_blocks new.grid) (retired_blocks new.grid) kept tidy
-    (ledger_publish k s old.ledger new.ledger reply kept.ledger_is (newest_published k s m reply tidy.shape) entered)
+    (ledger_publish k s old.ledger new.ledger reply kept.ledger_is (newest_published k s m reply tidy.shape) (slots_published k s m tidy) entered)
     seals.bitmap_is
     (seals.own_is ∙ ap (λ (n : ℕ). replicate n None) (sym (length-map old.grid.own block_if)))
     (seals.came_is ∙ ap (λ (n : ℕ). came_after n (own_blocks old.grid) old.grid.came) newest_same)
@@ -68,7 +67,7 @@ summary_sealed k s m old new reply tidy holds seals arena entered =
 
 -- what is held then
 holds_sealed : (k : Base) (s : Story) (m : Blocks) (old new : Holding) (reply : Reply) → IsTidy k s m → Holds k s m old → Seals old.grid new.grid → new.arena ≡ old.arena
-    → new.ledger ≡ record old.ledger { places = old.ledger.places + 1; newest = old.ledger.newest + 1 } → Holds k (told s Publish reply) (moved s Publish reply m) new
+    → new.ledger ≡ record old.ledger { places = old.ledger.places + 1; newest = old.ledger.newest + 1; slot = first_free old.ledger.kept.slots; kept = with_version old.ledger.kept (old.ledger.newest + 1) } → Holds k (told s Publish reply) (moved s Publish reply m) new
 unfolding told moved
 holds_sealed k s m old new reply tidy holds seals arena entered =
     let next = newest-publish k s m tidy.shape in
@@ -85,7 +84,7 @@ holds_sealed k s m old new reply tidy holds seals arena entered =
 
 -- a publish is done
 pub publish_done : (old new : Holding) (reply : Reply) → refused_by_ledger old.ledger Publish ≡ None → Seals old.grid new.grid → new.arena ≡ old.arena
-    → new.ledger ≡ record old.ledger { places = old.ledger.places + 1; newest = old.ledger.newest + 1 } → reply ≡ Published (old.ledger.places + 1) (old.ledger.newest + 1) → Does old Publish reply new
+    → new.ledger ≡ record old.ledger { places = old.ledger.places + 1; newest = old.ledger.newest + 1; slot = first_free old.ledger.kept.slots; kept = with_version old.ledger.kept (old.ledger.newest + 1) } → reply ≡ Published (old.ledger.places + 1) (old.ledger.newest + 1) → Does old Publish reply new
 publish_done old new reply by seals arena entered said k log tells =
     let s = story k log in
     let tidy = tidy_told k log old tells in

@@ -1,5 +1,6 @@
 -- A desk at its opening.
-use Rattle.std.proofs.Common.{◌≡◌, ℕ, List, [], length, refl, ap, subst, sym, ◌∙◌, arith}
+use Rattle.map_core.specs.declared.kept.Seen.{Seen}
+use Rattle.std.proofs.Common.{◌≡◌, List, [], length, refl, ap, subst, sym, ◌∙◌, arith}
 use Rattle.std.specs.Prelude.{Option}
 use Rattle.shelf.specs.declared.signed.Signed.{Signed}
 use Rattle.shelf.specs.Store.{StoreId, readers_of}
@@ -10,7 +11,7 @@ use Rattle.desk.specs.Desks.{IsDesk, base_place}
 use Rattle.std.proofs.lemmas.List.{drop_all}
 
 -- the desk of a store with a name is that of the store without
-pub desk_named : (z y : StoreId) (k : KeeperView) (h : Holding) (log : List Signed) (announced : List (Option ℕ)) → y ≡ z → IsTold y.base [] h → log ≡ []
+pub desk_named : (z y : StoreId) (k : KeeperView) (h : Holding) (log : List Signed) (announced : List (Option Seen)) → y ≡ z → IsTold y.base [] h → log ≡ []
     → length announced ≡ readers_of y → k ≡ resting (readers_of z) [] → IsDesk z record { log = k.log } k h log announced
 desk_named z y k h log announced same told log_is place_each keeper_is =
     subst (λ (q : KeeperView). IsDesk z record { log = q.log } q h log announced) (sym keeper_is)

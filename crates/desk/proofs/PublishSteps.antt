@@ -7,21 +7,23 @@ use Rattle.bits.specs.TileWords.{tile_words}
 use Rattle.map_core.specs.declared.command.Command.{Command}
 use Rattle.map_core.specs.declared.command.Command.TheVariants.{Publish}
 use Rattle.map_core.specs.declared.command.Reply.{Reply}
+use Rattle.map_core.specs.declared.kept.Kept.{Kept}
+use Rattle.map_core.specs.Kept.{first_free}
 use Rattle.map_core.specs.Story.{newest}
 use Rattle.map_core.specs.Blocks.{own_list, mapped, directory_of}
-use Rattle.map_core.specs.Words.{Base, tiles}
+use Rattle.map_core.specs.Words.{Base, tiles, next_slot}
 use Rattle.map_core.specs.Views.{story, blocks}
 use Rattle.grid.specs.Grids.{draft, own_blocks, newest_blocks}
 use Rattle.grid.specs.Pieces.{block_if}
 use Rattle.shelf.specs.Store.{StoreId, readers_of}
 use Rattle.shelf.specs.Roles.{Task, KeeperView, entries}
-use Rattle.shelf.specs.Steps.{ordered, writing, committed, one_own, IsOwn, MayCommit}
+use Rattle.shelf.specs.Steps.{ordered, writing, committed, newest_slot, one_own, IsOwn, MayCommit}
 use Rattle.map_core.proofs.PublishWords.{own_more}
 use Rattle.shelf.proofs.WriteSteps.{is_own, may_publish, publish_done}
 use Rattle.desk.specs.declared.holding.Holding.{Holding}
 use Rattle.desk.specs.Holdings.{IsTold, Does}
 use Rattle.desk.specs.Carries.{CanCarry, IsCarried}
-use Rattle.desk.proofs.CarryLemmas.{all_met, is_dealt, carried_is}
+use Rattle.desk.proofs.CarryLemmas.{all_met, is_dealt, carried_is, slot_told}
 use Rattle.desk.proofs.HoldLemmas.{tidy_told}
 
 -- the draft has a place of its own for each position
@@ -61,6 +63,11 @@ pub next_block : (z : Base) (k : KeeperView) (h : Holding) (p block : ℕ) → I
 next_block z k h p block told is =
     is ∙ (λ i. get_or (mapped (told.holds.summary.own_is i) (told.holds.mapped i)) p 0)
 
+-- the next slot, by what is held
+pub next_slot_is : (z : Base) (k : KeeperView) (h : Holding) (slot : ℕ) → IsTold z (entries k.log) h → slot ≡ first_free h.ledger.kept.slots → slot ≡ next_slot z (story z (entries k.log))
+unfolding next_slot
+next_slot_is z k h slot told is = is ∙ ap (λ (q : Kept). first_free q.slots) told.holds.summary.ledger_is.kept_is
+
 -- the keeper that has taken a publish in hand has stored nothing yet
 pub publish_begun : (k u : KeeperView) (by : ℕ) (c : Command) → u ≡ ordered k by c → c ≡ Publish → u ≡ writing u by 0
 publish_begun k u by c is publish =
@@ -89,7 +96,12 @@ pub may_commit_written : (z : StoreId) (k u : KeeperView) (h : Holding) (by stor
 may_commit_written z k u h by stored able caller done =
     may_publish z.base k u by (64 * stored + tiles z.base) done.keeper_is (ap (λ (n : ℕ). 64 * n + tiles z.base) done.count) (is_dealt z k h by able caller) (all_met z k h able)
 
--- and is carried out then
+-- the slot that the keeper is told
+pub slot_published : (z : StoreId) (k u : KeeperView) (h new : Holding) (by stored : ℕ) (reply : Reply) → CanCarry z k h → IsWritten z.base k u by stored → Does h Publish reply new
+    → (t : Task) → u.task ≡ Some t → new.ledger.slot ≡ newest_slot z.base (committed z.base u t).log
+slot_published z k u h new by stored reply able done does = slot_told z k u h new by (64 * stored + tiles z.base) Publish [] reply able.told does tt done.keeper_is
+
+-- a publish is carried out then
 pub publish_carried : (z : StoreId) (k u l : KeeperView) (h new : Holding) (by stored : ℕ) (c : Command) (reply : Reply) → CanCarry z k h → c ≡ Publish → IsWritten z.base k u by stored
     → Does h Publish reply new → ((t : Task) → u.task ≡ Some t → l ≡ committed z.base u t) → IsCarried k h by c reply l new
 publish_carried z k u l h new by stored c reply able publish done does step =

@@ -1,18 +1,22 @@
--- What a scan has seen so far, and the floor of it.
-use Rattle.std.proofs.Common.{◌≡◌, ℕ, ◌+◌, ◌-◌, ◌^◌, ◌<◌, ◌≤◌, List, [], ◌∷◌, ◌++◌, length, map, take, set, ap, sym, subst, ◌∙◌, refl, arith}
-use Rattle.std.specs.Prelude.{Option, Some, None, max, fold}
+-- What a scan has seen so far, and what it keeps.
+use Rattle.std.proofs.Common.{◌≡◌, ℕ, ◌+◌, ◌^◌, ◌<◌, ◌≤◌, List, [], ◌∷◌, ◌++◌, length, map, take, set, ap, sym, subst, ◌∙◌, refl, arith}
+use Rattle.std.specs.Prelude.{Option, None}
 use Rattle.std.proofs.lemmas.List.{map-append, length-map, length-take, take_more_set}
 use Rattle.map_core.specs.declared.command.Command.{Command}
 use Rattle.map_core.specs.declared.command.Command.TheVariants.{Collect}
 use Rattle.map_core.specs.declared.command.Entry.{Entry}
 use Rattle.map_core.specs.declared.command.Reply.{Reply}
-use Rattle.map_core.specs.Legal.{told, floor_told}
-use Rattle.map_core.specs.Story.{Story, newest}
-use Rattle.map_core.specs.Steps.{lowered, floor_after}
-use Rattle.map_core.specs.Words.{Base, pin_word}
+use Rattle.map_core.specs.declared.kept.Kept.{Kept}
+use Rattle.map_core.specs.declared.kept.Seen.{Seen}
+use Rattle.map_core.specs.Kept.{IsIn, kept_after}
+use Rattle.map_core.specs.Legal.{told, kept_told}
+use Rattle.map_core.specs.Story.{Story, newest, IsKept}
+use Rattle.map_core.specs.Steps.{kept_scanned}
+use Rattle.map_core.specs.Words.{Base, pin_word, seen_in}
 use Rattle.map_core.specs.Views.{story}
 use Rattle.map_core.proofs.StepLemmas.{story-push}
-use Rattle.epoch.specs.Floor.{lesser, new_floor}
+use Rattle.map_core.proofs.KeptLemmas.{seen_in-pin_word}
+use Rattle.map_core.proofs.Replies.{HasKept}
 use Rattle.shelf.specs.Store.{StoreId, readers_of}
 use Rattle.shelf.specs.Roles.{KeeperView, entries}
 use Rattle.shelf.specs.Steps.{ordered, scanning, collected, MayCommit}
@@ -22,58 +26,46 @@ use Rattle.desk.specs.Holdings.{IsTold, Does}
 use Rattle.desk.specs.Carries.{CanCarry, IsCarried}
 use Rattle.map_core.specs.Ledger.{refused_by_ledger}
 use Rattle.desk.proofs.CarryLemmas.{next_version, all_met, is_dealt, carried_is}
-use Rattle.desk.proofs.HoldOpen.{can_answer}
-
--- the word of a reader that has announced nothing
-pub word_none : (word : ℕ) → word ≡ 0 → word ≡ pin_word None
-unfolding pin_word
-word_none word is = is
-
--- the word of one that has announced a version
-pub word_some : (word : ℕ) → 1 ≤ word → word ≡ pin_word (Some (word - 1))
-unfolding pin_word
-word_some word some = omega arith
+use Rattle.desk.proofs.HoldLemmas.{tidy_told}
 
 -- so many readers' words are seen
-pub seen_long : (seen : List (Option ℕ)) (reader : ℕ) → reader ≤ length seen → length (map pin_word (take reader seen)) ≡ reader
+pub seen_long : (seen : List (Option Seen)) (reader : ℕ) → reader ≤ length seen → length (map pin_word (take reader seen)) ≡ reader
 seen_long seen reader few = omega (arith, length-map (take reader seen) pin_word, length-take reader seen)
 
 -- one word more
-pub scan_grows : (seen : List (Option ℕ)) (reader word : ℕ) (o : Option ℕ) → reader < length seen → word ≡ pin_word o
+pub scan_grows : (seen : List (Option Seen)) (reader word : ℕ) (o : Option Seen) → reader < length seen → word ≡ pin_word o
     → map pin_word (take (reader + 1) (set seen reader o)) ≡ map pin_word (take reader seen) ++ word ∷ []
 scan_grows seen reader word o inside is =
     ap (map pin_word) (take_more_set seen reader o inside) ∙ (map-append pin_word (take reader seen) (o ∷ []) ∙ ap (λ (w : ℕ). map pin_word (take reader seen) ++ w ∷ []) (sym is))
 
--- the lower of a version and what one word announces
-lowered_is : (n : ℕ) (o : Option ℕ) → lowered n (pin_word o) ≡ lesser n o
-unfolding pin_word
-lowered_is n None = refl
-lowered_is n (Some v) = refl
+-- what some words announce
+words_seen : (seen : List (Option Seen)) → map seen_in (map pin_word seen) ≡ seen
+words_seen [] = refl
+words_seen (o ∷ os) = λ i. seen_in-pin_word o i ∷ words_seen os i
 
--- the floor of some words is that of what they announce
-pub floor_of_words : (s : Story) (seen : List (Option ℕ)) → floor_after s (map pin_word seen) ≡ new_floor s.floor (newest s) seen
-unfolding floor_after
-floor_of_words s seen = ap (λ (n : ℕ). max s.floor n) (all_words (newest s) seen)
-  where
-    all_words : (n : ℕ) (os : List (Option ℕ)) → fold lowered n (map pin_word os) ≡ fold lesser n os
-    all_words n [] = refl
-    all_words n (o ∷ os) = ap (λ (m : ℕ). fold lowered m (map pin_word os)) (lowered_is n o) ∙ all_words (lesser n o) os
-
--- the floor that is computed is that of the scan
-pub floor_computed : (z : Base) (k : KeeperView) (h : Holding) (floor : ℕ) (seen as' : List (Option ℕ)) → IsTold z (entries k.log) h → floor ≡ new_floor h.ledger.floor h.ledger.newest as' → as' ≡ seen
-    → floor ≡ floor_after (story z (entries k.log)) (map pin_word seen)
-floor_computed z k h floor seen as' tells is same =
+-- the versions that a scan keeps are those that are computed from what it saw
+pub kept_computed : (z : Base) (k : KeeperView) (h : Holding) (kept : Kept) (seen as' : List (Option Seen)) → IsTold z (entries k.log) h → kept ≡ kept_after h.ledger.kept h.ledger.newest as' → as' ≡ seen
+    → kept ≡ kept_scanned (story z (entries k.log)) (map pin_word seen)
+unfolding kept_scanned
+kept_computed z k h kept seen as' tells is same =
     let ledger = tells.holds.summary.ledger_is in
-    is ∙ ((λ i. new_floor (ledger.floor_is i) (ledger.newest_is i) (same i)) ∙ sym (floor_of_words (story z (entries k.log)) seen))
+    is ∙ ((λ i. kept_after (ledger.kept_is i) (ledger.newest_is i) (same i)) ∙ sym (ap (kept_after (story z (entries k.log)).kept (newest (story z (entries k.log)))) (words_seen seen)))
 
--- and that of the collect's reply
-pub floor_replied : (z : Base) (k : KeeperView) (h new : Holding) (reply : Reply) (floor : ℕ) → IsTold z (entries k.log) h → Does h Collect reply new → new.ledger.floor ≡ floor
-    → floor_told (story z (entries k.log)) reply ≡ floor
+-- newest is kept by the ledger
+pub newest_kept : (z : Base) (k : KeeperView) (h : Holding) → IsTold z (entries k.log) h → IsIn h.ledger.kept h.ledger.newest
+unfolding IsKept
+newest_kept z k h tells =
+    let ledger = tells.holds.summary.ledger_is in
+    subst (λ (q : Kept × ℕ). IsIn q.0 q.1) (λ j. (sym ledger.kept_is j, sym ledger.newest_is j)) (tidy_told z (entries k.log) h tells).slots.newest_in
+
+-- and those of the collect's reply
+kept_replied : (z : Base) (k : KeeperView) (h new : Holding) (reply : Reply) (kept : Kept) → IsTold z (entries k.log) h → Does h Collect reply new → new.ledger.kept ≡ kept
+    → kept_told (story z (entries k.log)) reply ≡ kept
 unfolding told
-floor_replied z k h new reply floor tells does is =
+kept_replied z k h new reply kept tells does is =
     let e : Entry = record { command = Collect; reply = reply } in
     let after = (does z (entries k.log) tells).1 in
-    sym (after.holds.summary.ledger_is.floor_is ∙ ap (λ (s : Story). s.floor) (story-push z (entries k.log) e)) ∙ is
+    sym (after.holds.summary.ledger_is.kept_is ∙ ap (λ (s : Story). s.kept) (story-push z (entries k.log) e)) ∙ is
 
 -- the keeper that has taken a collect in hand has loaded nothing yet
 pub collect_begun : (k u : KeeperView) (by : ℕ) (c : Command) → u ≡ ordered k by c → c ≡ Collect → u ≡ scanning u by []
@@ -82,7 +74,7 @@ collect_begun k u by c is collect =
     begun ∙ sym (ap (λ (q : KeeperView). scanning q by []) begun)
 
 -- the words of all readers are loaded
-pub scanned_all : (k a u : KeeperView) (by : ℕ) (c : Command) (seen : List (Option ℕ)) → a ≡ ordered k by c → u ≡ scanning a by (map pin_word seen) → u ≡ scanning k by (map pin_word seen)
+pub scanned_all : (k a u : KeeperView) (by : ℕ) (c : Command) (seen : List (Option Seen)) → a ≡ ordered k by c → u ≡ scanning a by (map pin_word seen) → u ≡ scanning k by (map pin_word seen)
 scanned_all k a u by c seen order is = is ∙ ap (λ (q : KeeperView). scanning q by (map pin_word seen)) order
 
 -- one more version can be counted
@@ -92,14 +84,19 @@ few_versions z k u h by c is tells judged =
     subst (λ (n : ℕ). n + 1 < 2 ^ 32) (tells.holds.summary.ledger_is.newest_is ∙ ap (λ (q : KeeperView). newest (story z (entries q.log))) (sym is)) few
 
 -- a collect that has seen each reader's word may be committed
-pub may_commit_scanned : (z : StoreId) (k u : KeeperView) (h : Holding) (by : ℕ) (seen : List (Option ℕ)) → CanCarry z k h → by < readers_of z → u ≡ scanning k by (map pin_word seen)
+pub may_commit_scanned : (z : StoreId) (k u : KeeperView) (h : Holding) (by : ℕ) (seen : List (Option Seen)) → CanCarry z k h → by < readers_of z → u ≡ scanning k by (map pin_word seen)
     → length seen ≡ readers_of z → MayCommit z.base u
 may_commit_scanned z k u h by seen able caller is all =
     may_collect z.base k u by (map pin_word seen) is (length-map seen pin_word ∙ all) (is_dealt z k h by able caller) (all_met z k h able)
 
--- and is carried out then
-pub collect_carried : (z : StoreId) (k l : KeeperView) (h new : Holding) (by floor : ℕ) (seen : List (Option ℕ)) (c : Command) (reply : Reply) → CanCarry z k h → c ≡ Collect
-    → Does h Collect reply new → new.ledger.floor ≡ floor → floor ≡ floor_after (story z.base (entries k.log)) (map pin_word seen) → l ≡ collected z.base k by (map pin_word seen) → IsCarried k h by c reply l new
-collect_carried z k l h new by floor seen c reply able collect does floor_is of_scan is =
+-- the reply has what the scan keeps
+pub kept_of_reply : (z : StoreId) (k : KeeperView) (h new : Holding) (kept : Kept) (seen : List (Option Seen)) (reply : Reply) → CanCarry z k h → Does h Collect reply new → new.ledger.kept ≡ kept
+    → kept ≡ kept_scanned (story z.base (entries k.log)) (map pin_word seen) → HasKept (story z.base (entries k.log)) Collect reply (map pin_word seen)
+kept_of_reply z k h new kept seen reply able does kept_is of_scan = kept_replied z.base k h new reply kept able.told does kept_is ∙ of_scan
+
+-- a collect is carried out then
+pub collect_carried : (z : StoreId) (k l : KeeperView) (h new : Holding) (by : ℕ) (kept : Kept) (seen : List (Option Seen)) (c : Command) (reply : Reply) → CanCarry z k h → c ≡ Collect
+    → Does h Collect reply new → new.ledger.kept ≡ kept → kept ≡ kept_scanned (story z.base (entries k.log)) (map pin_word seen) → l ≡ collected z.base k by (map pin_word seen) → IsCarried k h by c reply l new
+collect_carried z k l h new by kept seen c reply able collect does kept_is of_scan is =
     subst (λ (d : Command). IsCarried k h by d reply l new) (sym collect)
-    (carried_is z k l h new by (length (map pin_word seen)) Collect (map pin_word seen) reply able.told does (floor_replied z.base k h new reply floor able.told does floor_is ∙ of_scan) is)
+    (carried_is z k l h new by (length (map pin_word seen)) Collect (map pin_word seen) reply able.told does (kept_of_reply z k h new kept seen reply able does kept_is of_scan) is)

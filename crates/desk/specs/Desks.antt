@@ -4,6 +4,7 @@ use Rattle.metric.specs.declared.refusal.Refusal.{Refusal}
 use Rattle.metric.specs.declared.refusal.Refusal.TheVariants.{Memory}
 use Rattle.map_core.specs.declared.command.Command.{Command}
 use Rattle.map_core.specs.declared.command.Reply.{Reply}
+use Rattle.map_core.specs.declared.kept.Seen.{Seen}
 use Rattle.map_core.specs.Story.{Story}
 use Rattle.map_core.specs.Ledger.{takes_room}
 use Rattle.map_core.specs.Legal.{refused, IsAnswer}
@@ -35,7 +36,7 @@ abbrev pub kept_after : List Signed → Signed → List Signed
 kept_after kept e = if takes_room e.entry.command then kept ++ e ∷ [] else []
 
 -- the keeper's seat rests at the desk's log, what is held is what the log tells, its last part is kept, and there is a place for what each reader announces
-pub record IsDesk (store : StoreId) (d : DeskView) (keeper : KeeperView) (h : Holding) (kept : List Signed) (announced : List (Option ℕ)) : Type 0 where
+pub record IsDesk (store : StoreId) (d : DeskView) (keeper : KeeperView) (h : Holding) (kept : List Signed) (announced : List (Option Seen)) : Type 0 where
   pub keeper_is : keeper ≡ resting (readers_of store) d.log
   pub told : IsTold store.base (entries d.log) h
   pub kept_is : kept ≡ kept_part store d.log

@@ -12,7 +12,7 @@ ghost use Rattle.desk.specs.Carries.{CanCarry, IsCarried};
 use crate::carry::collect::carry_collect;
 use crate::carry::publish::carry_publish;
 use crate::holding::Holding;
-use map_core::{Command, Reply};
+use map_core::{Command, Reply, Seen};
 use metric::Refusal;
 use shelf::{Asked, KeeperSeat, StoreName};
 
@@ -35,7 +35,7 @@ fn carry_draw<Id: StoreName>(
         Err(refusal) => return Err(refusal),
     };
     keeper.order(asked);
-    keeper.commit();
+    keeper.commit(holding.ledger.slot);
     Ok(reply)
 }
 
@@ -46,7 +46,7 @@ fn carry_draw<Id: StoreName>(
 pub fn carry<Id: StoreName>(
     keeper: &mut KeeperSeat<Id>,
     holding: &mut Holding,
-    announced: &mut Vec<Option<u32>>,
+    announced: &mut Vec<Option<Seen>>,
     asked: &Asked,
     has_room: bool,
 ) -> Result<Reply, Refusal>

@@ -6,6 +6,7 @@ mod fresh;
 
 use crate::holding::Holding;
 pub use fresh::FreshDesk;
+use map_core::Seen;
 use shelf::{KeeperSeat, Signed, StoreName};
 use std::marker::Model;
 
@@ -21,7 +22,7 @@ pub struct Desk<Id: StoreName> {
     // The entries that are kept.
     log: Vec<Signed>,
     // What the last collect's scan saw of each reader.
-    announced: Vec<Option<u32>>,
+    announced: Vec<Option<Seen>>,
 }
 
 impl<Id: StoreName> Model for Desk<Id> {

@@ -8,8 +8,8 @@ use std::process::Abort;
 use std::test::Fail;
 
 /// Texts whose first line opens a world, each line with its answer.
-static RUNS: [&[(&str, &str)]; 6] = [
-    // A collect has scanned a reader that then announces a version below the new floor.
+static RUNS: [&[(&str, &str)]; 7] = [
+    // A collect has scanned a reader that then announces a version that the collect drops.
     &[
         ("OPEN 64 64 3 2 1 10", "OPENED 1"),
         ("C PAINT 0 0 1 1", "ORDERED 1"),
@@ -42,6 +42,18 @@ static RUNS: [&[(&str, &str)]; 6] = [
         ("L 0", "NOW 1 0"),
         ("M 0 0", "BLOCK 0"),
         ("Z", "BAD LINE"),
+    ],
+    // A reader announces what it holds exactly, once.
+    &[
+        ("OPEN 64 64 3 3 1 10", "OPENED 1"),
+        ("L 0", "NOW 0 0"),
+        ("A 0", "PIN 0"),
+        ("L 0", "NOW 0 0"),
+        ("E 0", "EXACT 0"),
+        ("E 0", "NOT ENABLED"),
+        ("C COLLECT", "ORDERED 2"),
+        ("K 1", "SCAN 0 2"),
+        ("K 1", "OK 1 0 0"),
     ],
     // A publish word by word, and a row of its tile.
     &[
@@ -104,7 +116,8 @@ static RUNS: [&[(&str, &str)]; 6] = [
         ("M 0 0 0", "BAD LINE"),
         ("T 0 0", "BAD LINE"),
         ("T 0 0 0 0", "BAD LINE"),
-        ("E 0", "BAD LINE"),
+        ("E 0", "NOT ENABLED"),
+        ("E", "BAD LINE"),
         ("OPEN 64 64 3 2 1 10", "BAD LINE"),
         ("V 0", "NOT ENABLED"),
     ],

@@ -15,6 +15,7 @@ step_text (Ok (says.Now place version)) = codes "NOW " ++ (decimal place ++ (32 
 step_text (Ok (says.Block block)) = codes "BLOCK " ++ decimal block
 step_text (Ok (says.Word word)) = codes "WORD " ++ hex_digits 16 word
 step_text (Ok says.Left) = codes "LEFT"
+step_text (Ok (says.Confirmed version)) = codes "EXACT " ++ decimal version
 step_text (Ok (says.Ordered steps)) = codes "ORDERED " ++ decimal steps
 step_text (Ok (says.Refused refusal)) = refusal_text refusal
 step_text (Ok says.Written) = codes "WRITE"

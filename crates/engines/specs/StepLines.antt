@@ -22,6 +22,7 @@ pub data ToldEvent : Type 0 where
   look_map : (reader position : ℕ) → ToldEvent
   look_tile : (reader block row : ℕ) → ToldEvent
   leave : (reader : ℕ) → ToldEvent
+  confirm : (reader : ℕ) → ToldEvent
   order : Told → ToldEvent
   keep : ToldEvent
 
@@ -32,6 +33,7 @@ told_event (events.Load reader) = load reader
 told_event (events.LookMap reader position) = look_map reader position
 told_event (events.LookTile reader block row) = look_tile reader block row
 told_event (events.Leave reader) = leave reader
+told_event (events.Confirm reader) = confirm reader
 told_event (events.Order command) = order (told_by command)
 told_event events.Keep = keep
 
@@ -57,6 +59,7 @@ letter_named word =
     else if bytes_eq word (codes "M") then Some letters.LookMap
     else if bytes_eq word (codes "T") then Some letters.LookTile
     else if bytes_eq word (codes "V") then Some letters.Leave
+    else if bytes_eq word (codes "E") then Some letters.Confirm
     else if bytes_eq word (codes "C") then Some letters.Order
     else if bytes_eq word (codes "K") then Some letters.Keep
     else None
@@ -74,6 +77,7 @@ letter_said letters.Load words = unwrap_or (option_map (λ reader. event (load r
 letter_said letters.LookMap words = unwrap_or (option_map (λ n. event (look_map n.0 n.1)) (number_pair (numbers words))) bad
 letter_said letters.LookTile words = unwrap_or (option_map (λ n. event (look_tile n.0 n.1 n.2)) (number_triple (numbers words))) bad
 letter_said letters.Leave words = unwrap_or (option_map (λ reader. event (leave reader)) (only_number (numbers words))) bad
+letter_said letters.Confirm words = unwrap_or (option_map (λ reader. event (confirm reader)) (only_number (numbers words))) bad
 letter_said letters.Order words = order_said (first_verb words) (said_of words)
 letter_said letters.Keep words = unwrap_or (option_map (λ count. keeps count) (only_number (numbers words))) bad
 

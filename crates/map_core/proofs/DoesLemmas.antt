@@ -8,15 +8,17 @@ use Rattle.metric.specs.declared.refusal.Refusal.{Refusal}
 use Rattle.map_core.specs.declared.command.Command.{Command}
 use Rattle.map_core.specs.declared.command.Command.TheVariants.{Paint, Stamp, Publish, Revert, Collect, Checkpoint}
 use Rattle.map_core.specs.declared.event.Event.{Event}
-use Rattle.map_core.specs.declared.event.Event.TheVariants.{Announce, Load, LookMap, LookTile, Leave, Order, Keep}
+use Rattle.map_core.specs.declared.event.Event.TheVariants.{Announce, Load, LookMap, LookTile, Leave, Confirm, Order, Keep}
 use Rattle.map_core.specs.declared.event.StepReply.{StepReply}
+use Rattle.map_core.specs.declared.kept.Seen.{Seen}
+use Rattle.map_core.specs.declared.kept.Seen.TheVariants.{From, Exact}
 use Rattle.map_core.specs.Legal.{refused}
 use Rattle.map_core.specs.Blocks.{is_mapped}
 use Rattle.map_core.specs.Words.{tiles}
 use Rattle.map_core.specs.Views.{Hand, Reader, State, story_of, blocks_of_state}
-use Rattle.map_core.specs.Steps.{Outcome, announce, load, look_map, look_tile, leave, hold_of, order, ordered, keep, steps_before, step_before, commit, does}
+use Rattle.map_core.specs.Steps.{Outcome, announce, load, look_map, look_tile, leave, to_confirm, confirm_held, confirm, hold_of, order, ordered, keep, steps_before, step_before, commit, does}
 use Rattle.map_core.specs.Sound.{InHand, IsWhole}
-use Rattle.map_core.proofs.StepLemmas.{Keeps, nothing_stored, pin_stored, number_inside, in_hand, keeps-announce, keeps-leave, keeps-load, keeps-order, keeps-write, keeps-scan, keeps-commit}
+use Rattle.map_core.proofs.StepLemmas.{Keeps, nothing_stored, pin_stored, number_inside, in_hand, keeps-announce, keeps-confirm, keeps-leave, keeps-load, keeps-order, keeps-write, keeps-scan, keeps-commit}
 
 -- what is done unless a test is true
 pub unless_true : (test : Bool) (a o : Outcome) → (if test then None else Some a) ≡ Some o → (test ≡ false) × (a ≡ o)
@@ -29,7 +31,7 @@ where_true true a o is = (refl, cc)
 where_true false a o is = absurd (cc)
 
 -- nothing is there where there isn't something
-none_there : (o : Option ℕ) → is_some o ≡ false → o ≡ None
+none_there : {A : Type 0} (o : Option A) → is_some o ≡ false → o ≡ None
 none_there None is = refl
 none_there (Some a) is = absurd (cc)
 
@@ -61,6 +63,25 @@ does-leave w r (Some x) o whole there is =
     let parts = where_true (is_some x.announced) _ o is in
     subst (λ (a : Outcome). Keeps w a) parts.1
     record { whole = keeps-leave w r x whole there; spares = pin_stored w r (number_inside w r x whole there) }
+
+-- an exact announcement
+does-confirm : (w : State) (r : ℕ) (found : Option Reader) (o : Outcome) → IsWhole w → slice_get w.readers r ≡ found → confirm w r found ≡ Some o → Keeps w o
+unfolding confirm
+does-confirm w r None o whole there is = absurd (cc)
+does-confirm w r (Some x) o whole there is = by_hold w r x (to_confirm x.announced x.holds) o whole there refl is
+  where
+    same_outcome : (a o : Outcome) → ◌≡◌ {A = Option Outcome} (Some a) (Some o) → a ≡ o
+    same_outcome a o is = cc
+
+    held : (announced : Option Seen) (holds : Option ℕ) (v : ℕ) → to_confirm announced holds ≡ Some v → holds ≡ Some v
+    held None holds v is = absurd (cc)
+    held (Some (From a)) holds v is = is
+    held (Some (Exact w)) holds v is = absurd (cc)
+
+    by_hold : (w : State) (r : ℕ) (x : Reader) (to : Option ℕ) (o : Outcome) → IsWhole w → slice_get w.readers r ≡ Some x → to_confirm x.announced x.holds ≡ to → confirm_held w r x to ≡ Some o → Keeps w o
+    by_hold w r x None o whole there found is = absurd (cc)
+    by_hold w r x (Some v) o whole there found is =
+        subst (λ (a : Outcome). Keeps w a) (same_outcome _ o is) record { whole = keeps-confirm w r x v whole there (held x.announced x.holds v found); spares = pin_stored w r (number_inside w r x whole there) }
 
 -- an answer that changes nothing
 keeps-same : (w : State) (answer : StepReply) → IsWhole w → Keeps w record { state = w; answer = answer; stored = None }
@@ -146,5 +167,6 @@ does-keeps w (Load r) o whole is = does-load w r (slice_get w.readers r) o whole
 does-keeps w (LookMap r p) o whole is = does-look_map w p (hold_of (slice_get w.readers r)) o whole is
 does-keeps w (LookTile r b i) o whole is = does-look_tile w b i (hold_of (slice_get w.readers r)) o whole is
 does-keeps w (Leave r) o whole is = does-leave w r (slice_get w.readers r) o whole refl is
+does-keeps w (Confirm r) o whole is = does-confirm w r (slice_get w.readers r) o whole refl is
 does-keeps w (Order c) o whole is = does-order w c w.keeper.hand o whole is
 does-keeps w Keep o whole is = does-keep w w.keeper.hand o whole is

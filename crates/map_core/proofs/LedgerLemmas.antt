@@ -1,8 +1,8 @@
 -- A ledger judges commands, and enters them, as the log says.
-use Rattle.std.proofs.Common.{◌≡◌, ℕ, suc, ◌+◌, ◌-◌, ◌<◌, ◌&&◌, Bool, true, false, if◌then◌else◌, List, length, refl, ap, subst, sym, ◌∙◌, arith}
+use Rattle.std.proofs.Common.{◌≡◌, ℕ, ◌+◌, ◌-◌, ◌<◌, ◌&&◌, Bool, true, false, if◌then◌else◌, List, length, refl, ap, subst, sym, ◌∙◌, arith}
 use Rattle.std.specs.Prelude.{Option, Some, None, nat_le}
 use Rattle.std.proofs.lemmas.Bool.Decides.{nat_tests}
-use Rattle.std.proofs.lemmas.List.FromFn.{length-range_with_len}
+use Rattle.std.proofs.lemmas.List.{get_or_push}
 use Rattle.metric.specs.declared.refusal.Refusal.{Refusal}
 use Rattle.metric.specs.declared.refusal.Refusal.TheVariants.{OutOfRange, LogFull, PlacesUsed, VersionsFull}
 use Rattle.map_core.specs.declared.command.Command.{Command}
@@ -11,29 +11,36 @@ use Rattle.map_core.specs.declared.command.Entry.{Entry}
 use Rattle.map_core.specs.declared.command.Reply.{Reply}
 use Rattle.map_core.specs.declared.command.Reply.TheVariants.{Collected}
 use Rattle.map_core.specs.declared.ledger.Ledger.{Ledger}
+use Rattle.map_core.specs.declared.kept.Kept.{Kept}
+use Rattle.map_core.specs.Kept.{members, first_free, with_version}
 use Rattle.map_core.specs.declared.setting.Setting.{Setting}
 use Rattle.map_core.specs.Drawing.{IsDraw, draws, is_inside, lies_within}
 use Rattle.map_core.specs.Ledger.{IsLedger, IsBalanced, HasPlace, takes_room, has_no_room, has_no_place, has_no_slot, refused_slots, refused_by_ledger, refused_draw_blocks, first_refusal}
 use Rattle.map_core.specs.Story.{Story, newest, kept, kept_log}
-use Rattle.map_core.specs.Legal.{IsLegal, refused, refused_blocks, told, after_draw, floor_told}
-use Rattle.map_core.specs.Words.{Base, now_word, now_of}
+use Rattle.map_core.specs.Legal.{IsLegal, refused, refused_blocks, told, after_draw, kept_told}
+use Rattle.map_core.specs.Words.{Base, now_word, now_of, slot_of}
 use Rattle.map_core.specs.Views.{story}
 use Rattle.map_core.specs.Tidy.{IsOfMap, IsReady}
 use Rattle.map_core.proofs.LogLemmas.{places-legal}
+use Rattle.map_core.proofs.SpareLemmas.{slot-within}
 use Rattle.map_core.proofs.TidyLog.{IsTidy-legal}
 
 -- after a legal log the numbers of a ledger lie below one another
 pub balanced : (k : Base) (log : List Entry) (l : Ledger) → IsReady k → IsLegal k.setting k.opening log → IsLedger k (story k log) l → IsBalanced l
+unfolding slot_of
 balanced k log l ready legal is =
     let counts = places-legal k log legal in
     let fewer = counts.1 in
     let last = counts.2 in
-    let floor_in = (IsTidy-legal k log ready legal).floor_in in
+    let slots = (IsTidy-legal k log ready legal).slots in
+    let within = slot-within k (story k log) slots (newest (story k log)) slots.newest_in in
+    let same_slot : l.slot ≡ slot_of k (story k log) (newest (story k log)) = is.slot_is in
+    let versions = ap (λ (g : Setting). g.versions) is.setting_is in
+    let few_slots = ready.few_versions in
     let places_is = is.places_is in
     let newest_is = is.newest_is in
-    let floor_is = is.floor_is in
     let base_is = is.base_is in
-    record { floor_in = omega arith; newest_in = omega arith; base_in = omega arith }
+    record { newest_in = omega arith; base_in = omega arith; few_slots = omega arith; small = omega arith }
 
 -- four tests, one after another
 in_turn : (inside inside_now full full_now used used_now : Bool) (slots blocks_short : Option Refusal) → inside ≡ inside_now → full ≡ full_now → used ≡ used_now
@@ -61,16 +68,15 @@ full_is k s l is =
     ∙ (ap (λ (n : ℕ). nat_le k.setting.log (l.places - n)) (sym is.base_is) ∙ ap (λ (g : Setting). nat_le g.log (l.places - l.base)) (sym is.setting_is))
 
 -- whether a place is left, by the ledger
-used_is : (k : Base) (s : Story) (l : Ledger) → IsLedger k s l → nat_le 4294967295 s.places ≡ has_no_place l
-used_is k s l is = ap (nat_le 4294967295) (sym is.places_is)
+used_is : (k : Base) (s : Story) (l : Ledger) → IsLedger k s l → nat_le 536870911 s.places ≡ has_no_place l
+used_is k s l is = ap (nat_le 536870911) (sym is.places_is)
 
 -- whether a slot is free, by the ledger
 slots_are : (k : Base) (s : Story) (l : Ledger) → IsLedger k s l → nat_le k.setting.versions (length (kept s)) ≡ has_no_slot l
 unfolding kept
 slots_are k s l is =
-    ap (nat_le k.setting.versions) (length-range_with_len s.floor (suc (newest s) - s.floor))
-    ∙ (ap (λ (g : Setting). nat_le g.versions (suc (newest s) - s.floor)) (sym is.setting_is)
-    ∙ (ap (λ (n : ℕ). nat_le l.setting.versions (suc n - s.floor)) (sym is.newest_is) ∙ ap (λ (f : ℕ). nat_le l.setting.versions (suc l.newest - f)) (sym is.floor_is)))
+    ap (λ (g : Setting). nat_le g.versions (length (members s.kept.slots))) (sym is.setting_is)
+    ∙ ap (λ (kept_now : Kept). nat_le l.setting.versions (length (members kept_now.slots))) (sym is.kept_is)
 
 -- a command is refused by the ledger, or for want of blocks
 refused_in_turn : (k : Base) (s : Story) (l : Ledger) → IsLedger k s l → IsOfMap k s.draft → (c : Command) → refused k.setting s c ≡ first_refusal (refused_by_ledger l c) (refused_draw_blocks k.setting s c)
@@ -80,7 +86,7 @@ refused_in_turn k s l is of_map (Paint r black) =
 refused_in_turn k s l is of_map (Stamp x y b) =
     in_turn _ _ _ _ _ _ None (refused_blocks k.setting s (Stamp x y b)) (inside_is k s l is of_map (Stamp x y b)) (full_is k s l is) (used_is k s l is)
 refused_in_turn k s l is of_map Publish =
-    ap (λ (none : Bool). if nat_le k.setting.log (s.places - s.base) then Some LogFull else (if nat_le 4294967295 s.places then Some PlacesUsed else (if none then Some VersionsFull else None))) (slots_are k s l is)
+    ap (λ (none : Bool). if nat_le k.setting.log (s.places - s.base) then Some LogFull else (if nat_le 536870911 s.places then Some PlacesUsed else (if none then Some VersionsFull else None))) (slots_are k s l is)
     ∙ by_slots _ _ _ _ _ (full_is k s l is) (used_is k s l is)
   where
     by_slots : (full full_now used used_now none : Bool) → full ≡ full_now → used ≡ used_now
@@ -129,7 +135,7 @@ inside_of_ledger l c by = tested (lies_within l.width l.height c) _ by
 -- what a ledger doesn't refuse finds a place
 pub place_of_ledger : (l : Ledger) (c : Command) → refused_by_ledger l c ≡ None → HasPlace l
 unfolding refused_by_ledger
-place_of_ledger l c by = from_test l.places (tested (lies_within l.width l.height c) (takes_room c && has_no_room l) (nat_le 4294967295 l.places) (refused_slots l c) by)
+place_of_ledger l c by = from_test l.places (tested (lies_within l.width l.height c) (takes_room c && has_no_room l) (nat_le 536870911 l.places) (refused_slots l c) by)
   where
     tested : (inside full used : Bool) (rest : Option Refusal) → (if inside then (if full then Some LogFull else (if used then Some PlacesUsed else rest)) else Some OutOfRange) ≡ None → used ≡ false
     tested true true used rest is = absurd (cc)
@@ -137,7 +143,7 @@ place_of_ledger l c by = from_test l.places (tested (lies_within l.width l.heigh
     tested true false false rest is = refl
     tested false full used rest is = absurd (cc)
 
-    from_test : (n : ℕ) → nat_le 4294967295 n ≡ false → n < 4294967295
+    from_test : (n : ℕ) → nat_le 536870911 n ≡ false → n < 536870911
     from_test n is = grind (arith, nat_tests)
 
 -- what the ledger of a story doesn't refuse lies in the map
@@ -160,37 +166,38 @@ unfolding newest
 ledger_draw k s l new c reply is draws new_is =
     subst (λ (t : Story). IsLedger k t new) (sym (told_draw s c reply draws))
     (subst (λ (m : Ledger). IsLedger k (after_draw s c) m) (sym new_is)
-    record { setting_is = is.setting_is; width_is = is.width_is; height_is = is.height_is; places_is = ap (λ (n : ℕ). n + 1) is.places_is; base_is = is.base_is; newest_is = is.newest_is; floor_is = is.floor_is })
+    record { setting_is = is.setting_is; width_is = is.width_is; height_is = is.height_is; places_is = ap (λ (n : ℕ). n + 1) is.places_is; base_is = is.base_is; newest_is = is.newest_is; slot_is = is.slot_is; kept_is = is.kept_is })
 
 -- a publish is entered
-pub ledger_publish : (k : Base) (s : Story) (l new : Ledger) (reply : Reply) → IsLedger k s l → newest (told s Publish reply) ≡ newest s + 1 → new ≡ record l { places = l.places + 1; newest = l.newest + 1 } → IsLedger k (told s Publish reply) new
+pub ledger_publish : (k : Base) (s : Story) (l new : Ledger) (reply : Reply) → IsLedger k s l → newest (told s Publish reply) ≡ newest s + 1 → length s.slots ≡ newest s + 1
+    → new ≡ record l { places = l.places + 1; newest = l.newest + 1; slot = first_free l.kept.slots; kept = with_version l.kept (l.newest + 1) } → IsLedger k (told s Publish reply) new
 unfolding told
-ledger_publish k s l new reply is next new_is =
+ledger_publish k s l new reply is next count new_is =
     subst (λ (m : Ledger). IsLedger k (told s Publish reply) m) (sym new_is)
-    record { setting_is = is.setting_is; width_is = is.width_is; height_is = is.height_is; places_is = ap (λ (n : ℕ). n + 1) is.places_is; base_is = is.base_is; newest_is = ap (λ (n : ℕ). n + 1) is.newest_is ∙ sym next; floor_is = is.floor_is }
+    record { setting_is = is.setting_is; width_is = is.width_is; height_is = is.height_is; places_is = ap (λ (n : ℕ). n + 1) is.places_is; base_is = is.base_is; newest_is = ap (λ (n : ℕ). n + 1) is.newest_is ∙ sym next; slot_is = ap (λ (kept_now : Kept). first_free kept_now.slots) is.kept_is ∙ sym (get_or_push s.slots (first_free s.kept.slots) 0 (newest (told s Publish reply)) (count ∙ sym next)); kept_is = ap (λ (n : ℕ). with_version l.kept (n + 1)) is.newest_is ∙ ap (λ (kept_now : Kept). with_version kept_now (newest s + 1)) is.kept_is }
 
 -- a revert is entered
 pub ledger_revert : (k : Base) (s : Story) (l new : Ledger) (reply : Reply) → IsLedger k s l → new ≡ record l { places = l.places + 1 } → IsLedger k (told s Revert reply) new
 unfolding told newest
 ledger_revert k s l new reply is new_is =
     subst (λ (m : Ledger). IsLedger k (told s Revert reply) m) (sym new_is)
-    record { setting_is = is.setting_is; width_is = is.width_is; height_is = is.height_is; places_is = ap (λ (n : ℕ). n + 1) is.places_is; base_is = is.base_is; newest_is = is.newest_is; floor_is = is.floor_is }
+    record { setting_is = is.setting_is; width_is = is.width_is; height_is = is.height_is; places_is = ap (λ (n : ℕ). n + 1) is.places_is; base_is = is.base_is; newest_is = is.newest_is; slot_is = is.slot_is; kept_is = is.kept_is }
 
 -- a collect is entered
-pub ledger_collect : (k : Base) (s : Story) (l new : Ledger) (reply : Reply) (place f freed : ℕ) → IsLedger k s l → reply ≡ Collected place f freed → new ≡ record l { places = l.places + 1; floor = f } → IsLedger k (told s Collect reply) new
+pub ledger_collect : (k : Base) (s : Story) (l new : Ledger) (reply : Reply) (place f freed : ℕ) (kept_now : Kept) → IsLedger k s l → reply ≡ Collected place f freed kept_now → new ≡ record l { places = l.places + 1; kept = kept_now } → IsLedger k (told s Collect reply) new
 unfolding told newest
-ledger_collect k s l new reply place f freed is said new_is =
+ledger_collect k s l new reply place f freed kept_now is said new_is =
     subst (λ (m : Ledger). IsLedger k (told s Collect reply) m) (sym new_is)
-    record { setting_is = is.setting_is; width_is = is.width_is; height_is = is.height_is; places_is = ap (λ (n : ℕ). n + 1) is.places_is; base_is = is.base_is; newest_is = is.newest_is; floor_is = ap (floor_told s) (sym said) }
+    record { setting_is = is.setting_is; width_is = is.width_is; height_is = is.height_is; places_is = ap (λ (n : ℕ). n + 1) is.places_is; base_is = is.base_is; newest_is = is.newest_is; slot_is = is.slot_is; kept_is = ap (kept_told s) (sym said) }
 
 -- a checkpoint is entered
 pub ledger_checkpoint : (k : Base) (s : Story) (l new : Ledger) (reply : Reply) → IsLedger k s l → new ≡ record l { places = l.places + 1; base = l.places + 1 } → IsLedger k (told s Checkpoint reply) new
 unfolding told newest
 ledger_checkpoint k s l new reply is new_is =
     subst (λ (m : Ledger). IsLedger k (told s Checkpoint reply) m) (sym new_is)
-    record { setting_is = is.setting_is; width_is = is.width_is; height_is = is.height_is; places_is = ap (λ (n : ℕ). n + 1) is.places_is; base_is = ap (λ (n : ℕ). n + 1) is.places_is; newest_is = is.newest_is; floor_is = is.floor_is }
+    record { setting_is = is.setting_is; width_is = is.width_is; height_is = is.height_is; places_is = ap (λ (n : ℕ). n + 1) is.places_is; base_is = ap (λ (n : ℕ). n + 1) is.places_is; newest_is = is.newest_is; slot_is = is.slot_is; kept_is = is.kept_is }
 
 -- NOW is what the ledger says
-pub now_of_ledger : (k : Base) (s : Story) (l : Ledger) (now : ℕ) → IsLedger k s l → now ≡ now_word l.places l.newest → now ≡ now_of s
+pub now_of_ledger : (k : Base) (s : Story) (l : Ledger) (now : ℕ) → IsLedger k s l → now ≡ now_word l.places l.newest l.slot → now ≡ now_of s
 unfolding now_of
-now_of_ledger k s l now is word = word ∙ (ap (λ (n : ℕ). now_word n l.newest) is.places_is ∙ ap (λ (v : ℕ). now_word s.places v) is.newest_is)
+now_of_ledger k s l now is word = word ∙ (ap (λ (n : ℕ). now_word n l.newest l.slot) is.places_is ∙ (ap (λ (v : ℕ). now_word s.places v l.slot) is.newest_is ∙ ap (λ (i : ℕ). now_word s.places (newest s) i) is.slot_is))

@@ -1,5 +1,5 @@
 -- How a story grows with its log: places, the newest version, and what a beginning of a log tells.
-use Rattle.std.proofs.Common.{◌≡◌, ℕ, ◌+◌, ◌<◌, ◌≤◌, length, Bool, true, false, if◌then◌else◌, List, [], ◌∷◌, ◌++◌, refl, ap, sym, ◌∙◌, arith}
+use Rattle.std.proofs.Common.{◌≡◌, ℕ, ◌+◌, ◌<◌, ◌≤◌, length, Bool, true, false, if◌then◌else◌, List, [], ◌∷◌, ◌++◌, get_or, refl, ap, sym, ◌∙◌, arith}
 use Rattle.std.specs.Prelude.{Option, Some, None, nat_le}
 use Rattle.std.proofs.lemmas.Bool.Decides.{nat_tests}
 use Rattle.std.proofs.lemmas.List.{length-append, append-nil, append_assoc, get_or_append_left}
@@ -13,7 +13,8 @@ use Rattle.map_core.specs.declared.setting.Setting.{Setting}
 use Rattle.map_core.specs.Drawing.{is_inside}
 use Rattle.map_core.specs.Story.{Story, opened, newest, no_bitmap, bitmap_of}
 use Rattle.map_core.specs.Legal.{refused, told, after, IsLegalFrom, IsLegal}
-use Rattle.map_core.specs.Words.{Base}
+use Rattle.map_core.specs.Kept.{first_free}
+use Rattle.map_core.specs.Words.{Base, slot_of}
 use Rattle.map_core.specs.Views.{story}
 use Rattle.map_core.specs.Safe.{IsBeginning}
 
@@ -23,28 +24,28 @@ not_refused true refusal rest is = absurd (cc)
 not_refused false refusal rest is = (refl, is)
 
 -- a command that is accepted finds a place
-pub place_left : (g : Setting) (s : Story) (c : Command) → refused g s c ≡ None → s.places < 4294967295
+pub place_left : (g : Setting) (s : Story) (c : Command) → refused g s c ≡ None → s.places < 536870911
 unfolding refused
-place_left g s (Paint r black) accepted = from_test s.places (drawing (is_inside s.draft (Paint r black)) _ (nat_le 4294967295 s.places) _ accepted)
+place_left g s (Paint r black) accepted = from_test s.places (drawing (is_inside s.draft (Paint r black)) _ (nat_le 536870911 s.places) _ accepted)
   where
     drawing : (inside full used : Bool) (rest : Option Refusal) → (if inside then (if full then Some LogFull else (if used then Some PlacesUsed else rest)) else Some OutOfRange) ≡ None → used ≡ false
     drawing true full used rest is = (not_refused used PlacesUsed rest (not_refused full LogFull _ is).1).0
     drawing false full used rest is = absurd (cc)
 
-    from_test : (n : ℕ) → nat_le 4294967295 n ≡ false → n < 4294967295
+    from_test : (n : ℕ) → nat_le 536870911 n ≡ false → n < 536870911
     from_test n is = grind (arith, nat_tests)
-place_left g s (Stamp x y b) accepted = from_test s.places (drawing (is_inside s.draft (Stamp x y b)) _ (nat_le 4294967295 s.places) _ accepted)
+place_left g s (Stamp x y b) accepted = from_test s.places (drawing (is_inside s.draft (Stamp x y b)) _ (nat_le 536870911 s.places) _ accepted)
   where
     drawing : (inside full used : Bool) (rest : Option Refusal) → (if inside then (if full then Some LogFull else (if used then Some PlacesUsed else rest)) else Some OutOfRange) ≡ None → used ≡ false
     drawing true full used rest is = (not_refused used PlacesUsed rest (not_refused full LogFull _ is).1).0
     drawing false full used rest is = absurd (cc)
 
-    from_test : (n : ℕ) → nat_le 4294967295 n ≡ false → n < 4294967295
+    from_test : (n : ℕ) → nat_le 536870911 n ≡ false → n < 536870911
     from_test n is = grind (arith, nat_tests)
-place_left g s Publish accepted = let is = (not_refused (nat_le 4294967295 s.places) PlacesUsed _ (not_refused _ LogFull _ accepted).1).0 in grind (arith, nat_tests)
-place_left g s Revert accepted = let is = (not_refused (nat_le 4294967295 s.places) PlacesUsed _ (not_refused _ LogFull _ accepted).1).0 in grind (arith, nat_tests)
-place_left g s Collect accepted = let is = (not_refused (nat_le 4294967295 s.places) PlacesUsed _ (not_refused _ LogFull _ accepted).1).0 in grind (arith, nat_tests)
-place_left g s Checkpoint accepted = let is = (not_refused (nat_le 4294967295 s.places) PlacesUsed _ accepted).0 in grind (arith, nat_tests)
+place_left g s Publish accepted = let is = (not_refused (nat_le 536870911 s.places) PlacesUsed _ (not_refused _ LogFull _ accepted).1).0 in grind (arith, nat_tests)
+place_left g s Revert accepted = let is = (not_refused (nat_le 536870911 s.places) PlacesUsed _ (not_refused _ LogFull _ accepted).1).0 in grind (arith, nat_tests)
+place_left g s Collect accepted = let is = (not_refused (nat_le 536870911 s.places) PlacesUsed _ (not_refused _ LogFull _ accepted).1).0 in grind (arith, nat_tests)
+place_left g s Checkpoint accepted = let is = (not_refused (nat_le 536870911 s.places) PlacesUsed _ accepted).0 in grind (arith, nat_tests)
 
 -- an entry takes one place
 pub places-told : (s : Story) (c : Command) (reply : Reply) → (told s c reply).places ≡ s.places + 1
@@ -126,6 +127,50 @@ bitmap-beginning k seen log h v within =
     first_published : (k : Base) → 0 < length (opened k.opening).published
     first_published k = omega arith
 
+-- each version has a slot
+each-told : (s : Story) (c : Command) (reply : Reply) → length s.slots ≡ length s.published → length (told s c reply).slots ≡ length (told s c reply).published
+unfolding told
+each-told s (Paint r black) reply each = each
+each-told s (Stamp x y b) reply each = each
+each-told s Publish reply each = omega (arith, length-append s.slots (first_free s.kept.slots ∷ []), length-append s.published (s.draft ∷ []))
+each-told s Revert reply each = each
+each-told s Collect reply each = each
+each-told s Checkpoint reply each = each
+
+-- over some entries too
+each-after : (s : Story) (log : List Entry) → length s.slots ≡ length s.published → length (after s log).slots ≡ length (after s log).published
+each-after s [] each = each
+each-after s (e ∷ es) each = each-after (told s e.command e.reply) es (each-told s e.command e.reply each)
+
+-- the slot of a version stays
+slots-told : (s : Story) (c : Command) (reply : Reply) (v : ℕ) → v < length s.slots → (get_or (told s c reply).slots v 0 ≡ get_or s.slots v 0) × (v < length (told s c reply).slots)
+unfolding told
+slots-told s (Paint r black) reply v within = (refl, within)
+slots-told s (Stamp x y b) reply v within = (refl, within)
+slots-told s Publish reply v within = (get_or_append_left s.slots (first_free s.kept.slots ∷ []) 0 v within, omega (arith, length-append s.slots (first_free s.kept.slots ∷ [])))
+slots-told s Revert reply v within = (refl, within)
+slots-told s Collect reply v within = (refl, within)
+slots-told s Checkpoint reply v within = (refl, within)
+
+-- over some entries too
+slots-after : (s : Story) (log : List Entry) (v : ℕ) → v < length s.slots → get_or (after s log).slots v 0 ≡ get_or s.slots v 0
+slots-after s [] v within = refl
+slots-after s (e ∷ es) v within = let one = slots-told s e.command e.reply v within in slots-after (told s e.command e.reply) es v one.1 ∙ one.0
+
+-- a beginning of a log tells the same slot of each version that it has
+pub slot-beginning : (k : Base) (seen log : List Entry) → IsBeginning seen log → (v : ℕ) → v ≤ newest (story k seen) → slot_of k (story k log) v ≡ slot_of k (story k seen) v
+unfolding story newest opened slot_of
+slot-beginning k seen log h v within =
+    let s = after (opened k.opening) seen in
+    let first = (published-after (opened k.opening) seen 0 (first_published k)).1 in
+    let each = each-after (opened k.opening) seen refl in
+    let kept_slot = slots-after s h.rest v (omega (arith, first, each)) in
+    let whole : after s h.rest ≡ after (opened k.opening) log = sym (after-append (opened k.opening) seen h.rest) ∙ ap (after (opened k.opening)) h.whole in
+    sym (ap (λ (t : Story). get_or t.slots v 0) whole) ∙ kept_slot
+  where
+    first_published : (k : Base) → 0 < length (opened k.opening).published
+    first_published k = omega arith
+
 -- a log begins with itself
 pub beginning_itself : (log : List Entry) → IsBeginning log log
 beginning_itself log = record { rest = []; whole = append-nil log }
@@ -135,8 +180,8 @@ pub beginning-push : (seen log : List Entry) (e : Entry) → IsBeginning seen lo
 beginning-push seen log e h = record { rest = h.rest ++ e ∷ []; whole = sym (append_assoc seen h.rest (e ∷ [])) ∙ ap (λ (l : List Entry). l ++ e ∷ []) h.whole }
 
 -- the log has no more entries than places count, and newest and the last checkpoint's place are at most their number
-pub places-after : (g : Setting) (s : Story) (log : List Entry) → IsLegalFrom g s log → s.places ≤ 4294967295 → newest s ≤ s.places → s.base ≤ s.places
-    → ((after s log).places ≤ 4294967295) × (newest (after s log) ≤ (after s log).places) × ((after s log).base ≤ (after s log).places)
+pub places-after : (g : Setting) (s : Story) (log : List Entry) → IsLegalFrom g s log → s.places ≤ 536870911 → newest s ≤ s.places → s.base ≤ s.places
+    → ((after s log).places ≤ 536870911) × (newest (after s log) ≤ (after s log).places) × ((after s log).base ≤ (after s log).places)
 places-after g s [] legal fits few within = (fits, few, within)
 places-after g s (e ∷ es) legal fits few within =
     let room = place_left g s e.command legal.0.accepted in
@@ -147,7 +192,7 @@ places-after g s (e ∷ es) legal fits few within =
 
 -- the same of a whole log
 pub places-legal : (k : Base) (log : List Entry) → IsLegal k.setting k.opening log
-    → ((story k log).places ≤ 4294967295) × (newest (story k log) ≤ (story k log).places) × ((story k log).base ≤ (story k log).places)
+    → ((story k log).places ≤ 536870911) × (newest (story k log) ≤ (story k log).places) × ((story k log).base ≤ (story k log).places)
 unfolding story opened newest
 places-legal k log legal = places-after k.setting (opened k.opening) log legal (omega arith) (omega arith) (omega arith)
 

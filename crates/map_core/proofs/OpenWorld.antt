@@ -2,7 +2,6 @@
 use Rattle.std.proofs.Common.{◌≡◌, ℕ, zero, suc, ◌+◌, ◌*◌, ◌-◌, ◌<◌, ◌≤◌, List, [], ◌∷◌, length, map, get_or, replicate, refl, ap, subst, sym, ◌∙◌, lit<, arith}
 use Rattle.std.specs.Prelude.{Option, Some, None, false, slice_get}
 use Rattle.std.specs.List.{range_with_len}
-use Rattle.std.proofs.Math.Nat.{zero-mod}
 use Rattle.std.proofs.lemmas.Bool.Decides.{nat_tests}
 use Rattle.std.proofs.lemmas.List.{length-replicate, get_or-replicate}
 use Rattle.std.proofs.lemmas.List.FromFn.{get_or-range_with_len}
@@ -15,9 +14,10 @@ use Rattle.map_core.specs.declared.reader.Standing.{Standing}
 use Rattle.map_core.specs.declared.setting.Setting.{Setting}
 use Rattle.map_core.specs.Setting.{bad_field}
 use Rattle.map_core.specs.Story.{opened, newest, bitmap_of, IsKept}
+use Rattle.map_core.specs.Kept.{first_kept}
 use Rattle.map_core.specs.Ledger.{IsLedger}
 use Rattle.map_core.specs.Blocks.{opened_blocks, directory_of}
-use Rattle.map_core.specs.Words.{Base, tiles, now_of, pin_at, pin_word, map_at, tile_at, slot_of}
+use Rattle.map_core.specs.Words.{Base, tiles, now_of, pin_at, pin_word, tile_at, slot_of}
 use Rattle.map_core.specs.Views.{Reader, State, story, blocks}
 use Rattle.map_core.specs.Tidy.{IsReady, IsOfMap}
 use Rattle.map_core.specs.Sound.{Shows, KeeperSound, ReaderSound, IsWhole}
@@ -25,12 +25,14 @@ use Rattle.map_core.specs.Runs.{AreOpeningWords, IsOpened, fresh_reader}
 use Rattle.map_core.specs.Summary.{Summary}
 use Rattle.map_core.specs.Consistent.{reader_of, state_of, IsStanding, Room, IsConsistent}
 use Rattle.map_core.proofs.SafeLemmas.{IsSafe-whole}
+use Rattle.map_core.proofs.TidyOpened.{opened_at}
 
 -- what the limits of a setting say of its fields
 pub record IsFitting (tiles : ℕ) (g : Setting) : Type 0 where
   pub blocks : tiles ≤ g.blocks
   pub few_blocks : g.blocks ≤ 16384
   pub versions : 1 ≤ g.versions
+  pub few_versions : g.versions ≤ 64
   pub few_sessions : g.sessions ≤ 64
   pub log : g.log ≤ 1048576
 
@@ -41,6 +43,7 @@ bad_field-none tiles g fits = record {
   blocks = grind (arith, nat_tests);
   few_blocks = grind (arith, nat_tests);
   versions = grind (arith, nat_tests);
+  few_versions = grind (arith, nat_tests);
   few_sessions = grind (arith, nat_tests);
   log = grind (arith, nat_tests);
 }
@@ -49,15 +52,14 @@ bad_field-none tiles g fits = record {
 pub fits_ready : (g : Setting) (b : Cells) → IsBitmap b → bad_field (tile_count b) g ≡ None → IsReady record { setting = g; opening = b }
 fits_ready g b bitmap fits =
     let within = bad_field-none (tile_count b) g fits in
-    record { bitmap = bitmap; blocks = within.blocks; few_blocks = within.few_blocks; versions = within.versions; few_sessions = within.few_sessions; log = within.log }
+    record { bitmap = bitmap; blocks = within.blocks; few_blocks = within.few_blocks; versions = within.versions; few_versions = within.few_versions; few_sessions = within.few_sessions; log = within.log }
 
 -- the words show version 0
 Shows-opening : (k : Base) (words : List ℕ) → AreOpeningWords k words → Shows k (story k []) (blocks k []) words 0
 unfolding story blocks opened opened_blocks bitmap_of directory_of slot_of
 Shows-opening k words opening = record {
   mapped = λ p h.
-      let slot = ap (λ (n : ℕ). get_or words (map_at k n p) 0) (zero-mod k.setting.versions) in
-      slot ∙ (opening.directory p h ∙ sym (block_at k p h));
+      opening.directory p h ∙ sym (block_at k p h);
   rows = λ p i hp hi. ap (λ (b : ℕ). get_or words (tile_at k b i) 0) (block_at k p hp) ∙ opening.rows p i hp hi;
 }
   where
@@ -71,7 +73,7 @@ KeeperSound-opening k words opening = record {
   sized = opening.sized;
   legal = tt;
   now = opening.quiet 0 (omega arith);
-  shows = λ v kept. let first : 0 ≡ v = omega (arith, kept.1) in subst (λ (w : ℕ). Shows k (story k []) (blocks k []) words w) first (Shows-opening k words opening);
+  shows = λ v kept. let first : 0 ≡ v = sym (opened_at kept.slot v kept.there).1 in subst (λ (w : ℕ). Shows k (story k []) (blocks k []) words w) first (Shows-opening k words opening);
   hand = tt;
 }
 
@@ -83,6 +85,7 @@ ReaderSound-opening k words opening r h = record {
   seen = record { rest = []; whole = refl };
   word = opening.quiet (8 + 8 * r) (omega arith);
   announced = λ a is. absurd (cc);
+  exact = λ v is. absurd (cc);
   holds = λ v is. absurd (cc);
   passed = tt;
 }
@@ -133,7 +136,7 @@ pub record IsNew (g : Setting) (b opening : Cells) (words : List ℕ) (log : Lis
   pub words_are : AreOpeningWords record { setting = g; opening = b } words
   pub log_is : log ≡ []
   pub standings_are : standings ≡ replicate g.sessions fresh_standing
-  pub ledger_is : u.ledger ≡ record { setting = g; width = b.width; height = b.height; places = 0; base = 0; newest = 0; floor = 0 }
+  pub ledger_is : u.ledger ≡ record { setting = g; width = b.width; height = b.height; places = 0; base = 0; newest = 0; slot = 0; kept = first_kept }
   pub draft_is : u.draft ≡ b
   pub scratch_is : room.scratch ≡ cells_where b.width b.height (λ x y. false)
   pub published_is : u.published ≡ b
@@ -173,7 +176,7 @@ consistent_opened g b opening words log standings u room new =
           let fresh = slice_get-replicate g.sessions r fresh_standing p (ap (λ (ps : List Standing). slice_get ps r) (sym new.standings_are) ∙ there) in
           subst (λ (q : Standing). IsStanding k [] q) (sym fresh.0) record { within = omega arith; version_is = refl; small = lit< tt };
       summary = record {
-        ledger_is = subst (λ (l : Ledger). IsLedger k (story k []) l) (sym new.ledger_is) record { setting_is = refl; width_is = refl; height_is = refl; places_is = refl; base_is = refl; newest_is = refl; floor_is = refl };
+        ledger_is = subst (λ (l : Ledger). IsLedger k (story k []) l) (sym new.ledger_is) record { setting_is = refl; width_is = refl; height_is = refl; places_is = refl; base_is = refl; newest_is = refl; slot_is = refl; kept_is = refl };
         draft_is = new.draft_is;
         published_is = new.published_is;
         came_long = ap length new.came_is ∙ length-replicate (tile_count b) 0;

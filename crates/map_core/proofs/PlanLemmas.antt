@@ -1,14 +1,13 @@
 -- Where a store's sizes say that words stand.
-use Rattle.std.proofs.Common.{◌≡◌, ℕ, ◌+◌, ◌*◌, ◌%◌, refl}
-use Rattle.map_core.specs.Story.{Story}
-use Rattle.map_core.specs.Words.{Base, IsPlan, map_at, tile_at, slot_of}
+use Rattle.std.proofs.Common.{◌≡◌, ℕ, ◌+◌, ◌*◌, refl}
+use Rattle.map_core.specs.Words.{Base, IsPlan, map_at, tile_at}
 use Rattle.map_core.specs.declared.plan.Plan.{Plan}
 
 -- a word of a directory
-pub map_place : (k : Base) (s : Story) (plan : Plan) (v t p : ℕ) → t ≡ plan.tiles → IsPlan k plan
-    → 8 + 8 * plan.setting.sessions + (v % plan.setting.versions * t + p) ≡ map_at k (slot_of k s v) p
-unfolding map_at slot_of
-map_place k s plan v t p tiles_is is = rw (tiles_is, is.tiles_is, is.setting_is) refl
+pub map_place : (k : Base) (plan : Plan) (slot t p : ℕ) → t ≡ plan.tiles → IsPlan k plan
+    → 8 + 8 * plan.setting.sessions + (slot * t + p) ≡ map_at k slot p
+unfolding map_at
+map_place k plan slot t p tiles_is is = rw (tiles_is, is.tiles_is, is.setting_is) refl
 
 -- a word of a block
 pub tile_place : (k : Base) (plan : Plan) (b t i : ℕ) → t ≡ plan.tiles → IsPlan k plan

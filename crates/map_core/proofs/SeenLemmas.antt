@@ -6,12 +6,12 @@ use Rattle.metric.specs.declared.refusal.Refusal.{Refusal}
 use Rattle.map_core.specs.declared.command.Command.{Command}
 use Rattle.map_core.specs.declared.command.Command.TheVariants.{Paint, Stamp, Publish, Revert, Collect, Checkpoint}
 use Rattle.map_core.specs.declared.event.Event.{Event}
-use Rattle.map_core.specs.declared.event.Event.TheVariants.{Announce, Load, LookMap, LookTile, Leave, Order, Keep}
+use Rattle.map_core.specs.declared.event.Event.TheVariants.{Announce, Load, LookMap, LookTile, Leave, Confirm, Order, Keep}
 use Rattle.map_core.specs.Legal.{refused}
 use Rattle.map_core.specs.Blocks.{is_mapped}
 use Rattle.map_core.specs.Words.{tiles}
 use Rattle.map_core.specs.Views.{Hand, Reader, State, story_of, blocks_of_state}
-use Rattle.map_core.specs.Steps.{Outcome, announce, load, look_map, look_tile, leave, hold_of, order, ordered, keep, steps_before, step_before, commit, does}
+use Rattle.map_core.specs.Steps.{Outcome, announce, load, look_map, look_tile, leave, to_confirm, confirm_held, confirm, hold_of, order, ordered, keep, steps_before, step_before, commit, does}
 use Rattle.map_core.specs.Safe.{IsBeginning}
 use Rattle.map_core.specs.Sound.{IsWhole}
 use Rattle.map_core.specs.Runs.{SeenGrows, SeesAll}
@@ -77,6 +77,17 @@ grows-leave w r (Some x) o there is =
     let parts = where_true (is_some x.announced) _ o is in
     subst (λ (a : Outcome). SeenGrows w a.state) parts.1 (seen_of_one w.readers r x _ there (beginning_itself x.seen))
 
+-- an exact announcement
+grows-confirm : (w : State) (r : ℕ) (found : Option Reader) (o : Outcome) → slice_get w.readers r ≡ found → confirm w r found ≡ Some o → SeenGrows w o.state
+unfolding confirm
+grows-confirm w r None o there is = absurd (cc)
+grows-confirm w r (Some x) o there is = by_hold w r x (to_confirm x.announced x.holds) o there is
+  where
+    by_hold : (w : State) (r : ℕ) (x : Reader) (to : Option ℕ) (o : Outcome) → slice_get w.readers r ≡ Some x → confirm_held w r x to ≡ Some o → SeenGrows w o.state
+    by_hold w r x None o there is = absurd (cc)
+    by_hold w r x (Some v) o there is =
+        subst (λ (a : Outcome). SeenGrows w a.state) (same_outcome _ o is) (seen_of_one w.readers r x _ there (beginning_itself x.seen))
+
 -- a look at a position leaves the readers
 stay-look_map : (w : State) (p : ℕ) (held : Option ℕ) (o : Outcome) → look_map w p held ≡ Some o → o.state.readers ≡ w.readers
 unfolding look_map
@@ -126,6 +137,7 @@ does-grows w (Load r) o whole is = grows-load w r (slice_get w.readers r) o whol
 does-grows w (LookMap r p) o whole is = (seen_stays w o.state (stay-look_map w p (hold_of (slice_get w.readers r)) o is), tt)
 does-grows w (LookTile r b i) o whole is = (seen_stays w o.state (stay-look_tile w b i (hold_of (slice_get w.readers r)) o is), tt)
 does-grows w (Leave r) o whole is = (grows-leave w r (slice_get w.readers r) o refl is, tt)
+does-grows w (Confirm r) o whole is = (grows-confirm w r (slice_get w.readers r) o refl is, tt)
 does-grows w (Order c) o whole is = (seen_stays w o.state (stay-order w c w.keeper.hand o is), tt)
 does-grows w Keep o whole is = (seen_stays w o.state (stay-keep w w.keeper.hand o is), tt)
 
@@ -141,5 +153,6 @@ sees_none w (Load r) none = λ y there. absurd (no_reader w r (slice_get w.reade
 sees_none w (LookMap r p) none = tt
 sees_none w (LookTile r b i) none = tt
 sees_none w (Leave r) none = tt
+sees_none w (Confirm r) none = tt
 sees_none w (Order c) none = tt
 sees_none w Keep none = tt

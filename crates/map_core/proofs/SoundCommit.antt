@@ -1,9 +1,8 @@
 -- The last step of a command keeps what holds of the keeper and of each reader.
 use Rattle.std.proofs.Common.{◌≡◌, ℕ, zero, suc, ◌+◌, ◌-◌, ◌*◌, ◌/◌, ◌%◌, ◌<◌, ◌≤◌, ◌⊎◌, true, false, List, [], ◌∷◌, ◌++◌, length, get_or, set, refl, ap, subst, sym, ◌∙◌, arith}
 use Rattle.std.specs.Prelude.{Option, Some, None, slice_get, nat_lt}
-use Rattle.std.proofs.lemmas.Bool.{cases_lt}
 use Rattle.std.proofs.lemmas.Bool.Decides.{nat_tests}
-use Rattle.std.proofs.lemmas.List.{length-set, length-append, get_or-set_same, get_or-set_other}
+use Rattle.std.proofs.lemmas.List.{length-set, get_or-set_same, get_or-set_other, get_or_append_left, get_or_push}
 use mathlib.Core.Logic.{inl, inr}
 use Rattle.bits.specs.Cells.{Cells}
 use Rattle.bits.specs.Tiles.{row_word}
@@ -12,19 +11,21 @@ use Rattle.map_core.specs.declared.command.Command.{Command}
 use Rattle.map_core.specs.declared.command.Command.TheVariants.{Paint, Stamp, Publish, Revert, Collect, Checkpoint}
 use Rattle.map_core.specs.declared.command.Reply.{Reply}
 use Rattle.map_core.specs.declared.command.Reply.TheVariants.{Painted, Published, Reverted, Collected, Checkpointed}
+use Rattle.map_core.specs.Kept.{first_free, IsIn}
 use Rattle.map_core.specs.Story.{Story, opened, newest, bitmap_of, IsKept}
 use Rattle.map_core.specs.Legal.{IsAnswer, told}
 use Rattle.map_core.specs.Blocks.{Blocks, directory_of, own_list, mapped, moved}
 use Rattle.map_core.specs.Words.{Base, tiles, now_at, pin_at, map_at, tile_at, now_of, slot_of, next_slot}
 use Rattle.map_core.specs.Views.{Hand, Reader, story, blocks}
-use Rattle.map_core.specs.Steps.{tile_steps, steps_before, own_positions, tile_write, map_write, write_of, floor_after, reply_of, entry_of}
-use Rattle.map_core.specs.Tidy.{IsShaped, IsTidy}
+use Rattle.map_core.specs.Steps.{tile_steps, steps_before, own_positions, tile_write, map_write, write_of, kept_scanned, reply_of, entry_of}
+use Rattle.map_core.specs.Tidy.{IsShaped, AreSlots, IsTidy}
 use Rattle.map_core.specs.Sound.{Shows, InHand, KeeperSound, ReaderSound}
 use Rattle.map_core.proofs.FreedLemmas.{reply_is_answer}
 use Rattle.map_core.proofs.LogLemmas.{newest-told, beginning-push}
 use Rattle.map_core.proofs.PlaceLemmas.{pin-now, map-now, tile-now, now-within}
+use Rattle.map_core.proofs.TidyCollect.{kept_of}
 use Rattle.map_core.proofs.TidyLog.{IsLegal-push}
-use Rattle.map_core.proofs.TidyPublish.{bitmap_of-publish, bitmap_of-new, directory_of-publish, directory_of-new, newest-publish, published_story, published_blocks}
+use Rattle.map_core.proofs.TidyPublish.{newest_is, bitmap_of-publish, bitmap_of-new, directory_of-publish, directory_of-new, published_story, published_blocks, kept_published, kept_still}
 
 -- a version is shown still where NOW is stored
 pub Shows-now : (k : Base) (s : Story) (m : Blocks) (words : List ℕ) (v word : ℕ) → Shows k s m words v → Shows k s m (set words now_at word) v
@@ -34,11 +35,10 @@ Shows-now k s m words v word shows = record {
 }
 
 -- a version whose blocks and whose bitmap are as before is shown as before
-pub Shows-same : (k : Base) (s t : Story) (m n : Blocks) (words : List ℕ) (v : ℕ) → directory_of n v ≡ directory_of m v → bitmap_of t v ≡ bitmap_of s v
+pub Shows-same : (k : Base) (s t : Story) (m n : Blocks) (words : List ℕ) (v : ℕ) → directory_of n v ≡ directory_of m v → bitmap_of t v ≡ bitmap_of s v → slot_of k t v ≡ slot_of k s v
     → Shows k s m words v → Shows k t n words v
-unfolding slot_of
-Shows-same k s t m n words v blocks cells shows = record {
-  mapped = λ p inside. shows.mapped p inside ∙ sym (ap (λ (d : List ℕ). get_or d p 0) blocks);
+Shows-same k s t m n words v blocks cells slot shows = record {
+  mapped = λ p inside. ap (λ (i : ℕ). get_or words (map_at k i p) 0) slot ∙ shows.mapped p inside ∙ sym (ap (λ (d : List ℕ). get_or d p 0) blocks);
   rows = λ p i inside row.
       ap (λ (d : List ℕ). get_or words (tile_at k (get_or d p 0) i) 0) blocks
       ∙ (shows.rows p i inside row ∙ sym (ap (λ (b : Cells). row_word b p i) cells));
@@ -66,6 +66,17 @@ bitmap_stays k s m Revert reply shape v h = refl
 bitmap_stays k s m Collect reply shape v h = refl
 bitmap_stays k s m Checkpoint reply shape v h = refl
 
+-- no command changes the slot of a version
+pub slot_stays : (k : Base) (s : Story) (c : Command) (reply : Reply) → AreSlots k s → (v : ℕ) → v < length s.published
+    → slot_of k (told s c reply) v ≡ slot_of k s v
+unfolding told slot_of
+slot_stays k s (Paint r black) reply slots v h = refl
+slot_stays k s (Stamp x y b) reply slots v h = refl
+slot_stays k s Publish reply slots v h = let each = slots.each in get_or_append_left s.slots (first_free s.kept.slots ∷ []) 0 v (omega arith)
+slot_stays k s Revert reply slots v h = refl
+slot_stays k s Collect reply slots v h = refl
+slot_stays k s Checkpoint reply slots v h = refl
+
 -- a version that is kept after an answer was kept before, or it is the new one of a publish
 pub kept_before : (k : Base) (s : Story) (m : Blocks) (c : Command) (reply : Reply) → IsShaped k s m → IsAnswer k.setting s c reply → (v : ℕ) → IsKept (told s c reply) v
     → IsKept s v ⊎ ((c ≡ Publish) × (v ≡ newest s + 1))
@@ -73,15 +84,12 @@ unfolding told IsKept newest
 kept_before k s m (Paint r black) reply shape answer v is_kept = inl is_kept
 kept_before k s m (Stamp x y b) reply shape answer v is_kept = inl is_kept
 kept_before k s m Publish reply shape answer v is_kept =
-    let now = newest-publish k s m shape in
-    let low = is_kept.0 in
-    let high = is_kept.1 in
-    elim (cases_lt (newest s) v) [
-      | inl new ↦ inr (refl, omega arith)
-      | inr old ↦ inl (low, old)
+    elim (kept_published s v is_kept) [
+      | inl old ↦ inl old
+      | inr new ↦ inr (refl, new)
     ]
 kept_before k s m Revert reply shape answer v is_kept = inl is_kept
-kept_before k s m Collect (Collected place f freed) shape answer v is_kept = let risen = answer.reply_is.1.risen in let low = is_kept.0 in inl (omega arith, is_kept.1)
+kept_before k s m Collect (Collected place f freed kept_now) shape answer v is_kept = inl (kept_of s kept_now record { part = answer.reply_is.1.part; newest_in = answer.reply_is.1.newest_in } v is_kept)
 kept_before k s m Collect (Painted place changed) shape answer v is_kept = absurd answer.reply_is
 kept_before k s m Collect (Published place version) shape answer v is_kept = absurd answer.reply_is
 kept_before k s m Collect (Reverted place) shape answer v is_kept = absurd answer.reply_is
@@ -156,9 +164,12 @@ Shows-new k s m words tidy stored shows v is =
     let same : length m.own ≡ length (directory_of m (newest s)) = shape.own ∙ sym (shape.directory (newest s) (omega arith)) in
     let blocks = directory_of-new k s m shape v is in
     let cells = bitmap_of-new k s m shape v is in
+    let at = newest_is k s m shape in
+    let each = tidy.slots.each in
+    let slot : get_or (s.slots ++ first_free s.kept.slots ∷ []) v 0 ≡ first_free s.kept.slots = get_or_push s.slots (first_free s.kept.slots) 0 v (omega arith) in
     record {
       mapped = λ p inside.
-          ap (λ (w : ℕ). get_or words (map_at k (w % k.setting.versions) p) 0) is
+          ap (λ (i : ℕ). get_or words (map_at k i p) 0) slot
           ∙ (stored_map k s m words stored p inside ∙ sym (ap (λ (d : List ℕ). get_or d p 0) blocks));
       rows = λ p i inside row.
           ap (λ (d : List ℕ). get_or words (tile_at k (get_or d p 0) i) 0) blocks
@@ -183,15 +194,17 @@ Shows-new k s m words tidy stored shows v is =
 pub Shows-told : (k : Base) (s : Story) (m : Blocks) (words : List ℕ) (h : Hand) (reply : Reply) → IsTidy k s m → IsAnswer k.setting s h.command reply
     → ((v : ℕ) → IsKept s v → Shows k s m words v) → InHand k s m words h → h.done ≡ steps_before k m h.command
     → (v : ℕ) → IsKept (told s h.command reply) v → Shows k (told s h.command reply) (moved s h.command reply m) words v
-unfolding steps_before told moved IsKept
+unfolding steps_before told moved
 Shows-told k s m words h reply tidy answer shows inhand all v is_kept =
+    let at = newest_is k s m tidy.shape in
     elim (kept_before k s m h.command reply tidy.shape answer v is_kept) [
       | inl old ↦
+          let below = tidy.slots.published v old in
           Shows-same k s (told s h.command reply) m (moved s h.command reply m) words v
-          (directory_stays k s m h.command reply tidy.shape v old.1) (bitmap_stays k s m h.command reply tidy.shape v old.1) (shows v old)
+          (directory_stays k s m h.command reply tidy.shape v below) (bitmap_stays k s m h.command reply tidy.shape v below) (slot_stays k s h.command reply tidy.slots v (omega arith)) (shows v old)
       | inr new ↦
           subst (λ (c : Command). Shows k (told s c reply) (moved s c reply m) words v) (sym new.0)
-          (Shows-new k s m words tidy (λ n before. inhand.written new.0 n (let done : h.done ≡ steps_before k m Publish = all ∙ ap (steps_before k m) new.0 in omega arith)) (shows (newest s) (tidy.floor_in, omega arith)) v new.1)
+          (Shows-new k s m words tidy (λ n before. inhand.written new.0 n (let done : h.done ≡ steps_before k m Publish = all ∙ ap (steps_before k m) new.0 in omega arith)) (shows (newest s) tidy.slots.newest_in) v new.1)
     ]
 
 -- the last step of a command keeps what holds of the keeper
@@ -217,17 +230,14 @@ KeeperSound-commit k log words h tidy sound all =
       hand = tt;
     }
 
--- a kept version is kept still, where it isn't below the floor of a collect
-pub kept_stays : (s : Story) (c : Command) (words : List ℕ) (v : ℕ) → IsKept s v → (c ≡ Collect → floor_after s words ≤ v) → IsKept (told s c (reply_of s c words)) v
-unfolding told reply_of IsKept newest
+-- a kept version is kept still, where a collect keeps it
+pub kept_stays : (s : Story) (c : Command) (words : List ℕ) (v : ℕ) → IsKept s v → (c ≡ Collect → IsIn (kept_scanned s words) v) → IsKept (told s c (reply_of s c words)) v
+unfolding told reply_of IsKept
 kept_stays s (Paint r black) words v is_kept above = is_kept
 kept_stays s (Stamp x y b) words v is_kept above = is_kept
-kept_stays s Publish words v is_kept above =
-    let up = newest-told s Publish (reply_of s Publish words) in
-    let high = is_kept.1 in
-    (is_kept.0, omega (arith, length-append s.published (s.draft ∷ [])))
+kept_stays s Publish words v is_kept above = kept_still s v is_kept
 kept_stays s Revert words v is_kept above = is_kept
-kept_stays s Collect words v is_kept above = (above refl, is_kept.1)
+kept_stays s Collect words v is_kept above = above refl
 kept_stays s Checkpoint words v is_kept above = is_kept
 
 -- a collect that has done all of its scan has passed each reader
@@ -238,7 +248,7 @@ scanned_all k m h r inside collect all count =
     let steps : h.done ≡ k.setting.sessions = all ∙ ap (steps_before k m) collect in
     omega arith
 
--- and of each reader: what it holds isn't below the floor, since the scan has passed it
+-- and of each reader: what it holds is kept, since the scan has passed it
 pub ReaderSound-commit : (k : Base) (log : List Entry) (words : List ℕ) (h : Hand) (r : ℕ) (x : Reader) → r < k.setting.sessions
     → InHand k (story k log) (blocks k log) words h → h.done ≡ steps_before k (blocks k log) h.command
     → ReaderSound k (story k log) words record { log = log; hand = Some h } r x
@@ -254,13 +264,12 @@ ReaderSound-commit k log words h r x inside inhand all sound =
       seen = beginning-push x.seen log (entry_of s h) sound.seen;
       word = get_or-set_other words now_at (pin_at r) word 0 (pin-now r) ∙ sound.word;
       announced = λ a is. let below = sound.announced a is in omega arith;
+      exact = sound.exact;
       holds = λ v is.
           let held = sound.holds v is in
           record {
             kept = kept_stays s h.command h.scanned v held.kept (λ collect. sound.passed collect (scanned_all k (blocks k log) h r inside collect all (inhand.scans collect)) v is);
-            announced = held.announced;
-            is = held.is;
-            before = held.before;
+            asked = held.asked;
           };
       passed = tt;
     }

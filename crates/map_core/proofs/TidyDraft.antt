@@ -14,15 +14,15 @@ use Rattle.bits.proofs.CellsLemmas.{IsBitmap-cells_where}
 use Rattle.metric.specs.declared.refusal.Refusal.TheVariants.{OutOfRange, BlocksFull, LogFull, PlacesUsed}
 use Rattle.map_core.specs.declared.command.Command.{Command}
 use Rattle.map_core.specs.Drawing.{drawn, touched, tile_differs, is_inside}
-use Rattle.map_core.specs.Story.{Story, newest, bitmap_of, kept, trues, either, new_ones, inuse}
+use Rattle.map_core.specs.Story.{Story, newest, bitmap_of, kept, IsKept, trues, either, new_ones, inuse}
 use Rattle.map_core.specs.Legal.{needed, refused_draw, after_draw, is_log_full, are_places_used}
 use Rattle.map_core.specs.Blocks.{Blocks, directory_of, own_list, own_after, blocks_of, drawn_blocks, given_back}
 use Rattle.map_core.specs.Words.{Base, tiles}
 use Rattle.map_core.specs.Safe.{times}
 use Rattle.map_core.specs.Tidy.{IsOfMap, IsRetired, IsTidy}
 use Rattle.map_core.proofs.CameLemmas.{came-same_changes}
-use Rattle.map_core.proofs.CountLemmas.{inuse_is, changes_from-same}
-use Rattle.map_core.proofs.RetiredLemmas.{All-each, retired_from-all}
+use Rattle.map_core.proofs.RetiredLemmas.{All-each}
+use Rattle.map_core.proofs.UsedLemmas.{inuse_is}
 use Rattle.map_core.proofs.TimesLemmas.{times-append, times-own_after, length-own_after, positions-own_after, is_some-own_after, None-own_after, length-own_list, own_list-none, is_some-none, times-given_back, length-given_back}
 
 -- a bitmap of the map's size has as many tiles
@@ -33,9 +33,7 @@ tile_count-of_map k b h =
 -- the blocks that aren't in use are free
 pub free_is : (k : Base) (s : Story) (m : Blocks) → IsTidy k s m → length m.free + inuse s ≡ k.setting.blocks
 free_is k s m tidy =
-    let used = inuse_is s (tiles k) (tile_count-of_map k s.draft tidy.draft) tidy.floor_in tidy.shape.changes in
-    let left = tidy.left s.floor (omega arith) tidy.floor_in in
-    let all = retired_from-all s.floor m.retired (All-each (IsRetired k s m) (λ r. s.floor ≤ r.last) m.retired (λ r h. h.still_kept) tidy.retired) in
+    let used = inuse_is k s m tidy (tile_count-of_map k s.draft tidy.draft) in
     let own = length-own_list m.own ∙ sym (ap trues tidy.shape.changed) in
     let sum = tidy.shape.blocks in
     omega arith
@@ -47,7 +45,7 @@ pub tidy-draft : (k : Base) (s : Story) (m : Blocks) → IsTidy k s m → (place
     → length free + length (own_list own) ≡ length m.free + length (own_list m.own)
     → ((n : ℕ) → times n free + times n (own_list own) ≡ times n m.free + times n (own_list m.own))
     → IsTidy k record s { places = places; base = base; draft = draft; changed = changed } record m { own = own; free = free }
-unfolding newest bitmap_of kept directory_of
+unfolding newest bitmap_of kept IsKept directory_of
 tidy-draft k s m tidy places base draft changed own free of_map long same unchanged lengths stands =
     let t : Story = record s { places = places; base = base; draft = draft; changed = changed } in
     let n : Blocks = record m { own = own; free = free } in
@@ -67,7 +65,14 @@ tidy-draft k s m tidy places base draft changed own free of_map long same unchan
       draft = of_map;
       published = tidy.published;
       unchanged = unchanged;
-      floor_in = tidy.floor_in;
+      slots = record {
+        long = tidy.slots.long;
+        each = tidy.slots.each;
+        newest_in = tidy.slots.newest_in;
+        published = tidy.slots.published;
+        within = tidy.slots.within;
+        own = tidy.slots.own;
+      };
       kept_fit = tidy.kept_fit;
       once = λ b.
           let now = tidy.once b in
@@ -76,15 +81,14 @@ tidy-draft k s m tidy places base draft changed own free of_map long same unchan
           omega (arith, now, here, times-append b (free ++ own_list own ++ directory_of m (newest s)) (blocks_of m.retired), times-append b (free ++ own_list own) (directory_of m (newest s)), times-append b free (own_list own), times-append b (m.free ++ own_list m.own ++ directory_of m (newest s)) (blocks_of m.retired), times-append b (m.free ++ own_list m.own) (directory_of m (newest s)), times-append b m.free (own_list m.own));
       retired = All-each (IsRetired k s m) (IsRetired k t n) m.retired (λ r h. record {
         inside = h.inside;
-        still_kept = h.still_kept;
+        used = h.used;
         before = h.before;
         gone = h.gone;
         first_is = h.first_is ∙ sym (came_same r.position r.last);
         block_is = h.block_is;
       }) tidy.retired;
-      left = λ f low high. tidy.left f low high ∙ sym (changes_from-same s t refl f (newest s - f));
-      mapped = λ v p low high h.
-          elim (tidy.mapped v p low high h) [
+      mapped = λ v p is_kept h.
+          elim (tidy.mapped v p is_kept h) [
             | inl has ↦ inl record { block_is = has.block_is; came_is = came_same p v ∙ (has.came_is ∙ sym (came_same p (newest s))) }
             | inr among ↦ inr among
           ];

@@ -1,5 +1,5 @@
 -- What holds of the empty log holds after any legal log: one lemma for each command.
-use Rattle.std.proofs.Common.{◌≡◌, ℕ, ◌<◌, Bool, true, false, if◌then◌else◌, List, [], ◌∷◌, ◌++◌, length, refl, arith}
+use Rattle.std.proofs.Common.{◌≡◌, ℕ, ◌+◌, ◌<◌, ◌≤◌, Bool, true, false, if◌then◌else◌, List, [], ◌∷◌, ◌++◌, length, refl, arith}
 use Rattle.std.specs.Prelude.{Some, None, nat_le}
 use Rattle.std.proofs.lemmas.Bool.{cases_lt}
 use Rattle.std.proofs.lemmas.Bool.Decides.{nat_tests}
@@ -20,7 +20,7 @@ use Rattle.map_core.specs.Tidy.{IsReady, IsTidy}
 use Rattle.map_core.proofs.TidyOpened.{IsTidy-opened}
 use Rattle.map_core.proofs.TidyDraft.{IsTidy-draw, IsTidy-revert, IsTidy-checkpoint}
 use Rattle.map_core.proofs.TidyPublish.{IsTidy-publish}
-use Rattle.map_core.proofs.TidyCollect.{IsTidy-collect}
+use Rattle.map_core.proofs.TidyCollect.{IsTidy-keeping}
 
 -- a publish that isn't refused finds a slot
 pub room_for : (g : Setting) (s : Story) → refused g s Publish ≡ None → length (kept s) < g.versions
@@ -37,31 +37,31 @@ room_for g s accepted = free_slot (is_log_full g s) (are_places_used s) g.versio
         ]
 
 -- what holds after a legal log holds after one more answer
-pub IsTidy-told : (k : Base) (s : Story) (m : Blocks) (c : Command) (reply : Reply) → IsTidy k s m → IsAnswer k.setting s c reply
+pub IsTidy-told : (k : Base) (s : Story) (m : Blocks) (c : Command) (reply : Reply) → k.setting.versions ≤ 64 → IsTidy k s m → IsAnswer k.setting s c reply
     → IsTidy k (told s c reply) (moved s c reply m)
 unfolding refused told moved
-IsTidy-told k s m (Paint r black) reply tidy answer = IsTidy-draw k s m (Paint r black) tidy answer.accepted
-IsTidy-told k s m (Stamp x y b) reply tidy answer = IsTidy-draw k s m (Stamp x y b) tidy answer.accepted
-IsTidy-told k s m Publish reply tidy answer = IsTidy-publish k s m tidy (room_for k.setting s answer.accepted)
-IsTidy-told k s m Revert reply tidy answer = IsTidy-revert k s m tidy
-IsTidy-told k s m Collect (Collected place f freed) tidy answer = IsTidy-collect k s m tidy f answer.reply_is.1.risen answer.reply_is.1.within
-IsTidy-told k s m Collect (Painted place changed) tidy answer = absurd answer.reply_is
-IsTidy-told k s m Collect (Published place version) tidy answer = absurd answer.reply_is
-IsTidy-told k s m Collect (Reverted place) tidy answer = absurd answer.reply_is
-IsTidy-told k s m Collect (Checkpointed place) tidy answer = absurd answer.reply_is
-IsTidy-told k s m Checkpoint reply tidy answer = IsTidy-checkpoint k s m tidy
+IsTidy-told k s m (Paint r black) reply few tidy answer = IsTidy-draw k s m (Paint r black) tidy answer.accepted
+IsTidy-told k s m (Stamp x y b) reply few tidy answer = IsTidy-draw k s m (Stamp x y b) tidy answer.accepted
+IsTidy-told k s m Publish reply few tidy answer = IsTidy-publish k s m tidy few (room_for k.setting s answer.accepted)
+IsTidy-told k s m Revert reply few tidy answer = IsTidy-revert k s m tidy
+IsTidy-told k s m Collect (Collected place f freed kept_now) few tidy answer = IsTidy-keeping k s m tidy (s.places + 1) kept_now record { part = answer.reply_is.1.part; newest_in = answer.reply_is.1.newest_in }
+IsTidy-told k s m Collect (Painted place changed) few tidy answer = absurd answer.reply_is
+IsTidy-told k s m Collect (Published place version) few tidy answer = absurd answer.reply_is
+IsTidy-told k s m Collect (Reverted place) few tidy answer = absurd answer.reply_is
+IsTidy-told k s m Collect (Checkpointed place) few tidy answer = absurd answer.reply_is
+IsTidy-told k s m Checkpoint reply few tidy answer = IsTidy-checkpoint k s m tidy
 
 -- what holds after a legal log holds after more legal entries
-pub IsTidy-after : (k : Base) (s : Story) (m : Blocks) (log : List Entry) → IsTidy k s m → IsLegalFrom k.setting s log
+pub IsTidy-after : (k : Base) (s : Story) (m : Blocks) (log : List Entry) → k.setting.versions ≤ 64 → IsTidy k s m → IsLegalFrom k.setting s log
     → IsTidy k (after s log) (blocks_after s m log)
-IsTidy-after k s m [] tidy legal = tidy
-IsTidy-after k s m (e ∷ es) tidy legal =
-    IsTidy-after k (told s e.command e.reply) (moved s e.command e.reply m) es (IsTidy-told k s m e.command e.reply tidy legal.0) legal.1
+IsTidy-after k s m [] few tidy legal = tidy
+IsTidy-after k s m (e ∷ es) few tidy legal =
+    IsTidy-after k (told s e.command e.reply) (moved s e.command e.reply m) es few (IsTidy-told k s m e.command e.reply few tidy legal.0) legal.1
 
 -- what holds after any legal log
 pub IsTidy-legal : (k : Base) (log : List Entry) → IsReady k → IsLegal k.setting k.opening log → IsTidy k (story k log) (blocks k log)
 unfolding story blocks
-IsTidy-legal k log ready legal = IsTidy-after k (opened k.opening) (opened_blocks (tiles k) k.setting.blocks) log (IsTidy-opened k ready) legal
+IsTidy-legal k log ready legal = IsTidy-after k (opened k.opening) (opened_blocks (tiles k) k.setting.blocks) log ready.few_versions (IsTidy-opened k ready) legal
 
 -- the story after one more entry
 pub after-push : (s : Story) (log : List Entry) (e : Entry) → after s (log ++ e ∷ []) ≡ told (after s log) e.command e.reply

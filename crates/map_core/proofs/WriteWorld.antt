@@ -1,5 +1,5 @@
 -- The words that a publish stores, by what is kept.
-use Rattle.std.proofs.Common.{◌≡◌, ℕ, zero, suc, ◌+◌, ◌/◌, ◌%◌, ◌^◌, ◌<◌, ◌≤◌, List, [], ◌∷◌, length, get_or, ap, subst, sym, ◌∙◌, arith}
+use Rattle.std.proofs.Common.{◌≡◌, ℕ, zero, suc, ◌+◌, ◌/◌, ◌%◌, ◌^◌, ◌<◌, List, [], ◌∷◌, length, get_or, ap, subst, sym, ◌∙◌, arith}
 use Rattle.std.specs.Prelude.{Option, Some, None, slice_get}
 use Rattle.bits.specs.Cells.{Cells}
 use Rattle.bits.specs.Tiles.{row_word}
@@ -31,9 +31,9 @@ own_within_tiles w hand steps standings u room consistent = ap length consistent
 
 -- where a word of the next directory goes
 pub next_at : (w : State) (hand : Option Command) (steps : ℕ) (standings : List Standing) (u : Summary) (room : Room) → IsConsistent w hand steps standings u room → (p at : ℕ)
-    → at ≡ map_at w.base (slot_of w.base (story_of w) (u.ledger.newest + 1)) p → at ≡ (map_write w.base (story_of w) (blocks_of_state w) p).at
-unfolding slot_of next_slot map_write
-next_at w hand steps standings u room consistent p at is = is ∙ ap (λ (n : ℕ). map_at w.base ((n + 1) % w.base.setting.versions) p) consistent.summary.ledger_is.newest_is
+    → at ≡ map_at w.base (next_slot w.base (story_of w)) p → at ≡ (map_write w.base (story_of w) (blocks_of_state w) p).at
+unfolding map_write
+next_at w hand steps standings u room consistent p at is = is
 
 -- the new directory has the draft's own block
 mapped_some : (own : List (Option ℕ)) (bs : List ℕ) (p b : ℕ) (o : Option ℕ) → length own ≡ length bs → p < length own → get_or own p o ≡ Some b → get_or (mapped own bs) p 0 ≡ b
@@ -68,11 +68,11 @@ word_own w hand steps standings u room consistent p b o inside is =
 -- the word of a position without one is newest's
 pub word_newest : (w : State) (hand : Option Command) (steps : ℕ) (standings : List Standing) (u : Summary) (room : Room) → IsConsistent w hand steps standings u room → (p at word : ℕ) (o : Option ℕ) → p < tiles w.base
     → get_or u.own p o ≡ None → at ≡ map_at w.base (slot_of w.base (story_of w) u.ledger.newest) p → word ≡ get_or w.words at 0 → word ≡ (map_write w.base (story_of w) (blocks_of_state w) p).word
-unfolding map_write IsKept
+unfolding map_write
 word_newest w hand steps standings u room consistent p at word o inside is at_is read =
     let tidy = tidy_of w consistent.whole in
     let long = tidy.shape.own in
-    let shows = consistent.whole.keeper.shows (newest (story_of w)) (tidy.floor_in, omega arith) in
+    let shows = consistent.whole.keeper.shows (newest (story_of w)) tidy.slots.newest_in in
     let place = at_is ∙ ap (λ (n : ℕ). map_at w.base (slot_of w.base (story_of w) n) p) consistent.summary.ledger_is.newest_is in
     read ∙ (ap (λ (n : ℕ). get_or w.words n 0) place ∙ (shows.mapped p inside
     ∙ sym (mapped_none (blocks_of_state w).own (directory_of (blocks_of_state w) (newest (story_of w))) p (newest_long w hand steps standings u room consistent)
@@ -127,3 +127,7 @@ tile_word_is w hand steps standings u room consistent own n p b row word found r
     let position = found.position_is ∙ ap (λ (os : List (Option ℕ)). get_or (own_positions 0 os) (n / 64) 0) found.own_is in
     is ∙ (ap (λ (d : Cells). row_word d p row) consistent.summary.draft_is
     ∙ (ap (λ (q : ℕ). row_word (story_of w).draft q row) position ∙ ap (row_word (story_of w).draft (get_or (own_positions 0 (blocks_of_state w).own) (n / 64) 0)) row_is))
+
+-- the newest version that a ledger counts is kept
+pub newest_kept : (w : State) (hand : Option Command) (steps : ℕ) (standings : List Standing) (u : Summary) (room : Room) → IsConsistent w hand steps standings u room → IsKept (story_of w) u.ledger.newest
+newest_kept w hand steps standings u room consistent = subst (λ (n : ℕ). IsKept (story_of w) n) (sym consistent.summary.ledger_is.newest_is) (tidy_of w consistent.whole).slots.newest_in

@@ -1,11 +1,12 @@
 -- What a ledger counts of a log, and which commands it refuses: this project's own rule.
-use Rattle.std.specs.Prelude.{◌≡◌, suc, ◌-◌, ◌<◌, ◌≤◌, ◌&&◌, nat_le, Bool, true, false, Option, Some, None, if◌then◌else◌}
+use Rattle.std.specs.Prelude.{◌≡◌, ◌-◌, ◌<◌, ◌≤◌, ◌&&◌, nat_le, Bool, true, false, length, slice_index, Option, Some, None, if◌then◌else◌}
 use Rattle.metric.specs.declared.refusal.Refusal.{Refusal}
 use Rattle.metric.specs.declared.refusal.Refusal.TheVariants.{OutOfRange, VersionsFull, LogFull, PlacesUsed}
 use Rattle.map_core.specs.declared.command.Command.{Command}
 use Rattle.map_core.specs.declared.command.Command.TheVariants.{Paint, Stamp, Publish, Revert, Collect, Checkpoint}
 use Rattle.map_core.specs.declared.ledger.Ledger.{Ledger}
 use Rattle.map_core.specs.declared.setting.Setting.{Setting}
+use Rattle.map_core.specs.Kept.{members}
 use Rattle.map_core.specs.Drawing.{lies_within}
 use Rattle.map_core.specs.Legal.{refused_blocks}
 use Rattle.map_core.specs.Story.{Story, most_places, newest}
@@ -19,13 +20,15 @@ pub record IsLedger (k : Base) (s : Story) (l : Ledger) : Type 0 where
   pub places_is : l.places ≡ s.places
   pub base_is : l.base ≡ s.base
   pub newest_is : l.newest ≡ newest s
-  pub floor_is : l.floor ≡ s.floor
+  pub slot_is : l.slot ≡ slice_index s.slots (newest s)
+  pub kept_is : l.kept ≡ s.kept
 
--- the numbers of a ledger lie below one another: newest is kept, each version has a place, and so has the last checkpoint
+-- the numbers of a ledger fit together: each version has a place, and so has the last checkpoint; there are at most 64 slots, and newest stands in one
 pub record IsBalanced (l : Ledger) : Type 0 where
-  pub floor_in : l.floor ≤ l.newest
   pub newest_in : l.newest ≤ l.places
   pub base_in : l.base ≤ l.places
+  pub few_slots : l.setting.versions ≤ 64
+  pub small : l.slot < 64
 
 -- a place is left for one more entry
 abbrev pub HasPlace : Ledger → Type 0
@@ -50,7 +53,7 @@ has_no_place l = nat_le most_places l.places
 
 -- whether as many versions are kept as there are slots
 abbrev pub has_no_slot : Ledger → Bool
-has_no_slot l = nat_le l.setting.versions (suc l.newest - l.floor)
+has_no_slot l = nat_le l.setting.versions (length (members l.kept.slots))
 
 -- why a command is refused for want of a slot; a publish alone takes one
 abbrev pub refused_slots : Ledger → Command → Option Refusal

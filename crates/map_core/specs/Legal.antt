@@ -1,5 +1,5 @@
 -- What a command is answered after a log, and which logs are legal: this project's own rule.
-use Rattle.std.specs.Prelude.{◌≡◌, ℕ, ◌+◌, ◌-◌, ◌≤◌, nat_lt, nat_le, Bool, false, List, [], ◌∷◌, ◌++◌, length, replicate, Option, Some, None, if◌then◌else◌}
+use Rattle.std.specs.Prelude.{◌≡◌, ℕ, ◌+◌, ◌-◌, nat_lt, nat_le, Bool, false, List, [], ◌∷◌, ◌++◌, length, replicate, Option, Some, None, if◌then◌else◌}
 use Rattle.bits.specs.Cells.{Cells}
 use Rattle.metric.specs.declared.refusal.Refusal.{Refusal}
 use Rattle.metric.specs.declared.refusal.Refusal.TheVariants.{OutOfRange, BlocksFull, VersionsFull, LogFull, PlacesUsed}
@@ -9,8 +9,10 @@ use Rattle.map_core.specs.declared.command.Reply.{Reply}
 use Rattle.map_core.specs.declared.command.Reply.TheVariants.{Painted, Published, Reverted, Collected, Checkpointed}
 use Rattle.map_core.specs.declared.command.Entry.{Entry}
 use Rattle.map_core.specs.declared.setting.Setting.{Setting}
+use Rattle.map_core.specs.declared.kept.Kept.{Kept}
+use Rattle.map_core.specs.Kept.{first_free, IsIn, with_version, least_kept, IsPart}
 use Rattle.map_core.specs.Drawing.{drawn, touched, cells_changed, is_inside}
-use Rattle.map_core.specs.Story.{Story, opened, most_places, kept_log, newest, bitmap_of, kept, with_floor, trues, either, new_ones, inuse}
+use Rattle.map_core.specs.Story.{Story, opened, most_places, kept_log, newest, bitmap_of, kept, with_kept, trues, either, new_ones, inuse}
 
 -- how many new blocks a command needs: one for each position in which it changes a cell and that hasn't changed before
 unfoldable pub needed : Story → Command → ℕ
@@ -53,11 +55,12 @@ refused g s Revert = refused_log g s None
 refused g s Collect = refused_log g s None
 refused g s Checkpoint = refused_place s None
 
--- a collect's reply: a floor from the old one to newest, and how many blocks fewer are in use then
-pub record IsCollected (s : Story) (floor freed : ℕ) : Type 0 where
-  pub risen : s.floor ≤ floor
-  pub within : floor ≤ newest s
-  pub freed_is : freed + inuse (with_floor s floor) ≡ inuse s
+-- a collect's reply: some of the versions that were kept, newest among them, the least of them, and how many blocks fewer are in use then
+pub record IsCollected (s : Story) (floor freed : ℕ) (kept : Kept) : Type 0 where
+  pub part : IsPart kept.slots s.kept.slots
+  pub newest_in : IsIn kept (newest s)
+  pub floor_is : floor ≡ least_kept (newest s) kept
+  pub freed_is : freed + inuse (with_kept s kept) ≡ inuse s
 
 -- this reply belongs to a command that is accepted after a log
 abbrev pub IsReply : Story → Command → Reply → Type 0
@@ -65,7 +68,7 @@ IsReply s (Paint r black) (Painted place changed) = (place ≡ s.places + 1) × 
 IsReply s (Stamp x y b) (Painted place changed) = (place ≡ s.places + 1) × (changed ≡ cells_changed s.draft (Stamp x y b))
 IsReply s Publish (Published place version) = (place ≡ s.places + 1) × (version ≡ newest s + 1)
 IsReply s Revert (Reverted place) = place ≡ s.places + 1
-IsReply s Collect (Collected place floor freed) = (place ≡ s.places + 1) × IsCollected s floor freed
+IsReply s Collect (Collected place floor freed kept) = (place ≡ s.places + 1) × IsCollected s floor freed kept
 IsReply s Checkpoint (Checkpointed place) = place ≡ s.places + 1
 IsReply s c reply = ⊥
 
@@ -78,18 +81,18 @@ pub record IsAnswer (g : Setting) (s : Story) (c : Command) (reply : Reply) : Ty
 abbrev pub after_draw : Story → Command → Story
 after_draw s c = record s { places = s.places + 1; draft = drawn s.draft c; changed = either s.changed (touched s.draft c) }
 
--- the floor that a reply tells
-abbrev pub floor_told : Story → Reply → ℕ
-floor_told s (Collected place floor freed) = floor
-floor_told s reply = s.floor
+-- the versions that are kept after a reply
+abbrev pub kept_told : Story → Reply → Kept
+kept_told s (Collected place floor freed kept) = kept
+kept_told s reply = s.kept
 
 -- the story after one more entry
 unfoldable pub told : Story → Command → Reply → Story
 told s (Paint r black) reply = after_draw s (Paint r black)
 told s (Stamp x y b) reply = after_draw s (Stamp x y b)
-told s Publish reply = record s { places = s.places + 1; published = s.published ++ s.draft ∷ []; changes = s.changes ++ s.changed ∷ []; changed = replicate (length s.changed) false }
+told s Publish reply = record s { places = s.places + 1; published = s.published ++ s.draft ∷ []; changes = s.changes ++ s.changed ∷ []; changed = replicate (length s.changed) false; kept = with_version s.kept (newest s + 1); slots = s.slots ++ first_free s.kept.slots ∷ [] }
 told s Revert reply = record s { places = s.places + 1; draft = bitmap_of s (newest s); changed = replicate (length s.changed) false }
-told s Collect reply = record s { places = s.places + 1; floor = floor_told s reply }
+told s Collect reply = record s { places = s.places + 1; kept = kept_told s reply }
 told s Checkpoint reply = record s { places = s.places + 1; base = s.places + 1 }
 
 -- the story after some more entries

@@ -1,5 +1,5 @@
 -- What an event does where it is enabled: this project's own rule. Each event but an order is one load or one store of one word.
-use Rattle.std.specs.Prelude.{ℕ, zero, suc, ◌+◌, ◌-◌, ◌*◌, ◌/◌, ◌%◌, ◌&&◌, nat_lt, min, max, List, [], ◌∷◌, ◌++◌, length, fold, slice_get, slice_index, slice_set, Option, Some, None, is_some, is_none, if◌then◌else◌}
+use Rattle.std.specs.Prelude.{ℕ, ◌+◌, ◌-◌, ◌*◌, ◌/◌, ◌%◌, ◌&&◌, nat_lt, List, [], ◌∷◌, ◌++◌, length, map, slice_get, slice_index, slice_set, Option, Some, None, is_some, is_none, if◌then◌else◌}
 use Rattle.bits.specs.Tiles.{row_word}
 use Rattle.metric.specs.declared.refusal.Refusal.{Refusal}
 use Rattle.map_core.specs.declared.command.Command.{Command}
@@ -8,14 +8,18 @@ use Rattle.map_core.specs.declared.command.Reply.{Reply}
 use Rattle.map_core.specs.declared.command.Reply.TheVariants.{Painted, Published, Reverted, Collected, Checkpointed}
 use Rattle.map_core.specs.declared.command.Entry.{Entry}
 use Rattle.map_core.specs.declared.event.Event.{Event}
-use Rattle.map_core.specs.declared.event.Event.TheVariants.{Announce, Load, LookMap, LookTile, Leave, Order, Keep}
+use Rattle.map_core.specs.declared.event.Event.TheVariants.{Announce, Load, LookMap, LookTile, Leave, Confirm, Order, Keep}
 use Rattle.map_core.specs.declared.event.StepReply.{StepReply}
 use Rattle.map_core.specs.declared.event.StepReply.TheVariants as says
+use Rattle.map_core.specs.declared.kept.Kept.{Kept}
+use Rattle.map_core.specs.declared.kept.Seen.{Seen}
+use Rattle.map_core.specs.declared.kept.Seen.TheVariants.{From, Exact}
+use Rattle.map_core.specs.Kept.{least_kept, kept_after}
 use Rattle.map_core.specs.Drawing.{cells_changed}
-use Rattle.map_core.specs.Story.{Story, newest, with_floor, inuse}
+use Rattle.map_core.specs.Story.{Story, newest, with_kept, inuse}
 use Rattle.map_core.specs.Legal.{refused, told}
 use Rattle.map_core.specs.Blocks.{Blocks, own_list, mapped, directory_of, is_mapped}
-use Rattle.map_core.specs.Words.{Base, tiles, now_at, pin_at, map_at, tile_at, place_told, version_told, now_of, pin_word, slot_of, next_slot}
+use Rattle.map_core.specs.Words.{Base, tiles, now_at, pin_at, map_at, tile_at, place_told, version_told, now_of, pin_word, seen_in, slot_of, next_slot}
 use Rattle.map_core.specs.Views.{Hand, Reader, State, story_of, blocks_of_state, newest_seen}
 
 -- what an event does: the state after it, its answer, and the place of the word that it stored, if it stored one
@@ -44,7 +48,7 @@ announce w r None = None
 announce w r (Some x) =
     if is_some x.announced then None
     else (let version = newest_seen w.base x in
-    Some record { state = with_word (with_reader w r record x { announced = Some version }) (pin_at r) (pin_word (Some version)); answer = says.Announced version; stored = Some (pin_at r) })
+    Some record { state = with_word (with_reader w r record x { announced = Some (From version) }) (pin_at r) (pin_word (Some (From version))); answer = says.Announced version; stored = Some (pin_at r) })
 
 -- what a reader holds after it has loaded a version: that one, where it has announced and held none
 abbrev pub next_hold : Reader → ℕ → Option ℕ
@@ -81,6 +85,22 @@ leave w r (Some x) =
     if is_some x.announced
     then Some record { state = with_word (with_reader w r record x { announced = None; holds = None }) (pin_at r) (pin_word None); answer = says.Left; stored = Some (pin_at r) }
     else None
+
+-- the version that a reader holds, where it has announced one that isn't exact
+abbrev pub to_confirm : Option Seen → Option ℕ → Option ℕ
+to_confirm None holds = None
+to_confirm (Some (From a)) holds = holds
+to_confirm (Some (Exact v)) holds = None
+
+-- a reader that holds a version and hasn't announced it exactly stores that
+abbrev pub confirm_held : State → ℕ → Reader → Option ℕ → Option Outcome
+confirm_held w r x None = None
+confirm_held w r x (Some v) =
+    Some record { state = with_word (with_reader w r record x { announced = Some (Exact v) }) (pin_at r) (pin_word (Some (Exact v))); answer = says.Confirmed v; stored = Some (pin_at r) }
+
+unfoldable pub confirm : State → ℕ → Option Reader → Option Outcome
+confirm w r None = None
+confirm w r (Some x) = confirm_held w r x (to_confirm x.announced x.holds)
 
 -- ---- the keeper's steps
 
@@ -121,14 +141,9 @@ map_write k s m p = record { at = map_at k (next_slot k s) p; word = slice_index
 abbrev pub write_of : Base → Story → Blocks → ℕ → Write
 write_of k s m n = if nat_lt n (tile_steps m) then tile_write k s m n else map_write k s m (n - tile_steps m)
 
--- the lower of a version and the one that a reader's word announces, if it does
-abbrev pub lowered : ℕ → ℕ → ℕ
-lowered n zero = n
-lowered n (suc a) = min n a
-
--- the floor of a collect whose scan saw these words: the old floor, or the least of newest and what is announced, whichever is larger
-unfoldable pub floor_after : Story → List ℕ → ℕ
-floor_after s words = max s.floor (fold lowered (newest s) words)
+-- the versions that a collect keeps whose scan saw these words
+unfoldable pub kept_scanned : Story → List ℕ → Kept
+kept_scanned s words = kept_after s.kept (newest s) (map seen_in words)
 
 -- the reply that a command commits
 unfoldable pub reply_of : Story → Command → List ℕ → Reply
@@ -136,7 +151,7 @@ reply_of s (Paint r black) words = Painted (s.places + 1) (cells_changed s.draft
 reply_of s (Stamp x y b) words = Painted (s.places + 1) (cells_changed s.draft (Stamp x y b))
 reply_of s Publish words = Published (s.places + 1) (newest s + 1)
 reply_of s Revert words = Reverted (s.places + 1)
-reply_of s Collect words = Collected (s.places + 1) (floor_after s words) (inuse s - inuse (with_floor s (floor_after s words)))
+reply_of s Collect words = Collected (s.places + 1) (least_kept (newest s) (kept_scanned s words)) (inuse s - inuse (with_kept s (kept_scanned s words))) (kept_scanned s words)
 reply_of s Checkpoint words = Checkpointed (s.places + 1)
 
 -- the entry that the command in hand commits
@@ -190,6 +205,7 @@ does w (Load r) = load w r (slice_get w.readers r)
 does w (LookMap r p) = look_map w p (hold_of (slice_get w.readers r))
 does w (LookTile r b i) = look_tile w b i (hold_of (slice_get w.readers r))
 does w (Leave r) = leave w r (slice_get w.readers r)
+does w (Confirm r) = confirm w r (slice_get w.readers r)
 does w (Order c) = order w c w.keeper.hand
 does w Keep = keep w w.keeper.hand
 

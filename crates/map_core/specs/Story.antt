@@ -1,8 +1,10 @@
--- What a log says of the map: the draft and the published bitmaps, what changed, the floor, and how many blocks that takes: this project's own rule.
-use Rattle.std.specs.Prelude.{ℕ, zero, suc, ◌+◌, ◌-◌, ◌≤◌, ◌==◌, ◌&&◌, ◌||◌, Bool, true, false, not, cond, List, [], ◌∷◌, length, map, replicate, sum_by, slice_index_or, if◌then◌else◌}
+-- What a log says of the map: the draft and the published bitmaps, what changed, which versions are kept, and how many blocks that takes: this project's own rule.
+use Rattle.std.specs.Prelude.{ℕ, zero, suc, ◌+◌, ◌-◌, ◌==◌, ◌&&◌, ◌||◌, Bool, true, false, not, cond, List, [], ◌∷◌, length, map, replicate, sum_by, slice_index_or, if◌then◌else◌}
 use Rattle.std.specs.List.{list_any, range_with_len}
 use Rattle.bits.specs.Cells.{Cells}
 use Rattle.bits.specs.Tiles.{tile_count}
+use Rattle.map_core.specs.declared.kept.Kept.{Kept}
+use Rattle.map_core.specs.Kept.{members, IsIn, first_kept}
 
 -- a draft and a list of published bitmaps, with what is counted of them
 pub record Story : Type 0 where
@@ -17,16 +19,18 @@ pub record Story : Type 0 where
   pub changed : List Bool
   -- what `changed` was at the publish of version 1, 2, ..
   pub changes : List (List Bool)
-  -- the least version that is kept
-  pub floor : ℕ
+  -- the versions that are kept, each in its slot
+  pub kept : Kept
+  -- the slot of version 0, 1, .., also of one that is kept no longer
+  pub slots : List ℕ
 
 -- at the opening the draft and version 0 are the opening bitmap
 unfoldable pub opened : Cells → Story
-opened b = record { places = 0; base = 0; draft = b; published = b ∷ []; changed = replicate (tile_count b) false; changes = []; floor = 0 }
+opened b = record { places = 0; base = 0; draft = b; published = b ∷ []; changed = replicate (tile_count b) false; changes = []; kept = first_kept; slots = 0 ∷ [] }
 
 -- the most entries that a log may have: places count no further
 abbrev pub most_places : ℕ
-most_places = 4294967295
+most_places = 536870911
 
 -- how many entries of the log count against its limit: those after the last checkpoint
 unfoldable pub kept_log : Story → ℕ
@@ -46,15 +50,15 @@ bitmap_of s v = slice_index_or s.published v no_bitmap
 
 -- the versions that are kept
 unfoldable pub kept : Story → List ℕ
-kept s = range_with_len s.floor (suc (newest s) - s.floor)
+kept s = members s.kept.slots
 
 -- version v is kept
 unfoldable pub IsKept : Story → ℕ → Type 0
-IsKept s v = (s.floor ≤ v) × (v ≤ newest s)
+IsKept s v = IsIn s.kept v
 
--- the same story with another floor
-abbrev pub with_floor : Story → ℕ → Story
-with_floor s f = record s { floor = f }
+-- the same story with other versions kept
+abbrev pub with_kept : Story → Kept → Story
+with_kept s kept = record s { kept = kept }
 
 -- how many of the answers are true
 abbrev pub trues : List Bool → ℕ

@@ -1,10 +1,13 @@
 -- The words of a world and what stands in them: this project's own rule. First NOW, then a word for each reader, each with seven unused words behind it, then the slots' directories, then the blocks, 64 words each.
-use Rattle.std.specs.Prelude.{◌≡◌, ℕ, suc, ◌+◌, ◌*◌, ◌/◌, ◌%◌, ◌^◌, ◌==◌, List, slice_index, Option, Some, None}
+use Rattle.std.specs.Prelude.{◌≡◌, ℕ, ◌+◌, ◌-◌, ◌*◌, ◌/◌, ◌%◌, ◌^◌, ◌==◌, List, slice_index, Option, Some, None, if◌then◌else◌}
 use Rattle.std.specs.Int.{bit_at}
 use Rattle.bits.specs.Cells.{Cells, cells_where}
 use Rattle.bits.specs.Tiles.{tile_count, tile_of}
 use Rattle.map_core.specs.declared.plan.Plan.{Plan}
 use Rattle.map_core.specs.declared.setting.Setting.{Setting}
+use Rattle.map_core.specs.declared.kept.Seen.{Seen}
+use Rattle.map_core.specs.declared.kept.Seen.TheVariants.{From, Exact}
+use Rattle.map_core.specs.Kept.{first_free}
 use Rattle.map_core.specs.Story.{Story, newest}
 
 -- what a world was opened with
@@ -41,34 +44,43 @@ map_at k slot p = 8 + 8 * k.setting.sessions + (slot * tiles k + p)
 unfoldable pub tile_at : Base → ℕ → ℕ → ℕ
 tile_at k block i = 8 + 8 * k.setting.sessions + k.setting.versions * tiles k + (block * 64 + i)
 
--- what NOW says: the place of the last entry, and the newest version
-abbrev pub now_word : ℕ → ℕ → ℕ
-now_word place version = place * 2 ^ 32 + version
+-- what NOW says: the place of the last entry, the newest version, and its slot
+abbrev pub now_word : ℕ → ℕ → ℕ → ℕ
+now_word place version slot = place * 2 ^ 35 + version * 2 ^ 6 + slot
 
 -- the place that NOW tells
 abbrev pub place_told : ℕ → ℕ
-place_told word = word / 2 ^ 32
+place_told word = word / 2 ^ 35
 
 -- the version that NOW tells
 abbrev pub version_told : ℕ → ℕ
-version_told word = word % 2 ^ 32
+version_told word = word % 2 ^ 35 / 2 ^ 6
+
+-- the slot that NOW tells
+abbrev pub slot_told : ℕ → ℕ
+slot_told word = word % 2 ^ 6
 
 -- NOW after a log
 unfoldable pub now_of : Story → ℕ
-now_of s = now_word s.places (newest s)
+now_of s = now_word s.places (newest s) (slice_index s.slots (newest s))
 
--- what a reader's word says: 0 where nothing is announced, else the version plus 1
-unfoldable pub pin_word : Option ℕ → ℕ
+-- what a reader's word says: 0 where nothing is announced, an odd number for a version and those after it, and an even one for a version alone
+unfoldable pub pin_word : Option Seen → ℕ
 pin_word None = 0
-pin_word (Some version) = suc version
+pin_word (Some (From version)) = 2 * version + 1
+pin_word (Some (Exact version)) = 2 * version + 2
+
+-- what is announced by a word
+unfoldable pub seen_in : ℕ → Option Seen
+seen_in word = if word == 0 then None else (if word % 2 == 1 then Some (From (word / 2)) else Some (Exact (word / 2 - 1)))
 
 -- the slot of a version
 unfoldable pub slot_of : Base → Story → ℕ → ℕ
-slot_of k s version = version % k.setting.versions
+slot_of k s version = slice_index s.slots version
 
 -- the slot that a publish writes
 unfoldable pub next_slot : Base → Story → ℕ
-next_slot k s = (newest s + 1) % k.setting.versions
+next_slot k s = first_free s.kept.slots
 
 -- the bitmap that the words show in a slot: a cell's bit is that of its column, in the row of the block that the slot has for the cell's position
 unfoldable pub shown : Base → List ℕ → ℕ → Cells

@@ -1,5 +1,6 @@
 //! Commands, their replies, and the log's entries.
 
+use crate::kept::Kept;
 use bits::Bitmap;
 use metric::Rect;
 
@@ -14,7 +15,7 @@ pub enum Command {
     Publish,
     /// Makes the draft the newest version.
     Revert,
-    /// Raises the floor, the least version that is kept, and gives back blocks. It changes no bitmap.
+    /// Lets versions go that no reader may need, and gives back blocks. It changes no bitmap.
     Collect,
     /// Changes no bitmap. The entries up to it, itself included, count no longer against the log's limit; places count on.
     Checkpoint,
@@ -24,15 +25,30 @@ pub enum Command {
 #[derive(Clone, Copy, Debug, PartialEq, Eq)]
 pub enum Reply {
     /// To a paint or a stamp, with the number of cells that became another.
-    Painted { place: u32, changed: u32 },
+    Painted {
+        place: u32,
+        changed: u32,
+    },
     /// To a publish, with the number of the new version.
-    Published { place: u32, version: u32 },
+    Published {
+        place: u32,
+        version: u32,
+    },
     /// To a revert.
-    Reverted { place: u32 },
-    /// To a collect, with the new floor and the number of blocks that were given back.
-    Collected { place: u32, floor: u32, freed: u32 },
+    Reverted {
+        place: u32,
+    },
+    /// To a collect, with the least version that is kept, the number of blocks that were given back, and the versions that are kept.
+    Collected {
+        place: u32,
+        floor: u32,
+        freed: u32,
+        kept: Kept,
+    },
     /// To a checkpoint.
-    Checkpointed { place: u32 },
+    Checkpointed {
+        place: u32,
+    },
 }
 
 /// An entry of the log: a command that was accepted, with its reply.

@@ -1,24 +1,26 @@
 //! The ledger of a log: what is counted of it, which commands that refuses, and the replies.
 
-ghost use Rattle.std.specs.Prelude.{◌≡◌, ◌+◌, ◌^◌, ◌<◌, ◌≤◌, Some, None, if◌then◌else◌};
+ghost use Rattle.std.specs.Prelude.{◌≡◌, ◌+◌, ◌^◌, ◌<◌, length, Some, None, if◌then◌else◌};
+ghost use Rattle.map_core.specs.Kept.{members, first_free, first_kept, with_version, least_kept};
 ghost use Rattle.metric.specs.declared.refusal.Refusal.TheVariants.{VersionsFull};
 ghost use Rattle.map_core.specs.declared.command.Reply.TheVariants.{Painted, Published, Reverted, Collected, Checkpointed};
 ghost use Rattle.map_core.specs.Ledger.{HasPlace, IsBalanced, has_no_slot, refused_by_ledger};
 ghost use Rattle.map_core.specs.Words.{now_word};
 
 use crate::command::{Command, Reply};
+use crate::kept::Kept;
 use crate::now::Now;
 use crate::setting::Setting;
 use bits::Bitmap;
 use metric::Refusal;
 
 /// The most entries that a log may have: places count no further.
-const MOST_PLACES: u32 = 4_294_967_295;
+const MOST_PLACES: u32 = 536_870_911;
 
 /// What is counted of a log, with the setting and the size of the map.
 ///
 /// Whoever keeps a log judges each command by its ledger and enters each that it does, which gives the reply. The conditions of these calls hold
-/// after any legal log: the floor is at most the newest version, and neither that nor the last checkpoint's place is over the last place. A command is entered where a place is left for it.
+/// after any legal log: neither the newest version nor the last checkpoint's place is over the last place. A command is entered where a place is left for it.
 #[derive(Clone, Copy, Debug)]
 pub struct Ledger {
     pub setting: Setting,
@@ -31,14 +33,16 @@ pub struct Ledger {
     pub base: u32,
     /// The newest version, from 0.
     pub newest: u32,
-    /// The least version that is kept.
-    pub floor: u32,
+    /// The slot of the newest version.
+    pub slot: u32,
+    /// The versions that are kept.
+    pub kept: Kept,
 }
 
 impl Ledger {
     /// The ledger of the empty log of a map that is opened on this bitmap.
     pub fn of(setting: Setting, map: &Bitmap) -> Ledger
-        ensures { result ≡ record { setting = setting; width = map.now.width; height = map.now.height; places = 0; base = 0; newest = 0; floor = 0 } }
+        ensures { result ≡ record { setting = setting; width = map.now.width; height = map.now.height; places = 0; base = 0; newest = 0; slot = 0; kept = first_kept } }
     {
         Ledger {
             setting,
@@ -47,17 +51,16 @@ impl Ledger {
             places: 0,
             base: 0,
             newest: 0,
-            floor: 0,
+            slot: 0,
+            kept: Kept::first(),
         }
     }
 
     /// Whether a publish is refused for want of a slot.
     fn judge_slots(&self) -> Option<Refusal>
-        requires floor { self.now.floor ≤ self.now.newest }
-        requires few { self.now.newest + 1 < 2 ^ 32 }
         ensures { result ≡ (if has_no_slot self.now then Some VersionsFull else None) }
     {
-        if self.setting.versions <= self.newest + 1 - self.floor {
+        if self.setting.versions <= self.kept.count() {
             Some(Refusal::VersionsFull)
         } else {
             None
@@ -107,11 +110,13 @@ impl Ledger {
     pub fn enter_publish(&mut self) -> Reply
         requires balanced { IsBalanced self.old }
         requires place { HasPlace self.old }
-        ensures entered { self.new ≡ record self.old { places = self.old.places + 1; newest = self.old.newest + 1 } }
+        requires slot { length (members self.old.kept.slots) < 64 }
+        ensures entered { self.new ≡ record self.old { places = self.old.places + 1; newest = self.old.newest + 1; slot = first_free self.old.kept.slots; kept = with_version self.old.kept (self.old.newest + 1) } }
         ensures reply { result ≡ Published (self.old.places + 1) (self.old.newest + 1) }
     {
         self.places += 1;
         self.newest += 1;
+        self.slot = self.kept.add(self.newest);
         Reply::Published {
             place: self.places,
             version: self.newest,
@@ -128,18 +133,19 @@ impl Ledger {
         Reply::Reverted { place: self.places }
     }
 
-    /// Enters a collect that raised the floor to this version, and gave so many blocks back: `Reply::Collected`, with its place and both.
-    pub fn enter_collect(&mut self, floor: u32, freed: u32) -> Reply
+    /// Enters a collect that kept these versions, and gave so many blocks back: `Reply::Collected`, with its place, both, and the least of the versions.
+    pub fn enter_collect(&mut self, kept: Kept, freed: u32) -> Reply
         requires { HasPlace self.old }
-        ensures entered { self.new ≡ record self.old { places = self.old.places + 1; floor = floor } }
-        ensures reply { result ≡ Collected (self.old.places + 1) floor freed }
+        ensures entered { self.new ≡ record self.old { places = self.old.places + 1; kept = kept } }
+        ensures reply { result ≡ Collected (self.old.places + 1) (least_kept self.old.newest kept) freed kept }
     {
         self.places += 1;
-        self.floor = floor;
+        self.kept = kept;
         Reply::Collected {
             place: self.places,
-            floor,
+            floor: kept.least(self.newest),
             freed,
+            kept,
         }
     }
 
@@ -154,13 +160,17 @@ impl Ledger {
         Reply::Checkpointed { place: self.places }
     }
 
-    /// The word NOW after the log: the place of its last entry, and newest.
+    /// The word NOW after the log: the place of its last entry, newest, and its slot. Conditions: there is room for each.
     pub fn now_word(&self) -> u64
-        ensures { result ≡ now_word self.now.places self.now.newest }
+        requires place { self.now.places < 2 ^ 29 }
+        requires version { self.now.newest < 2 ^ 29 }
+        requires slot { self.now.slot < 64 }
+        ensures { result ≡ now_word self.now.places self.now.newest self.now.slot }
     {
         let now = Now {
             place: self.places,
             version: self.newest,
+            slot: self.slot,
         };
         now.word()
     }

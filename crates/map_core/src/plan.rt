@@ -1,9 +1,8 @@
 //! The sizes of a store, and where its words stand.
 
-ghost use Rattle.std.specs.Prelude.{◌≡◌, ◌<◌};
+ghost use Rattle.std.specs.Prelude.{◌≡◌};
 ghost use Rattle.bits.specs.Cells.{IsBitmap};
-ghost use Rattle.map_core.specs.Story.{Story};
-ghost use Rattle.map_core.specs.Words.{Base, IsPlan, pin_at, map_at, tile_at, slot_of};
+ghost use Rattle.map_core.specs.Words.{Base, IsPlan, pin_at, map_at, tile_at};
 
 use crate::setting::Setting;
 use bits::Bitmap;
@@ -34,14 +33,12 @@ impl Plan {
         8 + 8 * reader as usize
     }
 
-    /// Where the word stands that has the block of a position in a version's slot.
-    pub fn map_at(self, version: u32, position: u32) -> usize
-        requires { 0 < self.setting.versions }
-        ensures { (k : Base) (s : Story) → IsPlan k self → result ≡ map_at k (slot_of k s version) position }
+    /// Where the word stands that has the block of a position in a slot.
+    pub fn map_at(self, slot: u32, position: u32) -> usize
+        ensures { (k : Base) → IsPlan k self → result ≡ map_at k slot position }
     {
-        let slot = (version % self.setting.versions) as usize;
         8 + 8 * self.setting.sessions as usize
-            + (slot * usize::from(self.tiles) + position as usize)
+            + (slot as usize * usize::from(self.tiles) + position as usize)
     }
 
     /// Where the word stands that has a row of a block.

@@ -84,6 +84,7 @@ impl World {
             Event::LookMap { reader, position } => self.look_map(*reader, *position),
             Event::LookTile { reader, block, row } => self.look_tile(*reader, *block, *row),
             Event::Leave { reader } => self.leave(*reader),
+            Event::Confirm { reader } => self.confirm(*reader),
             Event::Order { command } => self.order(alloc, command),
             Event::Keep => self.keep(),
         }

@@ -31,7 +31,7 @@ abbrev pub numbers_of : Reply → List ℕ
 numbers_of (Painted place changed) = place ∷ changed ∷ []
 numbers_of (Published place version) = place ∷ version ∷ []
 numbers_of (Reverted place) = place ∷ []
-numbers_of (Collected place floor freed) = place ∷ floor ∷ freed ∷ []
+numbers_of (Collected place floor freed kept) = place ∷ floor ∷ freed ∷ []
 numbers_of (Checkpointed place) = place ∷ []
 
 -- a number behind `OK`

@@ -62,6 +62,7 @@ fn put_done(text: &mut Text, reply: Reply)
             place,
             floor,
             freed,
+            kept: _,
         } => {
             put_pair(text, place, floor);
             put_detail(text, freed);

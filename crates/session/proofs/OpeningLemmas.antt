@@ -1,10 +1,7 @@
 -- The readers of an opening become the sessions, in their order.
-use Rattle.std.proofs.Common.{◌≡◌, ℕ, zero, suc, ◌<◌, ◌≤◌, List, [], ◌∷◌, ◌++◌, length, map, get_or, refl, ap, sym, ◌∙◌, arith, append-nil, length-append}
-use Rattle.std.specs.Prelude.{All}
+use Rattle.std.proofs.Common.{◌≡◌, ℕ, List, [], ◌∷◌, ◌++◌, length, map, refl, ap, sym, ◌∙◌, arith, append-nil}
 use Rattle.std.specs.List.{range_with_len}
 use Rattle.std.proofs.lemmas.List.{length-map}
-use Rattle.std.proofs.lemmas.List.FromFn.{length-range_with_len}
-use Rattle.std.proofs.Math.Seq.{get_or-append_seam}
 use Rattle.shelf.specs.Open.{Newcomer, all_newcomers}
 use Rattle.shelf.specs.Roles.{ReaderView, fresh_reader}
 use Rattle.shelf.specs.Store.{StoreId, readers_of}

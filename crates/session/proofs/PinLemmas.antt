@@ -1,71 +1,88 @@
 -- What a session's seat is once it has pinned or learned, and that a pin stays.
-use Rattle.std.proofs.Common.{◌≡◌, ℕ, ◌≤◌, List, false, refl, ap, sym, subst, ◌∙◌, arith}
-use Rattle.std.specs.Prelude.{Bool, Option, Some, None, is_some, ◌⊎◌}
+use Rattle.std.proofs.Common.{◌≡◌, ℕ, ◌<◌, ◌≤◌, List, false, refl, ap, sym, subst, ◌∙◌, arith}
+use Rattle.std.specs.Prelude.{Bool, Option, Some, None, ◌⊎◌}
 use mathlib.Core.Logic.{inl}
 use mathlib.Core.List.{IsPrefix}
 use Rattle.bits.specs.Cells.{Cells}
 use Rattle.map_core.specs.declared.command.Entry.{Entry}
+use Rattle.map_core.specs.declared.kept.Seen.{Seen}
+use Rattle.map_core.specs.declared.kept.Seen.TheVariants.{From, Exact}
 use Rattle.map_core.specs.Story.{newest, bitmap_of}
-use Rattle.map_core.specs.Words.{Base}
+use Rattle.map_core.specs.Words.{Base, slot_of}
 use Rattle.map_core.specs.Views.{Reader, story}
 use Rattle.map_core.specs.Views as core
-use Rattle.map_core.specs.Steps.{next_hold}
+use Rattle.map_core.specs.Steps.{next_hold, to_confirm}
 use Rattle.map_core.specs.Legal.{IsLegal}
 use Rattle.map_core.specs.Tidy.{IsReady, IsOfMap}
-use Rattle.map_core.proofs.LogLemmas.{newest-beginning, bitmap-beginning}
+use Rattle.map_core.proofs.LogLemmas.{newest-beginning, bitmap-beginning, slot-beginning}
 use Rattle.map_core.proofs.TidyLog.{IsTidy-legal}
+use Rattle.shelf.specs.declared.signed.Signed.{Signed}
 use Rattle.shelf.specs.Store.{StoreId}
 use Rattle.shelf.proofs.LogParts.{prefix-entries}
 use Rattle.shelf.specs.Roles.{ReaderView, entries, as_reader}
-use Rattle.shelf.specs.Steps.{announcing, loaded}
+use Rattle.shelf.specs.Steps.{announcing, confirming, loaded, newest_slot}
 use Rattle.shelf.proofs.ReaderSeats.{hold_stays}
-use Rattle.session.specs.Sessions.{PinView, Size, IsSession, IsPin, bitmap_pinned}
+use Rattle.session.specs.Sessions.{PinView, IsPin, bitmap_pinned}
 
 -- a load by a seat that holds, or has announced nothing, changes what it has seen alone
 pub seen_alone : (z : Base) (x y : ReaderView) → (x.announced ≡ None) ⊎ ((v : ℕ) × (x.holds ≡ Some v)) → y ≡ loaded z y.seen x → y ≡ record x { seen = y.seen }
 seen_alone z x y steady is = is ∙ ap (λ (h : Option ℕ). record x { seen = y.seen; holds = h }) (hold_stays x (newest (story z (entries y.seen))) steady)
 
 -- a load by a reader that has announced and holds nothing gives it the hold
-takes_hold : (announced holds : Option ℕ) (seen : List Entry) (n v : ℕ) → announced ≡ Some v → holds ≡ None → next_hold record { seen = seen; announced = announced; holds = holds } n ≡ Some n
-takes_hold announced holds seen n v some none = rw (some, none) refl
+takes_hold : (announced : Option Seen) (holds : Option ℕ) (seen : List Entry) (n : ℕ) (o : Seen) → announced ≡ Some o → holds ≡ None → next_hold record { seen = seen; announced = announced; holds = holds } n ≡ Some n
+takes_hold announced holds seen n o some none = rw (some, none) refl
 
 -- a load, an announcement and a load: the seat holds the newest version that it then has seen
-pub pinned_seat : (z : Base) (x a b y : ReaderView) → x.announced ≡ None → x.holds ≡ None → a ≡ loaded z a.seen x → b ≡ announcing z a → y ≡ loaded z y.seen b
-    → y ≡ record x { seen = y.seen; announced = Some (core.newest_seen z (as_reader a)); holds = Some (newest (story z (entries y.seen))) }
-pinned_seat z x a b y quiet free first told last =
-    let n = newest (story z (entries y.seen)) in
-    let v = core.newest_seen z (as_reader a) in
+taken_seat : (z : Base) (x a b d : ReaderView) → x.announced ≡ None → x.holds ≡ None → a ≡ loaded z a.seen x → b ≡ announcing z a → d ≡ loaded z d.seen b
+    → d ≡ record x { seen = d.seen; announced = Some (From (core.newest_seen z (as_reader a))); holds = Some (newest (story z (entries d.seen))) }
+taken_seat z x a b d quiet free first told last =
+    let n = newest (story z (entries d.seen)) in
+    let o : Seen = From (core.newest_seen z (as_reader a)) in
     let a_is = seen_alone z x a (inl quiet) first in
     let none : a.holds ≡ None = ap (λ (q : ReaderView). q.holds) a_is ∙ free in
     last
-    ∙ (ap (loaded z y.seen) told
-    ∙ (ap (λ (h : Option ℕ). record a { seen = y.seen; announced = Some v; holds = h }) (takes_hold (Some v) a.holds (entries a.seen) n v refl none)
-    ∙ ap (λ (q : ℕ × ℕ). record { number = q.0; seen = y.seen; made = q.1; announced = Some v; holds = Some n }) (λ i. (ap (λ (q : ReaderView). q.number) a_is i, ap (λ (q : ReaderView). q.made) a_is i))))
+    ∙ (ap (loaded z d.seen) told
+    ∙ (ap (λ (h : Option ℕ). record a { seen = d.seen; announced = Some o; holds = h }) (takes_hold (Some o) a.holds (entries a.seen) n o refl none)
+    ∙ ap (λ (q : ℕ × ℕ). record { number = q.0; seen = d.seen; made = q.1; announced = Some o; holds = Some n }) (λ i. (ap (λ (q : ReaderView). q.number) a_is i, ap (λ (q : ReaderView). q.made) a_is i))))
+
+-- which it may then announce exactly
+pub may_confirm : (z : Base) (x a b d : ReaderView) (version : ℕ) → x.announced ≡ None → x.holds ≡ None → a ≡ loaded z a.seen x → b ≡ announcing z a → d ≡ loaded z d.seen b
+    → version ≡ newest (story z (entries d.seen)) → to_confirm d.announced d.holds ≡ Some version
+may_confirm z x a b d version quiet free first told last is =
+    ap (λ (q : ReaderView). to_confirm q.announced q.holds) (taken_seat z x a b d quiet free first told last) ∙ ap (λ (n : ℕ). Some n) (sym is)
+
+-- and has then announced that one, and holds it
+pub pinned_seat : (z : Base) (x a b d y : ReaderView) (version : ℕ) → x.announced ≡ None → x.holds ≡ None → a ≡ loaded z a.seen x → b ≡ announcing z a → d ≡ loaded z d.seen b
+    → version ≡ newest (story z (entries d.seen)) → y ≡ confirming version d → y ≡ record x { seen = d.seen; announced = Some (Exact version); holds = Some version }
+pinned_seat z x a b d y version quiet free first told last is confirmed =
+    confirmed ∙ (ap (confirming version) (taken_seat z x a b d quiet free first told last)
+    ∙ ap (λ (n : ℕ). record x { seen = d.seen; announced = Some (Exact version); holds = Some n }) (sym is))
 
 -- a bitmap that was published is of the map's size
 pub published_size : (z : Base) (x : ReaderView) (v : ℕ) → IsReady z → IsLegal z.setting z.opening (entries x.seen) → v ≤ newest (story z (entries x.seen)) → IsOfMap z (bitmap_of (story z (entries x.seen)) v)
 published_size z x v ready legal within = (IsTidy-legal z (entries x.seen) ready legal).published v within
 
 -- the bitmap of a pin stays where its session sees more of the log
-pub bitmap_stays : (store : StoreId) (p : PinView) (y : ReaderView) (bitmap : Cells) (is_read : Bool) → IsPin store p bitmap is_read → IsPrefix p.seat.seen y.seen
+pub bitmap_stays : (store : StoreId) (p : PinView) (y : ReaderView) (slot : ℕ) (bitmap : Cells) (is_read : Bool) → IsPin store p slot bitmap is_read → IsPrefix p.seat.seen y.seen
     → bitmap_pinned store record { seat = y; version = p.version } ≡ bitmap_pinned store p
-bitmap_stays store p y bitmap is_read pin began =
+bitmap_stays store p y slot bitmap is_read pin began =
     let published = pin.published in
     bitmap-beginning store.base (entries p.seat.seen) (entries y.seen) (prefix-entries p.seat.seen y.seen began) p.version published
 
 -- a pin stays where its session sees more of the log: it holds the same version, which has the same bitmap
-pub pin_stays : (store : StoreId) (p : PinView) (y : ReaderView) (bitmap : Cells) (is_read : Bool) → IsPin store p bitmap is_read → IsPrefix p.seat.seen y.seen → y.announced ≡ p.seat.announced → y.holds ≡ p.seat.holds
-    → IsPin store record { seat = y; version = p.version } bitmap is_read
-pin_stays store p y bitmap is_read pin began announced holds =
+pub pin_stays : (store : StoreId) (p : PinView) (y : ReaderView) (slot : ℕ) (bitmap : Cells) (is_read : Bool) → IsPin store p slot bitmap is_read → IsPrefix p.seat.seen y.seen → y.announced ≡ p.seat.announced → y.holds ≡ p.seat.holds
+    → IsPin store record { seat = y; version = p.version } slot bitmap is_read
+pin_stays store p y slot bitmap is_read pin began announced holds =
     let z = store.base in
     let begins = prefix-entries p.seat.seen y.seen began in
     let grown = newest-beginning z (entries p.seat.seen) (entries y.seen) begins in
     let published = pin.published in
-    let same = sym (bitmap_stays store p y bitmap is_read pin began) in
+    let same = sym (bitmap_stays store p y slot bitmap is_read pin began) in
     record {
-      announced = ap (λ (a : Option ℕ). is_some a) announced ∙ pin.announced;
+      announced = announced ∙ pin.announced;
       held = holds ∙ pin.held;
       published = omega arith;
+      slot_is = record { slot_is = pin.slot_is.slot_is ∙ sym (slot-beginning z (entries p.seat.seen) (entries y.seen) begins p.version published); below = pin.slot_is.below };
       ready = pin.ready;
       of_map = subst (IsOfMap z) same pin.of_map;
       width_is = pin.width_is;
@@ -73,19 +90,25 @@ pin_stays store p y bitmap is_read pin began announced holds =
       bitmap_is = λ read. pin.bitmap_is read ∙ same;
     }
 
--- a session that has loaded, announced and loaded again is a pin of the newest version, with room for its bitmap
-pub pin_made : (store : StoreId) (x a b y : ReaderView) (version : ℕ) (bitmap : Cells) → IsReady store.base → x.announced ≡ None → x.holds ≡ None → a ≡ loaded store.base a.seen x → b ≡ announcing store.base a
-    → y ≡ loaded store.base y.seen b → version ≡ newest (story store.base (entries y.seen)) → IsLegal store.base.setting store.base.opening (entries y.seen) → bitmap.width ≡ store.base.opening.width
-    → bitmap.height ≡ store.base.opening.height → IsPin store record { seat = y; version = version } bitmap false
-pin_made store x a b y version bitmap ready quiet free first told last is legal width height =
+-- a session that has loaded, announced, loaded again and confirmed is a pin of the newest version, with room for its bitmap
+pub pin_made : (store : StoreId) (x a b d y : ReaderView) (version slot : ℕ) (bitmap : Cells) → IsReady store.base → x.announced ≡ None → x.holds ≡ None → a ≡ loaded store.base a.seen x → b ≡ announcing store.base a
+    → d ≡ loaded store.base d.seen b → version ≡ newest (story store.base (entries d.seen)) → y ≡ confirming version d → slot ≡ newest_slot store.base d.seen → slot < store.base.setting.versions
+    → IsLegal store.base.setting store.base.opening (entries d.seen) → bitmap.width ≡ store.base.opening.width → bitmap.height ≡ store.base.opening.height → IsPin store record { seat = y; version = version } slot bitmap false
+pin_made store x a b d y version slot bitmap ready quiet free first told last is confirmed slot_is below legal width height =
     let z = store.base in
-    let y_is = pinned_seat z x a b y quiet free first told last in
+    let y_is = pinned_seat z x a b d y version quiet free first told last is confirmed in
+    let seen : d.seen ≡ y.seen = sym (ap (λ (q : ReaderView). q.seen) confirmed) in
+    let newest_is : version ≡ newest (story z (entries y.seen)) = is ∙ ap (λ (l : List Signed). newest (story z (entries l))) seen in
     record {
-      announced = ap (λ (q : ReaderView). is_some q.announced) y_is;
-      held = ap (λ (q : ReaderView). q.holds) y_is ∙ ap (λ (v : ℕ). Some v) (sym is);
+      announced = ap (λ (q : ReaderView). q.announced) y_is;
+      held = ap (λ (q : ReaderView). q.holds) y_is;
       published = omega arith;
+      slot_is = record {
+        slot_is = slot_is ∙ (ap (λ (l : List Signed). newest_slot z l) seen ∙ ap (λ (v : ℕ). slot_of z (story z (entries y.seen)) v) (sym newest_is));
+        below = below;
+      };
       ready = ready;
-      of_map = published_size z y version ready legal (omega arith);
+      of_map = published_size z y version ready (subst (λ (l : List Signed). IsLegal z.setting z.opening (entries l)) seen legal) (omega arith);
       width_is = width;
       height_is = height;
       bitmap_is = λ read. absurd (cc);

@@ -1,9 +1,11 @@
 -- What contracts see of pins and of sessions: this project's own rule.
-use Rattle.std.specs.Prelude.{◌≡◌, ◌+◌, ◌≤◌, ℕ, Bool, true, All, List, drop, length, map, sum_by, Some, None, is_some}
+use Rattle.std.specs.Prelude.{◌≡◌, ◌+◌, ◌<◌, ◌≤◌, ℕ, Bool, true, All, List, drop, length, map, sum_by, Some, None}
 use Rattle.std.specs.List.{range_with_len}
 use mathlib.Core.List.{IsPrefix}
 use Rattle.bits.specs.Cells.{Cells}
+use Rattle.map_core.specs.declared.kept.Seen.TheVariants.{Exact}
 use Rattle.map_core.specs.Story.{newest, bitmap_of}
+use Rattle.map_core.specs.Words.{slot_of}
 use Rattle.map_core.specs.Views.{story}
 use Rattle.map_core.specs.Tidy.{IsReady, IsOfMap}
 use Rattle.shelf.specs.declared.signed.Signed.{Signed}
@@ -54,6 +56,11 @@ pub record Size : Type 0 where
   pub width : ℕ
   pub height : ℕ
 
+-- a version has this slot, by what a session has seen, which is one of the store's
+pub record HasSlot (store : StoreId) (x : ReaderView) (version slot : ℕ) : Type 0 where
+  pub slot_is : slot ≡ slot_of store.base (story store.base (entries x.seen)) version
+  pub below : slot < store.base.setting.versions
+
 -- a session has announced nothing and holds nothing, and has the size of its store's map, which fits the store's setting
 pub record IsSession (store : StoreId) (x : ReaderView) (size : Size) : Type 0 where
   pub quiet : x.announced ≡ None
@@ -62,12 +69,13 @@ pub record IsSession (store : StoreId) (x : ReaderView) (size : Size) : Type 0 w
   pub width_is : size.width ≡ store.base.opening.width
   pub height_is : size.height ≡ store.base.opening.height
 
--- a pin has announced a version and holds one that was published in what it has seen; it has that version's bitmap once it is read, and until then
--- a bitmap of the same size
-pub record IsPin (store : StoreId) (p : PinView) (bitmap : Cells) (is_read : Bool) : Type 0 where
-  pub announced : is_some p.seat.announced ≡ true
+-- a pin holds a version that was published in what it has seen, and has announced that one exactly; it knows its slot; it has the version's bitmap once it is read,
+-- and until then a bitmap of the same size
+pub record IsPin (store : StoreId) (p : PinView) (slot : ℕ) (bitmap : Cells) (is_read : Bool) : Type 0 where
+  pub announced : p.seat.announced ≡ Some (Exact p.version)
   pub held : p.seat.holds ≡ Some p.version
   pub published : p.version ≤ newest_seen store p.seat
+  pub slot_is : HasSlot store p.seat p.version slot
   pub ready : IsReady store.base
   pub of_map : IsOfMap store.base (bitmap_pinned store p)
   pub width_is : bitmap.width ≡ store.base.opening.width

@@ -1,7 +1,8 @@
 //! A pin: a session that holds a version, and asks it.
 
-ghost use Rattle.std.specs.Prelude.{◌≡◌, ◌≤◌, true, Some, None, is_some};
+ghost use Rattle.std.specs.Prelude.{◌≡◌, ◌≤◌, Some, None};
 ghost use mathlib.Core.List.{IsPrefix};
+ghost use Rattle.map_core.specs.declared.kept.Seen.TheVariants.{Exact};
 ghost use Rattle.map_core.specs.Legal.{IsLegal};
 ghost use Rattle.shelf.specs.Roles.{entries};
 ghost use Rattle.shelf.specs.Steps.{leaving};
@@ -19,13 +20,14 @@ use bits::Bitmap;
 use shelf::{ReaderSeat, StoreName, Ticket};
 use std::marker::Model;
 
-/// A session that holds a version, whatever others publish and collect. Contracts see it as the session's seat and the version. It has
-/// announced a version, and holds this one.
+/// A session that holds a version, whatever others publish and collect. Contracts see it as the session's seat and the version. It
+/// holds this version, and has announced it alone.
 ///
 /// It can't be let go: it is unpinned.
 pub struct Pinned<Id: StoreName> {
     pub(crate) seat: ReaderSeat<Id>,
     pub(crate) version: u32,
+    pub(crate) slot: u32,
     // The version's bitmap once it is read, and until then room for it.
     pub(crate) bitmap: Bitmap,
     pub(crate) read: bool,
@@ -40,7 +42,7 @@ impl<Id: StoreName> Model for Pinned<Id> {
 
     ghost view = { λ p. record { seat = p.seat; version = p.version } };
 
-    ghost invariant = { λ p. IsPin Id.store record { seat = p.seat; version = p.version } p.bitmap p.read };
+    ghost invariant = { λ p. IsPin Id.store record { seat = p.seat; version = p.version } p.slot p.bitmap p.read };
 }
 
 impl<Id: StoreName> Pinned<Id> {
@@ -50,7 +52,7 @@ impl<Id: StoreName> Pinned<Id> {
     pub fn version(&self) -> u32
         ensures version { result ≡ self.now.version }
         ensures published { result ≤ newest_seen Id.store self.now.seat }
-        ensures holds { (self.now.seat.holds ≡ Some result) × (is_some self.now.seat.announced ≡ true) }
+        ensures holds { (self.now.seat.holds ≡ Some result) × (self.now.seat.announced ≡ Some (Exact result)) }
     {
         self.version
     }
@@ -73,7 +75,8 @@ impl<Id: StoreName> Pinned<Id> {
         ensures bitmap { result.now ≡ bitmap_pinned Id.store self.old }
         ensures* pin { sem 𝓛 (KeepsPin Id.row Id.StoreName self.entry) }
     {
-        read_once(&mut self.seat, self.version, self.read, &mut self.bitmap);
+        let (version, slot) = (self.version, self.slot);
+        read_once(&mut self.seat, version, slot, self.read, &mut self.bitmap);
         self.read = true;
         &self.bitmap
     }
@@ -98,6 +101,7 @@ impl<Id: StoreName> Pinned<Id> {
         let Pinned {
             mut seat,
             version: _,
+            slot: _,
             bitmap,
             read: _,
             looks: _,

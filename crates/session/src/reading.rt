@@ -6,7 +6,7 @@ ghost use Rattle.bits.specs.Words.{words_across};
 ghost use Rattle.clearance.specs.Rows.{words_of_row};
 ghost use Rattle.map_core.specs.Words.{tiles};
 ghost use Rattle.map_core.specs.Tidy.{IsOfMap};
-ghost use Rattle.session.specs.Sessions.{bitmap_seen};
+ghost use Rattle.session.specs.Sessions.{bitmap_seen, HasSlot};
 
 use bits::Bitmap;
 use shelf::{ReaderSeat, StoreName};
@@ -15,15 +15,17 @@ use shelf::{ReaderSeat, StoreName};
 fn read_tile<Id: StoreName>(
     seat: &mut ReaderSeat<Id>,
     version: u32,
+    slot: u32,
     position: u16,
     words: &mut [u64; 64],
 )
     requires held { seat.old.holds ≡ Some version }
+    requires slot { HasSlot Id.store seat.old version slot }
     requires inside { position < tiles Id.store.base }
     ensures seat { seat.new ≡ seat.old }
     ensures words { words.new ≡ tile_words (bitmap_seen Id.store seat.old version) position }
 {
-    let block = seat.look_map(version, position);
+    let block = seat.look_map(version, slot, position);
     'rows: for row in 0..64u16 {
         words[usize::from(row)] = seat.look_tile(block, row);
     }
@@ -33,11 +35,13 @@ fn read_tile<Id: StoreName>(
 pub fn look_word<Id: StoreName>(
     seat: &mut ReaderSeat<Id>,
     version: u32,
+    slot: u32,
     across: u16,
     y: u16,
     index: u16,
 ) -> u64
     requires held { seat.old.holds ≡ Some version }
+    requires slot { HasSlot Id.store seat.old version slot }
     requires of_map { IsOfMap Id.store.base (bitmap_seen Id.store seat.old version) }
     requires across { across ≡ words_across (bitmap_seen Id.store seat.old version).width }
     requires row { y < (bitmap_seen Id.store seat.old version).height }
@@ -45,13 +49,19 @@ pub fn look_word<Id: StoreName>(
     ensures seat { seat.new ≡ seat.old }
     ensures word { result ≡ slice_index (words_of_row (bitmap_seen Id.store seat.old version) y) index }
 {
-    let block = seat.look_map(version, y / 64 * across + index);
+    let block = seat.look_map(version, slot, y / 64 * across + index);
     seat.look_tile(block, y % 64)
 }
 
 /// Reads the held version, tile by tile, into a bitmap of the map's size.
-fn read_version<Id: StoreName>(seat: &mut ReaderSeat<Id>, version: u32, bitmap: &mut Bitmap)
+fn read_version<Id: StoreName>(
+    seat: &mut ReaderSeat<Id>,
+    version: u32,
+    slot: u32,
+    bitmap: &mut Bitmap,
+)
     requires held { seat.old.holds ≡ Some version }
+    requires slot { HasSlot Id.store seat.old version slot }
     requires of_map { IsOfMap Id.store.base (bitmap_seen Id.store seat.old version) }
     requires width { bitmap.old.width ≡ Id.store.base.opening.width }
     requires height { bitmap.old.height ≡ Id.store.base.opening.height }
@@ -60,7 +70,7 @@ fn read_version<Id: StoreName>(seat: &mut ReaderSeat<Id>, version: u32, bitmap: 
 {
     let mut words = [0; 64];
     'positions: for position in 0..bitmap.tiles() {
-        read_tile(seat, version, position, &mut words);
+        read_tile(seat, version, slot, position, &mut words);
         bitmap.put_tile(position, &words);
     }
 }
@@ -69,10 +79,12 @@ fn read_version<Id: StoreName>(seat: &mut ReaderSeat<Id>, version: u32, bitmap: 
 pub fn read_once<Id: StoreName>(
     seat: &mut ReaderSeat<Id>,
     version: u32,
+    slot: u32,
     is_read: bool,
     bitmap: &mut Bitmap,
 )
     requires held { seat.old.holds ≡ Some version }
+    requires slot { HasSlot Id.store seat.old version slot }
     requires of_map { IsOfMap Id.store.base (bitmap_seen Id.store seat.old version) }
     requires width { bitmap.old.width ≡ Id.store.base.opening.width }
     requires height { bitmap.old.height ≡ Id.store.base.opening.height }
@@ -81,6 +93,6 @@ pub fn read_once<Id: StoreName>(
     ensures bitmap { bitmap.new ≡ bitmap_seen Id.store seat.old version }
 {
     if !is_read {
-        read_version(seat, version, bitmap);
+        read_version(seat, version, slot, bitmap);
     }
 }

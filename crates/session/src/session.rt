@@ -1,8 +1,9 @@
 //! A session, and how it pins.
 
-ghost use Rattle.std.specs.Prelude.{◌≡◌, true, Some, None, is_some, IfOk, IfErr};
+ghost use Rattle.std.specs.Prelude.{◌≡◌, Some, None, IfOk, IfErr};
 ghost use mathlib.Core.List.{IsPrefix};
 ghost use Rattle.metric.specs.declared.refusal.Refusal.TheVariants.{Memory};
+ghost use Rattle.map_core.specs.declared.kept.Seen.TheVariants.{Exact};
 ghost use Rattle.map_core.specs.Legal.{IsLegal};
 ghost use Rattle.shelf.specs.Roles.{entries};
 ghost use Rattle.session.specs.Sessions.{newest_seen};
@@ -56,14 +57,14 @@ impl<Id: StoreName> Session<Id> {
         self.seat.made()
     }
 
-    /// Pins the newest version: makes room for one bitmap, unless a pin before has left it, then loads what is newest, announces it, loads again and holds that. It waits for
-    /// nobody, whatever others publish and collect meanwhile, and the version is at least the newest that the session had seen.
+    /// Pins the newest version: makes room for one bitmap, unless a pin before has left it, then loads what is newest, announces it and what comes after it, loads again and holds
+    /// that, and announces that one alone: from then on it keeps its own version, and no other. It waits for nobody, whatever others publish and collect meanwhile, and the version is at least the newest that the session had seen.
     ///
     /// Refused for want of memory alone; the session is handed back, and nothing was announced.
     pub fn pin(self, alloc: Global) -> Result<Pinned<Id>, (Session<Id>, Refusal)>
         ensures free { (self.announced ≡ None) × (self.holds ≡ None) }
         ensures seat { IfOk result (λ pinned. pinned.seat ≡ record self { seen = pinned.seat.seen; announced = pinned.seat.announced; holds = Some pinned.version }) }
-        ensures announced { IfOk result (λ pinned. is_some pinned.seat.announced ≡ true) }
+        ensures announced { IfOk result (λ pinned. pinned.seat.announced ≡ Some (Exact pinned.version)) }
         ensures began { IfOk result (λ pinned. IsPrefix self.seen pinned.seat.seen) }
         ensures version { IfOk result (λ pinned. pinned.version ≡ newest_seen Id.store pinned.seat) }
         ensures legal { IfOk result (λ pinned. IsLegal Id.store.base.setting Id.store.base.opening (entries pinned.seat.seen)) }
@@ -77,9 +78,11 @@ impl<Id: StoreName> Session<Id> {
         seat.take();
         seat.announce();
         let now = seat.take();
+        seat.confirm(now.version);
         Ok(Pinned {
             seat,
             version: now.version,
+            slot: now.slot,
             bitmap,
             read: false,
             looks,

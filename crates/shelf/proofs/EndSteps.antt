@@ -4,7 +4,7 @@ use mathlib.Core.Option.{none}
 use Rattle.atomic_table.specs.Seated.{TableId}
 use Rattle.atomic_table.specs.Table.{Me, step, keeps, Allows}
 use Rattle.map_core.specs.Story.{opened, newest}
-use Rattle.map_core.specs.Words.{Base, IsPlan, now_at, word_count}
+use Rattle.map_core.specs.Words.{Base, IsPlan, now_at, word_count, slot_of}
 use Rattle.map_core.specs.Views.{story}
 use Rattle.map_core.specs.Runs.{AreOpeningWords}
 use Rattle.map_core.specs.Tidy.{IsReady}
@@ -33,9 +33,9 @@ ends_it z slots id me k role s r homes at fits =
     )
 
 -- what the keeper's seat says at the opening
-pub keeper_fresh : (z : Base) (dealt : ℕ) → KeeperSays z (resting dealt []) 0 0 false false
-unfolding story opened newest
-keeper_fresh z dealt = record { legal = tt; place_is = refl; version_is = refl; publishes_is = λ t none_there. absurd (cc); accepted = λ t none_there. absurd (cc); unmet_is = refl }
+pub keeper_fresh : (z : Base) (dealt : ℕ) → KeeperSays z (resting dealt []) 0 0 0 false false
+unfolding story opened newest slot_of
+keeper_fresh z dealt = record { legal = tt; place_is = refl; version_is = refl; slot_is = refl; publishes_is = λ t none_there. absurd (cc); accepted = λ t none_there. absurd (cc); unmet_is = refl }
 
 -- what a reader's seat says at the opening
 pub reader_fresh : (z : Base) (number : ℕ) → number < z.setting.sessions → ReaderSays z (fresh_reader number) number 0 0

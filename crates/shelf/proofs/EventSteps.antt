@@ -16,23 +16,25 @@ use lib.ListN.{get_elem?}
 use Rattle.atomic_table.specs.Table.{State}
 use Rattle.map_core.specs.declared.command.Entry.{Entry}
 use Rattle.map_core.specs.declared.command.Command.TheVariants.{Collect, Publish}
+use Rattle.map_core.specs.declared.kept.Seen.TheVariants.{From, Exact}
 use Rattle.map_core.specs.declared.event.Event.{Event}
-use Rattle.map_core.specs.declared.event.Event.TheVariants.{Announce, Leave, Keep, Load, LookMap, LookTile, Order}
+use Rattle.map_core.specs.declared.event.Event.TheVariants.{Announce, Leave, Confirm, Keep, Load, LookMap, LookTile, Order}
 use Rattle.map_core.specs.declared.event.StepReply.{StepReply}
 use Rattle.map_core.specs.declared.event.StepReply.TheVariants as says
 use Rattle.map_core.specs.Words.{Base, now_at, pin_at, pin_word, now_of, tiles, map_at, tile_at, slot_of, place_told, version_told}
 use Rattle.map_core.specs.Views.{Reader, story, newest_seen, blocks}
-use Rattle.map_core.specs.Steps.{does, steps_before, entry_of, next_hold, hold_of, write_of}
+use Rattle.map_core.specs.Steps.{does, to_confirm, steps_before, entry_of, next_hold, hold_of, write_of}
 use Rattle.map_core.proofs.DoesLemmas.{does-keeps}
+use Rattle.map_core.proofs.LogLemmas.{slot-beginning}
 use Rattle.map_core.proofs.StepLemmas.{story-push}
-use Rattle.shelf.proofs.LogParts.{prefix-push, entries-push, callers-push}
+use Rattle.shelf.proofs.LogParts.{prefix-push, prefix-entries, entries-push, callers-push}
 use Rattle.shelf.specs.declared.asked.Asked.{Asked}
 use Rattle.shelf.specs.Roles.{Task, KeeperView, ReaderView, Role, keeping, reading, meeting, learning, entries, as_reader, core_of}
 use Rattle.shelf.specs.Rule.{Fits, AreSeats, HasReader, HasKeeper, Agrees}
 use Rattle.shelf.specs.Laws.{after_step, IsEvent, StepsAreEvents}
-use Rattle.shelf.specs.Steps.{announcing, leaving, scanned, signed_of, committed, MayCommit, loaded, met, met_by, ordered, wrote}
+use Rattle.shelf.specs.Steps.{announcing, confirming, leaving, scanned, signed_of, committed, MayCommit, loaded, met, met_by, ordered, wrote}
 use Rattle.shelf.proofs.Bridge.{set_get, there_set, seated_set, seats_reader, seats_keeper}
-use Rattle.map_core.proofs.Events.{does_announce, does_leave, does_scan, does_commit, does_load, does_order, does_write}
+use Rattle.map_core.proofs.Events.{does_announce, does_confirm, does_leave, does_scan, does_commit, does_load, does_order, does_write}
 use Rattle.shelf.proofs.OneCore.{core_at}
 use Rattle.shelf.proofs.ReaderSteps.{reader_knows, seats_loaded}
 use Rattle.shelf.proofs.MeetingSteps.{met_seats}
@@ -55,13 +57,25 @@ event_at z s r e answer stored words views k readers done seats =
 
 -- an announcement
 announce_event : (z : Base) (s : State Asked Role) (r : Agrees z s) (id : ℕ) (x : ReaderView) → get_elem? s.views id ≡ some (reading x) → x.announced ≡ None
-    → IsEvent z s r (after_step s (pin_at x.number) (pin_word (Some (newest_seen z (as_reader x)))) id (reading (announcing z x))) (Announce x.number) (says.Announced (newest_seen z (as_reader x)))
+    → IsEvent z s r (after_step s (pin_at x.number) (pin_word (Some (From (newest_seen z (as_reader x))))) id (reading (announcing z x))) (Announce x.number) (says.Announced (newest_seen z (as_reader x)))
 announce_event z s r id x at quiet =
     let mine = reader_knows z s r id (reading x) x at refl in
     let f = mine.1 in
     let y = announcing z x in
     event_at z s r (Announce x.number) _ (Some (pin_at x.number)) _ _ r.k (set r.readers x.number (as_reader y))
     (does_announce (core_of z s.words r.k r.readers) x.number (as_reader x) f.there quiet)
+    (seats_reader z r.k r.readers s.views r.seats id x (as_reader y) (reading x) (reading y) at (λ q e. e) (λ e. e) mine.0 f
+    (mine.0, record { dealt = f.dealt; here = f.here; there = there_set r.readers x.number (as_reader x) (as_reader y) f.there; began = f.began; held = f.held; all_seen = f.all_seen; counted = f.counted }))
+
+-- an exact announcement
+confirm_event : (z : Base) (s : State Asked Role) (r : Agrees z s) (id : ℕ) (x : ReaderView) (v : ℕ) → get_elem? s.views id ≡ some (reading x) → to_confirm x.announced x.holds ≡ Some v
+    → IsEvent z s r (after_step s (pin_at x.number) (pin_word (Some (Exact v))) id (reading (confirming v x))) (Confirm x.number) (says.Confirmed v)
+confirm_event z s r id x v at held =
+    let mine = reader_knows z s r id (reading x) x at refl in
+    let f = mine.1 in
+    let y = confirming v x in
+    event_at z s r (Confirm x.number) _ (Some (pin_at x.number)) _ _ r.k (set r.readers x.number (as_reader y))
+    (does_confirm (core_of z s.words r.k r.readers) x.number (as_reader x) v f.there held)
     (seats_reader z r.k r.readers s.views r.seats id x (as_reader y) (reading x) (reading y) at (λ q e. e) (λ e. e) mine.0 f
     (mine.0, record { dealt = f.dealt; here = f.here; there = there_set r.readers x.number (as_reader x) (as_reader y) f.there; began = f.began; held = f.held; all_seen = f.all_seen; counted = f.counted }))
 
@@ -158,22 +172,22 @@ look_event z s r id i x e answer at done =
 -- a look at a position
 map_event : (z : Base) (s : State Asked Role) (r : Agrees z s) (id : ℕ) (x : ReaderView) (v p : ℕ) → get_elem? s.views id ≡ some (reading x) → x.holds ≡ Some v → p < tiles z
     → let i = map_at z (slot_of z (story z (entries x.seen)) v) p in IsEvent z s r (after_step s i (get_or s.words i 0) id (reading x)) (LookMap x.number p) (says.Block (get_or s.words i 0))
-unfolding slot_of
 map_event z s r id x v p at held inside =
     let f = (reader_knows z s r id (reading x) x at refl).1 in
     let i = map_at z (slot_of z (story z (entries x.seen)) v) p in
+    let slot = slot-beginning z (entries x.seen) (entries r.k.log) (prefix-entries x.seen r.k.log f.began) v (f.held v held) in
     look_event z s r id i x (LookMap x.number p) (says.Block (get_or s.words i 0)) at
-    (look_map_does (core_of z s.words r.k r.readers) x.number p v (get_or s.words i 0) (Some v) (sym (ap hold_of f.there ∙ held)) refl inside refl)
+    (look_map_does (core_of z s.words r.k r.readers) x.number p v (get_or s.words i 0) (Some v) (sym (ap hold_of f.there ∙ held)) refl inside (ap (λ (n : ℕ). get_or s.words (map_at z n p) 0) (sym slot)))
 
 -- a look at a row
 tile_event : (z : Base) (s : State Asked Role) (r : Agrees z s) (id : ℕ) (x : ReaderView) (v p b i : ℕ) → get_elem? s.views id ≡ some (reading x) → x.holds ≡ Some v → p < tiles z
     → b ≡ get_or (directory_of (blocks z (entries x.seen)) v) p 0 → i < 64
     → IsEvent z s r (after_step s (tile_at z b i) (get_or s.words (tile_at z b i) 0) id (reading x)) (LookTile x.number b i) (says.Word (get_or s.words (tile_at z b i) 0))
-unfolding slot_of
 tile_event z s r id x v p b i at held inside is row =
     let f = (reader_knows z s r id (reading x) x at refl).1 in
+    let slot = slot-beginning z (entries x.seen) (entries r.k.log) (prefix-entries x.seen r.k.log f.began) v (f.held v held) in
     let w = core_of z s.words r.k r.readers in
-    let found = is_mapped_found w r.whole v p b ((r.whole.reader x.number (as_reader x) f.there).holds v held).kept inside (block_seen z s r x f v held p inside ∙ sym is) in
+    let found = is_mapped_found w r.whole v p b ((r.whole.reader x.number (as_reader x) f.there).holds v held).kept inside (ap (λ (n : ℕ). get_or s.words (map_at z n p) 0) slot ∙ (block_seen z s r x f v held p inside ∙ sym is)) in
     look_event z s r id (tile_at z b i) x (LookTile x.number b i) (says.Word (get_or s.words (tile_at z b i) 0)) at
     (look_tile_does w x.number b i v (get_or s.words (tile_at z b i) 0) (Some v) (sym (ap hold_of f.there ∙ held)) refl (both _ _ (sym found) (below i row)) refl)
   where
@@ -216,6 +230,7 @@ write_event z s r id t at task publish more =
 pub steps_are_events : (z : Base) (s : State Asked Role) (id : ℕ) (r : Agrees z s) → StepsAreEvents z s r id
 steps_are_events z s id r = record {
   announce = λ x at quiet. announce_event z s r id x at quiet;
+  confirm = λ x v at held. confirm_event z s r id x v at held;
   leave = λ x at there. leave_event z s r id x at there;
   load = λ x at. let mine = reader_knows z s r id (reading x) x at refl in load_event z s r id x (reading x) at (λ q e. e) (λ e. e) mine.0 mine.1;
   learn = λ x seen at.

@@ -1,5 +1,5 @@
 -- Each step of the keeper keeps the rule.
-use Rattle.std.proofs.Common.{◌≡◌, ◌==◌, ℕ, zero, suc, ◌+◌, ◌<◌, ◌≤◌, List, [], ◌∷◌, ◌++◌, length, set, get_or, refl, ap, sym, ◌∙◌, subst, arith}
+use Rattle.std.proofs.Common.{◌≡◌, ◌==◌, ℕ, zero, suc, ◌+◌, ◌*◌, ◌<◌, ◌≤◌, List, [], ◌∷◌, ◌++◌, length, set, get_or, refl, ap, sym, ◌∙◌, subst, arith}
 use Rattle.std.specs.Prelude.{Option, Some, None, slice_get, option_map}
 use mathlib.Core.Option.{some, none, some-injective}
 use prog.Atomic.{either}
@@ -8,12 +8,15 @@ use Rattle.atomic_table.specs.Table.{State, Me, step, keeps, Allows}
 use Rattle.atomic_table.proofs.Lists.{exchanged}
 use Rattle.map_core.specs.declared.command.Command.TheVariants.{Publish, Collect}
 use Rattle.map_core.specs.declared.command.Entry.{Entry}
+use Rattle.map_core.specs.declared.kept.Seen.{Seen}
+use Rattle.map_core.specs.declared.kept.Seen.TheVariants.{From, Exact}
 use Rattle.map_core.specs.Legal.{refused, IsLegal}
 use Rattle.map_core.specs.Story.{newest}
 use Rattle.map_core.specs.Words.{Base, now_at, pin_at, pin_word, now_of}
 use Rattle.map_core.specs.Views.{Reader, story, blocks}
 use Rattle.map_core.specs.Steps.{steps_before, write_of, entry_of}
 use Rattle.map_core.specs.Sound.{IsWhole}
+use Rattle.map_core.proofs.TidyLog.{IsTidy-legal}
 use Rattle.map_core.proofs.StepLemmas.{in_hand, story-push, keeps-order, keeps-write, keeps-scan, keeps-commit}
 use Rattle.shelf.proofs.LogParts.{prefix-push, entries-push, made_by-append, callers-push}
 use Rattle.shelf.specs.declared.asked.Asked.{Asked}
@@ -108,17 +111,20 @@ some_reader (x ∷ xs) (suc i) h = some_reader xs i (omega arith)
 
 -- what a reader's word announces is a version that there is
 pub announced_bounded : (z : Base) (words : List ℕ) (k : KeeperView) (readers : List Reader) (i : ℕ) → IsWhole (core_of z words k readers) → i < z.setting.sessions
-    → get_or words (pin_at i) 0 ≤ newest (story z (entries k.log)) + 1
+    → get_or words (pin_at i) 0 ≤ 2 * newest (story z (entries k.log)) + 2
 unfolding pin_word
 announced_bounded z words k readers i whole inside =
     let count = whole.readers in
     let there = some_reader readers i (omega arith) in
     let sound = whole.reader i there.0 there.1 in
-    bounded there.0.announced (get_or words (pin_at i) 0) sound.word sound.announced
+    let slots = (IsTidy-legal z (entries k.log) whole.ready whole.keeper.legal).slots in
+    bounded there.0.announced (get_or words (pin_at i) 0) sound.word sound.announced (λ v is. slots.published v (sound.holds v (sound.exact v is)).kept)
   where
-    bounded : (announced : Option ℕ) (word : ℕ) → word ≡ pin_word announced → ((a : ℕ) → announced ≡ Some a → a ≤ newest (story z (entries k.log))) → word ≤ newest (story z (entries k.log)) + 1
-    bounded None word is most = omega arith
-    bounded (Some a) word is most = let below = most a refl in omega arith
+    bounded : (announced : Option Seen) (word : ℕ) → word ≡ pin_word announced → ((a : ℕ) → announced ≡ Some (From a) → a ≤ newest (story z (entries k.log)))
+        → ((v : ℕ) → announced ≡ Some (Exact v) → v ≤ newest (story z (entries k.log))) → word ≤ 2 * newest (story z (entries k.log)) + 2
+    bounded None word is first held = omega arith
+    bounded (Some (From a)) word is first held = let below = first a refl in omega arith
+    bounded (Some (Exact v)) word is first held = let below = held v refl in omega arith
 
 -- the keeper loads the next reader's word
 pub scans_it : (z : Base) (slots id : ℕ) (me : Me Asked Role) (k : KeeperView) (t : Task) → me.0 ≡ keeping k → k.task ≡ Some t → t.hand.command ≡ Collect
@@ -139,7 +145,7 @@ scans_it z slots id me k t role task collect more s r homes at small =
           let same : r.k ≡ l = sym mine.1 ∙ ap keeper_in (sym role ∙ is) in
           let one : t ≡ u = the_same (sym task' ∙ (ap (λ (q : KeeperView). q.task) same ∙ said)) in (
             ap (λ (q : KeeperView × Task). (keeping (scanned q.0 q.1 n), me.1)) (λ j. (same j, one j)),
-            subst (λ (q : KeeperView). n ≤ newest (story z (entries q.log)) + 1) same (announced_bounded z s.words r.k r.readers t.hand.done r.whole more),
+            subst (λ (q : KeeperView). n ≤ 2 * newest (story z (entries q.log)) + 2) same (announced_bounded z s.words r.k r.readers t.hand.done r.whole more),
           ),
     )
 

@@ -7,12 +7,12 @@ use Rattle.atomic_table.specs.Table.{State, Me, step, keeps, Allows}
 use Rattle.atomic_table.proofs.Lists.{set_again}
 use Rattle.bits.specs.Cells.{Cells}
 use Rattle.bits.specs.Tiles.{row_word}
-use Rattle.map_core.specs.Story.{bitmap_of, IsKept}
+use Rattle.map_core.specs.Story.{bitmap_of}
 use Rattle.map_core.specs.Blocks.{directory_of}
 use Rattle.map_core.specs.Words.{Base, tiles, map_at, tile_at, slot_of}
 use Rattle.map_core.specs.Views.{story, blocks}
 use Rattle.map_core.specs.Sound.{Shows}
-use Rattle.map_core.proofs.LogLemmas.{bitmap-beginning}
+use Rattle.map_core.proofs.LogLemmas.{bitmap-beginning, slot-beginning}
 use Rattle.map_core.proofs.SoundBlocks.{block_within}
 use Rattle.map_core.proofs.TidyLog.{IsTidy-legal}
 use Rattle.shelf.proofs.LogParts.{prefix-entries}
@@ -42,21 +42,20 @@ held_shown z s r x f v held = r.whole.keeper.shows v ((r.whole.reader x.number (
 -- the block of a position, as the reader has seen it
 pub block_seen : (z : Base) (s : State Asked Role) (r : Agrees z s) (x : ReaderView) → Fits z r.k r.readers x → (v : ℕ) → x.holds ≡ Some v → (p : ℕ) → p < tiles z
     → get_or s.words (map_at z (slot_of z (story z (entries x.seen)) v) p) 0 ≡ get_or (directory_of (blocks z (entries x.seen)) v) p 0
-unfolding slot_of
 block_seen z s r x f v held p inside =
-    (held_shown z s r x f v held).mapped p inside
+    ap (λ (slot : ℕ). get_or s.words (map_at z slot p) 0) (sym (slot-beginning z (entries x.seen) (entries r.k.log) (prefix-entries x.seen r.k.log f.began) v (f.held v held)))
+    ∙ ((held_shown z s r x f v held).mapped p inside
     ∙ ap (λ (d : List ℕ). get_or d p 0)
-    (directory-beginning z (entries x.seen) (entries r.k.log) r.whole.ready r.whole.keeper.legal (prefix-entries x.seen r.k.log f.began) v (f.held v held))
+    (directory-beginning z (entries x.seen) (entries r.k.log) r.whole.ready r.whole.keeper.legal (prefix-entries x.seen r.k.log f.began) v (f.held v held)))
 
 -- it is one of the setting's
 pub block_fits : (z : Base) (s : State Asked Role) (r : Agrees z s) (x : ReaderView) → Fits z r.k r.readers x → (v : ℕ) → x.holds ≡ Some v → (p : ℕ) → p < tiles z
     → get_or (directory_of (blocks z (entries x.seen)) v) p 0 < z.setting.blocks
-unfolding IsKept
 block_fits z s r x f v held p inside =
     let kept = ((r.whole.reader x.number (as_reader x) f.there).holds v held).kept in
     let tidy = IsTidy-legal z (entries r.k.log) r.whole.ready r.whole.keeper.legal in
     let same = directory-beginning z (entries x.seen) (entries r.k.log) r.whole.ready r.whole.keeper.legal (prefix-entries x.seen r.k.log f.began) v (f.held v held) in
-    subst (λ (d : List ℕ). get_or d p 0 < z.setting.blocks) same (block_within z (story z (entries r.k.log)) (blocks z (entries r.k.log)) tidy v p kept.0 kept.1 inside)
+    subst (λ (d : List ℕ). get_or d p 0 < z.setting.blocks) same (block_within z (story z (entries r.k.log)) (blocks z (entries r.k.log)) tidy v p kept inside)
 
 -- a row of it
 pub row_seen : (z : Base) (s : State Asked Role) (r : Agrees z s) (x : ReaderView) → Fits z r.k r.readers x → (v : ℕ) → x.holds ≡ Some v → (p i : ℕ) → p < tiles z → i < 64

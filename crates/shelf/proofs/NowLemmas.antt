@@ -7,7 +7,7 @@ use Rattle.map_core.specs.declared.command.Reply.{Reply}
 use Rattle.map_core.specs.declared.command.Entry.{Entry}
 use Rattle.map_core.specs.Story.{Story, opened, newest}
 use Rattle.map_core.specs.Legal.{IsLegal, told, after}
-use Rattle.map_core.specs.Words.{Base, now_word, now_of}
+use Rattle.map_core.specs.Words.{Base, now_word, now_of, slot_of}
 use Rattle.map_core.specs.Views.{story}
 use Rattle.map_core.specs.Tidy.{IsReady}
 use Rattle.map_core.proofs.LogLemmas.{places_are, places-legal}
@@ -15,6 +15,7 @@ use Rattle.map_core.proofs.TidyLog.{after-push}
 use Rattle.shelf.specs.declared.signed.Signed.{Signed}
 use Rattle.shelf.specs.Roles.{entries}
 use Rattle.shelf.specs.Seats.{is_publish}
+use Rattle.shelf.specs.Steps.{newest_slot}
 use Rattle.shelf.proofs.LogParts.{entries-push, length-entries}
 
 -- the newest version after one more entry
@@ -57,13 +58,13 @@ pub newest-push : (z : Base) (log : List Signed) (e : Signed) → newest (story 
 newest-push z log e = ap newest (story-push z log e) ∙ newest_of_told (story z (entries log)) e.entry.command e.entry.reply (version_there z (entries log))
 
 -- NOW after a log
-pub now_of_log : (z : Base) (log : List Signed) → now_of (story z (entries log)) ≡ now_word (length log) (newest (story z (entries log)))
-unfolding now_of
-now_of_log z log = ap (λ (n : ℕ). now_word n (newest (story z (entries log)))) (places_are z (entries log) ∙ length-entries log)
+pub now_of_log : (z : Base) (log : List Signed) → now_of (story z (entries log)) ≡ now_word (length log) (newest (story z (entries log))) (newest_slot z log)
+unfolding now_of slot_of
+now_of_log z log = ap (λ (n : ℕ). now_word n (newest (story z (entries log))) (newest_slot z log)) (places_are z (entries log) ∙ length-entries log)
 
--- a legal log is shorter than 2^32, and has no more versions than entries behind the first
+-- a legal log is shorter than 2^29, and has no more versions than entries behind the first
 pub room : (z : Base) (log : List Signed) → IsReady z → IsLegal z.setting z.opening (entries log)
-    → (length log ≤ 4294967295) × (newest (story z (entries log)) ≤ 4294967295)
+    → (length log ≤ 536870911) × (newest (story z (entries log)) ≤ 536870911)
 room z log ready legal =
     let counts = places-legal z (entries log) legal in
     let places : (story z (entries log)).places ≡ length log = places_are z (entries log) ∙ length-entries log in

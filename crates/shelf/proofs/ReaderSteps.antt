@@ -1,23 +1,25 @@
 -- Each step of a reader keeps the rule.
-use Rattle.std.proofs.Common.{◌≡◌, ℕ, ◌+◌, List, set, get_or, refl, ap, sym, ◌∙◌, subst, arith}
-use Rattle.std.specs.Prelude.{Some, None}
+use Rattle.std.proofs.Common.{◌≡◌, ℕ, ◌+◌, ◌*◌, List, set, get_or, refl, ap, sym, ◌∙◌, subst, arith}
+use Rattle.std.specs.Prelude.{Option, Some, None}
 use mathlib.Core.Logic.{inl, inr}
 use mathlib.Core.Option.{none, some}
 use lib.ListN.{get_elem?}
 use Rattle.atomic_table.specs.Table.{State, Me, step, keeps, Allows}
+use Rattle.map_core.specs.declared.kept.Seen.{Seen}
+use Rattle.map_core.specs.declared.kept.Seen.TheVariants.{From, Exact}
 use Rattle.map_core.specs.Story.{newest}
 use Rattle.map_core.specs.Words.{Base, now_at, pin_at, pin_word, version_told}
 use Rattle.map_core.specs.Views.{Reader, story, newest_seen}
-use Rattle.map_core.specs.Steps.{next_hold}
+use Rattle.map_core.specs.Steps.{next_hold, to_confirm}
 use Rattle.map_core.specs.Sound.{IsWhole}
 use Rattle.map_core.proofs.LogLemmas.{newest-beginning}
 use Rattle.map_core.proofs.SoundReader.{version_of_now, next_hold_cases}
-use Rattle.map_core.proofs.StepLemmas.{keeps-announce, keeps-leave, keeps-load}
+use Rattle.map_core.proofs.StepLemmas.{keeps-announce, keeps-confirm, keeps-leave, keeps-load}
 use Rattle.shelf.proofs.LogParts.{prefix-itself, prefix-entries, made_by-prefix}
 use Rattle.shelf.specs.declared.asked.Asked.{Asked}
 use Rattle.shelf.specs.Roles.{KeeperView, ReaderView, Role, reading, entries, as_reader, reader_in, core_of}
 use Rattle.shelf.specs.Rule.{Fits, Knows, HasReader, HasKeeper, AreSeats, Agrees}
-use Rattle.shelf.specs.Steps.{announcing, loaded, leaving, announces, leaves, Sees, taken}
+use Rattle.shelf.specs.Steps.{announcing, confirming, loaded, leaving, announces, confirms, leaves, Sees, taken}
 use Rattle.shelf.proofs.Bridge.{set_get, there_set, seats_reader}
 
 -- a reader's view becomes another, and so does the core's reader of its number
@@ -38,7 +40,7 @@ reader_knows z s r id v x at role = subst (Knows z r.k r.readers r.seats.keeper 
 
 -- a reader stores what it announces
 pub announces_it : (z : Base) (slots id word : ℕ) (me : Me Asked Role) (x : ReaderView) → me.0 ≡ reading x → x.announced ≡ None
-    → word ≡ pin_word (Some (newest_seen z (as_reader x)))
+    → word ≡ pin_word (Some (From (newest_seen z (as_reader x))))
     → Allows (Agrees z) slots id me (pin_at x.number) (λ _. word) (λ _. announces z (step slots (pin_at x.number) word 0 none) me word)
 announces_it z slots id word me x role quiet is s r homes at small =
     let mine = reader_knows z s r id me.0 x at role in
@@ -53,6 +55,35 @@ announces_it z slots id word me x role quiet is s r homes at small =
           (keeps-announce (core_of z s.words r.k r.readers) x.number (as_reader x) r.whole f.there quiet)),
       λ v said. let same : x ≡ v = ap reader_in (sym role ∙ said) in ap (λ (q : ReaderView). (reading (announcing z q), me.1)) same,
     )
+
+-- what is confirmed is held
+pub confirmed_held : (announced : Option Seen) (holds : Option ℕ) (v : ℕ) → to_confirm announced holds ≡ Some v → holds ≡ Some v
+confirmed_held None holds v is = absurd (cc)
+confirmed_held (Some (From a)) holds v is = is
+confirmed_held (Some (Exact e)) holds v is = absurd (cc)
+
+-- a reader stores the version that it holds
+pub confirms_it : (z : Base) (slots id word : ℕ) (me : Me Asked Role) (x : ReaderView) (v : ℕ) → me.0 ≡ reading x → x.holds ≡ Some v → word ≡ pin_word (Some (Exact v))
+    → Allows (Agrees z) slots id me (pin_at x.number) (λ _. word) (λ _. confirms (step slots (pin_at x.number) word 0 none) me word)
+confirms_it z slots id word me x v role held is s r homes at small =
+    let mine = reader_knows z s r id me.0 x at role in
+    let f = mine.1 in
+    let y = confirming v x in (
+      reading y,
+      keeps,
+      tt,
+      reader_moves z s r id (set s.words (pin_at x.number) word) x y (at ∙ ap (λ (u : Role). some u) role) mine refl
+          record { dealt = f.dealt; here = f.here; there = there_set r.readers x.number (as_reader x) (as_reader y) f.there; began = f.began; held = f.held; all_seen = f.all_seen; counted = f.counted }
+          (subst (λ (n : ℕ). IsWhole (core_of z (set s.words (pin_at x.number) n) r.k (set r.readers x.number (as_reader y)))) (sym is)
+          (keeps-confirm (core_of z s.words r.k r.readers) x.number (as_reader x) v r.whole f.there held)),
+      λ u n said there.
+          let same : x ≡ u = ap reader_in (sym role ∙ said) in
+          let one : v ≡ n = one_version (sym held ∙ (ap (λ (q : ReaderView). q.holds) same ∙ there)) in
+          ap (λ (q : ReaderView × ℕ). (reading (confirming q.1 q.0), me.1)) (λ i. (same i, one i)),
+    )
+  where
+    one_version : {a b : ℕ} → Some a ≡ Some b → a ≡ b
+    one_version e = cc
 
 -- a reader stores 0
 pub leaves_it : (z : Base) (slots id word : ℕ) (me : Me Asked Role) (x : ReaderView) → me.0 ≡ reading x → word ≡ pin_word None
@@ -128,9 +159,14 @@ takes_it z slots id me x role s r homes at small =
     )
 
 -- the word of an announcement, from the version that a seat keeps
-pub announced_word : (z : Base) (x : ReaderView) (version v : ℕ) → v ≡ version → version ≡ newest (story z (entries x.seen)) → v + 1 ≡ pin_word (Some (newest_seen z (as_reader x)))
+pub announced_word : (z : Base) (x : ReaderView) (version v : ℕ) → v ≡ version → version ≡ newest (story z (entries x.seen)) → 2 * v + 1 ≡ pin_word (Some (From (newest_seen z (as_reader x))))
 unfolding pin_word
 announced_word z x version v is newest_is = omega arith
+
+-- the word of an exact announcement
+pub confirmed_word : (version v : ℕ) → v ≡ version → 2 * v + 2 ≡ pin_word (Some (Exact version))
+unfolding pin_word
+confirmed_word version v is = omega arith
 
 -- the word of a leave
 pub left_word : 0 ≡ pin_word None

@@ -9,7 +9,7 @@ use Rattle.shelf.specs.declared.asked.Asked.{Asked}
 use Rattle.map_core.specs.Views.{Reader}
 use Rattle.shelf.specs.Roles.{KeeperView, Role, idle, keeping, reading, meeting, ticket, learning}
 use Rattle.shelf.specs.Rule.{Agrees, Knows, HasKeeper}
-use Rattle.shelf.specs.Laws.{ruled, IsEvent, IsNoEvent, Moves, IsSchedule, last_table, IsCoreRun, IsOneRun}
+use Rattle.shelf.specs.Laws.{ruled, IsEvent, IsNoEvent, IsSchedule, last_table, IsCoreRun, IsOneRun}
 
 -- one event, and a run behind it
 by_event : (z : Base) (s : State Asked Role) (r : Agrees z s) (t : State Asked Role) (ts : List (State Asked Role)) (e : Event) (answer : StepReply) (it : IsEvent z s r t e answer) → IsOneRun z t it.after ts → IsOneRun z s r (t ∷ ts)

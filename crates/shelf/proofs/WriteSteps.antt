@@ -1,10 +1,10 @@
 -- The words of a publish, one after another.
-use Rattle.std.proofs.Common.{◌≡◌, ℕ, ◌+◌, ◌*◌, ◌%◌, ◌<◌, List, [], length, take, Option, Some, None, get_or, refl, ap, sym, ◌∙◌, subst, arith}
+use Rattle.std.proofs.Common.{◌≡◌, ℕ, ◌+◌, ◌*◌, ◌<◌, List, [], length, take, Option, Some, None, get_or, refl, ap, sym, ◌∙◌, subst, arith}
 use Rattle.bits.specs.Tiles.{row_word}
 use Rattle.map_core.specs.declared.command.Command.TheVariants.{Publish}
 use Rattle.map_core.specs.Story.{newest}
 use Rattle.map_core.specs.Blocks.{own_list, mapped, directory_of}
-use Rattle.map_core.specs.Words.{Base, tiles, map_at, tile_at, slot_of, next_slot}
+use Rattle.map_core.specs.Words.{Base, tiles, map_at, tile_at, next_slot}
 use Rattle.map_core.specs.Views.{story, blocks}
 use Rattle.map_core.specs.Steps.{Write, steps_before, own_positions, map_write, write_of}
 use Rattle.map_core.proofs.PublishWords.{write_of-tile, write_of-map, own_at}
@@ -33,16 +33,16 @@ next_row z k0 k by j block position i at word n is count own row place value =
     (value ∙ (ap (λ (p : ℕ). row_word s.draft p i) own.position_is ∙ sym (ap (λ (w : Write). w.word) same)))
 
 -- the next word of the directory
-pub next_position : (z : Base) (k0 k : KeeperView) (by p at word n version : ℕ) → k ≡ writing k0 by n → n ≡ 64 * length (own_list (blocks z (entries k0.log)).own) + p → p < tiles z
-    → version ≡ newest (story z (entries k0.log)) + 1 → at ≡ map_at z (slot_of z (story z (entries k0.log)) version) p
+pub next_position : (z : Base) (k0 k : KeeperView) (by p at word n slot : ℕ) → k ≡ writing k0 by n → n ≡ 64 * length (own_list (blocks z (entries k0.log)).own) + p → p < tiles z
+    → slot ≡ next_slot z (story z (entries k0.log)) → at ≡ map_at z slot p
     → word ≡ get_or (mapped (blocks z (entries k0.log)).own (directory_of (blocks z (entries k0.log)) (newest (story z (entries k0.log))))) p 0 → IsNextWrite z k at word
-unfolding steps_before slot_of next_slot map_write
-next_position z k0 k by p at word n version is count inside version_is place value =
+unfolding steps_before map_write
+next_position z k0 k by p at word n slot is count inside slot_is place value =
     let s = story z (entries k0.log) in
     let m = blocks z (entries k0.log) in
     let same : write_of z s m n ≡ map_write z s m p = ap (write_of z s m) count ∙ write_of-map z s m p in
     next_write z k0 k by n at word is (omega arith)
-    (place ∙ (ap (λ (v : ℕ). map_at z (v % z.setting.versions) p) version_is ∙ sym (ap (λ (w : Write). w.at) same)))
+    (place ∙ (ap (λ (i : ℕ). map_at z i p) slot_is ∙ sym (ap (λ (w : Write). w.at) same)))
     (value ∙ sym (ap (λ (w : Write). w.word) same))
 
 -- a position that has an own block, with the publish in hand

@@ -3,17 +3,18 @@ use Rattle.shelf.specs.declared.signed.Signed.{Signed}
 use Rattle.map_core.specs.Blocks.{directory_of}
 use Rattle.map_core.specs.Legal.{refused}
 use Rattle.map_core.specs.declared.command.Command.{Command}
+use Rattle.map_core.specs.declared.kept.Seen.TheVariants.{From, Exact}
 use Rattle.std.specs.Prelude.{◌≡◌, ◌≢◌, ℕ, ◌<◌, true, [], ◌∷◌, ◌++◌, slice_get, slice_index, slice_set, Option, Some, None, is_some, ◌⊎◌, List, ◌+◌}
 use mathlib.Core.Option as maybe
 use lib.ListN.{get_elem?}
 use Rattle.atomic_table.specs.Table.{State}
 use Rattle.map_core.specs.declared.command.Command.TheVariants.{Collect, Publish}
 use Rattle.map_core.specs.declared.event.Event.{Event}
-use Rattle.map_core.specs.declared.event.Event.TheVariants.{Announce, Leave, Keep, Load, LookMap, LookTile, Order}
+use Rattle.map_core.specs.declared.event.Event.TheVariants.{Announce, Leave, Confirm, Keep, Load, LookMap, LookTile, Order}
 use Rattle.map_core.specs.declared.event.StepReply.{StepReply}
 use Rattle.map_core.specs.declared.event.StepReply.TheVariants as says
 use Rattle.map_core.specs.Words.{Base, now_at, pin_at, now_of, pin_word, tiles, map_at, tile_at, slot_of, place_told, version_told}
-use Rattle.map_core.specs.Steps.{does, steps_before, write_of}
+use Rattle.map_core.specs.Steps.{does, to_confirm, steps_before, write_of}
 use Rattle.map_core.specs.Views.{Keeper, Reader, story, newest_seen, blocks}
 use Rattle.map_core.specs.Views as core
 use Rattle.map_core.specs.Sound.{IsWhole}
@@ -21,7 +22,7 @@ use Rattle.map_core.specs.Safe.{IsSafe, SparesLive, IsBeginning}
 use Rattle.shelf.specs.declared.asked.Asked.{Asked}
 use Rattle.shelf.specs.Roles.{Task, KeeperView, ReaderView, Role, keeping, reading, meeting, entries, as_keeper, as_reader, learning, ticket, idle, resting, fresh_reader, core_of}
 use Rattle.shelf.specs.Rule.{HasReader, HasKeeper, IsSomeSeat, Agrees}
-use Rattle.shelf.specs.Steps.{announcing, leaving, scanned, committed, signed_of, MayCommit, loaded, ordered, wrote, met, met_by, without}
+use Rattle.shelf.specs.Steps.{announcing, confirming, leaving, scanned, committed, signed_of, MayCommit, loaded, ordered, wrote, met, met_by, without}
 
 -- a seat of this role has this reader, of number r
 abbrev pub ShowsReader : ℕ → Reader → Role → Type 0
@@ -90,7 +91,10 @@ with_views s views = record { words = s.words; homes = s.homes; views = views }
 -- each step of a seat is the event of its kind
 pub record StepsAreEvents (z : Base) (s : State Asked Role) (r : Agrees z s) (id : ℕ) : Type 0 where
   pub announce : (x : ReaderView) → get_elem? s.views id ≡ maybe.some (reading x) → x.announced ≡ None
-      → IsEvent z s r (after_step s (pin_at x.number) (pin_word (Some (newest_seen z (as_reader x)))) id (reading (announcing z x))) (Announce x.number) (says.Announced (newest_seen z (as_reader x)))
+      → IsEvent z s r (after_step s (pin_at x.number) (pin_word (Some (From (newest_seen z (as_reader x))))) id (reading (announcing z x))) (Announce x.number) (says.Announced (newest_seen z (as_reader x)))
+  -- what a reader holds and has announced not exactly
+  pub confirm : (x : ReaderView) (v : ℕ) → get_elem? s.views id ≡ maybe.some (reading x) → to_confirm x.announced x.holds ≡ Some v
+      → IsEvent z s r (after_step s (pin_at x.number) (pin_word (Some (Exact v))) id (reading (confirming v x))) (Confirm x.number) (says.Confirmed v)
   pub leave : (x : ReaderView) → get_elem? s.views id ≡ maybe.some (reading x) → is_some x.announced ≡ true
       → IsEvent z s r (after_step s (pin_at x.number) (pin_word None) id (reading (leaving x))) (Leave x.number) says.Left
   pub load : (x : ReaderView) → get_elem? s.views id ≡ maybe.some (reading x)

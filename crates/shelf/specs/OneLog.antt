@@ -13,6 +13,7 @@ use Rattle.shelf.specs.declared.signed.Signed.{Signed}
 use Rattle.shelf.specs.declared.asked.Asked.{Asked}
 use Rattle.shelf.specs.Roles.{KeeperView, ReaderView, Role, keeping, reading, meeting, learning, ticket, entries, made_by, unmet_by}
 use Rattle.shelf.specs.Rule.{HasReader, HasKeeper, IsSomeSeat}
+use Rattle.shelf.specs.Steps.{newest_slot}
 
 -- what a reader knows of the log, where an entry of the named reader is unmet: a beginning of it, and how many entries of it are its own
 pub record IsBehind (log : List Signed) (unmet : Option ℕ) (x : ReaderView) : Type 0 where
@@ -38,8 +39,8 @@ pub record HasOneLog (z : Base) (s : State Asked Role) : Type 0 where
   pub legal : IsLegal z.setting z.opening (entries log)
   pub short : length log < 2 ^ 32
   pub callers : All (λ e. e.by < z.setting.sessions) log
-  -- NOW has its length and its newest version
-  pub now : slice_index s.words now_at ≡ now_word (length log) (newest (story z (entries log)))
+  -- NOW has its length, its newest version and that version's slot
+  pub now : slice_index s.words now_at ≡ now_word (length log) (newest (story z (entries log))) (newest_slot z log)
   -- the keeper's view is some seat's
   pub kept : IsSomeSeat (KnowsLog log unmet) s.views
   -- its seat knows both, each reader's seat is behind them, also where its view stands in the keeper's, and no two seats have one reader's view

@@ -1,6 +1,7 @@
 -- What the seats at a store's table know: this project's own rule.
 use Rattle.std.specs.Prelude.{ℕ, cond, ◌==◌, List, [], map, Option, Some, None, option_map}
 use Rattle.map_core.specs.declared.command.Entry.{Entry}
+use Rattle.map_core.specs.declared.kept.Seen.{Seen}
 use Rattle.map_core.specs.Words.{Base}
 use Rattle.map_core.specs.Views.{Hand, Keeper, Reader}
 use Rattle.map_core.specs.Views as core
@@ -32,8 +33,8 @@ pub record ReaderView : Type 0 where
   pub seen : List Signed
   -- how many entries of the log are by this reader, as far as it has met the keeper
   pub made : ℕ
-  -- the version that it has announced, and the version that it holds
-  pub announced : Option ℕ
+  -- what it has announced, and the version that it holds
+  pub announced : Option Seen
   pub holds : Option ℕ
 
 -- what a seat is for

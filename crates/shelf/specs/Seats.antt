@@ -16,6 +16,7 @@ use Rattle.shelf.specs.declared.table.Basis.{Basis}
 use Rattle.map_core.specs.declared.plan.Plan.{Plan}
 use Rattle.shelf.specs.Roles.{Task, KeeperView, ReaderView, Role, keeping, reading, ticket, entries, keeper_in, reader_in, fresh_reader, resting}
 use Rattle.shelf.specs.Close.{IsClosing}
+use Rattle.shelf.specs.Steps.{newest_slot}
 
 -- whether a command is a publish
 abbrev pub is_publish : Command → Bool
@@ -53,18 +54,19 @@ IsReaderSeat store table basis seat plan views number made version =
     IsOf store table basis seat plan × (views ≡ reading (reader_on views) ∷ []) × ReaderSays store.base (reader_on views) number made version
 
 -- what the keeper's seat keeps beside its view is what the view says, and the command in hand was accepted
-pub record KeeperSays (z : Base) (k : KeeperView) (place version : ℕ) (publishes unmet : Bool) : Type 0 where
+pub record KeeperSays (z : Base) (k : KeeperView) (place version slot : ℕ) (publishes unmet : Bool) : Type 0 where
   pub legal : IsLegal z.setting z.opening (entries k.log)
   pub place_is : place ≡ length k.log
   pub version_is : version ≡ newest (story z (entries k.log))
+  pub slot_is : slot ≡ newest_slot z k.log
   pub publishes_is : (t : Task) → k.task ≡ Some t → publishes ≡ is_publish t.hand.command
   pub accepted : (t : Task) → k.task ≡ Some t → refused z.setting (story z (entries k.log)) t.hand.command ≡ None
   pub unmet_is : unmet ≡ is_some k.unmet
 
 -- the keeper's seat in a store
-abbrev pub IsKeeperSeat : StoreId → TableId → Basis → TableId → Plan → Me Asked Role → ℕ → ℕ → Bool → Bool → Type 0
-IsKeeperSeat store table basis seat plan me place version publishes unmet =
-    IsOf store table basis seat plan × (me ≡ (keeping (keeper_in me.0), [])) × KeeperSays store.base (keeper_in me.0) place version publishes unmet
+abbrev pub IsKeeperSeat : StoreId → TableId → Basis → TableId → Plan → Me Asked Role → ℕ → ℕ → ℕ → Bool → Bool → Type 0
+IsKeeperSeat store table basis seat plan me place version slot publishes unmet =
+    IsOf store table basis seat plan × (me ≡ (keeping (keeper_in me.0), [])) × KeeperSays store.base (keeper_in me.0) place version slot publishes unmet
 
 -- what a ticket's seat has seen
 abbrev pub ticket_on : List Role → List Signed

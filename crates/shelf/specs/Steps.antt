@@ -1,11 +1,12 @@
 -- What each step does to the view of its seat, and what it tells: this project's own rule.
-use Rattle.std.specs.Prelude.{◌≡◌, ℕ, ◌+◌, ◌<◌, ◌≤◌, List, [], ◌∷◌, ◌++◌, All, length, slice_index, Option, Some, None}
+use Rattle.std.specs.Prelude.{◌≡◌, ℕ, ◌+◌, ◌*◌, ◌<◌, ◌≤◌, List, [], ◌∷◌, ◌++◌, All, length, slice_index, Option, Some, None}
 use mathlib.Core.List.{IsPrefix}
 use mathlib.Core.Option as maybe
 use Rattle.atomic_table.specs.Table.{Me, Step}
 use Rattle.bits.specs.Tiles.{row_word}
 use Rattle.map_core.specs.declared.command.Command.{Command}
 use Rattle.map_core.specs.declared.command.Command.TheVariants.{Publish, Collect}
+use Rattle.map_core.specs.declared.kept.Seen.TheVariants.{From, Exact}
 use Rattle.map_core.specs.Story.{newest, bitmap_of}
 use Rattle.map_core.specs.Legal.{IsLegal}
 use Rattle.map_core.specs.Blocks.{directory_of, own_list}
@@ -22,7 +23,11 @@ use Rattle.shelf.specs.Roles.{Task, KeeperView, ReaderView, Role, idle, keeping,
 
 -- the reader once it has announced the newest version that it has seen
 abbrev pub announcing : Base → ReaderView → ReaderView
-announcing z x = record x { announced = Some (newest_seen z (as_reader x)) }
+announcing z x = record x { announced = Some (From (newest_seen z (as_reader x))) }
+
+-- the reader once it has announced this version exactly
+abbrev pub confirming : ℕ → ReaderView → ReaderView
+confirming version x = record x { announced = Some (Exact version) }
 
 -- the reader once it has loaded NOW: it has seen this log, and where it has announced and held nothing it holds the newest version
 abbrev pub loaded : Base → List Signed → ReaderView → ReaderView
@@ -43,6 +48,10 @@ wrote k t = record k { task = Some record t { hand = record t.hand { done = t.ha
 -- the keeper once a reader's word is loaded
 abbrev pub scanned : KeeperView → Task → ℕ → KeeperView
 scanned k t word = record k { task = Some record t { hand = record t.hand { done = t.hand.done + 1; scanned = t.hand.scanned ++ word ∷ [] } } }
+
+-- the slot of the newest version of a log
+abbrev pub newest_slot : Base → List Signed → ℕ
+newest_slot z log = slot_of z (story z (entries log)) (newest (story z (entries log)))
 
 -- the entry that the command in hand commits
 abbrev pub signed_of : Base → KeeperView → Task → Signed
@@ -65,6 +74,10 @@ At = Step Asked
 -- a reader's store of what it announces
 abbrev pub announces : Base → At → Sat → ℕ → Sat → Type 0
 announces z st m word m' = (x : ReaderView) → m.0 ≡ reading x → m' ≡ (reading (announcing z x), m.1)
+
+-- a reader's store of the version that it holds
+abbrev pub confirms : At → Sat → ℕ → Sat → Type 0
+confirms st m word m' = (x : ReaderView) (v : ℕ) → m.0 ≡ reading x → x.holds ≡ Some v → m' ≡ (reading (confirming v x), m.1)
 
 -- a reader's store of 0
 abbrev pub leaves : At → Sat → ℕ → Sat → Type 0
@@ -127,7 +140,7 @@ writes st m word m' = (k : KeeperView) (t : Task) → m.0 ≡ keeping k → k.ta
 -- the keeper's load of a reader's word: what it announces is a version that there is
 abbrev pub scans : Base → At → Sat → ℕ → Sat → Type 0
 scans z st m word m' = (k : KeeperView) (t : Task) → m.0 ≡ keeping k → k.task ≡ Some t
-    → (m' ≡ (keeping (scanned k t word), m.1)) × (word ≤ newest (story z (entries k.log)) + 1)
+    → (m' ≡ (keeping (scanned k t word), m.1)) × (word ≤ 2 * newest (story z (entries k.log)) + 2)
 
 -- the keeper may commit: all steps of the command in hand but this are done, a reader asked for it, and the reader of the last commit has met the keeper
 pub record MayCommit (z : Base) (k : KeeperView) : Type 0 where

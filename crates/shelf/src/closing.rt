@@ -70,6 +70,7 @@ impl<Id: StoreName> KeeperSeat<Id> {
             plan,
             place: _,
             version: _,
+            slot: _,
             publishes: _,
             unmet: _,
             of: _,

@@ -48,6 +48,7 @@ impl FreshKeeper {
             plan,
             place: 0,
             version: 0,
+            slot: 0,
             publishes: false,
             unmet: false,
             of: PhantomData,

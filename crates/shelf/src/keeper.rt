@@ -1,13 +1,13 @@
 //! The keeper's seat, and its steps.
 
-ghost use Rattle.std.specs.Prelude.{◌≡◌, ◌+◌, ◌≤◌, None, Some};
+ghost use Rattle.std.specs.Prelude.{◌≡◌, ◌+◌, ◌*◌, ◌≤◌, None, Some};
 ghost use Rattle.map_core.specs.Legal.{IsLegal, refused};
 ghost use Rattle.map_core.specs.Story.{newest};
 ghost use Rattle.map_core.specs.Views.{story};
 ghost use Rattle.map_core.specs.Words.{IsPlan};
 ghost use Rattle.shelf.specs.Seats.{is_publish};
 ghost use Rattle.shelf.specs.Roles.{Task, entries};
-ghost use Rattle.shelf.specs.Steps.{ordered, wrote, scanned, IsNextWrite, IsNextScan, MayCommit, committed};
+ghost use Rattle.shelf.specs.Steps.{ordered, wrote, scanned, IsNextWrite, IsNextScan, MayCommit, committed, newest_slot};
 
 use crate::asked::Asked;
 use crate::name::StoreName;
@@ -26,9 +26,10 @@ pub struct KeeperSeat<Id: StoreName> {
     pub(crate) seat: TableSeat,
     pub(crate) words: Arc<Words, Global>,
     pub(crate) plan: Plan,
-    // What NOW says: the place of the last entry, and the newest version.
+    // What NOW says: the place of the last entry, the newest version, and its slot.
     pub(crate) place: u32,
     pub(crate) version: u32,
+    pub(crate) slot: u32,
     // Whether the command in hand is a publish, and whether the reader of the last commit hasn't met the keeper since.
     pub(crate) publishes: bool,
     pub(crate) unmet: bool,
@@ -44,7 +45,7 @@ impl<Id: StoreName> Model for KeeperSeat<Id> {
 
     ghost view = { λ s. keeper_in s.seat.me.0 };
 
-    ghost invariant = { λ s. IsKeeperSeat Id.store (arc_value s.words).shared.table_id (arc_value s.words).shared.key s.seat.table_id s.plan s.seat.me s.place s.version s.publishes s.unmet };
+    ghost invariant = { λ s. IsKeeperSeat Id.store (arc_value s.words).shared.table_id (arc_value s.words).shared.key s.seat.table_id s.plan s.seat.me s.place s.version s.slot s.publishes s.unmet };
 }
 
 impl<Id: StoreName> KeeperSeat<Id> {
@@ -64,6 +65,7 @@ impl<Id: StoreName> KeeperSeat<Id> {
         let now = Now {
             place: self.place,
             version: self.version,
+            slot: self.slot,
         }
         .word();
         self.words
@@ -83,33 +85,36 @@ impl<Id: StoreName> KeeperSeat<Id> {
             .store::<Write>(&mut self.seat, place, word);
     }
 
-    /// Loads the next reader's word for the collect in hand: 0, or the version that the reader has announced plus 1.
+    /// Loads the next reader's word for the collect in hand: what the reader has announced: nothing, a version and those after it, or a version alone.
     ///
     /// Condition: it is the next reader, from 0 on.
     pub fn scan(&mut self, reader: u32) -> u64
         requires { IsNextScan Id.store.base self.old reader }
         ensures scanned { (t : Task) → self.old.task ≡ Some t → self.new ≡ scanned self.old t result }
-        ensures there { result ≤ newest (story Id.store.base (entries self.old.log)) + 1 }
+        ensures there { result ≤ 2 * newest (story Id.store.base (entries self.old.log)) + 2 }
     {
         let place = Plan::pin_at(reader);
         self.words.shared.load::<Scan<Id>>(&mut self.seat, place)
     }
 
-    /// Stores NOW. The log is then longer by the command in hand with its reply: a collect's has the floor that its scan allows.
+    /// Stores NOW. The log is then longer by the command in hand with its reply: a collect's has the versions that its scan keeps.
     ///
     /// Conditions: a command is in hand, all its steps but this are done, its caller is one of the store's readers, and the reader of the last
-    /// commit has met the keeper.
-    pub fn commit(&mut self)
-        requires { MayCommit Id.store.base self.old }
+    /// commit has met the keeper. The slot is that of the version that is newest then.
+    pub fn commit(&mut self, slot: u32)
+        requires may { MayCommit Id.store.base self.old }
+        requires slot { (t : Task) → self.old.task ≡ Some t → slot ≡ newest_slot Id.store.base (committed Id.store.base self.old t).log }
         ensures committed { (t : Task) → self.old.task ≡ Some t → self.new ≡ committed Id.store.base self.old t }
         ensures legal { IsLegal Id.store.base.setting Id.store.base.opening (entries self.new.log) }
     {
         self.place += 1;
         self.version += u32::from(self.publishes);
+        self.slot = slot;
         self.unmet = true;
         let now = Now {
             place: self.place,
             version: self.version,
+            slot: self.slot,
         }
         .word();
         self.words

@@ -1,7 +1,7 @@
 //! A store's shared words, and the seats that load and store them: one keeper's, one for each reader, and tickets.
 //!
-//! The words are those of the core: NOW, which is the place of the log's last entry times 2^32 plus the newest version; a word for each
-//! reader, 0 or the version that it has announced plus 1; for each slot the blocks of a version, by position; and the rows of the
+//! The words are those of the core: NOW, which is the place of the log's last entry times 2^35, plus the newest version times 2^6, plus
+//! that version's slot; a word for each reader, 0, or 2a + 1 where it has announced version a and those after it, or 2v + 2 where it has announced version v alone; for each slot the blocks of a version, by position; and the rows of the
 //! blocks. The log itself stands in no word: the keeper's seat knows it, and since that seat alone stores NOW, what it knows is the log.
 //!
 //! The rule of the table is that between any two steps there is a state of the core: its words are the table's, its keeper is what the

@@ -28,6 +28,15 @@ impl<Id: StoreName> Play<Asked, View> for Announce<Id> {
     ghost then = { announces Id.store.base };
 }
 
+/// A reader announces the version that it holds, and no other.
+pub struct Confirm;
+
+impl Play<Asked, View> for Confirm {
+    ghost use Rattle.shelf.specs.Steps.{confirms};
+
+    ghost then = { confirms };
+}
+
 /// A reader leaves.
 pub struct Leave;
 

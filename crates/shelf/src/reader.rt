@@ -5,16 +5,17 @@ ghost use mathlib.Core.List.{IsPrefix};
 ghost use Rattle.bits.specs.Tiles.{row_word};
 ghost use Rattle.map_core.specs.Story.{newest, bitmap_of};
 ghost use Rattle.map_core.specs.Blocks.{directory_of};
-ghost use Rattle.map_core.specs.Words.{tiles};
+ghost use Rattle.map_core.specs.Words.{tiles, slot_of};
 ghost use Rattle.map_core.specs.Legal.{IsLegal};
 ghost use Rattle.map_core.specs.Views.{story, blocks};
 ghost use Rattle.shelf.specs.Store.{readers_of};
 ghost use Rattle.shelf.specs.Roles.{entries};
-ghost use Rattle.shelf.specs.Steps.{announcing, loaded, leaving, HasBlock};
+ghost use Rattle.map_core.specs.Steps.{to_confirm};
+ghost use Rattle.shelf.specs.Steps.{announcing, confirming, loaded, leaving, newest_slot, HasBlock};
 
 use crate::asked::Asked;
 use crate::name::StoreName;
-use crate::plays::{Announce, Leave, Look, Take};
+use crate::plays::{Announce, Confirm, Leave, Look, Take};
 use crate::table::{View, Words};
 use atomic_table::Badge;
 use map_core::{Now, Plan};
@@ -24,7 +25,7 @@ use std::mem::replace;
 use std::sync::Arc;
 
 /// A reader's seat. Contracts see it as its number, what it has seen of the log, how many entries of it are by this reader, and which
-/// version it has announced and holds.
+/// version it holds, with what it has announced.
 ///
 /// It can't be let go: a store that is closed takes it back.
 pub struct ReaderSeat<Id: StoreName> {
@@ -66,7 +67,8 @@ impl<Id: StoreName> ReaderSeat<Id> {
         self.made
     }
 
-    /// Announces the newest version that this seat has seen: stores that version plus 1 in its word. Condition: it has announced nothing.
+    /// Announces the newest version that this seat has seen, and those after it: stores twice that version plus 1 in its word. Condition: it has
+    /// announced nothing.
     pub fn announce(&mut self)
         requires { self.old.announced ≡ None }
         ensures { self.new ≡ announcing Id.store.base self.old }
@@ -75,7 +77,21 @@ impl<Id: StoreName> ReaderSeat<Id> {
         let place = Plan::pin_at(self.number);
         self.words
             .shared
-            .store::<Announce<Id>>(&mut seat, place, u64::from(self.version) + 1);
+            .store::<Announce<Id>>(&mut seat, place, 2 * u64::from(self.version) + 1);
+        self.seat = seat.into_badge();
+    }
+
+    /// Announces the version that it holds, and no other: stores twice that version plus 2 in its word. Condition: it holds that version, and hasn't
+    /// announced it so yet.
+    pub fn confirm(&mut self, version: u32)
+        requires { to_confirm self.old.announced self.old.holds ≡ Some version }
+        ensures { self.new ≡ confirming version self.old }
+    {
+        let mut seat = replace(&mut self.seat, Badge::blank()).into_seat::<Asked>();
+        let place = Plan::pin_at(self.number);
+        self.words
+            .shared
+            .store::<Confirm>(&mut seat, place, 2 * u64::from(version) + 2);
         self.seat = seat.into_badge();
     }
 
@@ -97,6 +113,8 @@ impl<Id: StoreName> ReaderSeat<Id> {
         ensures began { IsPrefix self.old.seen self.new.seen }
         ensures place { result.place ≡ length self.new.seen }
         ensures version { result.version ≡ newest (story Id.store.base (entries self.new.seen)) }
+        ensures slot { result.slot ≡ newest_slot Id.store.base self.new.seen }
+        ensures slots { result.slot < Id.store.base.setting.versions }
         ensures legal { IsLegal Id.store.base.setting Id.store.base.opening (entries self.new.seen) }
     {
         let mut seat = replace(&mut self.seat, Badge::blank()).into_seat::<Asked>();
@@ -109,16 +127,18 @@ impl<Id: StoreName> ReaderSeat<Id> {
 
     /// Loads the block of a position in the version that it holds: a number below the setting's blocks.
     ///
-    /// Conditions: it holds that version, and the map has that position.
-    pub fn look_map(&mut self, version: u32, position: u16) -> u32
+    /// Conditions: it holds that version, which has that slot, and the map has that position.
+    pub fn look_map(&mut self, version: u32, slot: u32, position: u16) -> u32
         requires held { self.old.holds ≡ Some version }
+        requires slot { slot ≡ slot_of Id.store.base (story Id.store.base (entries self.old.seen)) version }
+        requires slots { slot < Id.store.base.setting.versions }
         requires inside { position < tiles Id.store.base }
         ensures seat { self.new ≡ self.old }
         ensures block { result ≡ slice_index (directory_of (blocks Id.store.base (entries self.old.seen)) version) position }
         ensures within { result < Id.store.base.setting.blocks }
     {
         let mut seat = replace(&mut self.seat, Badge::blank()).into_seat::<Asked>();
-        let place = self.plan.map_at(version, u32::from(position));
+        let place = self.plan.map_at(slot, u32::from(position));
         let word = self.words.shared.load::<Look<Id>>(&mut seat, place);
         self.seat = seat.into_badge();
         word as u32

@@ -2,7 +2,7 @@
 
 use crate::compare::{holds, same};
 use bits::Bitmap;
-use map_core::{Command, Reply};
+use map_core::{Command, Kept, Reply};
 use metric::{Cell, Rect, Refusal};
 use proto::{
     Answer, Line, Order, QueryKind, Text, Verb, answer_query, parse_line, reply_text, verb_of,
@@ -173,6 +173,9 @@ fn queries_are_answered(rt: HostRuntime) -> Result<(), Fail> {
     Ok(())
 }
 
+/// No version: a reply's text doesn't tell which are kept.
+const NONE: Kept = Kept { slots: [0; 64] };
+
 /// The replies to accepted commands, and their lines.
 const REPLIES: [(Reply, &[u8]); 6] = [
     (
@@ -199,6 +202,7 @@ const REPLIES: [(Reply, &[u8]); 6] = [
             place: 4,
             floor: 1,
             freed: 2,
+            kept: NONE,
         },
         b"OK 4 1 2\n",
     ),
@@ -207,6 +211,7 @@ const REPLIES: [(Reply, &[u8]); 6] = [
             place: 4294967295,
             floor: 4294967294,
             freed: 4294967293,
+            kept: NONE,
         },
         b"OK 4294967295 4294967294 4294967293\n",
     ),

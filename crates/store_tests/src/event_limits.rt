@@ -127,8 +127,8 @@ fn late_ledger(alloc: Global, places: u32) -> Result<Ledger, Fail>
 fn places_are_used_up(rt: HostRuntime) -> Result<(), Fail> {
     let rect = Rect::new(0, 0, 1, 1).expect(&rt, "a cell");
     let paint = Command::Paint { rect, black: true };
-    let last = late_ledger(rt.alloc(), 4_294_967_295)?;
-    let before = late_ledger(rt.alloc(), 4_294_967_294)?;
+    let last = late_ledger(rt.alloc(), 536_870_911)?;
+    let before = late_ledger(rt.alloc(), 536_870_910)?;
     for command in [
         paint,
         Command::Publish,
@@ -149,7 +149,7 @@ fn places_are_used_up(rt: HostRuntime) -> Result<(), Fail> {
 
 #[test]
 fn a_full_log_is_told_before_used_places(rt: HostRuntime) -> Result<(), Fail> {
-    let mut ledger = late_ledger(rt.alloc(), 4_294_967_295)?;
+    let mut ledger = late_ledger(rt.alloc(), 536_870_911)?;
     ledger.setting.log = 2;
     let full = Some(Refusal::LogFull);
     same(&rt, ledger.judge(&Command::Revert), full, "a revert");

@@ -1,7 +1,7 @@
 //! The core over events, what no clause says: that memory is found, and worked runs of events with answers from outside.
 
 use crate::compare::same;
-use crate::script::Script;
+use crate::script::{Script, kept};
 use bits::Bitmap;
 use map_core::{Command, Event, NotEnabled, Reply, Setting, StepReply, World, run};
 use metric::{Cell, Field, Rect, Refusal};
@@ -28,6 +28,7 @@ fn a_stale_announcement_does_no_harm(rt: HostRuntime) -> Result<(), Fail> {
         place: 3,
         floor: 1,
         freed: 1,
+        kept: kept(0, 2),
     })?;
     script.not_enabled(Event::Announce { reader: 0 })?;
     script.load(3, 1)?;
@@ -68,6 +69,7 @@ fn a_reader_and_a_collect_take_turns(rt: HostRuntime) -> Result<(), Fail> {
         place: 1,
         floor: 0,
         freed: 0,
+        kept: kept(1, 0),
     })?;
     script.not_enabled(Event::Keep)?;
     script.load(1, 0)?;
@@ -103,7 +105,7 @@ fn blocks_are_given_back_to_the_front(rt: HostRuntime) -> Result<(), Fail> {
     script.load(4, 1)?;
     script.look_map(0, 5)?;
     script.look_map(1, 1)?;
-    script.collect(2, 5, 1, 1)?;
+    script.collect(3, 5, 1)?;
     script.paint(last, 6, 1)?;
     script.publish(68, 7, 2)?;
     script.look_map(2, 2)?;
@@ -198,8 +200,8 @@ fn a_stamp_sets_and_clears(rt: HostRuntime) -> Result<(), Fail> {
     Ok(())
 }
 
-/// Events of a collect in a world of two readers, what each answers, and how many steps are left after it.
-const COLLECT: [(Event, StepReply, u32); 4] = [
+/// Events of a collect in a world of two readers but for its last, what each answers, and how many steps are left after it.
+const COLLECT: [(Event, StepReply, u32); 3] = [
     (
         Event::Order {
             command: Command::Collect,
@@ -209,17 +211,6 @@ const COLLECT: [(Event, StepReply, u32); 4] = [
     ),
     (Event::Keep, StepReply::Scanned { reader: 0, word: 0 }, 2),
     (Event::Keep, StepReply::Scanned { reader: 1, word: 1 }, 1),
-    (
-        Event::Keep,
-        StepReply::Committed {
-            reply: Reply::Collected {
-                place: 1,
-                floor: 0,
-                freed: 0,
-            },
-        },
-        0,
-    ),
 ];
 
 #[test]
@@ -248,6 +239,19 @@ fn steps_are_counted_down(rt: HostRuntime) -> Result<(), Fail> {
         same(&rt, world.step(rt.alloc(), event), Ok(answer), "step");
         same(&rt, world.steps_left(), left, "steps left");
     }
+    let reply = Reply::Collected {
+        place: 1,
+        floor: 0,
+        freed: 0,
+        kept: kept(1, 0),
+    };
+    same(
+        &rt,
+        world.step(rt.alloc(), Event::Keep),
+        Ok(StepReply::Committed { reply }),
+        "the last step",
+    );
+    same(&rt, world.steps_left(), 0, "no step left");
     Ok(())
 }
 

@@ -12,7 +12,7 @@ mod event_limits;
 #[cfg(test)]
 mod events;
 #[cfg(test)]
-mod floors;
+mod keeping;
 #[cfg(test)]
 mod lines;
 #[cfg(test)]

@@ -1,10 +1,18 @@
 //! A list of events with the answers that are wanted, a line for each.
 
 use bits::Bitmap;
-use map_core::{Command, Event, NotEnabled, Reply, Setting, StepReply, run};
+use map_core::{Command, Event, Kept, NotEnabled, Reply, Setting, StepReply, run};
 use metric::{Rect, Refusal};
 use std::alloc::Global;
 use std::test::Fail;
+
+/// The versions in the first two slots, each plus 1, or 0 where a slot is free; the others are free.
+pub fn kept(first: u32, second: u32) -> Kept {
+    let mut slots = [0; 64];
+    slots[0] = first;
+    slots[1] = second;
+    Kept { slots }
+}
 
 /// Events of a world with one reader, and what each is to answer.
 #[derive(Drop)]
@@ -106,14 +114,15 @@ impl Script {
         self.commit(Reply::Published { place, version })
     }
 
-    /// A collect that scans this word, its steps included.
-    pub fn collect(&mut self, word: u64, place: u32, floor: u32, freed: u32) -> Result<(), Fail> {
+    /// A collect that scans this word and keeps version 1 alone, in the second slot, its steps included.
+    pub fn collect(&mut self, word: u64, place: u32, freed: u32) -> Result<(), Fail> {
         self.order(Command::Collect, 2)?;
         self.scan(word)?;
         self.commit(Reply::Collected {
             place,
-            floor,
+            floor: 1,
             freed,
+            kept: kept(0, 2),
         })
     }
 }

@@ -95,7 +95,7 @@ fn stream_of<'a>(alloc: Global, input: Input<'a>) -> MemoryStream<'a>
     MemoryStream::new(source, sink)
 }
 
-/// Publishes and collects: where no pin is left, the floor rises to the newest version. Answers the place of the publish.
+/// Publishes and collects: where no pin is left, the newest version alone is kept. Answers the place of the publish.
 fn publish_and_collect<Id: StoreName, R: Wait + Abort>(
     rt: &R,
     store: &Store<Id>,

@@ -5,6 +5,7 @@ mod beside;
 mod busy;
 mod closing;
 mod counted;
+mod held;
 mod limits;
 mod pins;
 mod players;

@@ -1,5 +1,6 @@
 //! A grid's draft and versions: worked runs through each call, and the smallest map and the largest.
 
+ghost use Rattle.map_core.specs.Kept.{IsIn};
 ghost use Rattle.std.specs.Prelude.{◌≡◌, ◌≤◌, length, [], IfOk, OnErr};
 ghost use Rattle.map_core.specs.Blocks.{own_list};
 ghost use Rattle.grid.specs.Grids.{own_blocks};
@@ -8,6 +9,7 @@ use crate::compare::{holds, same};
 use arena::Arena;
 use bits::Bitmap;
 use grid::Grid;
+use map_core::Kept;
 use metric::{Cell, Rect, Refusal};
 use std::alloc::Global;
 use std::process::Abort;
@@ -17,6 +19,15 @@ use std::test::Fail;
 const OPENED: u32 = 0;
 
 const PUBLISHED: u32 = 1;
+
+/// The published version alone, in the second slot.
+fn published_alone() -> Kept
+    ensures { IsIn result 1 }
+{
+    let mut slots = [0; 64];
+    slots[1] = PUBLISHED + 1;
+    Kept { slots }
+}
 
 /// A bitmap with one black cell, for which there is memory.
 fn dotted(rt: &impl Abort, alloc: Global, width: u16, height: u16, dot: Cell) -> Bitmap
@@ -180,7 +191,8 @@ fn each_version_stays_until_it_is_swept(rt: HostRuntime) -> Result<(), Fail> {
         kept && has(&rt, &grid, OPENED, 69, 65, &mut copy),
         "what wasn't",
     );
-    same(&rt, grid.sweep(&mut arena, PUBLISHED), 2, "swept");
+    let kept = published_alone();
+    same(&rt, grid.sweep(&mut arena, &kept), 2, "swept");
     same(&rt, arena.free_len(), 2, "the replaced blocks");
     end(&rt, grid, arena, 6);
     Ok(())

@@ -1,9 +1,9 @@
-//! A collect, word by word: what each reader announces is loaded, and the floor is the least that one of them may still need.
+//! A collect, word by word: what each reader announces is loaded, and the versions stay that one of them may still need.
 
-ghost use Rattle.std.specs.Prelude.{◌≡◌, ℕ, ◌+◌, ◌<◌, ◌≤◌, ◌^◌, [], length, map, Some, None};
+ghost use Rattle.std.specs.Prelude.{◌≡◌, ◌+◌, ◌<◌, ◌^◌, [], length, map, None};
 ghost use Rattle.map_core.specs.declared.command.Command.TheVariants.{Collect};
 ghost use Rattle.map_core.specs.Ledger.{refused_by_ledger};
-ghost use Rattle.map_core.specs.Steps.{floor_after};
+ghost use Rattle.map_core.specs.Steps.{kept_scanned};
 ghost use Rattle.map_core.specs.Story.{newest};
 ghost use Rattle.map_core.specs.Words.{pin_word};
 ghost use Rattle.map_core.specs.Views.{story};
@@ -13,27 +13,16 @@ ghost use Rattle.shelf.specs.Steps.{scanning, collected};
 ghost use Rattle.desk.specs.Carries.{CanCarry, IsCarried};
 
 use crate::holding::Holding;
-use epoch::floor_after;
-use map_core::Reply;
+use epoch::kept_after;
+use map_core::{Reply, Seen};
 use shelf::{Asked, KeeperSeat, StoreName};
-
-/// The version that a reader's word announces, if it announces one.
-fn version_in(word: u64) -> Option<u32>
-    requires { word < 2 ^ 32 }
-    ensures { word ≡ pin_word result }
-{
-    match word {
-        0 => None,
-        _ => Some((word - 1) as u32),
-    }
-}
 
 /// Loads each reader's word, by number, and leaves there what it announces.
 fn scan_all<Id: StoreName>(
     keeper: &mut KeeperSeat<Id>,
     by: u32,
     sessions: u32,
-    announced: &mut Vec<Option<u32>>,
+    announced: &mut Vec<Option<Seen>>,
 )
     requires in_hand { keeper.old ≡ scanning keeper.old by [] }
     requires sessions { sessions ≡ readers_of Id.store }
@@ -44,15 +33,15 @@ fn scan_all<Id: StoreName>(
 {
     for reader in 0..sessions {
         let word = keeper.scan(reader);
-        announced[reader as usize] = version_in(word);
+        announced[reader as usize] = Seen::in_word(word);
     }
 }
 
-/// Carries out a collect that the ledger doesn't refuse. The floor is that of what its scan saw, which is left in `announced`.
+/// Carries out a collect that the ledger doesn't refuse. It keeps the versions that what its scan saw asks for, which is left in `announced`.
 pub fn carry_collect<Id: StoreName>(
     keeper: &mut KeeperSeat<Id>,
     holding: &mut Holding,
-    announced: &mut Vec<Option<u32>>,
+    announced: &mut Vec<Option<Seen>>,
     asked: &Asked,
 ) -> Reply
     requires able { CanCarry Id.store keeper.old holding.old }
@@ -62,17 +51,17 @@ pub fn carry_collect<Id: StoreName>(
     requires judged { refused_by_ledger holding.old.ledger asked.now.command ≡ None }
     ensures carried { IsCarried keeper.old holding.old asked.now.by asked.now.command result keeper.new holding.new }
     ensures scanned { keeper.new ≡ collected Id.store.base keeper.old asked.now.by (map pin_word announced.new.items) }
-    ensures floor { holding.new.ledger.floor ≡ floor_after (story Id.store.base (entries keeper.old.log)) (map pin_word announced.new.items) }
+    ensures kept { holding.new.ledger.kept ≡ kept_scanned (story Id.store.base (entries keeper.old.log)) (map pin_word announced.new.items) }
     ensures place_each { length announced.new.items ≡ readers_of Id.store }
 {
     keeper.order(asked);
     scan_all(keeper, asked.by, holding.ledger.setting.sessions, announced);
-    let floor = floor_after(
-        holding.ledger.floor,
+    let kept = kept_after(
+        &holding.ledger.kept,
         holding.ledger.newest,
         announced.as_slice(),
     );
-    let reply = holding.collect(floor);
-    keeper.commit();
+    let reply = holding.collect(kept);
+    keeper.commit(holding.ledger.slot);
     reply
 }

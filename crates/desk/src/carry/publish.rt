@@ -1,9 +1,10 @@
 //! A publish, word by word: the rows of the draft's own tiles, then the directory of the next version.
 
-ghost use Rattle.std.specs.Prelude.{◌≡◌, ℕ, ◌+◌, ◌*◌, ◌^◌, ◌<◌, length, take, None};
+ghost use Rattle.std.specs.Prelude.{◌≡◌, ℕ, ◌+◌, ◌*◌, ◌<◌, length, take, None};
 ghost use Rattle.bits.specs.TileWords.{tile_words};
 ghost use Rattle.map_core.specs.declared.command.Command.TheVariants.{Publish};
 ghost use Rattle.map_core.specs.Blocks.{own_list};
+ghost use Rattle.map_core.specs.Kept.{members};
 ghost use Rattle.map_core.specs.Ledger.{refused_by_ledger};
 ghost use Rattle.map_core.specs.Words.{tiles};
 ghost use Rattle.map_core.specs.Views.{story, blocks};
@@ -95,13 +96,13 @@ fn write_directory<Id: StoreName>(
     requires told { IsTold Id.store.base (entries keeper.old.log) holding.now }
     requires in_hand { keeper.old ≡ writing keeper.old by (64 * stored) }
     requires stored { stored ≡ length (own_list (blocks Id.store.base (entries keeper.old.log)).own) }
-    requires few { holding.now.ledger.newest + 1 < 2 ^ 32 }
+    requires slot { length (members holding.now.ledger.kept.slots) < 64 }
     ensures { keeper.new ≡ writing keeper.old by (64 * stored + tiles Id.store.base) }
 {
-    let version = holding.ledger.newest + 1;
+    let slot = holding.ledger.kept.next_slot();
     for position in 0..plan.tiles {
         let block = holding.grid.block_at(position);
-        keeper.write_word(plan.map_at(version, u32::from(position)), u64::from(block));
+        keeper.write_word(plan.map_at(slot, u32::from(position)), u64::from(block));
     }
 }
 
@@ -122,6 +123,6 @@ pub fn carry_publish<Id: StoreName>(
     let stored = write_tiles(keeper, plan, holding, asked.by);
     write_directory(keeper, plan, holding, asked.by, stored);
     let reply = holding.publish();
-    keeper.commit();
+    keeper.commit(holding.ledger.slot);
     reply
 }

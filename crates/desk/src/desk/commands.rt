@@ -172,9 +172,9 @@ impl<Id: StoreName> Desk<Id> {
         }
     }
 
-    /// Raises the floor, the least version that is kept, to the least of newest and what the readers have announced, one word after another, and never lowers it:
-    /// `Reply::Collected`, with the floor and how many blocks came back. That the floor is that of the words which were loaded is a clause of the keeper's steps
-    /// (`KeeperSeat::scan`, `commit`), since the words of readers stand in no clause here.
+    /// Keeps newest, each version that a reader has announced exactly, and from each other announcement on all that were kept, as one word after another is loaded:
+    /// `Reply::Collected`, with the least of them and how many blocks came back. That these are the versions which the loaded words ask for is a clause of the
+    /// keeper's steps (`KeeperSeat::scan`, `commit`), since the words of readers stand in no clause here.
     ///
     /// Refused, in this order, for want of room in the log (`LogFull`) and of memory.
     pub fn collect(&mut self, seat: &mut ReaderSeat<Id>) -> Result<Reply, Refusal>

@@ -8,7 +8,7 @@ ghost use Rattle.map_core.specs.Setting.{bad_field};
 use crate::desk::Desk;
 use crate::holding::Holding;
 use bits::Bitmap;
-use map_core::Setting;
+use map_core::{Seen, Setting};
 use metric::Refusal;
 use shelf::{FreshKeeper, Signed, StoreName};
 use std::alloc::Global;
@@ -21,7 +21,7 @@ pub struct FreshDesk {
     keeper: FreshKeeper,
     holding: Holding,
     log: Vec<Signed>,
-    announced: Vec<Option<u32>>,
+    announced: Vec<Option<Seen>>,
 }
 
 impl Model for FreshDesk {

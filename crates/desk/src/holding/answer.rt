@@ -1,14 +1,15 @@
 //! How commands are answered by what a desk holds.
 
-ghost use Rattle.std.specs.Prelude.{◌≡◌, ◌≤◌, Some, None, true, IfOk, IfErr, OnErr, IfSome, IfNone};
+ghost use Rattle.std.specs.Prelude.{◌≡◌, Some, None, true, IfOk, IfErr, OnErr, IfSome, IfNone};
 ghost use Rattle.map_core.specs.declared.command.Command.TheVariants.{Paint, Stamp, Publish, Revert, Collect, Checkpoint};
+ghost use Rattle.map_core.specs.Kept.{IsIn, IsPart};
 ghost use Rattle.map_core.specs.Ledger.{refused_by_ledger};
 ghost use Rattle.desk.specs.Holdings.{CanAnswer, IsOneStep, Judges, Refuses, Does};
 
 use crate::holding::Holding;
 use bits::Bitmap;
 use epoch::collect;
-use map_core::{Command, Reply};
+use map_core::{Command, Kept, Reply};
 use metric::{Rect, Refusal};
 
 impl Holding {
@@ -69,17 +70,17 @@ impl Holding {
         self.ledger.enter_checkpoint()
     }
 
-    /// A collect that the ledger doesn't refuse: the floor rises to this version.
-    pub fn collect(&mut self, floor: u32) -> Reply
+    /// A collect that the ledger doesn't refuse, which keeps these versions. Conditions: they were kept, and newest is among them.
+    pub fn collect(&mut self, kept: Kept) -> Reply
         requires able { CanAnswer self.old }
         requires judged { refused_by_ledger self.old.ledger Collect ≡ None }
-        requires floor { self.old.ledger.floor ≤ floor }
-        requires newest { floor ≤ self.old.ledger.newest }
+        requires part { IsPart kept.slots self.old.ledger.kept.slots }
+        requires newest { IsIn kept self.old.ledger.newest }
         ensures done { Does self.old Collect result self.new }
-        ensures floor { self.new.ledger.floor ≡ floor }
+        ensures kept { self.new.ledger.kept ≡ kept }
     {
-        let freed = collect(&mut self.grid, &mut self.arena, floor);
-        self.ledger.enter_collect(floor, freed)
+        let freed = collect(&mut self.grid, &mut self.arena, &kept);
+        self.ledger.enter_collect(kept, freed)
     }
 
     /// Why a command that the ledger doesn't refuse is refused for want of blocks, if it is.

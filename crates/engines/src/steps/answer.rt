@@ -37,6 +37,7 @@ fn put_reply(text: &mut Text, reply: StepReply)
             text.put_hex(16, word);
         }
         StepReply::Left => text.put(b"LEFT"),
+        StepReply::Confirmed { version } => put_named(text, b"EXACT ", version),
         StepReply::Ordered { steps } => put_named(text, b"ORDERED ", steps),
         StepReply::Refused { refusal } => put_answer(text, Answer::Refused(refusal)),
         StepReply::Written => text.put(b"WRITE"),

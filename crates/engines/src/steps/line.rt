@@ -31,6 +31,7 @@ pub enum Letter {
     LookMap,
     LookTile,
     Leave,
+    Confirm,
     Order,
     Keep,
 }
@@ -49,6 +50,8 @@ fn letter_of(word: &[u8]) -> Option<Letter>
         Some(Letter::LookTile)
     } else if word == b"V".as_slice() {
         Some(Letter::Leave)
+    } else if word == b"E".as_slice() {
+        Some(Letter::Confirm)
     } else if word == b"C".as_slice() {
         Some(Letter::Order)
     } else if word == b"K".as_slice() {
@@ -99,6 +102,10 @@ fn letter_line(alloc: Global, letter: Letter, rest: Option<&[u8]>) -> StepLine
         },
         Letter::Leave => match only_number(rest) {
             Some(reader) => StepLine::Event(Event::Leave { reader }),
+            None => StepLine::Bad,
+        },
+        Letter::Confirm => match only_number(rest) {
+            Some(reader) => StepLine::Event(Event::Confirm { reader }),
             None => StepLine::Bad,
         },
         Letter::Order => order(alloc, rest),

@@ -1,7 +1,6 @@
 //! The last steps of commands: each stores NOW, and appends its entry to the log.
 
-ghost use Rattle.std.specs.Prelude.{◌≡◌, fold, Ok};
-ghost use Rattle.map_core.specs.Steps.{lowered};
+ghost use Rattle.std.specs.Prelude.{Ok};
 ghost use Rattle.map_core.specs.Runs.{SafeStep};
 ghost use Rattle.map_core.specs.declared.event.Event.TheVariants.{Keep};
 ghost use Rattle.map_core.specs.declared.command.Command.TheVariants.{Publish, Revert, Collect, Checkpoint};
@@ -12,19 +11,6 @@ use crate::command::{Command, Entry};
 use crate::event::StepReply;
 use crate::world::World;
 use crate::world::words::NOW_AT;
-
-/// The least of a version and of those that some readers' words announce.
-fn least_announced(newest: u32, words: &[u64]) -> u32
-    ensures { result ≡ fold lowered newest words.now }
-{
-    let mut least = u64::from(newest);
-    for word in words {
-        if 0 < *word && *word - 1 < least {
-            least = *word - 1;
-        }
-    }
-    least as u32
-}
 
 impl World {
     /// The step of a paint or a stamp: it draws on the draft, and each tile that changes takes a block, where it has none.
@@ -107,17 +93,16 @@ impl World {
         StepReply::Committed { reply }
     }
 
-    /// The last step of a collect: the floor rises, and the blocks that no kept version maps are given back.
+    /// The last step of a collect: the versions that no reader may need are let go, and the blocks that no kept version maps are given back.
     pub(super) fn collect(&mut self) -> StepReply
         requires { IsLastOf self.old Collect }
         ensures { SafeStep self.old Keep (Ok result) self.new }
     {
-        let least = least_announced(self.ledger.newest, self.scanned.as_slice());
-        let floor = self.ledger.floor.max(least);
+        let kept = (self.ledger.kept).after_scan(self.ledger.newest, self.scanned.as_slice());
         let before = self.retired.len();
-        give_back_retired(floor, &mut self.retired, &mut self.free);
+        give_back_retired(&kept, &mut self.retired, &mut self.free);
         let freed = (before - self.retired.len()) as u32;
-        let reply = self.ledger.enter_collect(floor, freed);
+        let reply = self.ledger.enter_collect(kept, freed);
         self.log.push_reserved(Entry {
             command: Command::Collect,
             reply,

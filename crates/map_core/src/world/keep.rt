@@ -1,7 +1,7 @@
 //! The steps of a command in hand.
 
-ghost use Rattle.std.specs.Prelude.{◌≡◌, ◌+◌, ◌^◌, ◌<◌, length, Ok};
-ghost use Rattle.map_core.specs.Story.{newest};
+ghost use Rattle.std.specs.Prelude.{◌≡◌, ◌<◌, length, Ok, None};
+ghost use Rattle.map_core.specs.Legal.{refused};
 ghost use Rattle.map_core.specs.Words.{tiles};
 ghost use Rattle.map_core.specs.Views.{story_of, blocks_of_state};
 ghost use Rattle.map_core.specs.Steps.{steps_before, tile_steps, tile_write, map_write, write_of};
@@ -31,13 +31,13 @@ impl World {
 
     /// Where a word of the next version's directory goes, and the word.
     fn map_word(&self, position: u32) -> (usize, u64)
+        requires accepted { refused self.now.base.setting (story_of self.now) Publish ≡ None }
         requires inside { position < tiles self.now.base }
-        requires few { newest (story_of self.now) + 1 < 2 ^ 32 }
         ensures place { result.0 ≡ (map_write self.now.base (story_of self.now) (blocks_of_state self.now) position).at }
         ensures word { result.1 ≡ (map_write self.now.base (story_of self.now) (blocks_of_state self.now) position).word }
         ensures within { result.0 < length self.now.words }
     {
-        let place = self.map_at(self.ledger.newest + 1, position);
+        let place = self.next_map_at(position);
         let word = match self.own[position as usize] {
             Some(block) => u64::from(block),
             None => self.words[self.map_at(self.ledger.newest, position)],
@@ -64,8 +64,8 @@ impl World {
 
     /// Where the next word of a publish goes, and the word: first the rows of the draft's own blocks, then the directory.
     fn next_word(&self, number: usize) -> (usize, u64)
+        requires accepted { refused self.now.base.setting (story_of self.now) Publish ≡ None }
         requires below { number < steps_before self.now.base (blocks_of_state self.now) Publish }
-        requires few { newest (story_of self.now) + 1 < 2 ^ 32 }
         ensures place { result.0 ≡ (write_of self.now.base (story_of self.now) (blocks_of_state self.now) number).at }
         ensures word { result.1 ≡ (write_of self.now.base (story_of self.now) (blocks_of_state self.now) number).word }
         ensures within { result.0 < length self.now.words }

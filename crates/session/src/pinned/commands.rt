@@ -75,7 +75,7 @@ impl<Id: StoreName> Pinned<Id> {
         desk.revert(&mut self.seat)
     }
 
-    /// Raises the floor, as `Desk::collect` does with the pin's seat.
+    /// Lets versions go that nobody holds, as `Desk::collect` does with the pin's seat.
     pub fn collect(&mut self, desk: &mut Desk<Id>) -> Result<Reply, Refusal>
         ensures accepted { IfOk result (λ reply. IsAccepted Id.store desk.old self.old.seat Collect reply desk.new self.new.seat) }
         ensures refused { IfErr result (λ refusal. IsRefused Id.store desk.old self.old.seat Collect refusal desk.new self.new.seat) }

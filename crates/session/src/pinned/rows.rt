@@ -31,7 +31,14 @@ impl<Id: StoreName> Rows for Pinned<Id> {
         }
         self.looks -= 1;
         let across = self.bitmap.width().div_ceil(64);
-        look_word(&mut self.seat, self.version, across, y, index as u16)
+        look_word(
+            &mut self.seat,
+            self.version,
+            self.slot,
+            across,
+            y,
+            index as u16,
+        )
     }
 
     fn is_blank(&mut self, y: u16) -> bool {

@@ -66,7 +66,7 @@ impl<Id: StoreName> Session<Id> {
         desk.revert(&mut self.seat)
     }
 
-    /// Raises the floor, as `Desk::collect` does with its seat.
+    /// Lets versions go that nobody holds, as `Desk::collect` does with its seat.
     pub fn collect(&mut self, desk: &mut Desk<Id>) -> Result<Reply, Refusal>
         ensures accepted { IfOk result (λ reply. IsAccepted Id.store desk.old self.old Collect reply desk.new self.new) }
         ensures refused { IfErr result (λ refusal. IsRefused Id.store desk.old self.old Collect refusal desk.new self.new) }

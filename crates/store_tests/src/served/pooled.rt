@@ -5,6 +5,7 @@ ghost use Rattle.std.specs.Prelude.{◌≡◌};
 use super::{Input, setting, square, stream_of};
 use crate::compare::same;
 use crate::opened::{blank, open};
+use crate::script::kept;
 use map_core::Reply;
 use metric::MemoryStream;
 use proto::{Streams, pool};
@@ -48,7 +49,7 @@ impl Streams for Listed {
 /// More letters than a line may have.
 const LETTERS: [u8; 16_385] = [b'A'; 16_385];
 
-/// A stream that pins and whose ninth read fails, and one that publishes and collects: where the first one's pin was left, the floor rises.
+/// A stream that pins and whose ninth read fails, and one that publishes and collects: where the first one's pin was left, its version goes.
 const FAILING: [Row; 2] = [
     (b"PIN\nPAINT 0 0 1 1\nPUBLISH\nQUIT\n", Some(9), None),
     (b"PAINT 0 0 2 1\nPUBLISH\nCOLLECT\nQUIT\n", None, None),
@@ -90,6 +91,7 @@ fn the_next_stream_is_served(rt: HostRuntime) -> Result<(), Fail> {
         place: 3,
         floor: 1,
         freed: 1,
+        kept: kept(0, 2),
     };
     let pooled = Pooled {
         rows: &FAILING,
@@ -105,6 +107,7 @@ fn workers_outlast_their_clients(rt: HostRuntime) -> Result<(), Fail> {
         place: 6,
         floor: 1,
         freed: 1,
+        kept: kept(0, 2),
     };
     let pooled = Pooled {
         rows: &ENDING,

@@ -45,7 +45,7 @@ pub enum Told {
     Reverted(u32),
     /// Its place, after which there is no entry yet.
     Checkpointed(u32),
-    /// Its place, the floor, and how many blocks came back.
+    /// Its place, the least version that is kept, and how many blocks came back.
     Collected(u32, u32, u32),
     /// How many blocks it needs, and how many are free.
     Full(u32, u32),
@@ -83,6 +83,7 @@ pub fn answered(answer: Result<Reply, Refusal>) -> Told {
                 place,
                 floor,
                 freed,
+                kept: _,
             },
         ) => Told::Collected(place, floor, freed),
         Err(Refusal::BlocksFull { needed, free }) => Told::Full(needed, free),

@@ -108,7 +108,7 @@ fn draw<Id: StoreName, R: Wait + Abort + Clock>(
     panic!(rt; "no block came back")
 }
 
-/// Gives the planners time to unpin, and raises the floor as far as the pins allow.
+/// Gives the planners time to unpin, and lets each version go that no pin holds.
 fn collect<Id: StoreName, R: Wait + Abort + Clock>(
     rt: &R,
     store: &Store<Id>,

@@ -52,6 +52,37 @@ fn a_pin_keeps_its_version(rt: HostRuntime) -> Result<(), Fail> {
     play(&rt, rt.alloc(), game)
 }
 
+/// A pin of version 0 keeps that version alone: a collect drops version 1, which came after it, and gives its block back.
+const ALONE: [Row; 12] = [
+    (A, Act::Pin, Told::Version(0)),
+    (B, Act::Paint([0, 0, 1, 1]), Told::Painted(1, 1)),
+    (B, Act::Publish, Told::Published(2, 1)),
+    (B, Act::Paint([1, 0, 2, 1]), Told::Painted(3, 1)),
+    (B, Act::Publish, Told::Published(4, 2)),
+    (B, Act::Paint([2, 0, 3, 1]), Told::Full(1, 0)),
+    (B, Act::Publish, Told::Refused(Refusal::VersionsFull)),
+    (B, Act::Collect, Told::Collected(5, 0, 1)),
+    (B, Act::Paint([2, 0, 3, 1]), Told::Painted(6, 1)),
+    (B, Act::Publish, Told::Published(7, 3)),
+    (A, Act::Near([3, 4]), Told::Free(0)),
+    (A, Act::Unpin, Told::Nothing),
+];
+
+#[test]
+fn a_pin_keeps_its_version_alone(rt: HostRuntime) -> Result<(), Fail> {
+    let game = Game {
+        setting: Setting {
+            versions: 3,
+            ..SMALL
+        },
+        size: [64, 64],
+        rows: &ALONE,
+        free: &[],
+        entries: 7,
+    };
+    play(&rt, rt.alloc(), game)
+}
+
 /// The log has room for two entries. Each further command is refused for that, but for one beside the map. A ticket tells of both entries, and a pin
 /// sees the version that the second one published, as it was.
 const FULL: [Row; 13] = [

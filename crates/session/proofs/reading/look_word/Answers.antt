@@ -1,8 +1,6 @@
 -- The row of the tile is the word.
-use Rattle.std.proofs.Common.{◌≡◌, ℕ, ◌+◌, ◌*◌, ◌/◌, ◌%◌, ◌<◌, refl, sym, ap, subst, ◌∙◌}
-use Rattle.std.specs.Prelude.{slice_index}
+use Rattle.std.proofs.Common.{◌≡◌, ℕ, ◌+◌, ◌*◌, ◌/◌, refl, sym, ap, subst, ◌∙◌}
 use Rattle.bits.specs.Words.{words_across}
-use Rattle.map_core.specs.Words.{tiles}
 use Rattle.shelf.specs.Roles.{ReaderView}
 use Rattle.shelf.specs.Steps.{HasBlock}
 use Rattle.clearance.proofs.RowWords.{tile_row_in_row}

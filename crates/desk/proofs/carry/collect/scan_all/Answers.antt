@@ -15,6 +15,6 @@ loop-reader-preserved g c =
     let invariant = c.loop-reader.invariant in
     let inside : c.loop-reader.reader < length c.loop-reader.announced.items = omega (arith, invariant.place_each) in
     record {
-      keeper = scan_more c.args.keeper.now _ _ c.args.by _ _ _ invariant.keeper c.scan-word.ensures.scanned (scan_grows c.loop-reader.announced.items c.loop-reader.reader _ c.version_in.result inside c.version_in.ensures);
-      place_each = length-set c.loop-reader.announced.items c.loop-reader.reader c.version_in.result ∙ invariant.place_each;
+      keeper = scan_more c.args.keeper.now _ _ c.args.by _ _ _ invariant.keeper c.scan-word.ensures.scanned (scan_grows c.loop-reader.announced.items c.loop-reader.reader _ c.in_word.result inside c.in_word.ensures);
+      place_each = length-set c.loop-reader.announced.items c.loop-reader.reader c.in_word.result ∙ invariant.place_each;
     }

@@ -2,6 +2,7 @@
 use Rattle.std.proofs.Common.{ap, arith, refl}
 use Rattle.map_core.specs.declared.ledger.Ledger.{Ledger}
 use Rattle.map_core.proofs.CommitWorld.{last_known, last_does, consistent_commit, place_in_hand, reply_checkpoint}
+use Rattle.map_core.proofs.JudgeLemmas.{balanced_ledger}
 use Rattle.map_core.proofs.LedgerLemmas.{ledger_checkpoint, now_of_ledger}
 use Rattle.map_core.proofs.SummaryDraw.{summary_checkpoint}
 use Rattle.map_core.proofs.WorldLemmas.{safe_done, now_word_there}
@@ -10,6 +11,23 @@ use Rattle.map_core.proofs.world.World.checkpoint.Goals as goal
 pub enter_checkpoint-reply-requires : goal.enter_checkpoint-reply-requires
 enter_checkpoint-reply-requires c =
     place_in_hand _ _ _ _ _ _ c.self.invariant _ _ _ refl (last_known c.args.self.now _ _ c.self.inside.hand _ _ c.self.view_is refl c.requires).0
+
+pub now_word-requires-clause-place : goal.now_word-requires-clause-place
+now_word-requires-clause-place c =
+    let places = ap (λ (l : Ledger). l.places) c.enter_checkpoint-reply.ensures.entered in
+    omega (arith, (place_in_hand _ _ _ _ _ _ c.self.invariant _ _ _ refl (last_known c.args.self.now _ _ c.self.inside.hand _ _ c.self.view_is refl c.requires).0))
+
+pub now_word-requires-clause-version : goal.now_word-requires-clause-version
+now_word-requires-clause-version c =
+    let balanced = balanced_ledger _ _ _ _ _ _ c.self.invariant in
+    let newest = ap (λ (l : Ledger). l.newest) c.enter_checkpoint-reply.ensures.entered in
+    omega (arith, balanced.newest_in, (place_in_hand _ _ _ _ _ _ c.self.invariant _ _ _ refl (last_known c.args.self.now _ _ c.self.inside.hand _ _ c.self.view_is refl c.requires).0))
+
+pub now_word-requires-clause-slot : goal.now_word-requires-clause-slot
+now_word-requires-clause-slot c =
+    let balanced = balanced_ledger _ _ _ _ _ _ c.self.invariant in
+    let slot = ap (λ (l : Ledger). l.slot) c.enter_checkpoint-reply.ensures.entered in
+    omega (arith, balanced.small)
 
 pub index_mut-requires : goal.index_mut-requires
 index_mut-requires c = omega (arith, now_word_there _ _ _ _ _ _ c.self.invariant, c.self.inside.words.ok)

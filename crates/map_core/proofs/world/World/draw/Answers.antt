@@ -5,12 +5,12 @@ use Rattle.map_core.specs.declared.ledger.Ledger.{Ledger}
 use Rattle.map_core.specs.Drawing.{drawn}
 use Rattle.map_core.proofs.CommitWorld.{last_does, consistent_commit, place_in_hand}
 use Rattle.map_core.proofs.DrawWorld.{drawing_known, hand_inside, reply_draw, count_draw, written_back}
-use Rattle.map_core.proofs.JudgeLemmas.{draft_of_map, same_width, same_height, drawn_of_map, own_long}
+use Rattle.map_core.proofs.JudgeLemmas.{balanced_ledger, draft_of_map, same_width, same_height, drawn_of_map, own_long}
 use Rattle.map_core.proofs.LedgerLemmas.{ledger_draw, now_of_ledger}
 use Rattle.map_core.proofs.StepLemmas.{tidy_of}
 use Rattle.map_core.proofs.SummaryDraw.{summary_draw}
 use Rattle.map_core.proofs.TidyDraft.{tile_count-of_map}
-use Rattle.map_core.proofs.WorldLemmas.{safe_done, now_word_there}
+use Rattle.map_core.proofs.WorldLemmas.{safe_done, now_word_there, now_room}
 use Rattle.map_core.proofs.world.World.draw.Goals as goal
 
 pub copy_from-requires-clause-width : goal.copy_from-requires-clause-width
@@ -77,3 +77,12 @@ returns c =
     (last_does _ _ _ _ _ _ _ _ _ _ _ _ _ c.now_word.result c.self.invariant known.last
     (reply_draw _ _ _ _ _ _ _ c.self.invariant.summary.ledger_is known.draws c.enter_draw-reply.ensures.reply (count_draw _ _ _ _ _ _ c.self.invariant _ _ _ c.copy_from.ensures c.draw-changed.ensures.changed))
     (now_of_ledger _ _ _ _ entered c.now_word.ensures)))
+
+pub now_word-requires-clause-place : goal.now_word-requires-clause-place
+now_word-requires-clause-place c = (now_room _ _ (balanced_ledger _ _ _ _ _ _ c.self.invariant) (place_in_hand _ _ _ _ _ _ c.self.invariant _ _ _ refl (sym c.take.ensures.value ∙ c.in-Some.is)) c.enter_draw-reply.ensures.entered).place
+
+pub now_word-requires-clause-version : goal.now_word-requires-clause-version
+now_word-requires-clause-version c = (now_room _ _ (balanced_ledger _ _ _ _ _ _ c.self.invariant) (place_in_hand _ _ _ _ _ _ c.self.invariant _ _ _ refl (sym c.take.ensures.value ∙ c.in-Some.is)) c.enter_draw-reply.ensures.entered).version
+
+pub now_word-requires-clause-slot : goal.now_word-requires-clause-slot
+now_word-requires-clause-slot c = (now_room _ _ (balanced_ledger _ _ _ _ _ _ c.self.invariant) (place_in_hand _ _ _ _ _ _ c.self.invariant _ _ _ refl (sym c.take.ensures.value ∙ c.in-Some.is)) c.enter_draw-reply.ensures.entered).slot

@@ -18,3 +18,6 @@ pub map_word-requires-clause-inside : goal.map_word-requires-clause-inside
 map_word-requires-clause-inside c =
     let now = consistent_of c.args.self.now _ _ _ _ _ _ c.self.view_is c.self.invariant in
     publish_rest c.args.self.now _ _ _ _ _ now c.count_own-rows.result c.args.number (c.count_own-rows.ensures ∙ ap (λ own. length (own_list own)) c.as_slice.ensures.value) c.requires.below c.if-number-rows.false
+
+pub map_word-requires-clause-accepted : goal.map_word-requires-clause-accepted
+map_word-requires-clause-accepted c = c.requires.accepted

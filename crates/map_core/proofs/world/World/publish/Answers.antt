@@ -1,5 +1,6 @@
 -- The last step of a publish.
 use Rattle.std.proofs.Common.{arith, refl, ap, sym, ◌∙◌, length}
+use Rattle.map_core.specs.declared.command.Command.TheVariants.{Publish}
 use Rattle.map_core.specs.declared.ledger.Ledger.{Ledger}
 use Rattle.map_core.proofs.CommitWorld.{last_known, last_does, consistent_commit, published_of_map, place_in_hand, version_in_hand}
 use Rattle.map_core.proofs.GiveBack.{cleared_back}
@@ -7,10 +8,13 @@ use Rattle.map_core.proofs.JudgeLemmas.{draft_of_map, balanced_ledger}
 use Rattle.map_core.proofs.LedgerLemmas.{ledger_publish, now_of_ledger}
 use Rattle.map_core.proofs.PublishWorld.{reply_publish, room_replaced, newest_part, came_back, own_few_places, directory_long, came_and_own, part_within, part_is, part_small}
 use Rattle.map_core.proofs.StepLemmas.{tidy_of}
-use Rattle.map_core.proofs.SummaryPublish.{summary_publish, newest_published}
-use Rattle.map_core.proofs.WorldLemmas.{safe_done}
-use Rattle.map_core.proofs.WriteWorld.{newest_few}
+use Rattle.map_core.proofs.SummaryPublish.{summary_publish, newest_published, slots_published}
+use Rattle.map_core.proofs.WorldLemmas.{safe_done, next_room, accepted_in, now_room_published}
+use Rattle.map_core.proofs.WriteWorld.{consistent_of, newest_few, newest_kept}
 use Rattle.map_core.proofs.world.World.publish.Goals as goal
+
+pub map_at-first-requires-clause-kept : goal.map_at-first-requires-clause-kept
+map_at-first-requires-clause-kept c = newest_kept _ _ _ _ _ _ (consistent_of c.args.self.now _ _ _ _ _ _ c.self.view_is c.self.invariant)
 
 pub enter_publish-reply-requires-clause-balanced : goal.enter_publish-reply-requires-clause-balanced
 enter_publish-reply-requires-clause-balanced c = balanced_ledger _ _ _ _ _ _ c.self.invariant
@@ -18,6 +22,29 @@ enter_publish-reply-requires-clause-balanced c = balanced_ledger _ _ _ _ _ _ c.s
 pub enter_publish-reply-requires-clause-place : goal.enter_publish-reply-requires-clause-place
 enter_publish-reply-requires-clause-place c =
     place_in_hand _ _ _ _ _ _ c.self.invariant _ _ _ refl (last_known c.args.self.now _ _ c.self.inside.hand _ _ c.self.view_is refl c.requires).0
+
+pub enter_publish-reply-requires-clause-slot : goal.enter_publish-reply-requires-clause-slot
+enter_publish-reply-requires-clause-slot c =
+    let now = consistent_of c.args.self.now _ _ _ _ _ _ c.self.view_is c.self.invariant in
+    next_room c.args.self.now now.whole _ now.summary.ledger_is (accepted_in c.args.self.now c.requires.hand Publish now.whole c.requires.there c.requires.command)
+
+pub now_word-requires-clause-place : goal.now_word-requires-clause-place
+now_word-requires-clause-place c =
+    let now = consistent_of c.args.self.now _ _ _ _ _ _ c.self.view_is c.self.invariant in
+    let room = next_room c.args.self.now now.whole _ now.summary.ledger_is (accepted_in c.args.self.now c.requires.hand Publish now.whole c.requires.there c.requires.command) in
+    (now_room_published _ _ (balanced_ledger _ _ _ _ _ _ c.self.invariant) (place_in_hand _ _ _ _ _ _ c.self.invariant _ _ _ refl (last_known c.args.self.now _ _ c.self.inside.hand _ _ c.self.view_is refl c.requires).0) room c.enter_publish-reply.ensures.entered).place
+
+pub now_word-requires-clause-version : goal.now_word-requires-clause-version
+now_word-requires-clause-version c =
+    let now = consistent_of c.args.self.now _ _ _ _ _ _ c.self.view_is c.self.invariant in
+    let room = next_room c.args.self.now now.whole _ now.summary.ledger_is (accepted_in c.args.self.now c.requires.hand Publish now.whole c.requires.there c.requires.command) in
+    (now_room_published _ _ (balanced_ledger _ _ _ _ _ _ c.self.invariant) (place_in_hand _ _ _ _ _ _ c.self.invariant _ _ _ refl (last_known c.args.self.now _ _ c.self.inside.hand _ _ c.self.view_is refl c.requires).0) room c.enter_publish-reply.ensures.entered).version
+
+pub now_word-requires-clause-slot : goal.now_word-requires-clause-slot
+now_word-requires-clause-slot c =
+    let now = consistent_of c.args.self.now _ _ _ _ _ _ c.self.view_is c.self.invariant in
+    let room = next_room c.args.self.now now.whole _ now.summary.ledger_is (accepted_in c.args.self.now c.requires.hand Publish now.whole c.requires.there c.requires.command) in
+    (now_room_published _ _ (balanced_ledger _ _ _ _ _ _ c.self.invariant) (place_in_hand _ _ _ _ _ _ c.self.invariant _ _ _ refl (last_known c.args.self.now _ _ c.self.inside.hand _ _ c.self.view_is refl c.requires).0) room c.enter_publish-reply.ensures.entered).slot
 
 pub publish_own-requires-clause-newest : goal.publish_own-requires-clause-newest
 publish_own-requires-clause-newest c =
@@ -59,7 +86,7 @@ pub invariant_of-self : goal.invariant_of-self
 invariant_of-self c =
     let known = last_known c.args.self.now _ _ c.self.inside.hand _ _ c.self.view_is refl c.requires in
     let tidy = tidy_of _ c.self.invariant.whole in
-    let entered = ledger_publish _ _ _ c.enter_publish-reply.new.self c.enter_publish-reply.result c.self.invariant.summary.ledger_is (newest_published _ _ _ _ tidy.shape) c.enter_publish-reply.ensures.entered in
+    let entered = ledger_publish _ _ _ c.enter_publish-reply.new.self c.enter_publish-reply.result c.self.invariant.summary.ledger_is (newest_published _ _ _ _ tidy.shape) (slots_published _ _ _ tidy) c.enter_publish-reply.ensures.entered in
     let part = newest_part _ _ _ _ _ c.self.view_is (c.from-tiles.ensures ∙ c.tiles.ensures.tiles) c.map_at-first.ensures.place in
     let does = last_does _ _ _ _ _ _ _ _ _ _ _ _ _ c.now_word.result c.self.invariant known (reply_publish _ _ _ _ _ c.self.invariant.summary.ledger_is c.enter_publish-reply.ensures.reply) (now_of_ledger _ _ _ _ entered c.now_word.ensures) in
     rw (c.push_reserved.ensures.items)
@@ -74,7 +101,7 @@ pub returns : goal.returns
 returns c =
     let known = last_known c.args.self.now _ _ c.self.inside.hand _ _ c.self.view_is refl c.requires in
     let tidy = tidy_of _ c.self.invariant.whole in
-    let entered = ledger_publish _ _ _ c.enter_publish-reply.new.self c.enter_publish-reply.result c.self.invariant.summary.ledger_is (newest_published _ _ _ _ tidy.shape) c.enter_publish-reply.ensures.entered in
+    let entered = ledger_publish _ _ _ c.enter_publish-reply.new.self c.enter_publish-reply.result c.self.invariant.summary.ledger_is (newest_published _ _ _ _ tidy.shape) (slots_published _ _ _ tidy) c.enter_publish-reply.ensures.entered in
     rw (← c.self.view_is, ap (λ (l : Ledger). l.setting) c.enter_publish-reply.ensures.entered, c.push_reserved.ensures.items)
     (safe_done _ _ _ c.self.invariant.whole
     (last_does _ _ _ _ _ _ _ _ _ _ _ _ _ c.now_word.result c.self.invariant known (reply_publish _ _ _ _ _ c.self.invariant.summary.ledger_is c.enter_publish-reply.ensures.reply) (now_of_ledger _ _ _ _ entered c.now_word.ensures)))

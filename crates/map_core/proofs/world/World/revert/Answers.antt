@@ -3,10 +3,10 @@ use Rattle.std.proofs.Common.{ap, arith, refl, sym, ◌∙◌}
 use Rattle.map_core.specs.declared.ledger.Ledger.{Ledger}
 use Rattle.map_core.proofs.CommitWorld.{last_known, last_does, consistent_commit, room_back, published_of_map, place_in_hand, reply_revert}
 use Rattle.map_core.proofs.GiveBack.{cleared_back}
-use Rattle.map_core.proofs.JudgeLemmas.{draft_of_map}
+use Rattle.map_core.proofs.JudgeLemmas.{draft_of_map, balanced_ledger}
 use Rattle.map_core.proofs.LedgerLemmas.{ledger_revert, now_of_ledger}
 use Rattle.map_core.proofs.SummaryDraw.{summary_revert}
-use Rattle.map_core.proofs.WorldLemmas.{safe_done, now_word_there}
+use Rattle.map_core.proofs.WorldLemmas.{safe_done, now_word_there, now_room}
 use Rattle.map_core.proofs.world.World.revert.Goals as goal
 
 pub copy_from-requires-clause-width : goal.copy_from-requires-clause-width
@@ -44,3 +44,12 @@ returns c =
     rw (← c.self.view_is, ap (λ (l : Ledger). l.setting) c.enter_revert-reply.ensures.entered, c.push_reserved.ensures.items)
     (safe_done _ _ _ c.self.invariant.whole
     (last_does _ _ _ _ _ _ _ _ _ _ _ _ _ c.now_word.result c.self.invariant known (reply_revert _ _ _ _ _ c.self.invariant.summary.ledger_is c.enter_revert-reply.ensures.reply) (now_of_ledger _ _ _ _ entered c.now_word.ensures)))
+
+pub now_word-requires-clause-place : goal.now_word-requires-clause-place
+now_word-requires-clause-place c = (now_room _ _ (balanced_ledger _ _ _ _ _ _ c.self.invariant) (place_in_hand _ _ _ _ _ _ c.self.invariant _ _ _ refl (last_known c.args.self.now _ _ c.self.inside.hand _ _ c.self.view_is refl c.requires).0) c.enter_revert-reply.ensures.entered).place
+
+pub now_word-requires-clause-version : goal.now_word-requires-clause-version
+now_word-requires-clause-version c = (now_room _ _ (balanced_ledger _ _ _ _ _ _ c.self.invariant) (place_in_hand _ _ _ _ _ _ c.self.invariant _ _ _ refl (last_known c.args.self.now _ _ c.self.inside.hand _ _ c.self.view_is refl c.requires).0) c.enter_revert-reply.ensures.entered).version
+
+pub now_word-requires-clause-slot : goal.now_word-requires-clause-slot
+now_word-requires-clause-slot c = (now_room _ _ (balanced_ledger _ _ _ _ _ _ c.self.invariant) (place_in_hand _ _ _ _ _ _ c.self.invariant _ _ _ refl (last_known c.args.self.now _ _ c.self.inside.hand _ _ c.self.view_is refl c.requires).0) c.enter_revert-reply.ensures.entered).slot

@@ -10,7 +10,7 @@ collect-requires g c = inr (c.self.inside.version, c.self.invariant.held)
 pub invariant_of-self : goal.invariant_of-self
 invariant_of-self g c =
     let still = answered_still _ _ _ _ _ _ c.collect.result c.collect.ensures.accepted c.collect.ensures.refused in
-    pin_stays _ _ _ _ _ c.self.invariant c.collect.ensures.grows still.announced still.holds
+    pin_stays _ _ _ _ _ _ c.self.invariant c.collect.ensures.grows still.announced still.holds
 
 pub returns-clause-bitmap : goal.returns-clause-bitmap
-returns-clause-bitmap g c = rw (← c.self.view_is) (bitmap_stays _ _ c.collect.new.seat _ _ c.self.invariant c.collect.ensures.grows)
+returns-clause-bitmap g c = rw (← c.self.view_is) (bitmap_stays _ _ c.collect.new.seat _ _ _ c.self.invariant c.collect.ensures.grows)

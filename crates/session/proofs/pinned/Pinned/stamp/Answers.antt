@@ -10,7 +10,7 @@ stamp-requires g c = inr (c.self.inside.version, c.self.invariant.held)
 pub invariant_of-self : goal.invariant_of-self
 invariant_of-self g c =
     let still = stamped_still _ _ _ _ _ _ _ c.stamp.result c.stamp.ensures.accepted c.stamp.ensures.refused in
-    pin_stays _ _ _ _ _ c.self.invariant c.stamp.ensures.grows still.announced still.holds
+    pin_stays _ _ _ _ _ _ c.self.invariant c.stamp.ensures.grows still.announced still.holds
 
 pub returns-clause-bitmap : goal.returns-clause-bitmap
-returns-clause-bitmap g c = rw (← c.self.view_is) (bitmap_stays _ _ c.stamp.new.seat _ _ c.self.invariant c.stamp.ensures.grows)
+returns-clause-bitmap g c = rw (← c.self.view_is) (bitmap_stays _ _ c.stamp.new.seat _ _ _ c.self.invariant c.stamp.ensures.grows)

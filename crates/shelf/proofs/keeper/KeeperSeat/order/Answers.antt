@@ -7,8 +7,17 @@ use Rattle.shelf.proofs.OwnTable.{at_own, within_own}
 use Rattle.map_core.proofs.PlaceLemmas.{now-within}
 use Rattle.shelf.proofs.ReaderSeats.{still_of}
 use Rattle.shelf.proofs.KeeperSteps.{orders_it}
-use Rattle.shelf.proofs.KeeperSeats.{keeper_role, keeper_now, says_ordered}
+use Rattle.shelf.proofs.KeeperSeats.{keeper_role, keeper_now, now_room, says_ordered}
 use Rattle.shelf.proofs.keeper.KeeperSeat.order.Goals as goal
+
+pub word-now-requires-clause-place : goal.word-now-requires-clause-place
+word-now-requires-clause-place g c = (now_room _ c.self.invariant.0.ready _ _ _ _ _ _ c.self.invariant.2).0
+
+pub word-now-requires-clause-version : goal.word-now-requires-clause-version
+word-now-requires-clause-version g c = (now_room _ c.self.invariant.0.ready _ _ _ _ _ _ c.self.invariant.2).1
+
+pub word-now-requires-clause-slot : goal.word-now-requires-clause-slot
+word-now-requires-clause-slot g c = (now_room _ c.self.invariant.0.ready _ _ _ _ _ _ c.self.invariant.2).2
 
 pub compare_exchange_with-requires : goal.compare_exchange_with-requires
 compare_exchange_with-requires g c =
@@ -28,7 +37,7 @@ invariant_of-self g c =
     let told = c.compare_exchange_with.ensures.2 k c.args.asked.now (ap (λ m. m.0) c.self.invariant.1) refl in (
       still_of _ _ _ _ _ _ c.self.invariant.0 c.compare_exchange_with.ensures.0,
       keeper_role _ _ _ c.self.invariant.1 told,
-      rw (keeper_now c.self.inside.seat.me _ _ told, c.is_publish-self-inside.ensures) (says_ordered _ k _ _ _ _ c.args.asked.now c.self.invariant.2 accepted),
+      rw (keeper_now c.self.inside.seat.me _ _ told, c.is_publish-self-inside.ensures) (says_ordered _ k _ _ _ _ _ c.args.asked.now c.self.invariant.2 accepted),
     )
 
 pub returns : goal.returns

@@ -1,5 +1,5 @@
 -- A load of a reader's word keeps the rule.
-use Rattle.std.proofs.Common.{ap, sym, subst, ◌+◌, ◌<◌, ◌≤◌}
+use Rattle.std.proofs.Common.{ap, sym, subst, ◌+◌, ◌*◌, ◌<◌, ◌≤◌}
 use Rattle.map_core.specs.Story.{newest}
 use Rattle.map_core.specs.Views.{story}
 use Rattle.shelf.specs.Roles.{keeper_in, entries}
@@ -30,7 +30,7 @@ invariant_of-self g c =
     let told = c.load.ensures.2 k next.task (ap (λ m. m.0) c.self.invariant.1) next.in_hand in (
       still_of _ _ _ _ _ _ c.self.invariant.0 c.load.ensures.0,
       keeper_role _ _ _ c.self.invariant.1 told.0,
-      rw (keeper_now c.self.inside.seat.me _ _ told.0) (says_scanned _ k _ _ _ _ next.task _ c.self.invariant.2 next.in_hand),
+      rw (keeper_now c.self.inside.seat.me _ _ told.0) (says_scanned _ k _ _ _ _ _ next.task _ c.self.invariant.2 next.in_hand),
     )
 
 pub returns-clause-there : goal.returns-clause-there
@@ -38,4 +38,4 @@ returns-clause-there g c =
     let k = keeper_in c.self.inside.seat.me.0 in
     let next : IsNextScan g.Id.StoreName.store.base k c.args.reader = subst (λ q. IsNextScan g.Id.StoreName.store.base q c.args.reader) (sym c.self.view_is) c.requires in
     let told = c.load.ensures.2 k next.task (ap (λ m. m.0) c.self.invariant.1) next.in_hand in
-    subst (λ q. c.load.result ≤ newest (story g.Id.StoreName.store.base (entries q.log)) + 1) c.self.view_is told.1
+    subst (λ q. c.load.result ≤ 2 * newest (story g.Id.StoreName.store.base (entries q.log)) + 2) c.self.view_is told.1

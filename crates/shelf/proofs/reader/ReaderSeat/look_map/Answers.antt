@@ -1,8 +1,6 @@
 -- A look keeps the rule.
 use Rattle.std.proofs.Common.{ap, ◌∙◌}
-use Rattle.map_core.specs.Views.{story}
-use Rattle.map_core.proofs.PlaceLemmas.{map-within, slot-within}
-use Rattle.shelf.specs.Roles.{entries}
+use Rattle.map_core.proofs.PlaceLemmas.{map-within}
 use Rattle.shelf.specs.Seats.{reader_on}
 use Rattle.shelf.proofs.OwnTable.{at_own, within_own, its_role}
 use Rattle.shelf.proofs.LookSteps.{looks_it}
@@ -13,11 +11,10 @@ load-word-requires g c =
     let of = c.self.invariant.0 in
     let x = reader_on c.self.inside.seat.views in
     let z = g.Id.StoreName.store.base in
-    let s = story z (entries x.seen) in
     let role = its_role _ _ _ c.into_seat-seat.ensures.2 (ap (λ b. b.views) c.replace.ensures.value ∙ c.self.invariant.1) in
     let at = c.into_seat-seat.ensures.0 ∙ (ap (λ b. b.table_id) c.replace.ensures.value ∙ at_own _ _ _ _ _ of) in
-    rw (c.deref.ensures, c.map_at-place.ensures z s of.plan_is, c.from.ensures) (
+    rw (c.deref.ensures, c.map_at-place.ensures z of.plan_is, c.from.ensures) (
       at,
-      within_own _ _ _ _ _ _ of (map-within z _ _ (slot-within z s _ of.ready.versions) c.requires.inside),
+      within_own _ _ _ _ _ _ of (map-within z _ _ c.requires.slots c.requires.inside),
       rw of.basis_is (looks_it z _ _ _ _ x role),
     )

@@ -1,13 +1,14 @@
 -- A reader's load of NOW keeps the rule, and what NOW says is of the log that is then seen.
-use Rattle.std.proofs.Common.{[], ◌∷◌, ap, sym, ◌∙◌, length}
+use Rattle.std.proofs.Common.{[], ◌∷◌, ap, sym, ◌∙◌, length, arith}
 use Rattle.map_core.specs.Story.{newest}
 use Rattle.map_core.specs.Views.{story}
 use Rattle.map_core.proofs.PlaceLemmas.{now-within}
 use Rattle.shelf.specs.Roles.{entries, reader_in}
 use Rattle.shelf.specs.Seats.{reader_on}
+use Rattle.shelf.specs.Steps.{newest_slot}
 use Rattle.shelf.proofs.OwnTable.{at_own, within_own, its_role}
 use Rattle.shelf.proofs.ReaderSteps.{takes_it}
-use Rattle.shelf.proofs.ReaderSeats.{still_of, one_view, now_says, says_loaded}
+use Rattle.shelf.proofs.ReaderSeats.{still_of, one_view, now_says, slot_in, says_loaded}
 use Rattle.shelf.proofs.reader.ReaderSeat.take.Goals as goal
 
 pub load-word-requires : goal.load-word-requires
@@ -35,6 +36,19 @@ returns-clause-place g c =
     let told = c.load-word.ensures.2 (reader_on c.self.inside.seat.views) role in
     let seen = ap (λ views. (reader_on views).seen) c.into_badge.ensures.2 ∙ ap (λ m. (reader_in m.0).seen) told.1 in
     c.of-now.ensures.place ∙ ((now_says _ _ _ told.0 told.2).0 ∙ ap length (sym seen))
+
+pub returns-clause-slot : goal.returns-clause-slot
+returns-clause-slot g c =
+    let role = its_role _ _ _ c.into_seat-seat.ensures.2 (ap (λ b. b.views) c.replace.ensures.value ∙ c.self.invariant.1) in
+    let told = c.load-word.ensures.2 (reader_on c.self.inside.seat.views) role in
+    let seen = ap (λ views. (reader_on views).seen) c.into_badge.ensures.2 ∙ ap (λ m. (reader_in m.0).seen) told.1 in
+    c.of-now.ensures.slot ∙ ((now_says _ _ _ told.0 told.2).2 ∙ ap (newest_slot g.Id.StoreName.store.base) (sym seen))
+
+pub returns-clause-slots : goal.returns-clause-slots
+returns-clause-slots g c =
+    let role = its_role _ _ _ c.into_seat-seat.ensures.2 (ap (λ b. b.views) c.replace.ensures.value ∙ c.self.invariant.1) in
+    let told = c.load-word.ensures.2 (reader_on c.self.inside.seat.views) role in
+    omega (arith, slot_in _ _ _ told.0 told.2, c.of-now.ensures.slot)
 
 pub returns-clause-version : goal.returns-clause-version
 returns-clause-version g c =

@@ -1,0 +1,245 @@
+//! The versions that are kept, each in its slot.
+
+ghost use Rattle.std.specs.Prelude.{◌≡◌, ℕ, ◌+◌, ◌^◌, ◌<◌, ◌≤◌, fold, length, map, slice_index, Some, Contains};
+ghost use Rattle.map_core.specs.declared.kept.Seen.TheVariants.{From, Exact};
+ghost use Rattle.map_core.specs.Words.{pin_word, seen_in};
+ghost use Rattle.map_core.specs.Kept.{members, IsIn, first_free, first_kept, with_version, lowered, slots_after, kept_after, is_stay, slot_after, asks, is_spanned, IsPart, IsApart, AreExact, announcements};
+
+/// The versions that are kept, at most 64: for each slot 0 where it is free, or its version plus 1.
+#[derive(Clone, Copy, Debug, PartialEq, Eq)]
+pub struct Kept {
+    pub slots: [u32; 64],
+}
+
+/// What a reader has announced.
+#[derive(Clone, Copy, Debug, PartialEq, Eq)]
+pub enum Seen {
+    /// A version: it may hold that one, or yet take any later one that is kept.
+    From(u32),
+    /// The version that it holds, and no other.
+    Exact(u32),
+}
+
+impl Seen {
+    /// What a reader's word announces: nothing if it is 0, an odd one its half, an even one its half less 1. Condition: its halves fit.
+    #[tactic(auto, unfolding(crate::specs::Words::pin_word))]
+    pub fn in_word(word: u64) -> Option<Seen>
+        requires { word < 2 ^ 33 }
+        ensures { word ≡ pin_word result }
+    {
+        if word == 0 {
+            return None;
+        }
+        if word % 2 == 1 {
+            return Some(Seen::From((word / 2) as u32));
+        }
+        Some(Seen::Exact((word / 2 - 1) as u32))
+    }
+}
+
+/// Whether an announcement keeps a version.
+fn asks(seen: Option<Seen>, version: u32) -> bool
+    ensures { result ≡ asks seen version }
+{
+    match seen {
+        None => false,
+        Some(Seen::From(first)) => first <= version,
+        Some(Seen::Exact(held)) => held == version,
+    }
+}
+
+/// Whether a version stays: the newest one does, and each that an announcement keeps.
+fn is_stay(newest: u32, seen: &[Option<Seen>], version: u32) -> bool
+    ensures { result ≡ is_stay newest seen.now version }
+{
+    if newest == version {
+        return true;
+    }
+    for entry in seen {
+        if asks(*entry, version) {
+            return true;
+        }
+    }
+    false
+}
+
+/// Whether a reader's word keeps a version.
+fn word_asks(word: u64, version: u32) -> bool
+    ensures { result ≡ asks (seen_in word) version }
+{
+    if word == 0 {
+        return false;
+    }
+    if word % 2 == 1 {
+        return word / 2 <= u64::from(version);
+    }
+    word / 2 - 1 == u64::from(version)
+}
+
+/// Whether a version stays by these readers' words.
+fn is_stay_by(newest: u32, words: &[u64], version: u32) -> bool
+    ensures { result ≡ is_stay newest (map seen_in words.now) version }
+{
+    if newest == version {
+        return true;
+    }
+    for word in words {
+        if word_asks(*word, version) {
+            return true;
+        }
+    }
+    false
+}
+
+/// What a slot has after a collect whose scan saw these words.
+fn slot_after_scan(newest: u32, words: &[u64], slot: u32) -> u32
+    ensures { result ≡ slot_after newest (map seen_in words.now) slot }
+{
+    if 0 < slot && is_stay_by(newest, words, slot - 1) {
+        slot
+    } else {
+        0
+    }
+}
+
+/// What a slot has after a collect.
+fn slot_after(newest: u32, seen: &[Option<Seen>], slot: u32) -> u32
+    ensures { result ≡ slot_after newest seen.now slot }
+{
+    if 0 < slot && is_stay(newest, seen, slot - 1) {
+        slot
+    } else {
+        0
+    }
+}
+
+/// The least free slot; their number where none is free.
+fn first_free(slots: &[u32]) -> usize
+    ensures { result ≡ first_free slots.now }
+{
+    for (slot, kept) in slots.iter().enumerate() {
+        if *kept == 0 {
+            return slot;
+        }
+    }
+    slots.len()
+}
+
+impl Kept {
+    /// Version 0 alone, in slot 0.
+    pub fn first() -> Kept
+        ensures { result ≡ first_kept }
+    {
+        let mut slots = [0; 64];
+        slots[0] = 1;
+        Kept { slots }
+    }
+
+    /// How many versions are kept.
+    pub fn count(&self) -> u32
+        ensures { result ≡ length (members self.now.slots) }
+    {
+        let mut count = 0;
+        for slot in &self.slots {
+            if 0 < *slot {
+                count += 1;
+            }
+        }
+        count
+    }
+
+    /// The least version that is kept, or the newest one where that is less.
+    pub fn least(&self, newest: u32) -> u32
+        ensures { result ≡ fold lowered newest self.now.slots }
+    {
+        let mut least = newest;
+        for slot in &self.slots {
+            if 0 < *slot && *slot - 1 < least {
+                least = *slot - 1;
+            }
+        }
+        least
+    }
+
+    /// The least free slot. Condition: there is one.
+    pub fn next_slot(&self) -> u32
+        requires { length (members self.now.slots) < 64 }
+        ensures { result ≡ first_free self.now.slots }
+    {
+        first_free(&self.slots) as u32
+    }
+
+    /// The slot of a version. Condition: it is kept.
+    pub fn slot_of(&self, version: u32) -> u32
+        requires { IsIn self.now version }
+        ensures { slice_index self.now.slots result ≡ version + 1 }
+    {
+        for (slot, kept) in self.slots.iter().enumerate() {
+            if 0 < *kept && *kept - 1 == version {
+                return slot as u32;
+            }
+        }
+        unreachable!()
+    }
+
+    /// Keeps one version more, in the least free slot, and answers that slot. Condition: there is one.
+    pub fn add(&mut self, version: u32) -> u32
+        requires room { length (members self.old.slots) < 64 }
+        requires few { version + 1 < 2 ^ 32 }
+        ensures kept { self.new ≡ with_version self.old version }
+        ensures slot { result ≡ first_free self.old.slots }
+    {
+        let slot = self.next_slot();
+        self.slots[slot as usize] = version + 1;
+        slot
+    }
+
+    /// Whether a version from `first` to `last` is kept.
+    pub fn spans(&self, first: u32, last: u32) -> bool
+        ensures { result ≡ is_spanned (members self.now.slots) first last }
+    {
+        for slot in &self.slots {
+            if first < *slot && *slot - 1 <= last {
+                return true;
+            }
+        }
+        false
+    }
+
+    /// The versions that stay kept after a collect whose scan saw these words.
+    pub fn after_scan(&self, newest: u32, words: &[u64]) -> Kept
+        ensures { result ≡ record { slots = slots_after newest (map seen_in words.now) self.now.slots } }
+    {
+        let mut slots = self.slots;
+        for place in 0..64usize {
+            slots[place] = slot_after_scan(newest, words, slots[place]);
+        }
+        Kept { slots }
+    }
+
+    /// The versions that stay kept after a collect, each in its slot.
+    ///
+    /// These are newest, each version that is announced exactly, and from each other announcement on all that were kept. Where each announcement
+    /// is exact, there is one more of them than announcements at most.
+    pub fn after(&self, newest: u32, seen: &[Option<Seen>]) -> Kept
+        ensures kept { result ≡ kept_after self.now newest seen.now }
+        ensures newest { IsIn self.now newest → IsIn result newest }
+        ensures exact { (v : ℕ) → Contains seen.now (Some (Exact v)) → IsIn self.now v → IsIn result v }
+        ensures from { (a v : ℕ) → Contains seen.now (Some (From a)) → a ≤ v → IsIn self.now v → IsIn result v }
+        ensures part { IsPart result.slots self.now.slots }
+        ensures few { IsApart self.now → AreExact seen.now → length (members result.slots) ≤ 1 + announcements seen.now }
+    {
+        self.stays(newest, seen)
+    }
+
+    /// What each slot has after a collect.
+    fn stays(&self, newest: u32, seen: &[Option<Seen>]) -> Kept
+        ensures { result ≡ kept_after self.now newest seen.now }
+    {
+        let mut slots = self.slots;
+        for place in 0..64usize {
+            slots[place] = slot_after(newest, seen, slots[place]);
+        }
+        Kept { slots }
+    }
+}

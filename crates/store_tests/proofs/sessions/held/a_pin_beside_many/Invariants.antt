@@ -1,0 +1,5 @@
+-- The store that was just made has the name.
+use Rattle.store_tests.proofs.sessions.held.a_pin_beside_many.Given as goal
+
+abbrev pub ghosts-publish_beside : goal.ghosts-publish_beside
+ghosts-publish_beside g a = record { store = a.blank }
