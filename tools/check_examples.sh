@@ -1,7 +1,7 @@
 #!/bin/sh
 # Runs each transcript of examples/ with the built program (or that of CLEARMAP), and compares what it prints with the file beside it.
 # With --write it writes those files instead: look at what changed before you commit it.
-# A transcript that says "# Needs netpbm: TOOL .." or "# Needs the header: HEADER" is left out, and counted, where one of these isn't installed.
+# Each has a minute. A transcript that says "# Needs netpbm: TOOL .." or "# Needs the header: HEADER" is left out, and counted, where one of these isn't installed.
 set -u
 cd "$(dirname "$0")/.." || exit 1
 program=${CLEARMAP:-$PWD/crates/clearmap/out/clearmap}
@@ -32,7 +32,7 @@ for example in examples/*.sh; do
     fi
     tried=$((tried + 1))
     wanted="${example%.sh}.out"
-    (cd / && bash "$OLDPWD/$example") > "$room/out" 2>&1
+    (cd / && timeout 60 bash "$OLDPWD/$example") > "$room/out" 2>&1
     status=$?
     if [ "$status" != 0 ]; then
         wrong=$((wrong + 1))

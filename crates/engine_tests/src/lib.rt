@@ -14,6 +14,8 @@ mod runs;
 #[cfg(test)]
 mod serving;
 #[cfg(test)]
+mod sockets;
+#[cfg(test)]
 mod steps;
 #[cfg(test)]
 mod words;

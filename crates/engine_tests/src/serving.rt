@@ -55,7 +55,7 @@ fn ask_at<R: Net<Listener = TcpListener, Stream = TcpStream>>(
     let mut writer = MemorySink::new(alloc);
     let mut status = 9;
     if let Ok(stream) = TcpStream::connect(rt, local(port))
-        && let Some(mut socket) = Socket::new(alloc, stream)
+        && let Ok(mut socket) = Socket::new(alloc, stream)
     {
         status = ask_run(alloc, &mut socket, &mut reader, &mut writer);
     }

@@ -1,20 +1,29 @@
 -- What the words `dist` and `steps` alone say.
 use Rattle.std.proofs.Common.{◌≡◌, ℕ, List, [], ◌∷◌, Option, Some, None, Bool, refl, ap, ap₂, sym, subst, inl, inr, ◌∙◌, true, false, codes}
-use Rattle.std.specs.Prelude.{option_map, option_and_then, is_some, IsSome}
+use Rattle.std.specs.Prelude.{option_map, option_and_then, is_some, IsSome, Result, Ok, Err, IfOk, IfErr, OnErr}
 use Rattle.std.specs.Borrow.{Bor}
 use Rattle.std.proofs.lemmas.Bool.{false≢true}
-use Rattle.clap.specs.Words.{HasMatchesOf, Row, Text, first_of, one_of, is_simple, takes, subcommand_of, subcommand_rows_of}
+use Rattle.clap.specs.Words.{HasMatchesOf, Row, Text, first_of, first_value, one_of, rows_of, is_simple, takes, subcommand_of, subcommand_rows_of}
 use Rattle.clap.specs.Matches.{subcommand_name_of}
 use Rattle.clap.specs.declared.parser.matches.ArgMatches.{ArgMatches}
+use Rattle.clap.specs.declared.parser.matches.Found.{Found}
 use Rattle.clap.proofs.OnLiterals.{clap_on_literals}
+use Rattle.clap.proofs.WalkLemmas.{first_value-rows}
 use Rattle.metric.specs.Digits.{value_from}
 use Rattle.metric.specs.Kind.{metric_named}
 use Rattle.metric.specs.declared.kind.MetricKind.{MetricKind}
 use Rattle.metric.specs.declared.kind.MetricKind.TheVariants.{Euclid2}
 use Rattle.engines.specs.declared.arguments.DistOptions.{DistOptions}
-use Rattle.engines.specs.CommandLine.{AreDistOptions, AreNoDistOptions, AreTaken, default_options, program_app}
+use Rattle.engines.specs.CommandLine.{AreDistOptions, AreNoDistOptions, AreOptions, AreTaken, default_options, program_app}
 use Rattle.proto.specs.Numbers.{number}
-use Rattle.engines.specs.ServeLine.{in_range}
+use Rattle.engines.specs.ServeLine.{AreAskOptions, AreNoMatch, AreServeOptions, in_range}
+use Rattle.engines.specs.Runs.{IsSaidBy}
+use Rattle.engines.specs.declared.arguments.AskOptions.{AskOptions}
+use Rattle.engines.specs.declared.arguments.ServeOptions.{ServeOptions}
+use Rattle.engines.specs.declared.arguments.Fault.{Fault}
+use Rattle.engines.specs.declared.arguments.Fault.TheVariants.{Memory}
+use Rattle.engines.specs.declared.arguments.Options.{Options}
+use Rattle.engines.specs.declared.arguments.Options.TheVariants.{Ask, Dist, Serve, Steps}
 use Rattle.clearance.proofs.Refusals.{map_none}
 
 -- what the words say of the subcommand and its flags
@@ -140,9 +149,55 @@ flags_are_known rows texts matches (takes, inl dist) found met these (inr unknow
     let same = rows_so (codes "dist") dist.rows rows texts matches found dist.named these in
     let known = subst (λ (r : List Row). IsSome (in_range 1 16 (first_of (codes "workers") r))) same dist.workers in
     false≢true (sym (ap is_some unknown) ∙ known)
-flags_are_known rows texts matches (takes, inr steps) found met these unknown = one_name _ met (named_so (codes "steps") steps.rows texts matches found steps.named)
+flags_are_known rows texts matches (takes, inr (inl steps)) found met these unknown = one_name _ met (named_so (codes "steps") steps.rows texts matches found steps.named)
+flags_are_known rows texts matches (takes, inr (inr (inl serve))) found met these unknown =
+    let same : Some (codes "dist") ≡ Some (codes "serve") = sym met ∙ named_so (codes "serve") serve.1.0 texts matches found serve.1.1 in cc
+flags_are_known rows texts matches (takes, inr (inr (inr ask))) found met these unknown =
+    let same : Some (codes "dist") ≡ Some (codes "ask") = sym met ∙ named_so (codes "ask") ask.1.0 texts matches found ask.1.1 in cc
 
--- where the words are to be taken a subcommand is named
-pub command_is_named : (texts : List (List ℕ)) (matches : ArgMatches) → AreTaken texts → HasMatchesOf program_app texts matches → (subcommand_name_of matches ≡ Some (codes "dist") → ⊥) → (subcommand_name_of matches ≡ Some (codes "steps") → ⊥) → ⊥
-command_is_named texts matches (takes, inl dist) found no_dist no_steps = no_dist (named_so (codes "dist") dist.rows texts matches found dist.named)
-command_is_named texts matches (takes, inr steps) found no_dist no_steps = no_steps (named_so (codes "steps") steps.rows texts matches found steps.named)
+-- where the words are to be taken, name neither `dist` nor `steps`, and are refused for no options that match, they aren't refused
+pub command_is_named : (texts : List (List ℕ)) (matches : ArgMatches) (result : Result Options Fault) → AreTaken texts → HasMatchesOf program_app texts matches → (subcommand_name_of matches ≡ Some (codes "dist") → ⊥)
+    → (subcommand_name_of matches ≡ Some (codes "steps") → ⊥) → OnErr result (AreNoMatch matches) → IfErr result (λ fault. fault ≡ Memory)
+command_is_named texts matches result (takes, inl dist) found no_dist no_steps none = absurd (no_dist (named_so (codes "dist") dist.rows texts matches found dist.named))
+command_is_named texts matches result (takes, inr (inl steps)) found no_dist no_steps none = absurd (no_steps (named_so (codes "steps") steps.rows texts matches found steps.named))
+command_is_named texts matches (Ok options) (takes, inr (inr named)) found no_dist no_steps none = tt
+command_is_named texts matches (Err fault) (takes, inr (inr (inl serve))) found no_dist no_steps none = absurd (none (Serve serve.0) (serve.1.0, (found program_is_simple).1 ∙ serve.1.1, serve.1.2))
+command_is_named texts matches (Err fault) (takes, inr (inr (inr ask))) found no_dist no_steps none = absurd (none (Ask ask.0) (ask.1.0, (found program_is_simple).1 ∙ ask.1.1, ask.1.2))
+
+-- where the words say options or are refused, which those that are to be taken are for want of memory alone, they say it
+pub said_so : (words : List (List ℕ)) (result : Result Options Fault) → IfOk result (AreOptions words) → (AreTaken words → IfErr result (λ fault. fault ≡ Memory)) → IsSaidBy words result
+said_so words (Ok options) are refused = are
+said_so words (Err fault) are refused = refused
+
+-- a value that is no number in its range isn't one by the rows either
+pub none_given : (least most n : ℕ) (found : Found) (name : List ℕ) → in_range least most (first_value found name) ≡ None → in_range least most (first_of name (rows_of found)) ≡ Some n → ⊥
+none_given least most n found name none some = let same : None ≡ Some n = sym none ∙ (ap (in_range least most) (first_value-rows found name) ∙ some) in cc
+
+-- where `serve` was matched with flags that say no options, no options are matched
+pub no_match_serve : (matches : ArgMatches) (rows : List Row) → subcommand_name_of matches ≡ Some (codes "serve") → option_map (λ (p : Text × List Row). p.1) (subcommand_rows_of matches) ≡ Some rows
+    → ((options : ServeOptions) → AreServeOptions rows options → ⊥) → AreNoMatch matches
+no_match_serve matches rows named these none (Serve options) are =
+    let same : Some are.0 ≡ Some rows = sym (ap (option_map (λ (p : Text × List Row). p.1)) are.1) ∙ these in
+    let rows_are : are.0 ≡ rows = cc in none options (subst (λ (r : List Row). AreServeOptions r options) rows_are are.2)
+no_match_serve matches rows named these none (Ask options) are =
+    let same : Some (codes "serve") ≡ Some (codes "ask") = sym named ∙ (first_of_pair _ _ _ ∙ ap (option_map (λ (p : Text × List Row). p.0)) are.1) in cc
+no_match_serve matches rows named these none (Dist options) are = are
+no_match_serve matches rows named these none Steps are = are
+
+-- where `ask` was matched with flags that say no options, no options are matched
+pub no_match_ask : (matches : ArgMatches) (rows : List Row) → subcommand_name_of matches ≡ Some (codes "ask") → option_map (λ (p : Text × List Row). p.1) (subcommand_rows_of matches) ≡ Some rows
+    → ((options : AskOptions) → AreAskOptions rows options → ⊥) → AreNoMatch matches
+no_match_ask matches rows named these none (Ask options) are =
+    let same : Some are.0 ≡ Some rows = sym (ap (option_map (λ (p : Text × List Row). p.1)) are.1) ∙ these in
+    let rows_are : are.0 ≡ rows = cc in none options (subst (λ (r : List Row). AreAskOptions r options) rows_are are.2)
+no_match_ask matches rows named these none (Serve options) are =
+    let same : Some (codes "ask") ≡ Some (codes "serve") = sym named ∙ (first_of_pair _ _ _ ∙ ap (option_map (λ (p : Text × List Row). p.0)) are.1) in cc
+no_match_ask matches rows named these none (Dist options) are = are
+no_match_ask matches rows named these none Steps are = are
+
+-- where neither was matched, no options are
+pub no_match : (matches : ArgMatches) → (subcommand_name_of matches ≡ Some (codes "serve") → ⊥) → (subcommand_name_of matches ≡ Some (codes "ask") → ⊥) → AreNoMatch matches
+no_match matches no_serve no_ask (Serve options) are = no_serve (first_of_pair _ _ _ ∙ ap (option_map (λ (p : Text × List Row). p.0)) are.1)
+no_match matches no_serve no_ask (Ask options) are = no_ask (first_of_pair _ _ _ ∙ ap (option_map (λ (p : Text × List Row). p.0)) are.1)
+no_match matches no_serve no_ask (Dist options) are = are
+no_match matches no_serve no_ask Steps are = are

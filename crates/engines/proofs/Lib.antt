@@ -14,3 +14,4 @@ pub mod LineSplitting
 pub mod OpeningLemmas
 pub mod ServingLemmas
 pub mod StepAnswering
+pub mod Requests

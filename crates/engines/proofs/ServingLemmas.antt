@@ -1,16 +1,18 @@
 -- Why nothing is served.
-use Rattle.std.proofs.Common.{◌≡◌, ℕ, List, [], ◌∷◌, ◌++◌, Option, Some, None, Result, Ok, Err, OnOk, OnErr, IfOk, inl, inr, refl, sym, ap, ◌∙◌}
-use Rattle.std.specs.Prelude.{IfSome, MatchOption}
+use Rattle.std.proofs.Common.{◌≡◌, ℕ, List, [], ◌∷◌, ◌++◌, Option, Some, None, Result, Ok, Err, OnOk, OnErr, IfOk, inl, inr, refl, sym, ap, arith, ◌∙◌}
+use Rattle.std.specs.Prelude.{◌≢◌, ◌+◌, IfErr, IfSome, MatchOption}
 use Rattle.std.specs.Result.{result_unwrap_or}
 use Rattle.metric.specs.Refusal.{refusal_text}
-use Rattle.metric.specs.Stream.{Appends, AppendsFront}
+use Rattle.metric.specs.Stream.{Appends, AppendsFront, Counts}
+use Rattle.metric.proofs.Appending.{Appends-more}
 use Rattle.metric.specs.declared.refusal.Field.{Field}
 use Rattle.metric.specs.declared.refusal.Refusal.{Refusal}
-use Rattle.metric.specs.declared.refusal.Refusal.TheVariants.{BadSetting}
+use Rattle.metric.specs.declared.refusal.Refusal.TheVariants.{BadSetting, Memory}
 use Rattle.metric.specs.declared.stream.WriteFault.{WriteFault}
 use Rattle.engines.specs.Refusals.{net_text}
-use Rattle.engines.specs.Serving.{WritesOnly}
+use Rattle.engines.specs.Serving.{BeginsServed, IsUnserved, WritesOnly, WritesServed, listening_text, memory_text, served_text}
 use Rattle.engines.proofs.Gathering.{written_either}
+use Rattle.engines.proofs.RefusalLines.{front_first, front_second}
 
 -- the line of a setting that is out of its limits
 abbrev pub setting_line : Field → List ℕ
@@ -31,6 +33,13 @@ told_setting (Some field) map other result back refusal before after written lim
     let same : refusal ≡ BadSetting field = ap (refusal_back refusal) (sym is ∙ limits) in
     (record { text = refusal_text refusal ++ 10 ∷ []; text_is = inl (ap (λ r. refusal_text r ++ 10 ∷ []) same); written = written_either before after (refusal_text refusal ++ 10 ∷ []) written whole front }, one)
 
+-- where the setting is good the refusal is want of memory
+pub memory_alone : {A B : Type 0} (found : Option Field) (result : Result A (B × Refusal)) (other : Field → Type 0) (back : B) (refusal : Refusal) → MatchOption found (IfErr result (λ back. back.1 ≡ Memory)) other
+    → result ≡ Err (back, refusal) → found ≡ None → refusal ≡ Memory
+memory_alone None (Ok value) other back refusal limits is none = absurd (cc)
+memory_alone None (Err pair) other back refusal limits is none = ap (refusal_back refusal) (sym is) ∙ limits
+memory_alone (Some field) result other back refusal limits is none = absurd (cc)
+
 -- a status of 1 stays one where a write failed
 one_or_failed : (written : Result ℕ WriteFault) → IfOk written (λ status. status ≡ 1) → result_unwrap_or written 1 ≡ 1
 one_or_failed (Ok status) one = one
@@ -41,3 +50,89 @@ pub told_net : (found : Option Field) (before after : Option (List ℕ)) (writte
     → IfSome found (λ field. WritesOnly (setting_line field) before after × (result_unwrap_or written 1 ≡ 1))
 told_net None before after written one whole front = tt
 told_net (Some field) before after written one whole front = (record { text = net_text; text_is = inr refl; written = written_either before after net_text written whole front }, one_or_failed written one)
+
+-- why nothing is served was written
+pub unserved_whole : (connections : ℕ) (before after : Option (List ℕ)) (text : List ℕ) (written : Result ℕ WriteFault) → IsUnserved text → IfOk written (λ status. status ≡ 1) → OnOk written (Appends before text after)
+    → IfOk written (WritesServed connections before after)
+unserved_whole connections before after text (Ok status) why one whole = record { text = text; text_is = inr (why, one); written = whole }
+unserved_whole connections before after text (Err fault) why one whole = tt
+
+-- a beginning of why nothing is served was written
+pub unserved_front : (connections : ℕ) (before after : Option (List ℕ)) (text : List ℕ) (written : Result ℕ WriteFault) → IsUnserved text → OnErr written (AppendsFront before text after)
+    → OnErr written (BeginsServed connections before after)
+unserved_front connections before after text (Ok status) why front = tt
+unserved_front connections before after text (Err fault) why front = record { text = text; status = 1; text_is = inr (why, refl); written = front }
+
+-- want of memory was written with nothing before it
+pub lacking_whole : (connections : ℕ) (before after : Option (List ℕ)) (refusal : Refusal) (written : Result ℕ WriteFault) → refusal ≡ Memory → IfOk written (λ status. status ≡ 1)
+    → OnOk written (Appends before (refusal_text refusal ++ 10 ∷ []) after) → IfOk written (WritesServed connections before after)
+lacking_whole connections before after refusal written is one whole =
+    unserved_whole connections before after (refusal_text refusal ++ 10 ∷ []) written (inr (inl (ap (λ r. refusal_text r ++ 10 ∷ []) is))) one whole
+
+-- a beginning of want of memory was written with nothing before it
+pub lacking_front : (connections : ℕ) (before after : Option (List ℕ)) (refusal : Refusal) (written : Result ℕ WriteFault) → refusal ≡ Memory → OnErr written (AppendsFront before (refusal_text refusal ++ 10 ∷ []) after)
+    → OnErr written (BeginsServed connections before after)
+lacking_front connections before after refusal written is front = unserved_front connections before after (refusal_text refusal ++ 10 ∷ []) written (inr (inl (ap (λ r. refusal_text r ++ 10 ∷ []) is))) front
+
+-- want of memory was written after the port
+pub stopped_whole : (connections port : ℕ) (before between after : Option (List ℕ)) (refusal : Refusal) (written : Result ℕ WriteFault) → refusal ≡ Memory → Appends before (listening_text port) between → IfOk written (λ status. status ≡ 1)
+    → OnOk written (Appends between (refusal_text refusal ++ 10 ∷ []) after) → IfOk written (WritesServed connections before after)
+stopped_whole connections port before between after refusal (Ok status) is first one whole = record {
+  text = listening_text port ++ (refusal_text refusal ++ 10 ∷ []);
+  text_is = inr (inr (inr (port, ap (λ r. listening_text port ++ (refusal_text r ++ 10 ∷ [])) is)), one);
+  written = Appends-more before between after (listening_text port) (refusal_text refusal ++ 10 ∷ []) first whole;
+}
+stopped_whole connections port before between after refusal (Err fault) is first one whole = tt
+
+-- a beginning of want of memory was written after the port
+pub stopped_front : (connections port : ℕ) (before between after : Option (List ℕ)) (refusal : Refusal) (written : Result ℕ WriteFault) → refusal ≡ Memory → Appends before (listening_text port) between
+    → OnErr written (AppendsFront between (refusal_text refusal ++ 10 ∷ []) after) → OnErr written (BeginsServed connections before after)
+stopped_front connections port before between after refusal (Ok status) is first front = tt
+stopped_front connections port before between after refusal (Err fault) is first front = record {
+  text = listening_text port ++ (refusal_text refusal ++ 10 ∷ []);
+  status = 1;
+  text_is = inr (inr (inr (port, ap (λ r. listening_text port ++ (refusal_text r ++ 10 ∷ [])) is)), refl);
+  written = front_second before between after (listening_text port) (refusal_text refusal ++ 10 ∷ []) first front;
+}
+
+-- how many connections were served was written after the port
+pub served_whole : (connections port log : ℕ) (before between after : Option (List ℕ)) (written : Result ℕ WriteFault) → Appends before (listening_text port) between → IfOk written (λ status. status ≡ 0)
+    → OnOk written (Appends between (served_text connections log) after) → IfOk written (WritesServed connections before after)
+served_whole connections port log before between after (Ok status) first done whole = record {
+  text = listening_text port ++ served_text connections log;
+  text_is = inl (port, log, refl, done);
+  written = Appends-more before between after (listening_text port) (served_text connections log) first whole;
+}
+served_whole connections port log before between after (Err fault) first done whole = tt
+
+-- a beginning of how many connections were served was written after the port
+pub served_front : (connections port log : ℕ) (before between after : Option (List ℕ)) (written : Result ℕ WriteFault) → Appends before (listening_text port) between → OnErr written (AppendsFront between (served_text connections log) after)
+    → OnErr written (BeginsServed connections before after)
+served_front connections port log before between after (Ok status) first front = tt
+served_front connections port log before between after (Err fault) first front = record {
+  text = listening_text port ++ served_text connections log;
+  status = 0;
+  text_is = inl (port, log, refl, refl);
+  written = front_second before between after (listening_text port) (served_text connections log) first front;
+}
+
+-- a beginning of the port's line was written, and nothing after it
+pub port_front : (connections port : ℕ) (before after : Option (List ℕ)) → AppendsFront before (listening_text port) after → BeginsServed connections before after
+port_front connections port before after front = record {
+  text = listening_text port ++ served_text connections 0;
+  status = 0;
+  text_is = inl (port, 0, refl, refl);
+  written = front_first before after (listening_text port) (served_text connections 0) front;
+}
+
+-- where no write failed all of it was written
+pub served_unless : (connections : ℕ) (before after : Option (List ℕ)) (failed_before failed_after : ℕ) (written : Result ℕ WriteFault) → Counts failed_before written failed_after → IfOk written (WritesServed connections before after)
+    → failed_after ≡ failed_before → WritesServed connections before after (result_unwrap_or written 1)
+served_unless connections before after failed_before failed_after (Ok status) counts whole same = whole
+served_unless connections before after failed_before failed_after (Err fault) counts whole same = absurd (omega (arith, counts))
+
+-- where a write failed a beginning of it was written
+pub begun_unless : (connections : ℕ) (before after : Option (List ℕ)) (failed_before failed_after : ℕ) (written : Result ℕ WriteFault) → Counts failed_before written failed_after → OnErr written (BeginsServed connections before after)
+    → failed_after ≢ failed_before → BeginsServed connections before after × (result_unwrap_or written 1 ≡ 1)
+begun_unless connections before after failed_before failed_after (Ok status) counts front other = absurd (other counts)
+begun_unless connections before after failed_before failed_after (Err fault) counts front other = (front, refl)

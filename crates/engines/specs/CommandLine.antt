@@ -8,7 +8,9 @@ use Rattle.clap.specs.declared.error.Error.{Error}
 use Rattle.clap.specs.declared.error.kind.ErrorKind.TheVariants.{OutOfMemory}
 use Rattle.metric.specs.Kind.{metric_named}
 use Rattle.metric.specs.declared.kind.MetricKind.TheVariants.{Euclid2}
+use Rattle.engines.specs.declared.arguments.AskOptions.{AskOptions}
 use Rattle.engines.specs.declared.arguments.DistOptions.{DistOptions}
+use Rattle.engines.specs.declared.arguments.ServeOptions.{ServeOptions}
 use Rattle.engines.specs.declared.arguments.Options.{Options}
 use Rattle.engines.specs.declared.arguments.Options.TheVariants.{Ask, Dist, Serve, Steps}
 use Rattle.engines.specs.declared.arguments.Fault.{Fault}
@@ -79,9 +81,17 @@ pub record NameSteps (words : List (List ℕ)) : Type 0 where
   pub rows : List Row
   pub named : subcommand_of program_app words ≡ Some (codes "steps", rows)
 
+-- the words name `serve`, with flags that are in their ranges
+abbrev pub NameServe : List (List ℕ) → Type 0
+NameServe words = (options : ServeOptions) × AreOptions words (Serve options)
+
+-- the words name `ask`, with a port
+abbrev pub NameAsk : List (List ℕ) → Type 0
+NameAsk words = (options : AskOptions) × AreOptions words (Ask options)
+
 -- words that the program is to take: of the form of its commands and flags, as `clap` takes them
 abbrev pub AreTaken : List (List ℕ) → Type 0
-AreTaken words = (takes program_app words ≡ true) × (NameDist words ⊎ NameSteps words)
+AreTaken words = (takes program_app words ≡ true) × (NameDist words ⊎ (NameSteps words ⊎ (NameServe words ⊎ NameAsk words)))
 
 -- what is made of an error of `clap`: want of memory is told apart
 abbrev pub IsFaultOf : Error → Fault → Type 0

@@ -4,7 +4,7 @@ use Rattle.clap.specs.Words.{kind_of}
 use Rattle.clap.specs.declared.error.kind.ErrorKind.TheVariants.{DisplayHelp, DisplayVersion}
 use Rattle.metric.specs.Refusal.{refusal_text}
 use Rattle.metric.specs.declared.refusal.Refusal.TheVariants as refusals
-use Rattle.metric.specs.Stream.{Appends}
+use Rattle.metric.specs.Stream.{Appends, AppendsFront}
 use Rattle.engines.specs.declared.arguments.Fault.{Fault}
 use Rattle.engines.specs.declared.arguments.Fault.TheVariants.{Words, Memory}
 use Rattle.engines.specs.declared.arguments.Options.{Options}
@@ -62,3 +62,19 @@ pub record IsRunOf (words : List (List ℕ)) (unread before after errors_before 
   pub said : Result Options Fault
   pub said_by : IsSaidBy words said
   pub done : IsDoneFor said unread before after errors_before errors_after status
+
+-- a beginning of a text was written
+pub record Begins (before after : Option (List ℕ)) : Type 0 where
+  pub text : List ℕ
+  pub written : AppendsFront before text after
+
+-- a beginning of what is written where the words say this
+abbrev pub BeginsFor : Result Options Fault → Option (List ℕ) → Option (List ℕ) → Option (List ℕ) → Type 0
+BeginsFor (Ok options) unread before after = BeginsAs options unread before after
+BeginsFor (Err fault) unread before after = Begins before after
+
+-- a run of the program on these words, of which a write to the standard output failed
+pub record BeginsRunOf (words : List (List ℕ)) (unread before after : Option (List ℕ)) : Type 0 where
+  pub said : Result Options Fault
+  pub said_by : IsSaidBy words said
+  pub begun : BeginsFor said unread before after

@@ -52,3 +52,7 @@ abbrev pub AreMatched : ArgMatches → Options → Type 0
 AreMatched matches (Serve options) = (rows : List Row) × (subcommand_rows_of matches ≡ Some (codes "serve", rows)) × AreServeOptions rows options
 AreMatched matches (Ask options) = (rows : List Row) × (subcommand_rows_of matches ≡ Some (codes "ask", rows)) × AreAskOptions rows options
 AreMatched matches other = ⊥
+
+-- no options are those of the subcommand that was matched, of `serve` or of `ask`
+abbrev pub AreNoMatch : ArgMatches → Type 0
+AreNoMatch matches = (options : Options) → AreMatched matches options → ⊥

@@ -1,7 +1,9 @@
 -- What `serve` writes: this project's own rule.
 use Rattle.std.specs.Prelude.{◌≡◌, ℕ, ◌⊎◌, List, [], ◌∷◌, ◌++◌, Option, codes}
 use Rattle.std.specs.Fmt.{decimal}
-use Rattle.metric.specs.Stream.{AppendsFront}
+use Rattle.metric.specs.Refusal.{refusal_text}
+use Rattle.metric.specs.Stream.{Appends, AppendsFront}
+use Rattle.metric.specs.declared.refusal.Refusal.TheVariants as refusals
 use Rattle.map_core.specs.declared.setting.Setting.{Setting}
 use Rattle.engines.specs.Refusals.{net_text}
 use Rattle.engines.specs.declared.arguments.ServeOptions.{ServeOptions}
@@ -22,4 +24,29 @@ served_text connections log = codes "SERVED " ++ (decimal connections ++ (32 ∷
 pub record WritesOnly (line : List ℕ) (held_before held_after : Option (List ℕ)) : Type 0 where
   pub text : List ℕ
   pub text_is : (text ≡ line) ⊎ (text ≡ net_text)
+  pub written : AppendsFront held_before text held_after
+
+-- the line of want of memory
+abbrev pub memory_text : List ℕ
+memory_text = refusal_text refusals.Memory ++ 10 ∷ []
+
+-- why nothing is served, though the setting is good: the network's fault, or want of memory, with which the port may have been told
+abbrev pub IsUnserved : List ℕ → Type 0
+IsUnserved text = (text ≡ net_text) ⊎ ((text ≡ memory_text) ⊎ ((port : ℕ) × (text ≡ listening_text port ++ memory_text)))
+
+-- what `serve` writes where the setting is good, with its status: the port and then how many connections were served, or why nothing is
+abbrev pub IsServed : ℕ → List ℕ → ℕ → Type 0
+IsServed connections text status = ((port log : ℕ) × (text ≡ listening_text port ++ served_text connections log) × (status ≡ 0)) ⊎ (IsUnserved text × (status ≡ 1))
+
+-- all of it was written
+pub record WritesServed (connections : ℕ) (held_before held_after : Option (List ℕ)) (status : ℕ) : Type 0 where
+  pub text : List ℕ
+  pub text_is : IsServed connections text status
+  pub written : Appends held_before text held_after
+
+-- a beginning of it was written
+pub record BeginsServed (connections : ℕ) (held_before held_after : Option (List ℕ)) : Type 0 where
+  pub text : List ℕ
+  pub status : ℕ
+  pub text_is : IsServed connections text status
   pub written : AppendsFront held_before text held_after

@@ -1,8 +1,8 @@
 //! The command `ask`: lines to a server, and its replies.
 
-ghost use Rattle.std.specs.Prelude.{◌≡◌, ◌≢◌, OnOk, OnErr, IfErr, Err, Ok, true};
+ghost use Rattle.std.specs.Prelude.{◌≡◌, ◌≢◌, ◌++◌, ◌∷◌, [], OnOk, OnErr, IfErr, Err, Ok, true, false, bytes_eq, codes};
 ghost use Rattle.metric.specs.Stream.{Appends, AppendsFront, CanFail};
-ghost use Rattle.engines.specs.Passing.{EndsEarly, PassesFront, PassesOn, WritesEnd};
+ghost use Rattle.engines.specs.Passing.{Asks, AsksAll, EndsEarly, PassesFront, PassesOn, WritesEnd};
 ghost use Rattle.engines.specs.declared.ask.Stop.TheVariants.{Standard};
 
 mod exchange;
@@ -42,6 +42,9 @@ pub fn ask_run<S: Stream, R: Source, W: Sink>(
 
     // What was sent is a beginning of what was read.
     ensures sent { PassesFront (R.rest reader.old) (R.rest reader.new) (S.held stream.old) (S.held stream.new) }
+
+    // A run that is done has sent each request that there was, until the server said BYE.
+    ensures asked { result ≡ 0 → AsksAll (R.rest reader.old) (R.rest reader.new) (S.held stream.old) (S.held stream.new) (W.held writer.old) (W.held writer.new) }
 
     // A run that is done has written all that the server said, and nothing else.
     ensures printed { result ≡ 0 → PassesOn (S.rest stream.old) (S.rest stream.new) (W.held writer.old) (W.held writer.new) }
@@ -94,7 +97,7 @@ fn print<W: Sink>(writer: &mut W, reply: &[u8]) -> Result<(), Stop>
     }
 }
 
-/// Asks line after line.
+/// Asks line after line, at most 2^64 - 1 of them.
 fn ask_lines<S: Stream, R: Source, W: Sink>(
     alloc: Global,
     stream: &mut S,
@@ -112,13 +115,14 @@ fn ask_lines<S: Stream, R: Source, W: Sink>(
     ensures cut { OnErr result (PassesFront (S.rest stream.old) (S.rest stream.new) (W.held writer.old) (W.held writer.new)) }
     ensures reader { OnOk result (R.failed_reads reader.new ≡ R.failed_reads reader.old) }
     ensures writer { result ≢ Err Standard → W.failed_writes writer.new ≡ W.failed_writes writer.old }
+    ensures asked { OnOk result (AsksAll (R.rest reader.old) (R.rest reader.new) (S.held stream.old) (S.held stream.new) (W.held writer.old) (W.held writer.new)) }
 {
     'lines: for _ in 0..u64::MAX {
         if !ask_line(alloc, stream, reader, writer, request, reply)? {
             return Ok(());
         }
     }
-    Ok(())
+    Err(Stop::Net)
 }
 
 /// Asks one line, and says whether another may follow. The buffers are for the line and its reply.
@@ -134,7 +138,8 @@ fn ask_line<S: Stream, R: Source, W: Sink>(
     requires stream_writes { CanFail (S.failed_writes stream.old) }
     requires reader { CanFail (R.failed_reads reader.old) }
     requires writer { CanFail (W.failed_writes writer.old) }
-    ensures went { result ≡ Ok true → PassesOn (R.rest reader.old) (R.rest reader.new) (S.held stream.old) (S.held stream.new) }
+    ensures went { result ≡ Ok true → Asks (R.rest reader.old) (R.rest reader.new) (S.held stream.old) (S.held stream.new) }
+    ensures over { result ≡ Ok false → AsksAll (R.rest reader.old) (R.rest reader.new) (S.held stream.old) (S.held stream.new) (W.held writer.old) (W.held writer.new) }
     ensures sent { PassesFront (R.rest reader.old) (R.rest reader.new) (S.held stream.old) (S.held stream.new) }
     ensures printed { OnOk result (PassesOn (S.rest stream.old) (S.rest stream.new) (W.held writer.old) (W.held writer.new)) }
     ensures cut { OnErr result (PassesFront (S.rest stream.old) (S.rest stream.new) (W.held writer.old) (W.held writer.new)) }
@@ -147,5 +152,12 @@ fn ask_line<S: Stream, R: Source, W: Sink>(
     }
     exchange(stream, request.as_slice(), reply)?;
     print(writer, reply.as_slice())?;
-    Ok(reply.as_slice() != b"BYE\n".as_slice())
+    Ok(!is_bye(reply.as_slice()))
+}
+
+/// Whether a reply ends the stream.
+fn is_bye(reply: &[u8]) -> bool
+    ensures { result ≡ bytes_eq reply.now (codes "BYE" ++ 10 ∷ []) }
+{
+    reply == b"BYE\n".as_slice()
 }

@@ -1,12 +1,12 @@
 //! From words and streams to the engine that the words name, and the status of the run.
 
-ghost use Rattle.std.specs.Prelude.{◌≡◌, ◌≢◌, ◌+◌, ◌≤◌};
+ghost use Rattle.std.specs.Prelude.{◌≡◌, ◌≢◌, ◌+◌, ◌≤◌, IsErr};
 ghost use Rattle.metric.specs.Stream.{CanFail};
 ghost use Rattle.engines.specs.CommandLine.{texts_of};
-ghost use Rattle.engines.specs.Runs.{AnswersAs, BeginsAs, IsRunOf};
+ghost use Rattle.engines.specs.Runs.{AnswersAs, Begins, BeginsAs, BeginsFor, BeginsRunOf, IsDoneFor, IsRunOf};
 
 use crate::REFUSED;
-use crate::arguments::Options;
+use crate::arguments::{Fault, Options};
 use crate::dist::dist_run;
 use crate::refusing::tell;
 use crate::steps::steps_run;
@@ -37,10 +37,42 @@ pub fn run_words<R: Source, W: Sink, E: Sink, T: Threads + Sync>(
     // Where a read failed, nothing was written.
     ensures failed_read { R.failed_reads reader.new ≢ R.failed_reads reader.old
         → (W.held writer.new ≡ W.held writer.old) × (E.held errors.new ≡ E.held errors.old) × (result ≡ 1) }
-    ensures failed_write { W.failed_writes writer.new ≢ W.failed_writes writer.old → result ≡ 1 }
-    ensures failed_error { E.failed_writes errors.new ≢ E.failed_writes errors.old → result ≡ 1 }
+
+    // Where a write failed, a beginning of what these words ask for was written.
+    ensures failed_write { W.failed_writes writer.new ≢ W.failed_writes writer.old
+        → BeginsRunOf (texts_of words.entry.now) (R.rest reader.old) (W.held writer.old) (W.held writer.new) × (E.held errors.new ≡ E.held errors.old) × (result ≡ 1) }
+
+    // Where the mistake couldn't be told, a beginning of its text was.
+    ensures failed_error { E.failed_writes errors.new ≢ E.failed_writes errors.old
+        → Begins (E.held errors.old) (E.held errors.new) × (W.held writer.new ≡ W.held writer.old) × (result ≡ 1) }
+    ensures one_failure { R.failed_reads reader.new + W.failed_writes writer.new + E.failed_writes errors.new ≤ R.failed_reads reader.old + W.failed_writes writer.old + E.failed_writes errors.old + 1 }
 {
-    match options(alloc, words) {
+    run_said(rt, alloc, options(alloc, words), reader, writer, errors)
+}
+
+/// Runs what words have said, or tells why they are refused. Answers the status.
+pub fn run_said<R: Source, W: Sink, E: Sink, T: Threads + Sync>(
+    rt: &T,
+    alloc: Global,
+    said: Result<Options<'_>, Fault<'_>>,
+    reader: &mut R,
+    writer: &mut W,
+    errors: &mut E,
+) -> u8
+    requires reader { CanFail (R.failed_reads reader.old) }
+    requires writer { CanFail (W.failed_writes writer.old) }
+    requires errors { CanFail (E.failed_writes errors.old) }
+    ensures done { R.failed_reads reader.new ≡ R.failed_reads reader.old → W.failed_writes writer.new ≡ W.failed_writes writer.old → E.failed_writes errors.new ≡ E.failed_writes errors.old
+        → IsDoneFor said.entry (R.rest reader.old) (W.held writer.old) (W.held writer.new) (E.held errors.old) (E.held errors.new) result }
+    ensures failed_read { R.failed_reads reader.new ≢ R.failed_reads reader.old
+        → (W.held writer.new ≡ W.held writer.old) × (E.held errors.new ≡ E.held errors.old) × (result ≡ 1) }
+    ensures failed_write { W.failed_writes writer.new ≢ W.failed_writes writer.old
+        → BeginsFor said.entry (R.rest reader.old) (W.held writer.old) (W.held writer.new) × (E.held errors.new ≡ E.held errors.old) × (result ≡ 1) }
+    ensures failed_error { E.failed_writes errors.new ≢ E.failed_writes errors.old
+        → IsErr said.entry × Begins (E.held errors.old) (E.held errors.new) × (W.held writer.new ≡ W.held writer.old) × (result ≡ 1) }
+    ensures one_failure { R.failed_reads reader.new + W.failed_writes writer.new + E.failed_writes errors.new ≤ R.failed_reads reader.old + W.failed_writes writer.old + E.failed_writes errors.old + 1 }
+{
+    match said {
         Ok(options) => run_engine(rt, alloc, &options, reader, writer),
         Err(fault) => tell(alloc, &fault, writer, errors),
     }
@@ -62,6 +94,7 @@ fn run_engine<R: Source, W: Sink, T: Threads + Sync>(
         → (W.held writer.new ≡ W.held writer.old) × (W.failed_writes writer.new ≡ W.failed_writes writer.old) × (result ≡ 1) }
     ensures failed_write { W.failed_writes writer.new ≢ W.failed_writes writer.old
         → BeginsAs options.now (R.rest reader.old) (W.held writer.old) (W.held writer.new) × (result ≡ 1) }
+    ensures one_failure { R.failed_reads reader.new + W.failed_writes writer.new ≤ R.failed_reads reader.old + W.failed_writes writer.old + 1 }
 {
     match options {
         Options::Dist(options) => dist_run(rt, alloc, options, reader, writer),

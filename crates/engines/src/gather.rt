@@ -1,10 +1,10 @@
 //! Reading a line, or so many bytes, into a buffer.
 
-ghost use Rattle.std.specs.Prelude.{◌≡◌, ◌≢◌, ◌+◌, ℕ, List, OnOk, OnErr, Err};
+ghost use Rattle.std.specs.Prelude.{◌≡◌, ◌≢◌, ◌+◌, ◌++◌, ◌∷◌, [], ℕ, List, vec_len, IfOk, OnOk, OnErr, Err};
 ghost use Rattle.metric.specs.Stream.{CanFail, Takes};
-ghost use Rattle.engines.specs.Passing.{Gathers};
+ghost use Rattle.engines.specs.Passing.{Gathers, GathersAll, PutsCount, PutsFewer, PutsLine, PutsUnended};
 ghost use Rattle.engines.specs.declared.gather.Cut.{Cut};
-ghost use Rattle.engines.specs.declared.gather.Cut.TheVariants.{Failed};
+ghost use Rattle.engines.specs.declared.gather.Cut.TheVariants.{Ended, Failed};
 
 use metric::Source;
 
@@ -27,13 +27,15 @@ pub fn read_line<R: Source>(reader: &mut R, bytes: &mut Vec<u8>) -> Result<(), C
     ensures counts { result ≢ Err Failed → R.failed_reads reader.new ≡ R.failed_reads reader.old }
     ensures failed { result ≡ Err Failed → R.failed_reads reader.new ≡ R.failed_reads reader.old + 1 }
     ensures written { R.written reader.new ≡ R.written reader.old }
+    ensures line { OnOk result (PutsLine bytes.old.items bytes.new.items) }
+    ensures ended { result ≡ Err Ended → PutsUnended bytes.old.items bytes.new.items × GathersAll (R.rest reader.old) bytes.old.items bytes.new.items (R.rest reader.new) }
 {
     'bytes: for _ in 0..u64::MAX {
         if read_byte(reader, bytes)? == b'\n' {
             return Ok(());
         }
     }
-    Ok(())
+    unreachable!()
 }
 
 /// Reads so many bytes behind what the buffer holds.
@@ -44,6 +46,8 @@ pub fn read_count<R: Source>(reader: &mut R, bytes: &mut Vec<u8>, count: u32) ->
     ensures counts { result ≢ Err Failed → R.failed_reads reader.new ≡ R.failed_reads reader.old }
     ensures failed { result ≡ Err Failed → R.failed_reads reader.new ≡ R.failed_reads reader.old + 1 }
     ensures written { R.written reader.new ≡ R.written reader.old }
+    ensures count { OnOk result (PutsCount count bytes.old.items bytes.new.items) }
+    ensures ended { result ≡ Err Ended → PutsFewer count bytes.old.items bytes.new.items × GathersAll (R.rest reader.old) bytes.old.items bytes.new.items (R.rest reader.new) }
 {
     'bytes: for _ in 0..count {
         read_byte(reader, bytes)?;
@@ -59,6 +63,9 @@ fn read_byte<R: Source>(reader: &mut R, bytes: &mut Vec<u8>) -> Result<u8, Cut>
     ensures counts { result ≢ Err Failed → R.failed_reads reader.new ≡ R.failed_reads reader.old }
     ensures failed { result ≡ Err Failed → R.failed_reads reader.new ≡ R.failed_reads reader.old + 1 }
     ensures written { R.written reader.new ≡ R.written reader.old }
+    ensures byte { IfOk result (λ byte. bytes.new.items ≡ bytes.old.items ++ byte ∷ []) }
+    ensures len { OnOk result (vec_len bytes.new ≡ vec_len bytes.old + 1) }
+    ensures ended { result ≡ Err Ended → (bytes.new.items ≡ bytes.old.items) × GathersAll (R.rest reader.old) bytes.old.items bytes.new.items (R.rest reader.new) }
 {
     match reader.next_byte() {
         Ok(Some(byte)) => {

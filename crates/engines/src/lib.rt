@@ -23,6 +23,7 @@ mod run;
 mod serve;
 mod serve_words;
 mod socket;
+mod standard;
 mod steps;
 mod table;
 mod words;
@@ -32,7 +33,7 @@ pub use dist::dist_run;
 pub use engine::run_words;
 pub use run::run_process;
 pub use serve::serve_run;
-pub use socket::Socket;
+pub use socket::{NoSocket, Socket};
 pub use steps::steps_run;
 pub use words::options;
 

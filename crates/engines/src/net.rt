@@ -10,13 +10,14 @@ use crate::ask::ask_run;
 use crate::input::{InputStop, read_to_end};
 use crate::output::{write_net_fault, write_refusal};
 use crate::serve::serve_run;
-use crate::socket::Socket;
+use crate::socket::{NoSocket, Socket};
 use bits::Bitmap;
 use metric::{Refusal, Sink, Source};
 use std::alloc::Global;
 use std::net::{Ipv4Addr, Net, SocketAddr, SocketAddrV4, TcpListener, TcpStream};
 use std::sync::Wait;
 use std::thread::Threads;
+use std::time::Clock;
 
 /// A port of this machine, which no other machine reaches.
 fn local(port: u16) -> SocketAddr {
@@ -49,7 +50,7 @@ pub fn serve<N, R, W>(
     writer: &mut W,
 ) -> u8
 where
-    N: Net<Listener = TcpListener, Stream = TcpStream> + Wait + Threads + Sync,
+    N: Net<Listener = TcpListener, Stream = TcpStream> + Clock + Wait + Threads + Sync,
     R: Source,
     W: Sink,
     requires reader { CanFail (R.failed_reads reader.old) }
@@ -68,7 +69,7 @@ where
 
 /// Connects to the server, and asks it the reader's lines. Answers the status.
 ///
-/// Without a server it writes `FAULT net`, with status 1.
+/// Without a server it writes `FAULT net`, and without memory for the connection's buffers `ERR 5 Memory`, with status 1.
 pub fn ask<N, R, W>(
     rt: &N,
     alloc: Global,
@@ -87,7 +88,8 @@ where
         return write_net_fault(writer).unwrap_or(REFUSED);
     };
     match Socket::new(alloc, stream) {
-        Some(mut socket) => ask_run(alloc, &mut socket, reader, writer),
-        None => write_net_fault(writer).unwrap_or(REFUSED),
+        Ok(mut socket) => ask_run(alloc, &mut socket, reader, writer),
+        Err(NoSocket::Broken) => write_net_fault(writer).unwrap_or(REFUSED),
+        Err(NoSocket::Memory(_)) => write_refusal(writer, Refusal::Memory).unwrap_or(REFUSED),
     }
 }

@@ -1,10 +1,10 @@
 //! Telling why words are refused, or what they asked to be told.
 
-ghost use Rattle.std.specs.Prelude.{◌≡◌, ◌≢◌, ◌∷◌, ◌++◌, []};
+ghost use Rattle.std.specs.Prelude.{◌≡◌, ◌≢◌, ◌+◌, ◌≤◌, ◌∷◌, ◌++◌, []};
 ghost use Rattle.metric.specs.Stream.{Appends, CanFail};
 ghost use Rattle.metric.specs.Refusal.{refusal_text};
 ghost use Rattle.metric.specs.declared.refusal.Refusal.{Refusal};
-ghost use Rattle.engines.specs.Runs.{IsStatusOf, IsTold};
+ghost use Rattle.engines.specs.Runs.{Begins, IsStatusOf, IsTold};
 
 use crate::arguments::Fault;
 use crate::output::{write_refusal, write_text};
@@ -38,7 +38,8 @@ fn text_of(alloc: Global, fault: &Fault<'_>) -> Result<String, AllocError> {
 fn write_or_fail<W: Sink>(writer: &mut W, text: &[u8], status: u8) -> u8
     requires { CanFail (W.failed_writes writer.old) }
     ensures written { W.failed_writes writer.new ≡ W.failed_writes writer.old → Appends (W.held writer.old) text.now (W.held writer.new) × (result ≡ status) }
-    ensures failed { W.failed_writes writer.new ≢ W.failed_writes writer.old → result ≡ 1 }
+    ensures failed { W.failed_writes writer.new ≢ W.failed_writes writer.old → Begins (W.held writer.old) (W.held writer.new) × (result ≡ 1) }
+    ensures one_failure { W.failed_writes writer.new ≤ W.failed_writes writer.old + 1 }
 {
     write_text(writer, text, status).unwrap_or(REFUSED)
 }
@@ -47,6 +48,8 @@ fn write_or_fail<W: Sink>(writer: &mut W, text: &[u8], status: u8) -> u8
 fn tell_memory<W: Sink>(writer: &mut W) -> u8
     requires { CanFail (W.failed_writes writer.old) }
     ensures written { W.failed_writes writer.new ≡ W.failed_writes writer.old → Appends (W.held writer.old) (refusal_text Refusal.Memory ++ 10 ∷ []) (W.held writer.new) }
+    ensures failed { W.failed_writes writer.new ≢ W.failed_writes writer.old → Begins (W.held writer.old) (W.held writer.new) }
+    ensures one_failure { W.failed_writes writer.new ≤ W.failed_writes writer.old + 1 }
     ensures status { result ≡ 1 }
 {
     write_refusal(writer, Refusal::Memory).unwrap_or(REFUSED)
@@ -63,8 +66,11 @@ pub fn tell<W: Sink, E: Sink>(
     requires errors { CanFail (E.failed_writes errors.old) }
     ensures told { W.failed_writes writer.new ≡ W.failed_writes writer.old → E.failed_writes errors.new ≡ E.failed_writes errors.old
         → IsTold fault.now (W.held writer.old) (W.held writer.new) (E.held errors.old) (E.held errors.new) result }
-    ensures failed_write { W.failed_writes writer.new ≢ W.failed_writes writer.old → result ≡ 1 }
-    ensures failed_error { E.failed_writes errors.new ≢ E.failed_writes errors.old → result ≡ 1 }
+    ensures failed_write { W.failed_writes writer.new ≢ W.failed_writes writer.old
+        → Begins (W.held writer.old) (W.held writer.new) × (E.held errors.new ≡ E.held errors.old) × (result ≡ 1) }
+    ensures failed_error { E.failed_writes errors.new ≢ E.failed_writes errors.old
+        → Begins (E.held errors.old) (E.held errors.new) × (W.held writer.new ≡ W.held writer.old) × (result ≡ 1) }
+    ensures one_failure { W.failed_writes writer.new + E.failed_writes errors.new ≤ W.failed_writes writer.old + E.failed_writes errors.old + 1 }
 {
     if matches!(fault, Fault::Memory) {
         return tell_memory(writer);

@@ -4,31 +4,37 @@ ghost use Rattle.std.specs.Prelude.{◌≡◌};
 
 use crate::REFUSED;
 use crate::arguments::{Fault, Options};
-use crate::engine::run_words;
+use crate::engine::run_said;
 use crate::errors::ErrorSink;
 use crate::net::{ask, serve};
 use crate::refusing::tell;
+use crate::standard::Held;
 use crate::words::options;
 use metric::{ReaderSource, Refusal, WriterSink};
+use std::fs::{File, Files};
 use std::net::{Net, TcpListener, TcpStream};
 use std::rt::Env;
 use std::sync::Wait;
 use std::thread::Threads;
+use std::time::Clock;
 use std::{env, io};
 
-/// Runs what the process's words name, on the standard streams. Answers the exit status.
+/// Runs what the process's words name, on the standard streams. Answers the exit status. Standard streams that are closed stay closed: nothing that is opened takes their place.
 pub fn run_process<R>(rt: &R) -> u8
 where
     R: Env
+        + Files<File = File>
         + Input
         + Print
         + Eprint
         + AllocGlobal
+        + Clock
         + Net<Listener = TcpListener, Stream = TcpStream>
         + Wait
         + Threads
         + Sync,
 {
+    let _held = Held::open(rt);
     match words_of(rt) {
         Ok(words) => run_texts(rt, words.as_slice()),
         Err(fault) => tell_fault(rt, &fault),
@@ -47,6 +53,7 @@ where
         + Print
         + Eprint
         + AllocGlobal
+        + Clock
         + Net<Listener = TcpListener, Stream = TcpStream>
         + Wait
         + Threads
@@ -67,10 +74,10 @@ where
     match options(alloc, texts.as_slice()) {
         Ok(Options::Serve(options)) => serve(rt, alloc, &options, &mut reader, &mut writer),
         Ok(Options::Ask(options)) => ask(rt, alloc, &options, &mut reader, &mut writer),
-        _ => run_words(
+        said => run_said(
             rt,
             alloc,
-            texts.as_slice(),
+            said,
             &mut reader,
             &mut writer,
             &mut ErrorSink::new(rt),

@@ -1,15 +1,16 @@
 //! The command `serve`: a store of one map, and its sessions for the connections of a listener.
 
-ghost use Rattle.std.specs.Prelude.{◌≡◌, ◌≤◌, ◌+◌, ◌++◌, ◌∷◌, [], IfOk, IfSome};
+ghost use Rattle.std.specs.Prelude.{◌≡◌, ◌≢◌, ◌≤◌, ◌+◌, ◌++◌, ◌∷◌, [], IfOk, IfSome, None, OnErr};
 ghost use Rattle.metric.specs.Refusal.{refusal_text};
 ghost use Rattle.metric.specs.Stream.{CanFail, Counts};
 ghost use Rattle.metric.specs.declared.refusal.Refusal.TheVariants.{BadSetting};
 ghost use Rattle.bits.specs.Tiles.{tile_count};
 ghost use Rattle.map_core.specs.Setting.{bad_field};
-ghost use Rattle.engines.specs.Serving.{WritesOnly, setting_of};
+ghost use Rattle.engines.specs.Serving.{BeginsServed, WritesOnly, WritesServed, setting_of};
 
 mod accepted;
 mod lines;
+mod pause;
 
 use crate::arguments::ServeOptions;
 use crate::output::{write_net_fault, write_refusal, write_text};
@@ -27,6 +28,7 @@ use std::marker::Brand;
 use std::net::TcpListener;
 use std::sync::Wait;
 use std::thread::Threads;
+use std::time::Clock;
 
 /// Where connections come from, and how many are served.
 #[derive(Drop)]
@@ -34,17 +36,6 @@ struct Place {
     listener: TcpListener,
     port: u16,
     connections: u32,
-}
-
-impl Place {
-    /// The connections, one after another.
-    fn accepted(self, alloc: Global) -> Accepted {
-        Accepted {
-            alloc,
-            listener: self.listener,
-            left: self.connections,
-        }
-    }
 }
 
 impl ServeOptions {
@@ -64,7 +55,7 @@ impl ServeOptions {
 /// Serves the map to the connections that the listener accepts, and answers the status once there were so many. The line `LISTENING <port>` is written before the first is accepted, and `SERVED <connections> <log length>` behind the last.
 ///
 /// In place of these it writes one line, with status 1: `FAULT net` where the listener has no port, `ERR 16 ..` for the first of blocks, versions, workers (as `Sessions`) and log that is out of its limits for this map, and `ERR 5 Memory`. A connection that can't be accepted, or fails, counts as served. Where a write fails nothing more is written, and the status is 1.
-pub fn serve_run<R: Wait + Threads + Sync, W: Sink>(
+pub fn serve_run<R: Clock + Wait + Threads + Sync, W: Sink>(
     rt: &R,
     alloc: Global,
     listener: TcpListener,
@@ -77,6 +68,12 @@ pub fn serve_run<R: Wait + Threads + Sync, W: Sink>(
     // Where the setting is out of its limits nothing is served, and one line says so.
     ensures setting { IfSome (bad_field (tile_count map) (setting_of options.now)) (λ field.
         WritesOnly (refusal_text (BadSetting field) ++ 10 ∷ []) (W.held writer.old) (W.held writer.new) × (result ≡ 1)) }
+
+    // Otherwise the port is told, and how many connections were served; or why nothing is.
+    ensures served { bad_field (tile_count map) (setting_of options.now) ≡ None → W.failed_writes writer.new ≡ W.failed_writes writer.old
+        → WritesServed options.now.connections (W.held writer.old) (W.held writer.new) result }
+    ensures failed { bad_field (tile_count map) (setting_of options.now) ≡ None → W.failed_writes writer.new ≢ W.failed_writes writer.old
+        → BeginsServed options.now.connections (W.held writer.old) (W.held writer.new) × (result ≡ 1) }
     ensures one_failure { W.failed_writes writer.new ≤ W.failed_writes writer.old + 1 }
 {
     match listener.local_addr() {
@@ -93,7 +90,7 @@ pub fn serve_run<R: Wait + Threads + Sync, W: Sink>(
 }
 
 /// Serves the map with a store of this setting.
-fn serve_at<R: Wait + Threads + Sync, W: Sink>(
+fn serve_at<R: Clock + Wait + Threads + Sync, W: Sink>(
     rt: &R,
     alloc: Global,
     place: Place,
@@ -104,6 +101,8 @@ fn serve_at<R: Wait + Threads + Sync, W: Sink>(
     requires { CanFail (W.failed_writes writer.old) }
     ensures setting { IfSome (bad_field (tile_count map) setting) (λ field.
         WritesOnly (refusal_text (BadSetting field) ++ 10 ∷ []) (W.held writer.old) (W.held writer.new) × IfOk result (λ status. status ≡ 1)) }
+    ensures served { bad_field (tile_count map) setting ≡ None → IfOk result (WritesServed place.connections (W.held writer.old) (W.held writer.new)) }
+    ensures begun { bad_field (tile_count map) setting ≡ None → OnErr result (BeginsServed place.connections (W.held writer.old) (W.held writer.new)) }
     ensures counts { Counts (W.failed_writes writer.old) result (W.failed_writes writer.new) }
 {
     match Blank::of(alloc, setting, map) {
@@ -113,7 +112,7 @@ fn serve_at<R: Wait + Threads + Sync, W: Sink>(
 }
 
 /// Serves a store that this opens.
-fn serve_blank<Id: StoreName + Send + Sync, R: Wait + Threads + Sync, W: Sink>(
+fn serve_blank<Id: StoreName + Send + Sync, R: Clock + Wait + Threads + Sync, W: Sink>(
     rt: &R,
     alloc: Global,
     place: Place,
@@ -122,6 +121,8 @@ fn serve_blank<Id: StoreName + Send + Sync, R: Wait + Threads + Sync, W: Sink>(
 ) -> Result<u8, WriteFault>
     requires name { blank ≡ Id.store }
     requires writer { CanFail (W.failed_writes writer.old) }
+    ensures served { IfOk result (WritesServed place.connections (W.held writer.old) (W.held writer.new)) }
+    ensures begun { OnErr result (BeginsServed place.connections (W.held writer.old) (W.held writer.new)) }
     ensures counts { Counts (W.failed_writes writer.old) result (W.failed_writes writer.new) }
 {
     match Store::<Id>::open(alloc, blank) {
@@ -134,7 +135,7 @@ fn serve_blank<Id: StoreName + Send + Sync, R: Wait + Threads + Sync, W: Sink>(
 }
 
 /// Serves a store that is open, and closes it.
-fn serve_store<Id: StoreName + Send + Sync, R: Wait + Threads + Sync, W: Sink>(
+fn serve_store<Id: StoreName + Send + Sync, R: Clock + Wait + Threads + Sync, W: Sink>(
     rt: &R,
     alloc: Global,
     place: Place,
@@ -143,6 +144,8 @@ fn serve_store<Id: StoreName + Send + Sync, R: Wait + Threads + Sync, W: Sink>(
     writer: &mut W,
 ) -> Result<u8, WriteFault>
     requires { CanFail (W.failed_writes writer.old) }
+    ensures served { IfOk result (WritesServed place.connections (W.held writer.old) (W.held writer.new)) }
+    ensures begun { OnErr result (BeginsServed place.connections (W.held writer.old) (W.held writer.new)) }
     ensures counts { Counts (W.failed_writes writer.old) result (W.failed_writes writer.new) }
 {
     let Ok(mut text) = Text::new(alloc) else {
@@ -155,7 +158,8 @@ fn serve_store<Id: StoreName + Send + Sync, R: Wait + Threads + Sync, W: Sink>(
         return Err(fault);
     }
     let connections = place.connections;
-    match pool(rt, alloc, &store, sessions, place.accepted(alloc)) {
+    let streams = Accepted::of(alloc, rt, place.listener, connections);
+    match pool(rt, alloc, &store, sessions, streams) {
         Ok(sessions) => {
             let (base, kept) = store.close(sessions);
             served_line(connections, u64::from(base) + kept.len() as u64, &mut text);

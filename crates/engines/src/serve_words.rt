@@ -1,12 +1,14 @@
 //! Which words `serve` and `ask` take, by `clap`.
 
-ghost use Rattle.std.specs.Prelude.{◌≡◌, ◌≤◌, IfOk, IfErr, MatchResult, true, false, Some, None, codes, option_and_then};
+ghost use Rattle.std.specs.Prelude.{◌≡◌, ◌≤◌, IfOk, IfErr, OnErr, MatchResult, true, false, Some, None, codes, option_and_then};
 ghost use Rattle.clap.specs.Words.{app_of, first_value, found_of, kind_of, rows_of, rule_of};
 ghost use Rattle.clap.specs.Matches.{subcommand_name_of};
 ghost use Rattle.clap.specs.declared.builder.command.Command.TheViews.{out-Command};
 ghost use Rattle.clap.specs.declared.error.kind.ErrorKind.TheVariants.{OutOfMemory};
 ghost use Rattle.proto.specs.Numbers.{number};
-ghost use Rattle.engines.specs.ServeLine.{AreAskOptions, AreMatched, AreServeOptions, ask_app, default_rule, in_range, required_rule, serve_app, within};
+ghost use Rattle.engines.specs.declared.arguments.AskOptions.{AskOptions as TheAskOptions};
+ghost use Rattle.engines.specs.declared.arguments.ServeOptions.{ServeOptions as TheServeOptions};
+ghost use Rattle.engines.specs.ServeLine.{AreAskOptions, AreMatched, AreNoMatch, AreServeOptions, ask_app, default_rule, in_range, required_rule, serve_app, within};
 
 use crate::arguments::{AskOptions, Fault, Options, ServeOptions};
 use clap::{Arg, ArgMatches, Command, Error};
@@ -16,6 +18,7 @@ use std::alloc::Global;
 /// The options of `serve` or `ask`, where one of them was named.
 pub fn serve_or_ask<'a>(matches: &ArgMatches<'a>) -> Result<Options<'a>, Fault<'a>>
     ensures options { IfOk result (AreMatched matches.now) }
+    ensures refused { OnErr result (AreNoMatch matches.now) }
 {
     if let Some(flags) = matches.subcommand_matches("serve") {
         return Ok(Options::Serve(serve_options(flags)?));
@@ -29,6 +32,7 @@ pub fn serve_or_ask<'a>(matches: &ArgMatches<'a>) -> Result<Options<'a>, Fault<'
 /// The flags of `serve`.
 fn serve_options(flags: &ArgMatches<'_>) -> Result<ServeOptions, Fault<'static>>
     ensures options { IfOk result (AreServeOptions (rows_of (found_of flags.now))) }
+    ensures refused { OnErr result ((options : TheServeOptions) → AreServeOptions (rows_of (found_of flags.now)) options → ⊥) }
 {
     Ok(ServeOptions {
         connections: number_given(flags, "connections", 1, 1_000_000)?,
@@ -43,6 +47,7 @@ fn serve_options(flags: &ArgMatches<'_>) -> Result<ServeOptions, Fault<'static>>
 /// The flag of `ask`.
 fn ask_options(flags: &ArgMatches<'_>) -> Result<AskOptions, Fault<'static>>
     ensures options { IfOk result (AreAskOptions (rows_of (found_of flags.now))) }
+    ensures refused { OnErr result ((options : TheAskOptions) → AreAskOptions (rows_of (found_of flags.now)) options → ⊥) }
 {
     Ok(AskOptions {
         port: port_given(flags, 1)?,

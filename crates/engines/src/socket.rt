@@ -1,11 +1,11 @@
 //! A TCP connection as a stream. It tells contracts nothing of its bytes: what becomes of them rests on tests alone.
 
-ghost use Rattle.std.specs.Prelude.{◌≡◌, IfSome, None};
+ghost use Rattle.std.specs.Prelude.{◌≡◌, IfOk, None};
 
 use metric::{ReadFault, Sink, Source, Stream, WriteFault};
 use std::alloc::Global;
 use std::io;
-use std::io::{BufRead, BufReader, ErrorKind, Write};
+use std::io::{BufRead, BufReader, ErrorKind, Read, Write};
 use std::marker::Model;
 use std::net::{Shutdown, TcpStream};
 use std::time::Duration;
@@ -16,14 +16,60 @@ const ROOM: usize = 65536;
 /// How long a closing connection waits for the next bytes of its peer, in milliseconds.
 const PATIENCE: u64 = 100;
 
-/// How many reads a closing connection makes at most, of `ROOM` bytes each.
-const LAST_READS: u32 = 512;
+/// How many bytes a closing connection reads at once.
+const LAST_ROOM: usize = 4096;
+
+/// How many reads a closing connection makes at most: 32 MiB in all.
+const LAST_READS: u32 = 8192;
+
+/// What a stream reads from and writes to: a connection, or none before there is memory for its buffers.
+#[derive(Drop)]
+struct Connection(Option<TcpStream>);
+
+impl Read for Connection {
+    fn read(&mut self, bytes: &mut [u8]) -> io::Result<usize> {
+        match &mut self.0 {
+            Some(stream) => stream.read(bytes),
+            None => Ok(0),
+        }
+    }
+}
+
+impl Connection {
+    /// Sends all bytes.
+    fn write_all(&mut self, bytes: &[u8]) -> io::Result<()> {
+        match &mut self.0 {
+            Some(stream) => stream.write_all(bytes),
+            None => Err(io::Error::from(ErrorKind::NotConnected)),
+        }
+    }
+}
+
+/// Why a connection is no stream.
+#[derive(Drop)]
+pub enum NoSocket {
+    /// It is broken.
+    Broken,
+    /// There is no memory for its buffers.
+    Memory(TcpStream),
+}
+
+impl NoSocket {
+    /// Tells the peer that there is no memory, where that is why, and ends the connection.
+    pub fn tell(self) {
+        if let NoSocket::Memory(mut stream) = self
+            && stream.write_all(b"ERR 5 Memory\n").is_ok()
+        {
+            let _ = end(stream);
+        }
+    }
+}
 
 /// A connection that is read ahead, and whose replies gather until the next read that could wait, until they are `ROOM` bytes, or until its end.
 ///
 /// A send that fails is a failed call of the stream, be it a read that sends before it waits. Contracts see how many calls have failed.
 pub struct Socket {
-    reader: BufReader<TcpStream>,
+    reader: BufReader<Connection>,
     replies: Vec<u8>,
     failed_reads: u64,
     failed_writes: u64,
@@ -38,14 +84,18 @@ impl Model for Socket {
 }
 
 impl Socket {
-    /// The connection as a stream without a failed call. Its replies go out at once when they are sent. `None` where there is no memory for its buffers, or the connection is broken.
-    pub fn new(alloc: Global, stream: TcpStream) -> Option<Self>
-        ensures { IfSome result (λ socket. socket ≡ (0, 0)) }
+    /// The connection as a stream without a failed call. Its replies go out at once when they are sent.
+    pub fn new(alloc: Global, stream: TcpStream) -> Result<Self, NoSocket>
+        ensures { IfOk result (λ socket. socket ≡ (0, 0)) }
     {
-        stream.set_nodelay(true).ok()?;
-        let reader = BufReader::with_capacity(alloc, ROOM, stream).ok()?;
-        let replies = Vec::with_capacity(alloc, ROOM).ok()?;
-        Some(Socket {
+        if stream.set_nodelay(true).is_err() {
+            return Err(NoSocket::Broken);
+        }
+        let Ok((mut reader, replies)) = buffers(alloc) else {
+            return Err(NoSocket::Memory(stream));
+        };
+        reader.get_mut().0 = Some(stream);
+        Ok(Socket {
             reader,
             replies,
             failed_reads: 0,
@@ -164,6 +214,12 @@ impl Stream for Socket {
     ghost writing = { λ s. refl };
 }
 
+/// The buffers of a connection, without it.
+fn buffers(alloc: Global) -> io::Result<(BufReader<Connection>, Vec<u8>)> {
+    let reader = BufReader::with_capacity(alloc, ROOM, Connection(None))?;
+    Ok((reader, Vec::with_capacity(alloc, ROOM)?))
+}
+
 /// Sends what has gathered and ends the connection, so that its peer gets the last reply.
 impl Drop for Socket {
     fn drop(mut self) {
@@ -174,24 +230,23 @@ impl Drop for Socket {
             failed_reads: _,
             failed_writes: _,
         } = self;
-        if sent.is_ok() {
-            let _ = end(reader);
+        if sent.is_ok()
+            && let Connection(Some(stream)) = reader.into_inner()
+        {
+            let _ = end(stream);
         }
     }
 }
 
 /// Ends the writing side and reads away what the peer still sends: a close with bytes unread would take the last reply from it. Bounded in bytes and in time.
-fn end(mut reader: BufReader<TcpStream>) -> io::Result<()> {
-    reader.get_ref().shutdown(Shutdown::Write)?;
-    reader
-        .get_ref()
-        .set_read_timeout(Some(Duration::from_millis(PATIENCE)))?;
+fn end(mut stream: TcpStream) -> io::Result<()> {
+    stream.shutdown(Shutdown::Write)?;
+    stream.set_read_timeout(Some(Duration::from_millis(PATIENCE)))?;
+    let mut bytes = [0; LAST_ROOM];
     for _ in 0..LAST_READS {
-        let count = reader.fill_buf()?.len();
-        if count == 0 {
+        if stream.read(bytes.as_mut_slice())? == 0 {
             return Ok(());
         }
-        reader.consume(count);
     }
     Ok(())
 }

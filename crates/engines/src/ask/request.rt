@@ -1,11 +1,12 @@
 //! A line of `ask`, with the bytes that it counts.
 
-ghost use Rattle.std.specs.Prelude.{◌≡◌, ◌≢◌, ℕ, List, OnOk, Ok, Err, true};
+ghost use Rattle.std.specs.Prelude.{◌≡◌, ◌≢◌, ◌++◌, ◌∷◌, [], ℕ, List, OnOk, Ok, Err, true, false};
+ghost use Rattle.std.specs.Str.Lines.{strip_carriage_return};
 ghost use Rattle.metric.specs.Stream.{CanFail, Takes};
 ghost use Rattle.proto.specs.Said.{said, verb_in};
-ghost use Rattle.engines.specs.Asking.{bytes_behind};
-ghost use Rattle.engines.specs.Passing.{Gathers};
-ghost use Rattle.engines.specs.declared.gather.Cut.TheVariants.{Failed};
+ghost use Rattle.engines.specs.Asking.{IsRequest, bytes_behind};
+ghost use Rattle.engines.specs.Passing.{EndsCut, Gathers};
+ghost use Rattle.engines.specs.declared.gather.Cut.TheVariants.{Ended, Failed};
 
 use crate::ask::Stop;
 use crate::gather::{Cut, read_count, read_line};
@@ -23,6 +24,8 @@ pub fn read_request<R: Source>(
     ensures all { result ≡ Ok true → Takes (R.rest reader.old) request.new.items (R.rest reader.new) }
     ensures taken { (taken : List ℕ) × Takes (R.rest reader.old) taken (R.rest reader.new) }
     ensures counts { OnOk result (R.failed_reads reader.new ≡ R.failed_reads reader.old) }
+    ensures request { result ≡ Ok true → IsRequest request.new.items }
+    ensures ended { result ≡ Ok false → EndsCut (R.rest reader.old) (R.rest reader.new) }
 {
     request.clear();
     match read_whole(alloc, reader, request) {
@@ -39,6 +42,8 @@ fn read_whole<R: Source>(alloc: Global, reader: &mut R, request: &mut Vec<u8>) -
     ensures all { OnOk result (Gathers (R.rest reader.old) request.old.items request.new.items (R.rest reader.new)) }
     ensures taken { (taken : List ℕ) × Takes (R.rest reader.old) taken (R.rest reader.new) }
     ensures counts { result ≢ Err Failed → R.failed_reads reader.new ≡ R.failed_reads reader.old }
+    ensures request { request.old.items ≡ [] → OnOk result (IsRequest request.new.items) }
+    ensures ended { request.old.items ≡ [] → result ≡ Err Ended → EndsCut (R.rest reader.old) (R.rest reader.new) }
 {
     read_line(reader, request)?;
     let count = counted(alloc, without_end(request.as_slice()));
@@ -46,7 +51,9 @@ fn read_whole<R: Source>(alloc: Global, reader: &mut R, request: &mut Vec<u8>) -
 }
 
 /// A line without its LF and the CR before it.
-pub fn without_end(line: &[u8]) -> &[u8] {
+pub fn without_end(line: &[u8]) -> &[u8]
+    ensures { (front : List ℕ) → line.now ≡ front ++ 10 ∷ [] → result.now ≡ strip_carriage_return front }
+{
     match line.split_last() {
         Some((_, line)) => without_cr(line),
         None => line,

@@ -1,31 +1,67 @@
 //! The connections of a listener, one after another.
 
-ghost use Rattle.std.specs.Prelude.{◌≡◌, IfSome};
+ghost use Rattle.std.specs.Prelude.{◌≡◌, ◌≤◌, IfSome};
 
+use crate::serve::pause::Pause;
 use crate::socket::Socket;
 use proto::Streams;
 use std::alloc::Global;
-use std::net::TcpListener;
+use std::net::{TcpListener, TcpStream};
+use std::time::Clock;
 
-/// The next connections that a listener accepts, up to a number. One that can't be accepted counts too.
+/// The next connections that a listener accepts, up to a number. One that can't be accepted counts too, and after it the listener waits.
 #[derive(Drop)]
-pub struct Accepted {
-    pub alloc: Global,
-    pub listener: TcpListener,
-    pub left: u32,
+pub struct Accepted<'a, C> {
+    alloc: Global,
+    clock: &'a C,
+    listener: TcpListener,
+    left: u32,
+    pause: Pause,
 }
 
-impl Accepted {
-    /// The next connection as a stream, if it can be accepted.
-    fn accept(&self) -> Option<Socket>
-        ensures { IfSome result (λ socket. socket ≡ (0, 0)) }
+impl<'a, C: Clock> Accepted<'a, C> {
+    /// So many connections of this listener, with the clock that measures its waits.
+    pub fn of(alloc: Global, clock: &'a C, listener: TcpListener, connections: u32) -> Self {
+        Accepted {
+            alloc,
+            clock,
+            listener,
+            left: connections,
+            pause: Pause::new(),
+        }
+    }
+
+    /// The next connection, or none after a wait where it can't be accepted.
+    fn accept(&mut self) -> Option<TcpStream>
+        ensures { self.new.left ≡ self.old.left }
     {
-        let (stream, _) = self.listener.accept().ok()?;
-        Socket::new(self.alloc, stream)
+        match self.listener.accept() {
+            Ok((connection, _)) => {
+                self.pause.reset();
+                Some(connection)
+            }
+            Err(_) => {
+                self.pause.wait(self.clock);
+                None
+            }
+        }
     }
 }
 
-impl Streams for Accepted {
+/// The connection as a stream; one for which there is no memory is told so, and ends.
+fn stream_of(alloc: Global, connection: TcpStream) -> Option<Socket>
+    ensures { IfSome result (λ socket. socket ≡ (0, 0)) }
+{
+    match Socket::new(alloc, connection) {
+        Ok(socket) => Some(socket),
+        Err(broken) => {
+            broken.tell();
+            None
+        }
+    }
+}
+
+impl<C: Clock> Streams for Accepted<'_, C> {
     type S = Socket;
 
     ghost fresh = { λ socket. socket ≡ (0, 0) };
@@ -33,7 +69,9 @@ impl Streams for Accepted {
     fn next(&mut self) -> Option<Socket> {
         'connections: while 0 < self.left {
             self.left -= 1;
-            if let Some(socket) = self.accept() {
+            if let Some(connection) = self.accept()
+                && let Some(socket) = stream_of(self.alloc, connection)
+            {
                 return Some(socket);
             }
         }

@@ -1,4 +1,4 @@
-//! Two streams that wait for one another: they are served beside one another, or not at all.
+//! Two streams that wait for one another: they are served at the same time, and no lock is held while a reply is written.
 
 ghost use Rattle.std.specs.Prelude.{◌≡◌, None, IfSome};
 
@@ -24,8 +24,8 @@ const MOST_TURNS: u32 = 50_000_000;
 /// What the streams tell one another, and the test.
 #[derive(Drop)]
 struct Signals {
-    first_replied: AtomicBool,
-    first_waits: AtomicBool,
+    first_replies: AtomicBool,
+    second_painted: AtomicBool,
     second_bade: AtomicBool,
     right_bytes: AtomicU64,
     wrong_texts: AtomicU64,
@@ -77,14 +77,25 @@ impl<'a> Meeting<'a> {
         }
     }
 
-    /// Whether the next line may be read: the first stream's second line waits for the second stream's BYE, and the second stream's first one for the first stream's reply and its wait.
+    /// Whether the next line may be read: the first stream's second line waits for the second stream's BYE, and the second stream's first one for the first stream's reply.
     fn may_read(&self) -> bool {
         if self.is_first && self.lines == 1 {
-            self.signals.first_waits.store(true, Ordering::SeqCst);
             return is_seen(&self.signals.second_bade);
         }
         if !self.is_first && self.lines == 0 {
-            return is_seen(&self.signals.first_replied) && is_seen(&self.signals.first_waits);
+            return is_seen(&self.signals.first_replies);
+        }
+        true
+    }
+
+    /// Whether the next reply may be written: the first stream's first one waits until the second stream has painted, which it can't where the lock is held over a reply.
+    fn may_write(&self) -> bool {
+        if self.is_first && self.replies == 0 {
+            self.signals.first_replies.store(true, Ordering::SeqCst);
+            return is_seen(&self.signals.second_painted);
+        }
+        if !self.is_first {
+            self.signals.second_painted.store(true, Ordering::SeqCst);
         }
         true
     }
@@ -131,6 +142,10 @@ impl Sink for Meeting<'_> {
     ghost unread = { λ s. (None, s.failed_reads) };
 
     fn write_all(&mut self, bytes: &[u8]) -> Result<(), WriteFault> {
+        if !self.may_write() {
+            self.failed_writes += 1;
+            return Err(WriteFault);
+        }
         match self.expected.strip_prefix(bytes) {
             Some(others) => {
                 let count = bytes.len() as u64;
@@ -142,9 +157,6 @@ impl Sink for Meeting<'_> {
             }
         }
         self.replies = self.replies.saturating_add(1);
-        if self.is_first && self.replies == 1 {
-            self.signals.first_replied.store(true, Ordering::SeqCst);
-        }
         if !self.is_first && self.expected.is_empty() {
             self.signals.second_bade.store(true, Ordering::SeqCst);
         }
@@ -217,8 +229,8 @@ fn serve_two<Id: StoreName + Send + Sync, R: Wait + Threads + Abort + Sync>(
 {
     let (store, sessions) = open::<Id>(alloc, blank)?;
     let signals = Signals {
-        first_replied: AtomicBool::new(false),
-        first_waits: AtomicBool::new(false),
+        first_replies: AtomicBool::new(false),
+        second_painted: AtomicBool::new(false),
         second_bade: AtomicBool::new(false),
         right_bytes: AtomicU64::new(0),
         wrong_texts: AtomicU64::new(0),

@@ -1,11 +1,11 @@
 use Rattle.std.proofs.Common.{◌≡◌}
-use Rattle.engines.specs.Passing.{PassesOn}
+use Rattle.engines.specs.Passing.{Asks, PassesOn}
 use Rattle.engines.proofs.ask.ask_lines.Given as goal
 
 -- all lines so far were sent, all replies so far written, and no call has failed
 abbrev pub invariant-lines : goal.invariant-lines
 invariant-lines g l = record {
-  sent : PassesOn (g.R.Source.rest l.fn.reader) (g.R.Source.rest l.reader) (g.S.Sink.held l.fn.stream) (g.S.Sink.held l.stream);
+  asked : Asks (g.R.Source.rest l.fn.reader) (g.R.Source.rest l.reader) (g.S.Sink.held l.fn.stream) (g.S.Sink.held l.stream);
   printed : PassesOn (g.S.Source.rest l.fn.stream) (g.S.Source.rest l.stream) (g.W.Sink.held l.fn.writer) (g.W.Sink.held l.writer);
   stream_reads : g.S.Source.failed_reads l.stream ≡ g.S.Source.failed_reads l.fn.stream;
   stream_writes : g.S.Sink.failed_writes l.stream ≡ g.S.Sink.failed_writes l.fn.stream;

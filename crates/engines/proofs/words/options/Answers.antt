@@ -58,6 +58,7 @@ returns-in_err-dist_options-clause-refused c = λ taken.
 
 pub returns-clause-refused : goal.returns-clause-refused
 returns-clause-refused c = λ taken.
-    absurd (command_is_named _ c.in_ok-matches.matches taken c.in_ok-matches.ensures.found
+    command_is_named _ c.in_ok-matches.matches _ taken c.in_ok-matches.ensures.found
     (λ dist. false≢true (c.in_default.ensures.found.1 dist))
-    (λ steps. false≢true (c.if-is_some.ensures ∙ c.subcommand_matches-2.ensures.found.1 steps)))
+    (λ steps. false≢true (c.if-is_some.ensures ∙ c.subcommand_matches-2.ensures.found.1 steps))
+    c.serve_or_ask.ensures.refused

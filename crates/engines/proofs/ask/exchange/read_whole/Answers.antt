@@ -1,5 +1,9 @@
 use Rattle.engines.proofs.Gathering.{taken_behind}
+use Rattle.engines.proofs.Requests.{gathered_both}
 use Rattle.engines.proofs.ask.exchange.read_whole.Goals as goal
+
+pub returns-clause-all : goal.returns-clause-all
+returns-clause-all g c = gathered_both _ _ _ _ _ _ c.read_count.result c.in_ok-read_line.ensures.all c.read_count.ensures.all
 
 pub returns-clause-taken : goal.returns-clause-taken
 returns-clause-taken g c = taken_behind _ _ _ _ _ c.in_ok-read_line.ensures.all c.read_count.ensures.taken

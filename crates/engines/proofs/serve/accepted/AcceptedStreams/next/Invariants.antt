@@ -1,4 +1,4 @@
 use Rattle.engines.proofs.serve.accepted.AcceptedStreams.next.Given as goal
 
 abbrev pub decreases-connections : goal.decreases-connections
-decreases-connections l = l.self.left
+decreases-connections g l = l.self.left

@@ -1,0 +1,175 @@
+-- Requests that are read and sent.
+use Rattle.std.proofs.Common.{◌≡◌, ◌≢◌, ◌+◌, ◌<◌, ℕ, Bool, true, false, List, [], ◌∷◌, ◌++◌, Option, Some, None, Result, Ok, Err, OnOk, inl, inr, refl, sym, ap, subst, codes, length, ◌∙◌, append_assoc, arith}
+use Rattle.std.specs.Prelude.{All, ◌⊎◌, bytes_eq}
+use Rattle.std.specs.List.{concat}
+use Rattle.std.specs.Str.Lines.{strip_carriage_return}
+use Rattle.std.proofs.lemmas.Bool.{false≢true}
+use Rattle.std.proofs.lemmas.List.{append-nil, length-append}
+use Rattle.std.proofs.lemmas.List.Elements.{All-append, All-cons, All-nil}
+use Rattle.std.proofs.lemmas.List.Folds.{concat-append}
+use Rattle.std.proofs.lemmas.Slice.Eq.{bytes_eq-Decides}
+use Rattle.metric.specs.Stream.{Appends, Takes}
+use Rattle.metric.proofs.Appending.{Appends-more, Appends-nothing}
+use Rattle.metric.proofs.Taking.{Takes-nothing}
+use Rattle.proto.specs.Said.{said, verb_in}
+use Rattle.engines.specs.Asking.{IsCut, IsRequest, IsUnended, bytes_behind}
+use Rattle.engines.specs.Passing.{Asks, AsksAll, EndsByBye, EndsCut, Gathers, GathersAll, PassesOn, PutsCount, PutsFewer, PutsLine, PutsUnended}
+use Rattle.engines.proofs.Gathering.{Gathers-both, Gathers-taken, Takes-both}
+
+-- a part was gathered, and then all that was left
+pub GathersAll-both : (unread between left : Option (List ℕ)) (before middle after : List ℕ) → Gathers unread before middle between → GathersAll between middle after left → GathersAll unread before after left
+GathersAll-both unread between left before middle after one two = record { gathered = Gathers-both _ _ _ _ _ _ one two.gathered; ended = two.ended }
+
+-- no line ends in nothing
+pub PutsUnended-nothing : (before : List ℕ) → PutsUnended before before
+PutsUnended-nothing before = record { part = []; unended = All-nil (λ (b : ℕ). b ≢ 10); after_is = sym (append-nil before) }
+
+-- a byte that is no LF ends no line
+pub PutsUnended-more : (before middle after : List ℕ) (byte : ℕ) → PutsUnended before middle → after ≡ middle ++ byte ∷ [] → byte ≢ 10 → PutsUnended before after
+PutsUnended-more before middle after byte part is other = record {
+  part = part.part ++ byte ∷ [];
+  unended = All-append (λ (b : ℕ). b ≢ 10) part.part (byte ∷ []) part.unended (All-cons (λ (b : ℕ). b ≢ 10) byte [] other (All-nil (λ (b : ℕ). b ≢ 10)));
+  after_is = is ∙ (ap (λ t. t ++ byte ∷ []) part.after_is ∙ append_assoc before part.part (byte ∷ []));
+}
+
+-- an LF ends the line
+pub PutsLine-end : (before middle after : List ℕ) (byte : ℕ) → PutsUnended before middle → after ≡ middle ++ byte ∷ [] → byte ≡ 10 → PutsLine before after
+PutsLine-end before middle after byte part is end = record {
+  line = part.part;
+  unended = part.unended;
+  after_is = is ∙ (ap (λ b. middle ++ b ∷ []) end ∙ (ap (λ t. t ++ 10 ∷ []) part.after_is ∙ append_assoc before part.part (10 ∷ [])));
+}
+
+-- the stream ended in a line
+pub ended_unended : (unread between left : Option (List ℕ)) (before middle after : List ℕ) → Gathers unread before middle between → PutsUnended before middle → (after ≡ middle) × GathersAll between middle after left
+    → PutsUnended before after × GathersAll unread before after left
+ended_unended unread between left before middle after one part (same, all) =
+    (subst (λ (t : List ℕ). PutsUnended before t) (sym same) part, GathersAll-both unread between left before middle after one all)
+
+-- no byte at first
+pub PutsCount-nothing : (before : List ℕ) → PutsCount 0 before before
+PutsCount-nothing before = record { part = []; many = refl; after_is = sym (append-nil before) }
+
+-- one byte more
+pub PutsCount-more : (count : ℕ) (before middle after : List ℕ) (byte : ℕ) → PutsCount count before middle → after ≡ middle ++ byte ∷ [] → PutsCount (count + 1) before after
+PutsCount-more count before middle after byte part is = record {
+  part = part.part ++ byte ∷ [];
+  many = length-append part.part (byte ∷ []) ∙ ap (λ n. n + 1) part.many;
+  after_is = is ∙ (ap (λ t. t ++ byte ∷ []) part.after_is ∙ append_assoc before part.part (byte ∷ []));
+}
+
+-- the stream ended before so many bytes
+pub ended_fewer : (count so_far : ℕ) (unread between left : Option (List ℕ)) (before middle after : List ℕ) → so_far < count → Gathers unread before middle between → PutsCount so_far before middle
+    → (after ≡ middle) × GathersAll between middle after left → PutsFewer count before after × GathersAll unread before after left
+ended_fewer count so_far unread between left before middle after few one part (same, all) =
+    (record { part = part.part; few = subst (λ (n : ℕ). n < count) (sym part.many) few; after_is = same ∙ part.after_is }, GathersAll-both unread between left before middle after one all)
+
+-- both parts were gathered
+pub gathered_both : {T E : Type 0} (unread between left : Option (List ℕ)) (before middle after : List ℕ) (result : Result T E) → Gathers unread before middle between → OnOk result (Gathers between middle after left)
+    → OnOk result (Gathers unread before after left)
+gathered_both unread between left before middle after (Ok value) one two = Gathers-both _ _ _ _ _ _ one two
+gathered_both unread between left before middle after (Err fault) one two = tt
+
+-- a line and the bytes behind it, in a buffer that was empty
+line_and_bytes : (before middle after line part : List ℕ) → before ≡ [] → middle ≡ before ++ (line ++ 10 ∷ []) → after ≡ middle ++ part → after ≡ line ++ (10 ∷ part)
+line_and_bytes before middle after line part empty first second =
+    second ∙ (ap (λ t. t ++ part) (first ∙ ap (λ t. t ++ (line ++ 10 ∷ [])) empty) ∙ append_assoc line (10 ∷ []) part)
+
+-- what a line counts, by what is left of it without its end
+counts_so : (before middle line stripped : List ℕ) (count : ℕ) → before ≡ [] → middle ≡ before ++ (line ++ 10 ∷ []) → ((front : List ℕ) → middle ≡ front ++ 10 ∷ [] → stripped ≡ strip_carriage_return front)
+    → count ≡ bytes_behind (verb_in stripped) (said stripped) → count ≡ bytes_behind (verb_in (strip_carriage_return line)) (said (strip_carriage_return line))
+counts_so before middle line stripped count empty first strips is = is ∙ ap (λ l. bytes_behind (verb_in l) (said l)) (strips line (first ∙ ap (λ t. t ++ (line ++ 10 ∷ [])) empty))
+
+-- a line and the bytes that it counts are a request
+pub request_read : {T E : Type 0} (before middle after stripped : List ℕ) (count : ℕ) (result : Result T E) → before ≡ [] → PutsLine before middle → ((front : List ℕ) → middle ≡ front ++ 10 ∷ [] → stripped ≡ strip_carriage_return front)
+    → count ≡ bytes_behind (verb_in stripped) (said stripped) → OnOk result (PutsCount count middle after) → OnOk result (IsRequest after)
+request_read before middle after stripped count (Ok value) empty first strips is second = record {
+  line = first.line;
+  counted = second.part;
+  unended = first.unended;
+  count = second.many ∙ counts_so before middle first.line stripped count empty first.after_is strips is;
+  bytes_are = line_and_bytes before middle after first.line second.part empty first.after_is second.after_is;
+}
+request_read before middle after stripped count (Err fault) empty first strips is second = tt
+
+-- the stream ended in the line
+pub cut_line : (unread left : Option (List ℕ)) (before after : List ℕ) → before ≡ [] → PutsUnended before after × GathersAll unread before after left → EndsCut unread left
+cut_line unread left before after empty (part, all) = record {
+  tail = after;
+  cut = inl (subst IsUnended (sym (part.after_is ∙ ap (λ t. t ++ part.part) empty)) part.unended);
+  taken = Gathers-taken unread left before after empty all.gathered;
+  ended = all.ended;
+}
+
+-- the stream ended in the bytes that the line counts
+pub cut_bytes : (unread between left : Option (List ℕ)) (before middle after stripped : List ℕ) (count : ℕ) → before ≡ [] → PutsLine before middle → Gathers unread before middle between
+    → ((front : List ℕ) → middle ≡ front ++ 10 ∷ [] → stripped ≡ strip_carriage_return front) → count ≡ bytes_behind (verb_in stripped) (said stripped)
+    → PutsFewer count middle after × GathersAll between middle after left → EndsCut unread left
+cut_bytes unread between left before middle after stripped count empty first one strips is (second, all) = record {
+  tail = after;
+  cut = inr (record {
+    line = first.line;
+    counted = second.part;
+    unended = first.unended;
+    few = subst (λ (n : ℕ). length second.part < n) (counts_so before middle first.line stripped count empty first.after_is strips is) second.few;
+    bytes_are = line_and_bytes before middle after first.line second.part empty first.after_is second.after_is;
+  });
+  taken = Gathers-taken unread left before after empty (Gathers-both _ _ _ _ _ _ one all.gathered);
+  ended = all.ended;
+}
+
+-- nothing is asked at first
+pub Asks-nothing : (unread held : Option (List ℕ)) → Asks unread unread held held
+Asks-nothing unread held = record { requests = []; are = All-nil IsRequest; taken = Takes-nothing unread; sent = Appends-nothing held }
+
+-- one request
+pub Asks-one : (unread left before after : Option (List ℕ)) (request : List ℕ) → IsRequest request → Takes unread request left → Appends before request after → Asks unread left before after
+Asks-one unread left before after request is taken sent = record {
+  requests = request ∷ [];
+  are = All-cons IsRequest request [] is (All-nil IsRequest);
+  taken = rw (append-nil request) taken;
+  sent = rw (append-nil request) sent;
+}
+
+-- more requests
+pub Asks-both : (unread between left before middle after : Option (List ℕ)) → Asks unread between before middle → Asks between left middle after → Asks unread left before after
+Asks-both unread between left before middle after one two = record {
+  requests = one.requests ++ two.requests;
+  are = All-append IsRequest one.requests two.requests one.are two.are;
+  taken = rw (concat-append one.requests two.requests) (Takes-both unread between left (concat one.requests) (concat two.requests) one.taken two.taken);
+  sent = rw (concat-append one.requests two.requests) (Appends-more before middle after (concat one.requests) (concat two.requests) one.sent two.sent);
+}
+
+-- requests that are read and sent pass on
+pub Asks-passes : (unread left before after : Option (List ℕ)) → Asks unread left before after → PassesOn unread left before after
+Asks-passes unread left before after asked = record { bytes = concat asked.requests; taken = asked.taken; written = asked.sent }
+
+-- the reader ended
+pub AsksAll-ended : (unread left held before after : Option (List ℕ)) → EndsCut unread left → AsksAll unread left held held before after
+AsksAll-ended unread left held before after cut = record { between = unread; asked = Asks-nothing unread held; over = inr cut }
+
+-- the reply ended the stream
+pub AsksAll-bye : (unread left before after printed_before printed_after : Option (List ℕ)) (reply : List ℕ) (bye : Bool) → bye ≡ true → bye ≡ bytes_eq reply (codes "BYE" ++ 10 ∷ []) → Asks unread left before after
+    → Appends printed_before reply printed_after → AsksAll unread left before after printed_before printed_after
+AsksAll-bye unread left before after printed_before printed_after reply bye bade is asked printed =
+    let same : reply ≡ codes "BYE" ++ 10 ∷ [] = (bytes_eq-Decides reply (codes "BYE" ++ 10 ∷ [])).0 (sym is ∙ bade) in
+    record { between = left; asked = asked; over = inl (refl, record { front = []; written = subst (λ (t : List ℕ). Appends printed_before t printed_after) same printed }) }
+
+-- more was asked before
+pub AsksAll-both : (unread between left before middle after printed_before printed_middle printed_after : Option (List ℕ)) (printed : List ℕ) → Asks unread between before middle → Appends printed_before printed printed_middle
+    → AsksAll between left middle after printed_middle printed_after → AsksAll unread left before after printed_before printed_after
+AsksAll-both unread between left before middle after printed_before printed_middle printed_after printed one first all = record {
+  between = all.between;
+  asked = Asks-both unread between all.between before middle after one all.asked;
+  over = over_both all.over;
+}
+  where
+    over_both : ((left ≡ all.between) × EndsByBye printed_middle printed_after) ⊎ EndsCut all.between left → ((left ≡ all.between) × EndsByBye printed_before printed_after) ⊎ EndsCut all.between left
+    over_both (inl (same, bye)) = inl (
+      same,
+      record {
+        front = printed ++ bye.front;
+        written = rw (append_assoc printed bye.front (codes "BYE" ++ 10 ∷ [])) (Appends-more printed_before printed_middle printed_after printed (bye.front ++ (codes "BYE" ++ 10 ∷ [])) first bye.written);
+      },
+    )
+    over_both (inr cut) = inr cut

@@ -1,0 +1,46 @@
+//! How long a listener waits after connections that it couldn't accept.
+
+ghost use Rattle.std.specs.Prelude.{◌≡◌, ◌*◌, min};
+
+use std::thread;
+use std::time::{Clock, Duration};
+
+/// The first wait, in milliseconds.
+const LEAST: u32 = 10;
+
+/// The longest wait, in milliseconds.
+const MOST: u32 = 1000;
+
+/// The wait after the next connection that can't be accepted, in milliseconds.
+#[derive(Drop)]
+pub struct Pause {
+    next: u32,
+}
+
+impl Pause {
+    /// Nothing has failed: the next wait is the first.
+    pub fn new() -> Self
+        ensures { result.next ≡ 10 }
+    {
+        Pause { next: LEAST }
+    }
+
+    /// Waits, and doubles the next wait, up to a second.
+    pub fn wait(&mut self, clock: &impl Clock)
+        ensures { self.new.next ≡ min (self.old.next * 2) 1000 }
+    {
+        thread::sleep(clock, Duration::from_millis(u64::from(self.next)));
+        self.next = if self.next < MOST / 2 {
+            self.next * 2
+        } else {
+            MOST
+        };
+    }
+
+    /// After a connection that was accepted the next wait is the first again.
+    pub fn reset(&mut self)
+        ensures { self.new.next ≡ 10 }
+    {
+        self.next = LEAST;
+    }
+}

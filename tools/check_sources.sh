@@ -1,0 +1,11 @@
+#!/bin/sh
+# Looks for what no contract sees: code that forgets what it should give back. Tests may, to leave a session out.
+set -u
+cd "$(dirname "$0")/.." || exit 1
+found=$(find crates -name out -prune -o -path '*_tests' -prune -o -path '*/src/*.rt' -print | xargs grep -nE 'ManuallyDrop|mem::forget|\.leak\(|::leak\(')
+if [ -n "$found" ]; then
+    echo "code that may forget what it holds:"
+    echo "$found"
+    exit 1
+fi
+echo "no code forgets what it holds"
