@@ -2,12 +2,14 @@
 
 use crate::compare::{holds, same};
 use engines::Socket;
-use metric::{Sink, Source};
+use metric::{ReadFault, Sink, Source, WriteFault};
 use std::alloc::Global;
 use std::io::{Read, Write};
 use std::net::{Ipv4Addr, Net, Shutdown, SocketAddr, SocketAddrV4, TcpListener, TcpStream};
+use std::process::Abort;
 use std::test::Fail;
 use std::time::Duration;
+use std::{io, thread};
 
 /// A reply of 40,000 bytes: two of them don't gather in a stream's buffer.
 const LONG: [u8; 40000] = [b'r'; 40000];
@@ -28,20 +30,41 @@ fn ends<R: Net<Listener = TcpListener, Stream = TcpStream>>(
     }
 }
 
+/// The most failed calls that a test makes.
+const MOST_FAILED: u64 = 9;
+
+/// Reads a byte.
+fn read(rt: &impl Abort, socket: &mut Socket) -> Result<Option<u8>, ReadFault> {
+    assert!(rt; socket.failed_reads() < MOST_FAILED);
+    socket.next_byte()
+}
+
+/// Writes a reply.
+fn write(rt: &impl Abort, socket: &mut Socket, reply: &[u8]) -> Result<(), WriteFault> {
+    assert!(rt; socket.failed_writes() < MOST_FAILED);
+    socket.write_all(reply)
+}
+
+/// Sends the replies that have gathered.
+fn send(rt: &impl Abort, socket: &mut Socket) -> Result<(), WriteFault> {
+    assert!(rt; socket.failed_writes() < MOST_FAILED);
+    socket.flush()
+}
+
 #[test]
 fn replies_gather_until_a_read_could_wait(rt: HostRuntime) -> Result<(), Fail> {
     let (mut socket, mut peer) = ends(&rt, rt.alloc())?;
     peer.write_all(b"ab")?;
-    same(&rt, socket.next_byte().ok(), Some(Some(b'a')), "a byte");
-    holds(&rt, socket.write_all(b"one").is_ok(), "a reply");
+    same(&rt, read(&rt, &mut socket).ok(), Some(Some(b'a')), "a byte");
+    holds(&rt, write(&rt, &mut socket, b"one").is_ok(), "a reply");
     same(
         &rt,
-        socket.next_byte().ok(),
+        read(&rt, &mut socket).ok(),
         Some(Some(b'b')),
         "what was read ahead",
     );
     peer.shutdown(Shutdown::Write)?;
-    same(&rt, socket.next_byte().ok(), Some(None), "the end");
+    same(&rt, read(&rt, &mut socket).ok(), Some(None), "the end");
     let mut bytes = [0; 3];
     peer.read_exact(bytes.as_mut_slice())?;
     same(
@@ -56,16 +79,20 @@ fn replies_gather_until_a_read_could_wait(rt: HostRuntime) -> Result<(), Fail> {
 #[test]
 fn no_more_than_a_buffer_gathers(rt: HostRuntime) -> Result<(), Fail> {
     let (mut socket, mut peer) = ends(&rt, rt.alloc())?;
-    holds(&rt, socket.write_all(LONG.as_slice()).is_ok(), "gathers");
     holds(
         &rt,
-        socket.write_all(LONG.as_slice()).is_ok(),
+        write(&rt, &mut socket, LONG.as_slice()).is_ok(),
+        "gathers",
+    );
+    holds(
+        &rt,
+        write(&rt, &mut socket, LONG.as_slice()).is_ok(),
         "the first goes out",
     );
     let mut bytes = [0; 40000];
     peer.read_exact(bytes.as_mut_slice())?;
     holds(&rt, bytes.as_slice() == LONG.as_slice(), "the first reply");
-    holds(&rt, socket.flush().is_ok(), "the second goes out");
+    holds(&rt, send(&rt, &mut socket).is_ok(), "the second goes out");
     peer.read_exact(bytes.as_mut_slice())?;
     holds(&rt, bytes.as_slice() == LONG.as_slice(), "the second reply");
     Ok(())
@@ -76,28 +103,45 @@ fn a_failed_send_counts(rt: HostRuntime) -> Result<(), Fail> {
     let (mut socket, mut peer) = ends(&rt, rt.alloc())?;
     peer.write_all(b"unread")?;
     drop(peer);
-    let mut failed = 0;
+    let mut has_failed = false;
     for _ in 0..1000 {
-        if socket.write_all(LONG.as_slice()).is_err() || socket.flush().is_err() {
-            failed += 1;
+        if write(&rt, &mut socket, LONG.as_slice()).is_err() || send(&rt, &mut socket).is_err() {
+            has_failed = true;
             break;
         }
     }
-    same(&rt, failed, 1, "a send to a peer that is gone");
+    holds(&rt, has_failed, "a send to a peer that is gone");
     same(&rt, socket.failed_writes(), 1, "failed writes");
     same(&rt, socket.failed_reads(), 0, "failed reads");
     Ok(())
 }
 
+/// Writes more than a connection holds, and then reads the last reply.
+fn writes_on(mut peer: TcpStream) -> io::Result<[u8; 4]> {
+    for _ in 0..400 {
+        peer.write_all(LONG.as_slice())?;
+    }
+    let mut reply = [0; 4];
+    peer.read_exact(reply.as_mut_slice())?;
+    Ok(reply)
+}
+
 #[test]
 fn the_last_reply_arrives_though_bytes_are_unread(rt: HostRuntime) -> Result<(), Fail> {
-    let (mut socket, mut peer) = ends(&rt, rt.alloc())?;
-    peer.write_all(LONG.as_slice())?;
-    holds(&rt, socket.write_all(b"BYE\n").is_ok(), "the last reply");
-    drop(socket);
-    let mut bytes = [0; 4];
-    peer.read_exact(bytes.as_mut_slice())?;
-    same(&rt, bytes.as_slice(), b"BYE\n".as_slice(), "the last reply");
-    same(&rt, peer.read(bytes.as_mut_slice())?, 0, "the end");
+    let (mut socket, peer) = ends(&rt, rt.alloc())?;
+    let ((), reply) = thread::join(
+        &rt,
+        || {
+            same(&rt, read(&rt, &mut socket).ok(), Some(Some(b'r')), "a byte");
+            holds(
+                &rt,
+                write(&rt, &mut socket, b"BYE\n").is_ok(),
+                "the last reply",
+            );
+            drop(socket);
+        },
+        || writes_on(peer),
+    );
+    same(&rt, reply.ok(), Some(*b"BYE\n"), "the last reply");
     Ok(())
 }
