@@ -1,0 +1,5 @@
+-- The store that was just made has the name.
+use Rattle.want_tests.proofs.commands.plays.Given as goal
+
+abbrev pub ghosts-plays_in : goal.ghosts-plays_in
+ghosts-plays_in g a = record { store = a.blank }

@@ -1,0 +1,5 @@
+-- The store that was just made has the name.
+use Rattle.want_tests.proofs.pins.a_refused_pin_holds_nothing.Given as goal
+
+abbrev pub ghosts-pins_in : goal.ghosts-pins_in
+ghosts-pins_in g a = record { store = a.blank }

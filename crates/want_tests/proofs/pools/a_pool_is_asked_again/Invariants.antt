@@ -1,0 +1,5 @@
+-- The store that was just made has the name.
+use Rattle.want_tests.proofs.pools.a_pool_is_asked_again.Given as goal
+
+abbrev pub ghosts-pools_in : goal.ghosts-pools_in
+ghosts-pools_in g a = record { store = a.blank }

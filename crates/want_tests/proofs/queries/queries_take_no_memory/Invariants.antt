@@ -1,0 +1,5 @@
+-- The store that was just made has the name.
+use Rattle.want_tests.proofs.queries.queries_take_no_memory.Given as goal
+
+abbrev pub ghosts-asks_in : goal.ghosts-asks_in
+ghosts-asks_in g a = record { store = a.blank }

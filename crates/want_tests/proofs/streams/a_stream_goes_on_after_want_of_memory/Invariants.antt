@@ -1,0 +1,5 @@
+-- The store that was just made has the name.
+use Rattle.want_tests.proofs.streams.a_stream_goes_on_after_want_of_memory.Given as goal
+
+abbrev pub ghosts-serves_in : goal.ghosts-serves_in
+ghosts-serves_in g a = record { store = a.blank }

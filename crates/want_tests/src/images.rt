@@ -1,0 +1,102 @@
+//! Images that find no memory: nothing is read, nothing is appended, and the call made again answers what it would have.
+
+use crate::compare::{holds, same};
+use crate::told::{Call, begin, end};
+use bits::Bitmap;
+use metric::{Cell, PbmFault, Refusal};
+use pbm::{read_image, write_plain, write_raw};
+use std::alloc::Global;
+use std::process::Abort;
+use std::test::Fail;
+
+/// A plain image and a raw one of ten columns with an obstacle at either end, and how many bytes each takes.
+const IMAGES: [(&[u8], usize); 2] = [
+    (b"P1\n10 1\n1000000001\n ", 18),
+    (b"P4\n10 1\n\x80\x7f ", 10),
+];
+
+/// What stands in a text before an image is appended.
+const BEFORE: &[u8] = b"before ";
+
+/// A writer of images, its name, and what stands in the text behind it.
+const WRITERS: [(bool, &str, &[u8]); 2] = [
+    (false, "write_plain", b"before P1\n10 1\n1000000001\n"),
+    (true, "write_raw", b"before P4\n10 1\n\x80\x40"),
+];
+
+/// Reads an image, and looks at its cells.
+fn read<R: Abort + Print>(
+    rt: &R,
+    alloc: Global,
+    image: &[u8],
+    taken: usize,
+) -> Result<Bitmap, PbmFault> {
+    let call: Call = ("pbm", "read_image");
+    begin(rt, call);
+    let first = read_image(alloc, image);
+    end(rt, call, first.is_err());
+    let (map, count) = match first {
+        Ok(found) => found,
+        Err(fault) => {
+            same(rt, fault, PbmFault::Memory, "an image");
+            read_image(alloc, image)?
+        }
+    };
+    same(rt, count, taken, "bytes taken");
+    same(rt, (map.width(), map.height()), (10, 1), "the size");
+    'cells: for x in 0..10 {
+        let cell = Cell { x, y: 0 };
+        holds(rt, map.holds(cell), cell);
+        same(rt, map.get(cell), x == 0 || x == 9, cell);
+    }
+    Ok(map)
+}
+
+/// Appends an image.
+fn append(map: &Bitmap, is_raw: bool, text: &mut Vec<u8>) -> Result<(), Refusal> {
+    if is_raw {
+        write_raw(map, text)
+    } else {
+        write_plain(map, text)
+    }
+}
+
+/// A text that something stands in, made again where there was no memory.
+fn begun(alloc: Global) -> Result<Vec<u8>, Fail> {
+    match Vec::from_slice(alloc, BEFORE) {
+        Ok(text) => Ok(text),
+        Err(_) => Ok(Vec::from_slice(alloc, BEFORE)?),
+    }
+}
+
+/// Appends an image to a text, and looks at the whole text.
+fn write<R: Abort + Print>(
+    rt: &R,
+    alloc: Global,
+    map: &Bitmap,
+    writer: (bool, &'static str, &[u8]),
+) -> Result<(), Fail> {
+    let (is_raw, name, want) = writer;
+    let mut text = begun(alloc)?;
+    begin(rt, ("pbm", name));
+    let first = append(map, is_raw, &mut text);
+    end(rt, ("pbm", name), first.is_err());
+    if let Err(refusal) = first {
+        same(rt, refusal, Refusal::Memory, name);
+        same(rt, text.as_slice(), BEFORE, name);
+        append(map, is_raw, &mut text)?;
+    }
+    same(rt, text.as_slice(), want, name);
+    Ok(())
+}
+
+#[test]
+fn images_are_read_and_written_again(rt: HostRuntime) -> Result<(), Fail> {
+    for (image, taken) in IMAGES {
+        let map = read(&rt, rt.alloc(), image, taken)?;
+        for writer in WRITERS {
+            write(&rt, rt.alloc(), &map, writer)?;
+        }
+    }
+    Ok(())
+}

@@ -1,0 +1,33 @@
+//! Each test holds whichever request for memory is refused: the call that met it has changed nothing, and made again answers what it would have.
+//!
+//! What each call answered is told on standard output, so that a script that refuses one request after another can count.
+#![tactic(auto)]
+
+#[cfg(test)]
+mod acts;
+#[cfg(test)]
+mod bands;
+#[cfg(test)]
+mod commands;
+#[cfg(test)]
+mod compare;
+#[cfg(test)]
+mod images;
+#[cfg(test)]
+mod opened;
+#[cfg(test)]
+mod pins;
+#[cfg(test)]
+mod pools;
+#[cfg(test)]
+mod queries;
+#[cfg(test)]
+mod ready;
+#[cfg(test)]
+mod seat;
+#[cfg(test)]
+mod streams;
+#[cfg(test)]
+mod told;
+#[cfg(test)]
+mod without;

@@ -1,0 +1,138 @@
+//! Calls that take no memory, since room was made before: of an arena, of a row of distances, and of the versions that a collect keeps.
+
+ghost use Rattle.std.specs.Prelude.{◌≡◌, ◌∷◌, IfOk};
+ghost use Rattle.std.specs.List.{range_with_len};
+
+use crate::compare::{holds, same};
+use crate::opened::drawn;
+use crate::told::{Call, begin, end};
+use arena::{Arena, Tile};
+use bits::Bitmap;
+use column::ColumnTable;
+use envelope::{Stack, row};
+use epoch::kept_after;
+use map_core::{Kept, Seen};
+use metric::{Cell, Euclid2, Near, Refusal};
+use std::alloc::Global;
+use std::process::Abort;
+use std::test::Fail;
+
+/// Takes the front block, whose number is known.
+fn take<R: Abort + Print>(rt: &R, arena: &mut Arena, number: u32) -> Tile
+    ensures homes { (result.home ≡ arena.old.home) × (arena.new.home ≡ arena.old.home) }
+    ensures free { arena.old.free ≡ result.number ∷ arena.new.free }
+{
+    let call: Call = ("Arena", "take");
+    begin(rt, call);
+    let front = arena.take();
+    end(rt, call, false);
+    match front {
+        Some(tile) => {
+            same(rt, tile.number(), number, "the front");
+            tile
+        }
+        None => panic!(rt; "no free block"),
+    }
+}
+
+/// Gives a block back.
+fn give(rt: &impl Print, arena: &mut Arena, tile: Tile)
+    requires { tile.home ≡ arena.old.home }
+    ensures { (arena.new.home ≡ arena.old.home) × (arena.new.free ≡ tile.number ∷ arena.old.free) }
+{
+    let call: Call = ("Arena", "give");
+    begin(rt, call);
+    arena.give(tile);
+    end(rt, call, false);
+}
+
+/// An arena of three blocks, made again where there was no memory.
+fn three(alloc: Global) -> Result<Arena, Refusal>
+    ensures { IfOk result (λ a. (a.home.count ≡ 3) × (a.free ≡ range_with_len 0 3)) }
+{
+    match Arena::new(alloc, 3) {
+        Ok(arena) => Ok(arena),
+        Err(_) => Arena::new(alloc, 3),
+    }
+}
+
+#[test]
+fn blocks_are_taken_and_given_without_memory(rt: HostRuntime) -> Result<(), Fail> {
+    let mut arena = three(rt.alloc())?;
+    let zero = take(&rt, &mut arena, 0);
+    let one = take(&rt, &mut arena, 1);
+    give(&rt, &mut arena, zero);
+    let zero = take(&rt, &mut arena, 0);
+    give(&rt, &mut arena, one);
+    give(&rt, &mut arena, zero);
+    holds(&rt, arena.free_len() == 3, "all are back");
+    arena.end();
+    Ok(())
+}
+
+/// The versions in these first slots; the others are free.
+fn kept(first: [u32; 3]) -> Kept {
+    let mut slots = [0; 64];
+    slots[0] = first[0];
+    slots[1] = first[1];
+    slots[2] = first[2];
+    Kept { slots }
+}
+
+#[test]
+fn a_collect_keeps_without_memory(rt: HostRuntime) {
+    let call: Call = ("epoch", "kept_after");
+    let announced = [Some(Seen::Exact(0)), None];
+    begin(&rt, call);
+    let found = kept_after(&kept([1, 2, 3]), 2, &announced);
+    end(&rt, call, false);
+    same(&rt, found, kept([1, 0, 3]), "an exact pin and newest");
+}
+
+/// The stack for a row of this width, made again where there was no memory.
+fn stack_for(alloc: Global, width: u16) -> Result<Stack, Refusal>
+    ensures { IfOk result (λ stack. stack ≡ width) }
+{
+    match Stack::new(alloc, width) {
+        Ok(stack) => Ok(stack),
+        Err(_) => Stack::new(alloc, width),
+    }
+}
+
+/// The answers of a row of this width, made again where there was no memory.
+fn line_of(alloc: Global, width: u16) -> Result<Vec<Option<Near>>, Fail> {
+    match vec![in alloc; None; usize::from(width)] {
+        Ok(line) => Ok(line),
+        Err(_) => Ok(vec![in alloc; None; usize::from(width)]?),
+    }
+}
+
+/// The table of a map's columns, made again where there was no memory.
+fn table_of(alloc: Global, map: &Bitmap) -> Result<ColumnTable, Refusal> {
+    match ColumnTable::of(alloc, map) {
+        Ok(table) => Ok(table),
+        Err(_) => ColumnTable::of(alloc, map),
+    }
+}
+
+#[test]
+fn a_row_is_worked_without_memory(rt: HostRuntime) -> Result<(), Fail> {
+    let call: Call = ("envelope", "row");
+    let obstacle = Cell { x: 3, y: 4 };
+    let map = drawn(&rt, rt.alloc(), [64, 64], obstacle)?;
+    let table = table_of(rt.alloc(), &map)?;
+    let mut stack = stack_for(rt.alloc(), table.width())?;
+    let mut line = line_of(rt.alloc(), table.width())?;
+    assert!(&rt; line.len() == usize::from(table.width()));
+    assert!(&rt; 0 < table.height());
+    begin(&rt, call);
+    row::<Euclid2>(&table, 0, &mut stack, line.as_mut_slice());
+    end(&rt, call, false);
+    let want = Near {
+        dist: 25,
+        cell: obstacle,
+    };
+    let first = line.first().copied();
+    same(&rt, first, Some(Some(want)), "the first cell");
+    Ok(())
+}
