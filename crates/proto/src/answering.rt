@@ -1,4 +1,4 @@
-//! The answer to a query on a bitmap.
+//! The answer to a query of a map.
 
 ghost use Rattle.std.specs.Prelude.{◌≡◌};
 ghost use Rattle.metric.specs.Kind.{distance_of};
@@ -6,9 +6,9 @@ ghost use Rattle.proto.specs.Asked.{asked_by};
 ghost use Rattle.proto.specs.Queries.{IsAnswerBy, metric_asked};
 
 use crate::answer::Answer;
+use crate::queried::Queried;
 use crate::query::Query;
 use bits::Bitmap;
-use clearance::{along, at, clear_of, least_in};
 use metric::{Chess, City, Euclid2, Metric, MetricKind};
 use std::alloc::Global;
 
@@ -18,32 +18,42 @@ use std::alloc::Global;
 pub fn answer_query(alloc: Global, bitmap: &Bitmap, query: &Query) -> Answer
     ensures { IsAnswerBy (distance_of (metric_asked (asked_by query.now))) bitmap.now (asked_by query.now) result }
 {
+    let mut map = bitmap;
+    answer_of::<&Bitmap>(alloc, &mut map, query)
+}
+
+/// As `answer_query`, of a bitmap or of the version that a pin holds. A fresh pin looks at the words that the query touches alone.
+pub fn answer_of<Q: Queried>(alloc: Global, map: &mut Q, query: &Query) -> Answer
+    ensures answer { IsAnswerBy (distance_of (metric_asked (asked_by query.now))) (Q.cells map.old) (asked_by query.now) result }
+    ensures map { map.new ≡ map.old }
+{
     match query.metric() {
-        MetricKind::Euclid2 => answer_by::<Euclid2>(alloc, bitmap, query),
-        MetricKind::City => answer_by::<City>(alloc, bitmap, query),
-        MetricKind::Chess => answer_by::<Chess>(alloc, bitmap, query),
+        MetricKind::Euclid2 => answer_by::<Euclid2, Q>(alloc, map, query),
+        MetricKind::City => answer_by::<City, Q>(alloc, map, query),
+        MetricKind::Chess => answer_by::<Chess, Q>(alloc, map, query),
     }
 }
 
 /// The answer to a query by this metric.
-fn answer_by<M: Metric>(alloc: Global, bitmap: &Bitmap, query: &Query) -> Answer
-    ensures { IsAnswerBy M.distance bitmap.now (asked_by query.now) result }
+fn answer_by<M: Metric, Q: Queried>(alloc: Global, map: &mut Q, query: &Query) -> Answer
+    ensures answer { IsAnswerBy M.distance (Q.cells map.old) (asked_by query.now) result }
+    ensures map { map.new ≡ map.old }
 {
     match query {
-        Query::At { cell, .. } => match at::<M>(alloc, bitmap, *cell) {
+        Query::At { cell, .. } => match map.at::<M>(alloc, *cell) {
             Ok(near) => Answer::Near(near),
             Err(refusal) => Answer::Refused(refusal),
         },
-        Query::Rect { rect, .. } => match least_in::<M>(alloc, bitmap, *rect) {
+        Query::Rect { rect, .. } => match map.least_in::<M>(alloc, *rect) {
             Ok(found) => Answer::Found(found),
             Err(refusal) => Answer::Refused(refusal),
         },
-        Query::Path { points, .. } => match along::<M>(alloc, bitmap, points.as_slice()) {
+        Query::Path { points, .. } => match map.along::<M>(alloc, points.as_slice()) {
             Ok(found) => Answer::Found(found),
             Err(refusal) => Answer::Refused(refusal),
         },
         Query::ClearOf { d, points, .. } => {
-            match clear_of::<M>(alloc, bitmap, points.as_slice(), *d) {
+            match map.clear_of::<M>(alloc, points.as_slice(), *d) {
                 Ok(found) => Answer::Clear(found),
                 Err(refusal) => Answer::Refused(refusal),
             }

@@ -1,6 +1,6 @@
 //! A pin: a session that holds a version, and asks it.
 
-ghost use Rattle.std.specs.Prelude.{◌≡◌, ◌≤◌, Some, None};
+ghost use Rattle.std.specs.Prelude.{◌≡◌, ◌≤◌, Some, None, IfSome};
 ghost use mathlib.Core.List.{IsPrefix};
 ghost use Rattle.map_core.specs.declared.kept.Seen.TheVariants.{Exact};
 ghost use Rattle.map_core.specs.Legal.{IsLegal};
@@ -67,6 +67,14 @@ impl<Id: StoreName> Pinned<Id> {
     /// Whether its version has been read.
     fn is_read(&self) -> bool {
         self.read
+    }
+
+    /// The bitmap of the version that it holds, where the version has been read as a whole: by `bitmap`, or by queries that had looked at eight words for each tile of the
+    /// map. `None` before.
+    pub fn bitmap_read(&self) -> Option<&Bitmap>
+        ensures { IfSome result (λ bitmap. bitmap.now ≡ bitmap_pinned Id.store self.now) }
+    {
+        if self.read { Some(&self.bitmap) } else { None }
     }
 
     /// The bitmap that was published as the version that it holds. It is read from the shared words when it is first asked for: 65 loads for

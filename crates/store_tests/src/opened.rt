@@ -2,9 +2,10 @@
 
 ghost use Rattle.std.specs.Prelude.{◌≡◌};
 
+use crate::compare::holds;
 use bits::Bitmap;
 use map_core::Setting;
-use metric::Rect;
+use metric::{Cell, Rect};
 use session::{Blank, Pinned, Session, Store};
 use shelf::StoreName;
 use std::alloc::Global;
@@ -26,6 +27,29 @@ pub fn free(alloc: Global, setting: Setting, size: [u16; 2]) -> Result<Blank, Fa
         return Err(Fail::from("a side that no map has"));
     }
     blank(setting, Bitmap::blank(alloc, width, height)?, alloc)
+}
+
+/// The size of a map, and how rare its obstacles are; 0 for none.
+pub type Spotted = ([u16; 2], u32);
+
+/// A map without an obstacle, or with one in so many cells.
+pub fn spotted(rt: &impl Abort, alloc: Global, map: Spotted) -> Result<Bitmap, Fail> {
+    let ([width, height], rare) = map;
+    if width == 0 || 4096 < width || height == 0 || 4096 < height {
+        return Err(Fail::from("a side that no map has"));
+    }
+    let mut bitmap = Bitmap::blank(alloc, width, height)?;
+    for y in 0..height {
+        for x in 0..width {
+            let number = u32::from(x) * 37 + u32::from(y) * 101 + 11;
+            if rare != 0 && number % rare == 0 {
+                let cell = Cell { x, y };
+                holds(rt, bitmap.holds(cell), cell);
+                bitmap.set(cell, true);
+            }
+        }
+    }
+    Ok(bitmap)
 }
 
 /// Opens a store.

@@ -3,6 +3,7 @@
 ghost use Rattle.std.specs.Prelude.{◌≡◌};
 ghost use Rattle.proto.specs.Wire.{CanGoOn, wire_of};
 
+mod asked;
 mod failing;
 mod gathered;
 mod hostile;

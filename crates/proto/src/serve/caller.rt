@@ -7,7 +7,7 @@ ghost use Rattle.proto.specs.Callers.{IsCommanded, IsPinAnswer, IsUnpinAnswer, f
 ghost use Rattle.proto.specs.Exchanges.{IsDumpAnswer, IsQueryAnswer, WithPin, body_of};
 
 use crate::answer::Answer;
-use crate::answering::answer_query;
+use crate::answering::answer_of;
 use crate::query::Query;
 use crate::serve::exchange::{Spoken, dump_of};
 use crate::serve::orders::{by_pin, by_session};
@@ -81,7 +81,7 @@ impl<Id: StoreName> Caller<Id> {
     {
         match &mut self.seat {
             Seat::Free(_) => Answer::Refused(Refusal::NotPinned),
-            Seat::Holding(pinned) => answer_query(alloc, pinned.bitmap(), query),
+            Seat::Holding(pinned) => answer_of::<Pinned<Id>>(alloc, pinned, query),
         }
     }
 

@@ -1,0 +1,132 @@
+//! What queries are asked of: a bitmap, or the version that a pin holds.
+
+ghost use Rattle.std.specs.Prelude.{◌≡◌, None, IfOk, IfErr};
+ghost use Rattle.metric.specs.Nearest.{IsNear};
+ghost use Rattle.bits.specs.Cells.{Cells, IsInside, IsObstacle};
+ghost use Rattle.clearance.specs.Answers.{IsClearOf, IsLeastOf, IsRefusalFor, LiesIn, cells_of_rect};
+ghost use Rattle.clearance.specs.Paths.{IsPathRefusal, cells_of_path, path_refusal};
+
+use bits::Bitmap;
+use metric::{Cell, Metric, Near, Rect, Refusal};
+use session::Pinned;
+use shelf::StoreName;
+use std::alloc::Global;
+
+/// A map that is asked the four queries. To ask changes nothing that contracts see.
+pub trait Queried {
+    /// The map.
+    ghost cells: { Self → Cells };
+
+    /// As `clearance::at`.
+    fn at<M: Metric>(&mut self, alloc: Global, cell: Cell) -> Result<Option<Near>, Refusal>
+        ensures inside { IfOk result (λ _. IsInside (cells self.old) cell.x cell.y) }
+        ensures near { IfOk result (λ near. IsNear M.distance (IsObstacle (cells self.old)) cell.x cell.y near) }
+        ensures refused { IfErr result (IsRefusalFor (IsInside (cells self.old) cell.x cell.y)) }
+        ensures map { self.new ≡ self.old };
+
+    /// As `clearance::least_in`.
+    fn least_in<M: Metric>(
+        &mut self,
+        alloc: Global,
+        rect: Rect,
+    ) -> Result<Option<(Cell, Near)>, Refusal>
+        ensures inside { IfOk result (λ _. LiesIn (cells self.old) rect) }
+        ensures least { IfOk result (IsLeastOf M.distance (IsObstacle (cells self.old)) (cells_of_rect rect.x0 rect.y0 rect.x1 rect.y1)) }
+        ensures refused { IfErr result (IsRefusalFor (LiesIn (cells self.old) rect)) }
+        ensures map { self.new ≡ self.old };
+
+    /// As `clearance::along`.
+    fn along<M: Metric>(
+        &mut self,
+        alloc: Global,
+        points: &[Cell],
+    ) -> Result<Option<(Cell, Near)>, Refusal>
+        ensures accepted { IfOk result (λ _. path_refusal (cells self.old) points.now ≡ None) }
+        ensures least { IfOk result (IsLeastOf M.distance (IsObstacle (cells self.old)) (cells_of_path points.now)) }
+        ensures refused { IfErr result (IsPathRefusal (cells self.old) points.now) }
+        ensures map { self.new ≡ self.old };
+
+    /// As `clearance::clear_of`.
+    fn clear_of<M: Metric>(
+        &mut self,
+        alloc: Global,
+        points: &[Cell],
+        d: u32,
+    ) -> Result<Option<(Cell, Near)>, Refusal>
+        ensures accepted { IfOk result (λ _. path_refusal (cells self.old) points.now ≡ None) }
+        ensures clear { IfOk result (IsClearOf M.distance (IsObstacle (cells self.old)) (cells_of_path points.now) d) }
+        ensures refused { IfErr result (IsPathRefusal (cells self.old) points.now) }
+        ensures map { self.new ≡ self.old };
+}
+
+impl<'a> Queried for &'a Bitmap {
+    ghost cells = { λ bitmap. bitmap.now };
+
+    fn at<M: Metric>(&mut self, alloc: Global, cell: Cell) -> Result<Option<Near>, Refusal> {
+        let bitmap: &Bitmap = *self;
+        clearance::at::<M>(alloc, bitmap, cell)
+    }
+
+    fn least_in<M: Metric>(
+        &mut self,
+        alloc: Global,
+        rect: Rect,
+    ) -> Result<Option<(Cell, Near)>, Refusal> {
+        let bitmap: &Bitmap = *self;
+        clearance::least_in::<M>(alloc, bitmap, rect)
+    }
+
+    fn along<M: Metric>(
+        &mut self,
+        alloc: Global,
+        points: &[Cell],
+    ) -> Result<Option<(Cell, Near)>, Refusal> {
+        let bitmap: &Bitmap = *self;
+        clearance::along::<M>(alloc, bitmap, points)
+    }
+
+    fn clear_of<M: Metric>(
+        &mut self,
+        alloc: Global,
+        points: &[Cell],
+        d: u32,
+    ) -> Result<Option<(Cell, Near)>, Refusal> {
+        let bitmap: &Bitmap = *self;
+        clearance::clear_of::<M>(alloc, bitmap, points, d)
+    }
+}
+
+impl<Id: StoreName> Queried for Pinned<Id> {
+    ghost use Rattle.session.specs.Sessions.{bitmap_pinned};
+
+    ghost cells = { λ p. bitmap_pinned Id.store p };
+
+    fn at<M: Metric>(&mut self, alloc: Global, cell: Cell) -> Result<Option<Near>, Refusal> {
+        Pinned::<Id>::at::<M>(self, alloc, cell)
+    }
+
+    fn least_in<M: Metric>(
+        &mut self,
+        alloc: Global,
+        rect: Rect,
+    ) -> Result<Option<(Cell, Near)>, Refusal> {
+        Pinned::<Id>::least_in::<M>(self, alloc, rect)
+    }
+
+    fn along<M: Metric>(
+        &mut self,
+        alloc: Global,
+        points: &[Cell],
+    ) -> Result<Option<(Cell, Near)>, Refusal> {
+        Pinned::<Id>::along::<M>(self, alloc, points)
+    }
+
+    fn clear_of<M: Metric>(
+        &mut self,
+        alloc: Global,
+        points: &[Cell],
+        d: u32,
+    ) -> Result<Option<(Cell, Near)>, Refusal> {
+        Pinned::<Id>::clear_of::<M>(self, alloc, points, d)
+    }
+}

@@ -1,0 +1,5 @@
+-- The store that was just made has the name.
+use Rattle.store_tests.proofs.sessions.later.a_second_pin_is_of_its_own_version.Given as goal
+
+abbrev pub ghosts-pin_again : goal.ghosts-pin_again
+ghosts-pin_again g a = record { store = a.blank }

@@ -1,0 +1,5 @@
+-- The store that was just made has the name.
+use Rattle.store_tests.proofs.sessions.looks.a_query_of_all_words_reads_the_version.Given as goal
+
+abbrev pub ghosts-ask_in_vain : goal.ghosts-ask_in_vain
+ghosts-ask_in_vain g a = record { store = a.blank }

@@ -1,0 +1,102 @@
+//! Queries over served streams: what a fresh pin is asked, and asked again, is answered as on the map's bitmap.
+
+use super::{Input, look, serve, setting};
+use crate::opened::{Spotted, blank, spotted};
+use bits::Bitmap;
+use proto::{Answer, End, Line, Text, answer_query, parse_line, reply_text};
+use std::alloc::Global;
+use std::process::Abort;
+use std::sync::Wait;
+use std::test::Fail;
+
+/// Queries of a map of 130 by 70, of near cells and of far ones, some of them refused.
+const QUERIES: [&[u8]; 24] = [
+    b"AT euclid2 0 0",
+    b"AT city 129 69",
+    b"AT chess 64 64",
+    b"AT euclid2 63 63",
+    b"AT city 130 0",
+    b"AT chess 65535 65536",
+    b"RECT euclid2 0 0 130 70",
+    b"RECT city 100 2 101 70",
+    b"RECT chess 63 63 65 65",
+    b"RECT euclid2 129 0 131 1",
+    b"RECT city 5 5 5 6",
+    b"RECT chess 0 69 130 70",
+    b"PATH euclid2 0 0 129 0 129 69",
+    b"PATH city 64 64",
+    b"PATH chess 0 0 1 1",
+    b"PATH euclid2 0 0 0 70",
+    b"PATH city",
+    b"PATH chess 127 3 127 66 2 66",
+    b"CLEAROF euclid2 1 0 0 129 0 129 69",
+    b"CLEAROF city 30 64 64 64 0",
+    b"CLEAROF chess 4294967295 3 3",
+    b"CLEAROF euclid2 900 129 69 0 69",
+    b"CLEAROF city 5 0 0 7",
+    b"CLEAROF chess 2 127 3 127 66 2 66",
+];
+
+/// Adds the line of a query to what is read, and what it is answered on a bitmap to what is written.
+fn add_query(
+    alloc: Global,
+    bitmap: &Bitmap,
+    line: &[u8],
+    text: &mut Text,
+    read: &mut Vec<u8>,
+    written: &mut Vec<u8>,
+) -> Result<(), Fail> {
+    read.extend_from_slice(line)?;
+    read.extend_from_slice(b"\n")?;
+    let answer = match parse_line(alloc, line) {
+        Ok(Line::Query(query)) => answer_query(alloc, bitmap, &query),
+        Ok(_) => return Err(Fail::from("another line")),
+        Err(refusal) => Answer::Refused(refusal),
+    };
+    reply_text(&answer, text);
+    Ok(written.extend_from_slice(text.as_bytes())?)
+}
+
+/// A client's lines, and what they are answered: each query by a fresh pin, twice, and then all of them by one pin.
+fn lines_of(
+    alloc: Global,
+    bitmap: &Bitmap,
+    read: &mut Vec<u8>,
+    written: &mut Vec<u8>,
+) -> Result<(), Fail> {
+    let mut text = Text::new(alloc)?;
+    for query in &QUERIES {
+        read.extend_from_slice(b"PIN\n")?;
+        written.extend_from_slice(b"OK 0\n")?;
+        for _ in 0..2 {
+            add_query(alloc, bitmap, query, &mut text, read, written)?;
+        }
+        read.extend_from_slice(b"UNPIN\n")?;
+        written.extend_from_slice(b"OK 0\n")?;
+    }
+    read.extend_from_slice(b"PIN\n")?;
+    written.extend_from_slice(b"OK 0\n")?;
+    for query in &QUERIES {
+        add_query(alloc, bitmap, query, &mut text, read, written)?;
+    }
+    Ok(())
+}
+
+/// Serves these lines on a map.
+fn ask<R: Wait + Abort>(rt: &R, alloc: Global, map: Spotted) -> Result<(), Fail> {
+    let bitmap = spotted(rt, alloc, map)?;
+    let (mut read, mut written) = (Vec::new(alloc), Vec::new(alloc));
+    lines_of(alloc, &bitmap, &mut read, &mut written)?;
+    let blank = blank(setting(8, 1), bitmap, alloc)?;
+    let run = serve(rt, alloc, blank, Input::whole(&read))?;
+    look(rt, "queries", &run, &written, End::EndOfInput, 0);
+    Ok(())
+}
+
+#[test]
+fn streams_ask_fresh_pins(rt: HostRuntime) -> Result<(), Fail> {
+    for rare in [0, 9, 300, 4_000] {
+        ask(&rt, rt.alloc(), ([130, 70], rare))?;
+    }
+    Ok(())
+}
