@@ -1,11 +1,12 @@
 -- A desk's command: why it is refused, what the seat has then seen, and what the desk is then.
 use Rattle.std.proofs.Common.{◌≡◌, ℕ, ◌+◌, ◌≤◌, ◌==◌, cond, Bool, true, false, if◌then◌else◌, List, [], ◌∷◌, ◌++◌, length, drop, refl, ap, subst, sym, ◌∙◌, arith, add-zero}
-use Rattle.std.specs.Prelude.{◌⊎◌, Option, Some, None}
+use Rattle.std.specs.Prelude.{◌⊎◌, Option, Some, None, Ok, Err}
 use Rattle.metric.specs.declared.refusal.Refusal.TheVariants.{PlacesUsed, Memory}
 use Rattle.map_core.specs.declared.kept.Seen.{Seen}
 use Rattle.map_core.specs.declared.command.Command.TheVariants.{Paint, Stamp, Publish, Revert, Collect, Checkpoint}
 use Rattle.std.proofs.lemmas.Bool.Decides.{nat_tests}
 use mathlib.Core.Logic.{inl, inr}
+use mathlib.Core.List.{IsPrefix}
 use Rattle.metric.specs.declared.refusal.Refusal.{Refusal}
 use Rattle.map_core.specs.declared.command.Command.{Command}
 use Rattle.map_core.specs.declared.command.Entry.{Entry}
@@ -17,7 +18,7 @@ use Rattle.map_core.specs.Words.{Base}
 use Rattle.map_core.specs.Views.{story}
 use Rattle.shelf.specs.declared.signed.Signed.{Signed}
 use Rattle.shelf.specs.Store.{StoreId, readers_of}
-use Rattle.shelf.proofs.LogParts.{entries-push, length-entries}
+use Rattle.shelf.proofs.LogParts.{entries-push, length-entries, prefix-push}
 use Rattle.shelf.proofs.NowLemmas.{story-push}
 use Rattle.map_core.proofs.LogLemmas.{places_are, places-legal}
 use Rattle.map_core.specs.Legal.{IsLegal}
@@ -28,7 +29,7 @@ use Rattle.shelf.proofs.ReaderSeats.{hold_stays}
 use Rattle.desk.specs.declared.holding.Holding.{Holding}
 use Rattle.desk.specs.Holdings.{IsTold, Refuses}
 use Rattle.desk.specs.Carries.{CanCarry, IsCarried, signed}
-use Rattle.desk.specs.Desks.{DeskView, story_told, base_place, kept_part, kept_after, IsDesk, IsSteady, IsAccepted, IsWhy, IsRefused}
+use Rattle.desk.specs.Desks.{DeskView, story_told, base_place, kept_part, kept_after, IsDesk, IsSteady, IsAccepted, IsWhy, IsRefused, IsApplied}
 
 -- where the log refuses a command, or there is no memory for its entry
 why_is : (z : StoreId) (d : DeskView) (h : Holding) (c : Command) (has_room : Bool) (refusal : Refusal) → IsTold z.base (entries d.log) h → (takes_room c ≡ false → has_room ≡ true) → Refuses h c has_room refusal
@@ -157,12 +158,55 @@ accepted_is z d now k h by c reply after new x seen y done steady by_is now_is s
     same_number : (a b : ℕ) → b ≡ a → ◌≡◌ {A = ℕ} (cond (a == b) 1 0) 1
     same_number a b is = grind (arith, nat_tests)
 
--- a checkpoint is refused for want of a place alone
-pub only_places : (z : StoreId) (d new : DeskView) (x y : ReaderView) (refusal : Refusal) → IsRefused z d x Checkpoint refusal new y → refusal ≡ PlacesUsed
+-- a command that takes no room is refused for want of a place alone
+only_places : (z : StoreId) (d new : DeskView) (x y : ReaderView) (c : Command) (refusal : Refusal) → takes_room c ≡ false → IsRefused z d x c refusal new y → refusal ≡ PlacesUsed
 unfolding refused
-only_places z d new x y refusal back = by_why (are_places_used (story_told z d.log)) refusal back.why
+only_places z d new x y (Paint r black) refusal none back = absurd (cc)
+only_places z d new x y (Stamp x' y' b) refusal none back = absurd (cc)
+only_places z d new x y Publish refusal none back = absurd (cc)
+only_places z d new x y Revert refusal none back = absurd (cc)
+only_places z d new x y Collect refusal none back = absurd (cc)
+only_places z d new x y Checkpoint refusal none back = by_why (are_places_used (story_told z d.log)) refusal back.why
   where
     by_why : (used : Bool) (refusal : Refusal) → ((if used then Some PlacesUsed else None) ≡ Some refusal) ⊎ (((if used then Some PlacesUsed else None) ≡ None) × (refusal ≡ Memory) × (false ≡ true)) → refusal ≡ PlacesUsed
     by_why true refusal (inl is) = cc
     by_why false refusal (inl is) = absurd (cc)
     by_why used refusal (inr is) = absurd (let never = is.2 in cc)
+
+-- a log is legal after a command that is accepted
+pub legal_after : (z : StoreId) (d now : DeskView) (k : KeeperView) (h : Holding) (by : ℕ) (c : Command) (reply : Reply) (after : KeeperView) (new : Holding) → IsDone z d k h by c reply after new → now ≡ record { log = d.log ++ signed by c reply ∷ [] }
+    → IsLegal z.base.setting z.base.opening (entries now.log)
+legal_after z d now k h by c reply after new done is =
+    subst (λ (l : List Entry). IsLegal z.base.setting z.base.opening l) (sym (ap (λ (v : DeskView). entries v.log) is ∙ entries-push d.log (signed by c reply))) (done.carried.does z.base (entries d.log) done.told).1.legal
+
+-- a command is answered, where it is accepted
+pub applied_accepted : (z : StoreId) (d now : DeskView) (x y : ReaderView) (c : Command) (reply : Reply) → IsAccepted z d x c reply now y → IsPrefix x.seen d.log → IsLegal z.base.setting z.base.opening (entries now.log)
+    → IsApplied z d x c (Ok reply) now y
+applied_accepted z d now x y c reply accepted began legal =
+    let all : y.seen ≡ now.log = ap (λ (q : ReaderView). q.seen) accepted.seat_is in
+    record {
+      accepted = accepted;
+      refused = tt;
+      places = λ none. tt;
+      stays = accepted.seat_is ∙ ap (λ (q : ReaderView). record x { seen = q.seen; made = q.made }) (sym accepted.seat_is);
+      seen = all;
+      began = began;
+      grows = subst (IsPrefix x.seen) (sym (all ∙ accepted.log)) (prefix-push x.seen d.log (signed x.number c reply) began);
+      legal = legal;
+    }
+
+-- and where it is refused
+pub applied_refused : (z : StoreId) (d now : DeskView) (x y : ReaderView) (c : Command) (refusal : Refusal) → IsRefused z d x c refusal now y → IsPrefix x.seen d.log → IsLegal z.base.setting z.base.opening (entries d.log)
+    → IsApplied z d x c (Err refusal) now y
+applied_refused z d now x y c refusal refused began legal =
+    let all : y.seen ≡ d.log = ap (λ (q : ReaderView). q.seen) refused.seat_is in
+    record {
+      accepted = tt;
+      refused = refused;
+      places = λ none. only_places z d now x y c refusal none refused;
+      stays = refused.seat_is ∙ ap (λ (q : ReaderView). record x { seen = q.seen; made = q.made }) (sym refused.seat_is);
+      seen = all ∙ ap (λ (v : DeskView). v.log) (sym refused.same);
+      began = began;
+      grows = subst (IsPrefix x.seen) (sym all) began;
+      legal = subst (λ (v : DeskView). IsLegal z.base.setting z.base.opening (entries v.log)) (sym refused.same) legal;
+    }

@@ -1,13 +1,15 @@
 -- What contracts see of a desk, and how it answers a command: this project's own rule.
-use Rattle.std.specs.Prelude.{◌≡◌, ℕ, ◌+◌, ◌⊎◌, true, List, [], ◌∷◌, ◌++◌, length, drop, Option, Some, None, if◌then◌else◌}
+use Rattle.std.specs.Prelude.{◌≡◌, ℕ, ◌+◌, ◌⊎◌, true, false, List, [], ◌∷◌, ◌++◌, length, drop, Option, Some, None, Result, Ok, Err, IfOk, IfErr, if◌then◌else◌}
+use mathlib.Core.List.{IsPrefix}
 use Rattle.metric.specs.declared.refusal.Refusal.{Refusal}
-use Rattle.metric.specs.declared.refusal.Refusal.TheVariants.{Memory}
+use Rattle.metric.specs.declared.refusal.Refusal.TheVariants.{Memory, PlacesUsed}
 use Rattle.map_core.specs.declared.command.Command.{Command}
+use Rattle.map_core.specs.declared.command.Command.TheVariants.{Stamp}
 use Rattle.map_core.specs.declared.command.Reply.{Reply}
 use Rattle.map_core.specs.declared.kept.Seen.{Seen}
 use Rattle.map_core.specs.Story.{Story}
 use Rattle.map_core.specs.Ledger.{takes_room}
-use Rattle.map_core.specs.Legal.{refused, IsAnswer}
+use Rattle.map_core.specs.Legal.{refused, IsAnswer, IsLegal}
 use Rattle.map_core.specs.Views.{story}
 use Rattle.shelf.specs.declared.signed.Signed.{Signed}
 use Rattle.shelf.specs.Store.{StoreId, readers_of}
@@ -65,3 +67,26 @@ pub record IsRefused (store : StoreId) (old : DeskView) (seat : ReaderView) (c :
   pub why : IsWhy store old c refusal
   pub same : new ≡ old
   pub seat_is : seat_after ≡ record seat { seen = old.log }
+
+-- what a command is answered, whatever is handed back where it is refused
+abbrev pub answer_of : {Back : Type 0} → Result Reply (Back × Refusal) → Result Reply Refusal
+answer_of (Ok reply) = Ok reply
+answer_of (Err back) = Err back.1
+
+-- a command is answered: it is accepted or refused, and then the seat has seen the whole log, which is legal
+pub record IsApplied (store : StoreId) (old : DeskView) (seat : ReaderView) (c : Command) (answer : Result Reply Refusal) (new : DeskView) (seat_after : ReaderView) : Type 0 where
+  pub accepted : IfOk answer (λ reply. IsAccepted store old seat c reply new seat_after)
+  pub refused : IfErr answer (λ refusal. IsRefused store old seat c refusal new seat_after)
+  -- a checkpoint is refused for want of a place alone
+  pub places : takes_room c ≡ false → IfErr answer (λ refusal. refusal ≡ PlacesUsed)
+  -- of the seat what it has seen and what it counts change alone
+  pub stays : seat_after ≡ record seat { seen = seat_after.seen; made = seat_after.made }
+  pub seen : seat_after.seen ≡ new.log
+  pub began : IsPrefix seat.seen old.log
+  pub grows : IsPrefix seat.seen seat_after.seen
+  pub legal : IsLegal store.base.setting store.base.opening (entries new.log)
+
+-- a command is a stamp
+abbrev pub IsStamp : Command → Type 0
+IsStamp (Stamp x y b) = Unit {0}
+IsStamp c = ⊥

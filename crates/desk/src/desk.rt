@@ -1,10 +1,12 @@
 //! The desk of a store: the value behind the writers' lock.
 
+mod answers;
 mod close;
 mod commands;
 mod fresh;
 
 use crate::holding::Holding;
+pub use answers::{answered, stamp_answered};
 pub use fresh::FreshDesk;
 use map_core::Seen;
 use shelf::{KeeperSeat, Signed, StoreName};

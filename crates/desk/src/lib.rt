@@ -5,4 +5,4 @@ mod carry;
 mod desk;
 mod holding;
 
-pub use desk::{Desk, FreshDesk};
+pub use desk::{Desk, FreshDesk, answered, stamp_answered};

@@ -10,7 +10,6 @@ mod counted;
 mod end;
 mod exchange;
 mod line_buffer;
-mod orders;
 mod say;
 mod stream_line;
 mod wire;

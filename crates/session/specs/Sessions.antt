@@ -1,8 +1,11 @@
 -- What contracts see of pins and of sessions: this project's own rule.
-use Rattle.std.specs.Prelude.{◌≡◌, ◌+◌, ◌<◌, ◌≤◌, ℕ, Bool, true, All, List, drop, length, map, sum_by, Some, None}
+use Rattle.std.specs.Prelude.{◌≡◌, ◌+◌, ◌<◌, ◌≤◌, ℕ, Bool, true, All, List, drop, length, map, sum_by, Result, Some, None}
 use Rattle.std.specs.List.{range_with_len}
 use mathlib.Core.List.{IsPrefix}
 use Rattle.bits.specs.Cells.{Cells}
+use Rattle.metric.specs.declared.refusal.Refusal.{Refusal}
+use Rattle.map_core.specs.declared.command.Command.{Command}
+use Rattle.map_core.specs.declared.command.Reply.{Reply}
 use Rattle.map_core.specs.declared.kept.Seen.TheVariants.{Exact}
 use Rattle.map_core.specs.Story.{newest, bitmap_of}
 use Rattle.map_core.specs.Words.{slot_of}
@@ -12,7 +15,7 @@ use Rattle.shelf.specs.declared.signed.Signed.{Signed}
 use Rattle.shelf.specs.Store.{StoreId, readers_of}
 use Rattle.shelf.specs.Roles.{ReaderView, entries, fresh_reader, made_by}
 use Rattle.map_core.specs.Legal.{IsLegal}
-use Rattle.desk.specs.Desks.{base_place}
+use Rattle.desk.specs.Desks.{DeskView, IsApplied, base_place}
 
 -- a pin: its session's seat, and the version that it holds
 pub record PinView : Type 0 where
@@ -81,3 +84,9 @@ pub record IsPin (store : StoreId) (p : PinView) (slot : ℕ) (bitmap : Cells) (
   pub width_is : bitmap.width ≡ store.base.opening.width
   pub height_is : bitmap.height ≡ store.base.opening.height
   pub bitmap_is : is_read ≡ true → bitmap ≡ bitmap_pinned store p
+
+-- a pin's command is answered as its session's, and the version that the pin holds stays, and so does its bitmap
+pub record IsPinApplied (store : StoreId) (old : DeskView) (p : PinView) (c : Command) (answer : Result Reply Refusal) (new : DeskView) (after : PinView) : Type 0 where
+  pub applied : IsApplied store old p.seat c answer new after.seat
+  pub version : after.version ≡ p.version
+  pub bitmap : bitmap_pinned store after ≡ bitmap_pinned store p

@@ -2,17 +2,16 @@
 //!
 //! Condition of each: a seat that has announced a version holds one.
 
-ghost use Rattle.std.specs.Prelude.{◌≡◌, ◌<◌, true, false, Some, vec_len, vec_capacity, IfOk, IfErr};
-ghost use Rattle.metric.specs.declared.refusal.Refusal.TheVariants.{PlacesUsed};
-ghost use mathlib.Core.List.{IsPrefix};
+ghost use Rattle.std.specs.Prelude.{◌≡◌, ◌<◌, true, false, Some, vec_len, vec_capacity, IfErr};
 ghost use Rattle.map_core.specs.declared.command.Command.TheVariants.{Paint, Stamp, Publish, Revert, Collect, Checkpoint};
 ghost use Rattle.map_core.specs.Ledger.{IsBalanced, takes_room};
 ghost use Rattle.map_core.specs.Legal.{IsLegal};
 ghost use Rattle.shelf.specs.Roles.{entries};
-ghost use Rattle.desk.specs.Desks.{IsSteady, IsAccepted, IsRefused, base_place, kept_after, kept_part};
+ghost use Rattle.desk.specs.Desks.{IsApplied, IsSteady, answer_of, base_place, kept_after, kept_part};
 
 use crate::carry::carry;
 use crate::desk::Desk;
+use crate::desk::answers::{answered, stamp_answered};
 use bits::Bitmap;
 use map_core::{Command, Entry, Ledger, Reply};
 use metric::{Rect, Refusal};
@@ -41,20 +40,18 @@ fn keep(log: &mut Vec<Signed>, signed: Signed)
 }
 
 impl<Id: StoreName> Desk<Id> {
-    /// Does a command, or hands it back with why it is refused.
-    fn run(
+    /// Does a command: its reply, with its place in the log, from 1, as the call of its name says (`paint`, `stamp`, `publish`, `revert`, `collect`, `checkpoint`).
+    ///
+    /// Refused, in this order, for its area (`OutOfRange`), for want of room in the log (`LogFull`), of a place (`PlacesUsed`), of blocks (`BlocksFull`, a paint or a
+    /// stamp) or of a slot (`VersionsFull`, a publish), and of memory; the command is handed back, and the desk is as before. Refused or not, the seat has then seen the whole log.
+    pub fn apply(
         &mut self,
         seat: &mut ReaderSeat<Id>,
         command: Command,
     ) -> Result<Reply, (Command, Refusal)>
         requires { IsSteady seat.old }
-        ensures accepted { IfOk result (λ reply. IsAccepted Id.store self.old seat.old command reply self.new seat.new) }
-        ensures refused { IfErr result (λ back. (back.0 ≡ command) × IsRefused Id.store self.old seat.old command back.1 self.new seat.new) }
-        ensures stays { seat.new ≡ record seat.old { seen = seat.new.seen; made = seat.new.made } }
-        ensures seen { seat.new.seen ≡ self.new.log }
-        ensures began { IsPrefix seat.old.seen self.old.log }
-        ensures grows { IsPrefix seat.old.seen seat.new.seen }
-        ensures legal { IsLegal Id.store.base.setting Id.store.base.opening (entries self.new.log) }
+        ensures applied { IsApplied Id.store self.old seat.old command (answer_of result) self.new seat.new }
+        ensures back { IfErr result (λ back. back.0 ≡ command) }
     {
         meet(&mut self.keeper, seat);
         let has_room = finds_room(&self.holding.ledger, &command, &mut self.log);
@@ -92,18 +89,9 @@ impl<Id: StoreName> Desk<Id> {
         black: bool,
     ) -> Result<Reply, Refusal>
         requires { IsSteady seat.old }
-        ensures accepted { IfOk result (λ reply. IsAccepted Id.store self.old seat.old (Paint rect black) reply self.new seat.new) }
-        ensures refused { IfErr result (λ refusal. IsRefused Id.store self.old seat.old (Paint rect black) refusal self.new seat.new) }
-        ensures stays { seat.new ≡ record seat.old { seen = seat.new.seen; made = seat.new.made } }
-        ensures seen { seat.new.seen ≡ self.new.log }
-        ensures began { IsPrefix seat.old.seen self.old.log }
-        ensures grows { IsPrefix seat.old.seen seat.new.seen }
-        ensures legal { IsLegal Id.store.base.setting Id.store.base.opening (entries self.new.log) }
+        ensures { IsApplied Id.store self.old seat.old (Paint rect black) result self.new seat.new }
     {
-        match self.run(seat, Command::Paint { rect, black }) {
-            Ok(reply) => Ok(reply),
-            Err((_, refusal)) => Err(refusal),
-        }
+        answered(self.apply(seat, Command::Paint { rect, black }))
     }
 
     /// Gives each cell of the rectangle at `(x, y)` of the bitmap's size the bitmap's value, obstacle or not: `Reply::Painted`.
@@ -117,21 +105,10 @@ impl<Id: StoreName> Desk<Id> {
         bitmap: Bitmap,
     ) -> Result<Reply, (Bitmap, Refusal)>
         requires { IsSteady seat.old }
-        ensures accepted { IfOk result (λ reply. IsAccepted Id.store self.old seat.old (Stamp x y bitmap) reply self.new seat.new) }
-        ensures refused { IfErr result (λ back. (back.0 ≡ bitmap) × IsRefused Id.store self.old seat.old (Stamp x y bitmap) back.1 self.new seat.new) }
-        ensures stays { seat.new ≡ record seat.old { seen = seat.new.seen; made = seat.new.made } }
-        ensures seen { seat.new.seen ≡ self.new.log }
-        ensures began { IsPrefix seat.old.seen self.old.log }
-        ensures grows { IsPrefix seat.old.seen seat.new.seen }
-        ensures legal { IsLegal Id.store.base.setting Id.store.base.opening (entries self.new.log) }
+        ensures applied { IsApplied Id.store self.old seat.old (Stamp x y bitmap) (answer_of result) self.new seat.new }
+        ensures back { IfErr result (λ back. back.0 ≡ bitmap) }
     {
-        match self.run(seat, Command::Stamp { x, y, bitmap }) {
-            Ok(reply) => Ok(reply),
-            Err((command, refusal)) => match command {
-                Command::Stamp { bitmap, .. } => Err((bitmap, refusal)),
-                _ => unreachable!(),
-            },
-        }
+        stamp_answered(self.apply(seat, Command::Stamp { x, y, bitmap }))
     }
 
     /// Appends the draft as the next version, also where nothing changed: `Reply::Published`.
@@ -139,18 +116,9 @@ impl<Id: StoreName> Desk<Id> {
     /// Refused, in this order, for want of room in the log (`LogFull`), of a slot (`VersionsFull`) and of memory.
     pub fn publish(&mut self, seat: &mut ReaderSeat<Id>) -> Result<Reply, Refusal>
         requires { IsSteady seat.old }
-        ensures accepted { IfOk result (λ reply. IsAccepted Id.store self.old seat.old Publish reply self.new seat.new) }
-        ensures refused { IfErr result (λ refusal. IsRefused Id.store self.old seat.old Publish refusal self.new seat.new) }
-        ensures stays { seat.new ≡ record seat.old { seen = seat.new.seen; made = seat.new.made } }
-        ensures seen { seat.new.seen ≡ self.new.log }
-        ensures began { IsPrefix seat.old.seen self.old.log }
-        ensures grows { IsPrefix seat.old.seen seat.new.seen }
-        ensures legal { IsLegal Id.store.base.setting Id.store.base.opening (entries self.new.log) }
+        ensures { IsApplied Id.store self.old seat.old Publish result self.new seat.new }
     {
-        match self.run(seat, Command::Publish) {
-            Ok(reply) => Ok(reply),
-            Err((_, refusal)) => Err(refusal),
-        }
+        answered(self.apply(seat, Command::Publish))
     }
 
     /// Makes the draft the newest version: `Reply::Reverted`.
@@ -158,18 +126,9 @@ impl<Id: StoreName> Desk<Id> {
     /// Refused, in this order, for want of room in the log (`LogFull`) and of memory.
     pub fn revert(&mut self, seat: &mut ReaderSeat<Id>) -> Result<Reply, Refusal>
         requires { IsSteady seat.old }
-        ensures accepted { IfOk result (λ reply. IsAccepted Id.store self.old seat.old Revert reply self.new seat.new) }
-        ensures refused { IfErr result (λ refusal. IsRefused Id.store self.old seat.old Revert refusal self.new seat.new) }
-        ensures stays { seat.new ≡ record seat.old { seen = seat.new.seen; made = seat.new.made } }
-        ensures seen { seat.new.seen ≡ self.new.log }
-        ensures began { IsPrefix seat.old.seen self.old.log }
-        ensures grows { IsPrefix seat.old.seen seat.new.seen }
-        ensures legal { IsLegal Id.store.base.setting Id.store.base.opening (entries self.new.log) }
+        ensures { IsApplied Id.store self.old seat.old Revert result self.new seat.new }
     {
-        match self.run(seat, Command::Revert) {
-            Ok(reply) => Ok(reply),
-            Err((_, refusal)) => Err(refusal),
-        }
+        answered(self.apply(seat, Command::Revert))
     }
 
     /// Keeps newest, each version that a reader has announced exactly, and from each other announcement on all that were kept, as one word after another is loaded:
@@ -179,18 +138,9 @@ impl<Id: StoreName> Desk<Id> {
     /// Refused, in this order, for want of room in the log (`LogFull`) and of memory.
     pub fn collect(&mut self, seat: &mut ReaderSeat<Id>) -> Result<Reply, Refusal>
         requires { IsSteady seat.old }
-        ensures accepted { IfOk result (λ reply. IsAccepted Id.store self.old seat.old Collect reply self.new seat.new) }
-        ensures refused { IfErr result (λ refusal. IsRefused Id.store self.old seat.old Collect refusal self.new seat.new) }
-        ensures stays { seat.new ≡ record seat.old { seen = seat.new.seen; made = seat.new.made } }
-        ensures seen { seat.new.seen ≡ self.new.log }
-        ensures began { IsPrefix seat.old.seen self.old.log }
-        ensures grows { IsPrefix seat.old.seen seat.new.seen }
-        ensures legal { IsLegal Id.store.base.setting Id.store.base.opening (entries self.new.log) }
+        ensures { IsApplied Id.store self.old seat.old Collect result self.new seat.new }
     {
-        match self.run(seat, Command::Collect) {
-            Ok(reply) => Ok(reply),
-            Err((_, refusal)) => Err(refusal),
-        }
+        answered(self.apply(seat, Command::Collect))
     }
 
     /// Drops the entries that are kept, its own among them: `Reply::Checkpointed`, whose place is the base place then. Places go on counting. It takes no memory, and no bitmap and no version changes.
@@ -198,19 +148,9 @@ impl<Id: StoreName> Desk<Id> {
     /// Refused where no place is left (`PlacesUsed`) alone.
     pub fn checkpoint(&mut self, seat: &mut ReaderSeat<Id>) -> Result<Reply, Refusal>
         requires { IsSteady seat.old }
-        ensures accepted { IfOk result (λ reply. IsAccepted Id.store self.old seat.old Checkpoint reply self.new seat.new) }
-        ensures refused { IfErr result (λ refusal. IsRefused Id.store self.old seat.old Checkpoint refusal self.new seat.new) }
-        ensures places { IfErr result (λ refusal. refusal ≡ PlacesUsed) }
-        ensures stays { seat.new ≡ record seat.old { seen = seat.new.seen; made = seat.new.made } }
-        ensures seen { seat.new.seen ≡ self.new.log }
-        ensures began { IsPrefix seat.old.seen self.old.log }
-        ensures grows { IsPrefix seat.old.seen seat.new.seen }
-        ensures legal { IsLegal Id.store.base.setting Id.store.base.opening (entries self.new.log) }
+        ensures { IsApplied Id.store self.old seat.old Checkpoint result self.new seat.new }
     {
-        match self.run(seat, Command::Checkpoint) {
-            Ok(reply) => Ok(reply),
-            Err((_, refusal)) => Err(refusal),
-        }
+        answered(self.apply(seat, Command::Checkpoint))
     }
 
     /// The entries that are kept: each command that was accepted since the last checkpoint, with its reply and its session.

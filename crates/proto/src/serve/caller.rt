@@ -2,16 +2,16 @@
 
 ghost use Rattle.std.specs.Prelude.{◌≡◌, Some, is_some};
 ghost use Rattle.shelf.specs.Steps.{leaving};
+ghost use Rattle.desk.specs.Desks.{answer_of};
 ghost use Rattle.proto.specs.Asked.{asked_by};
-ghost use Rattle.proto.specs.Callers.{IsCommanded, IsPinAnswer, IsUnpinAnswer, free};
+ghost use Rattle.proto.specs.Callers.{IsCommanded, IsPinAnswer, IsUnpinAnswer, free, told_as};
 ghost use Rattle.proto.specs.Exchanges.{IsDumpAnswer, IsQueryAnswer, WithPin, body_of};
 
 use crate::answer::Answer;
 use crate::answering::answer_of;
 use crate::query::Query;
 use crate::serve::exchange::{Spoken, dump_of};
-use crate::serve::orders::{by_pin, by_session};
-use map_core::Command;
+use map_core::{Command, Reply};
 use metric::Refusal;
 use session::{Pinned, Session, Store};
 use shelf::StoreName;
@@ -106,8 +106,8 @@ impl<Id: StoreName> Caller<Id> {
     {
         let mut desk = store.lock(rt);
         match &mut self.seat {
-            Seat::Free(session) => by_session(session, &mut desk, command),
-            Seat::Holding(pinned) => by_pin(pinned, &mut desk, command),
+            Seat::Free(session) => told(session.apply(&mut desk, command)),
+            Seat::Holding(pinned) => told(pinned.apply(&mut desk, command)),
         }
     }
 
@@ -149,6 +149,16 @@ impl<Id: StoreName> Caller<Id> {
             Seat::Free(session) => session,
             Seat::Holding(pinned) => pinned.unpin(),
         }
+    }
+}
+
+/// What a command is answered.
+fn told(applied: Result<Reply, (Command, Refusal)>) -> Answer
+    ensures { result ≡ told_as (answer_of applied) }
+{
+    match applied {
+        Ok(reply) => Answer::Done(reply),
+        Err((_, refusal)) => Answer::Refused(refusal),
     }
 }
 

@@ -1,33 +1,37 @@
 //! A session's commands.
 
-ghost use Rattle.std.specs.Prelude.{◌≡◌, IfOk, IfErr};
-ghost use mathlib.Core.List.{IsPrefix};
-ghost use Rattle.metric.specs.declared.refusal.Refusal.TheVariants.{PlacesUsed};
+ghost use Rattle.std.specs.Prelude.{◌≡◌, IfErr};
 ghost use Rattle.map_core.specs.declared.command.Command.TheVariants.{Paint, Stamp, Publish, Revert, Collect, Checkpoint};
-ghost use Rattle.map_core.specs.Legal.{IsLegal};
-ghost use Rattle.shelf.specs.Roles.{entries};
-ghost use Rattle.desk.specs.Desks.{IsAccepted, IsRefused};
+ghost use Rattle.desk.specs.Desks.{IsApplied, answer_of};
 
 use crate::session::Session;
 use bits::Bitmap;
-use desk::Desk;
-use map_core::Reply;
+use desk::{Desk, answered, stamp_answered};
+use map_core::{Command, Reply};
 use metric::{Rect, Refusal};
 use shelf::StoreName;
 
 impl<Id: StoreName> Session<Id> {
-    /// Gives the cells of a rectangle of the draft one value, as `Desk::paint` does with its seat.
-    pub fn paint(&mut self, desk: &mut Desk<Id>, rect: Rect, black: bool) -> Result<Reply, Refusal>
-        ensures accepted { IfOk result (λ reply. IsAccepted Id.store desk.old self.old (Paint rect black) reply desk.new self.new) }
-        ensures refused { IfErr result (λ refusal. IsRefused Id.store desk.old self.old (Paint rect black) refusal desk.new self.new) }
-        ensures began { IsPrefix self.old.seen desk.old.log }
-        ensures grows { IsPrefix self.old.seen self.new.seen }
-        ensures legal { IsLegal Id.store.base.setting Id.store.base.opening (entries desk.new.log) }
+    /// Does a command, as `Desk::apply` does with its seat; where it is refused, it is handed back.
+    pub fn apply(
+        &mut self,
+        desk: &mut Desk<Id>,
+        command: Command,
+    ) -> Result<Reply, (Command, Refusal)>
+        ensures applied { IsApplied Id.store desk.old self.old command (answer_of result) desk.new self.new }
+        ensures back { IfErr result (λ back. back.0 ≡ command) }
     {
-        desk.paint(&mut self.seat, rect, black)
+        desk.apply(&mut self.seat, command)
     }
 
-    /// Stamps a bitmap on the draft, as `Desk::stamp` does with its seat.
+    /// Gives the cells of a rectangle of the draft one value, as `Desk::paint` does.
+    pub fn paint(&mut self, desk: &mut Desk<Id>, rect: Rect, black: bool) -> Result<Reply, Refusal>
+        ensures { IsApplied Id.store desk.old self.old (Paint rect black) result desk.new self.new }
+    {
+        answered(self.apply(desk, Command::Paint { rect, black }))
+    }
+
+    /// Stamps a bitmap on the draft, as `Desk::stamp` does.
     pub fn stamp(
         &mut self,
         desk: &mut Desk<Id>,
@@ -35,57 +39,37 @@ impl<Id: StoreName> Session<Id> {
         y: u16,
         bitmap: Bitmap,
     ) -> Result<Reply, (Bitmap, Refusal)>
-        ensures accepted { IfOk result (λ reply. IsAccepted Id.store desk.old self.old (Stamp x y bitmap) reply desk.new self.new) }
-        ensures refused { IfErr result (λ back. (back.0 ≡ bitmap) × IsRefused Id.store desk.old self.old (Stamp x y bitmap) back.1 desk.new self.new) }
-        ensures began { IsPrefix self.old.seen desk.old.log }
-        ensures grows { IsPrefix self.old.seen self.new.seen }
-        ensures legal { IsLegal Id.store.base.setting Id.store.base.opening (entries desk.new.log) }
+        ensures applied { IsApplied Id.store desk.old self.old (Stamp x y bitmap) (answer_of result) desk.new self.new }
+        ensures back { IfErr result (λ back. back.0 ≡ bitmap) }
     {
-        desk.stamp(&mut self.seat, x, y, bitmap)
+        stamp_answered(self.apply(desk, Command::Stamp { x, y, bitmap }))
     }
 
-    /// Appends the draft as the next version, as `Desk::publish` does with its seat.
+    /// Appends the draft as the next version, as `Desk::publish` does.
     pub fn publish(&mut self, desk: &mut Desk<Id>) -> Result<Reply, Refusal>
-        ensures accepted { IfOk result (λ reply. IsAccepted Id.store desk.old self.old Publish reply desk.new self.new) }
-        ensures refused { IfErr result (λ refusal. IsRefused Id.store desk.old self.old Publish refusal desk.new self.new) }
-        ensures began { IsPrefix self.old.seen desk.old.log }
-        ensures grows { IsPrefix self.old.seen self.new.seen }
-        ensures legal { IsLegal Id.store.base.setting Id.store.base.opening (entries desk.new.log) }
+        ensures { IsApplied Id.store desk.old self.old Publish result desk.new self.new }
     {
-        desk.publish(&mut self.seat)
+        answered(self.apply(desk, Command::Publish))
     }
 
-    /// Makes the draft the newest version, as `Desk::revert` does with its seat.
+    /// Makes the draft the newest version, as `Desk::revert` does.
     pub fn revert(&mut self, desk: &mut Desk<Id>) -> Result<Reply, Refusal>
-        ensures accepted { IfOk result (λ reply. IsAccepted Id.store desk.old self.old Revert reply desk.new self.new) }
-        ensures refused { IfErr result (λ refusal. IsRefused Id.store desk.old self.old Revert refusal desk.new self.new) }
-        ensures began { IsPrefix self.old.seen desk.old.log }
-        ensures grows { IsPrefix self.old.seen self.new.seen }
-        ensures legal { IsLegal Id.store.base.setting Id.store.base.opening (entries desk.new.log) }
+        ensures { IsApplied Id.store desk.old self.old Revert result desk.new self.new }
     {
-        desk.revert(&mut self.seat)
+        answered(self.apply(desk, Command::Revert))
     }
 
-    /// Lets versions go that nobody holds, as `Desk::collect` does with its seat.
+    /// Lets versions go that nobody holds, as `Desk::collect` does.
     pub fn collect(&mut self, desk: &mut Desk<Id>) -> Result<Reply, Refusal>
-        ensures accepted { IfOk result (λ reply. IsAccepted Id.store desk.old self.old Collect reply desk.new self.new) }
-        ensures refused { IfErr result (λ refusal. IsRefused Id.store desk.old self.old Collect refusal desk.new self.new) }
-        ensures began { IsPrefix self.old.seen desk.old.log }
-        ensures grows { IsPrefix self.old.seen self.new.seen }
-        ensures legal { IsLegal Id.store.base.setting Id.store.base.opening (entries desk.new.log) }
+        ensures { IsApplied Id.store desk.old self.old Collect result desk.new self.new }
     {
-        desk.collect(&mut self.seat)
+        answered(self.apply(desk, Command::Collect))
     }
 
-    /// Drops the entries that the desk keeps, as `Desk::checkpoint` does with its seat. It takes no memory.
+    /// Drops the entries that the desk keeps, as `Desk::checkpoint` does. It takes no memory.
     pub fn checkpoint(&mut self, desk: &mut Desk<Id>) -> Result<Reply, Refusal>
-        ensures accepted { IfOk result (λ reply. IsAccepted Id.store desk.old self.old Checkpoint reply desk.new self.new) }
-        ensures refused { IfErr result (λ refusal. IsRefused Id.store desk.old self.old Checkpoint refusal desk.new self.new) }
-        ensures places { IfErr result (λ refusal. refusal ≡ PlacesUsed) }
-        ensures began { IsPrefix self.old.seen desk.old.log }
-        ensures grows { IsPrefix self.old.seen self.new.seen }
-        ensures legal { IsLegal Id.store.base.setting Id.store.base.opening (entries desk.new.log) }
+        ensures { IsApplied Id.store desk.old self.old Checkpoint result desk.new self.new }
     {
-        desk.checkpoint(&mut self.seat)
+        answered(self.apply(desk, Command::Checkpoint))
     }
 }

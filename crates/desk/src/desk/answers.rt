@@ -1,0 +1,37 @@
+//! What a command was answered, once it is known which one it was.
+
+ghost use Rattle.std.specs.Prelude.{◌≡◌, ℕ, IfErr};
+ghost use Rattle.bits.specs.Cells.{Cells};
+ghost use Rattle.map_core.specs.declared.command.Command.TheVariants.{Stamp};
+ghost use Rattle.desk.specs.Desks.{IsStamp, answer_of};
+
+use bits::Bitmap;
+use map_core::{Command, Reply};
+use metric::Refusal;
+
+/// What a command was answered; a command that was handed back is let go.
+pub fn answered(applied: Result<Reply, (Command, Refusal)>) -> Result<Reply, Refusal>
+    ensures { result ≡ answer_of applied }
+{
+    match applied {
+        Ok(reply) => Ok(reply),
+        Err((_, refusal)) => Err(refusal),
+    }
+}
+
+/// What a stamp was answered; of a command that was handed back the bitmap is.
+pub fn stamp_answered(
+    applied: Result<Reply, (Command, Refusal)>,
+) -> Result<Reply, (Bitmap, Refusal)>
+    requires { IfErr applied (λ back. IsStamp back.0) }
+    ensures answer { answer_of result ≡ answer_of applied }
+    ensures back { (x y : ℕ) (b : Cells) → IfErr applied (λ back. back.0 ≡ Stamp x y b) → IfErr result (λ back. back.0 ≡ b) }
+{
+    match applied {
+        Ok(reply) => Ok(reply),
+        Err((command, refusal)) => match command {
+            Command::Stamp { bitmap, .. } => Err((bitmap, refusal)),
+            _ => unreachable!(),
+        },
+    }
+}
