@@ -9,7 +9,7 @@ use bits::Bitmap;
 use map_core::{Command, Reply};
 use metric::Refusal;
 
-/// What a command was answered; a command that was handed back is let go.
+/// What a command was answered; a command that was returned is let go.
 pub fn answered(applied: Result<Reply, (Command, Refusal)>) -> Result<Reply, Refusal>
     ensures { result ≡ answer_of applied }
 {
@@ -19,7 +19,7 @@ pub fn answered(applied: Result<Reply, (Command, Refusal)>) -> Result<Reply, Ref
     }
 }
 
-/// What a stamp was answered; of a command that was handed back the bitmap is.
+/// What a stamp was answered; of a command that was returned the bitmap is.
 pub fn stamp_answered(
     applied: Result<Reply, (Command, Refusal)>,
 ) -> Result<Reply, (Bitmap, Refusal)>

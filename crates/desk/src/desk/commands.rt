@@ -43,7 +43,7 @@ impl<Id: StoreName> Desk<Id> {
     /// Does a command: its reply, with its place in the log, from 1, as the call of its name says (`paint`, `stamp`, `publish`, `revert`, `collect`, `checkpoint`).
     ///
     /// Refused, in this order, for its area (`OutOfRange`), for want of room in the log (`LogFull`), of a place (`PlacesUsed`), of blocks (`BlocksFull`, a paint or a
-    /// stamp) or of a slot (`VersionsFull`, a publish), and of memory; the command is handed back, and the desk is as before. Refused or not, the seat has then seen the whole log.
+    /// stamp) or of a slot (`VersionsFull`, a publish), and of memory; the command is returned, and the desk is as before. Refused or not, the seat has then seen the whole log.
     pub fn apply(
         &mut self,
         seat: &mut ReaderSeat<Id>,
@@ -96,7 +96,7 @@ impl<Id: StoreName> Desk<Id> {
 
     /// Gives each cell of the rectangle at `(x, y)` of the bitmap's size the bitmap's value, obstacle or not: `Reply::Painted`.
     ///
-    /// Refused as `paint` is; the bitmap is handed back.
+    /// Refused as `paint` is; the bitmap is returned.
     pub fn stamp(
         &mut self,
         seat: &mut ReaderSeat<Id>,

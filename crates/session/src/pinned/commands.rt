@@ -13,7 +13,7 @@ use metric::{Rect, Refusal};
 use shelf::StoreName;
 
 impl<Id: StoreName> Pinned<Id> {
-    /// Does a command, as `Desk::apply` does with the pin's seat; where it is refused, it is handed back.
+    /// Does a command, as `Desk::apply` does with the pin's seat; where it is refused, it is returned.
     pub fn apply(
         &mut self,
         desk: &mut Desk<Id>,

@@ -12,7 +12,7 @@ use metric::{Rect, Refusal};
 use shelf::StoreName;
 
 impl<Id: StoreName> Session<Id> {
-    /// Does a command, as `Desk::apply` does with its seat; where it is refused, it is handed back.
+    /// Does a command, as `Desk::apply` does with its seat; where it is refused, it is returned.
     pub fn apply(
         &mut self,
         desk: &mut Desk<Id>,
