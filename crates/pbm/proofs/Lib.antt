@@ -1,5 +1,6 @@
 pub mod Steps
 pub mod Words
+pub mod Eights
 pub mod Numbers
 pub mod Digits
 pub mod Gaps
@@ -14,4 +15,6 @@ pub mod Decimals
 pub mod Ranges
 pub mod RawTexts
 pub mod PlainTexts
+pub mod Lines
+pub mod RawRows
 pub mod PlainWords

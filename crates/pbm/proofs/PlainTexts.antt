@@ -1,18 +1,19 @@
 -- A bitmap that is written as a plain image.
-use Rattle.std.proofs.Common.{◌≡◌, ℕ, zero, suc, ◌+◌, ◌-◌, ◌*◌, ◌/◌, ◌%◌, ◌<◌, ◌≤◌, Bool, true, false, cond, eqb, List, [], ◌∷◌, ◌++◌, map, refl, sym, ap, subst, ◌∙◌, append_assoc, inl, inr, arith}
+use Rattle.std.proofs.Common.{◌≡◌, ℕ, zero, suc, ◌+◌, ◌-◌, ◌*◌, ◌/◌, ◌%◌, ◌<◌, ◌≤◌, Bool, true, false, cond, eqb, List, [], ◌∷◌, ◌++◌, map, length, refl, sym, ap, subst, ◌∙◌, append_assoc, inl, inr, arith}
 use Rattle.std.specs.Prelude.{◌||◌}
 use Rattle.std.specs.Fmt.{decimal}
 use Rattle.std.specs.List.{range_with_len, flat_map}
 use Rattle.std.proofs.lemmas.Bool.{eq-eqb}
 use Rattle.std.proofs.lemmas.Bool.Decides.{nat_tests}
 use Rattle.std.proofs.lemmas.Nat.{div-mul-add, mod-mul-add}
-use Rattle.std.proofs.lemmas.List.{append-nil}
+use Rattle.std.proofs.lemmas.List.{append-nil, length-append}
 use Rattle.bits.specs.Cells.{Cells, has, IsBitmap}
 use Rattle.pbm.specs.declared.header.Form.TheVariants.{Plain}
 use Rattle.pbm.specs.Image.{pixel_byte, IsBetween, IsRaster, IsPlain}
 use Rattle.pbm.specs.Writing.{front_text, ends_line, digit_text, plain_digit, plain_text, row_length}
 use Rattle.pbm.proofs.Decimals.{IsNumber-decimal}
 use Rattle.pbm.proofs.Pixels.{place-below}
+use Rattle.pbm.proofs.Ranges.{flat_map-more, flat_map-row}
 use Rattle.pbm.proofs.RawTexts.{regroup-front, IsGap-line_feed, IsGap-blank}
 
 -- what stands behind a digit: LF, where its line ends
@@ -75,17 +76,58 @@ plain_digit-at cells y x within =
     let width : ℕ = cells.width in
     sym (ap (λ (a : ℕ). digit_text (has cells a ((y * width + x) / width)) (ends_line width a)) (mod-mul-add y width x within) ∙ ap (λ (b : ℕ). digit_text (has cells x b) (ends_line width x)) (div-mul-add y width x within))
 
--- how long the lines of a row are behind one digit more
-pub record LinesLength (width x before after : ℕ) : Type 0 where
-  pub within : x < width → after ≤ before + (x + x / 70)
-  pub length : after ≤ before + row_length x
+-- how long the lines of a row are as far as column x
+record LinesLength (width x count : ℕ) : Type 0 where
+  within : x < width → count ≡ x + x / 70
+  all : x ≡ width → count ≡ row_length width
 
 -- a digit makes the lines longer by one, and by one more where a line ends
-pub LinesLength-more : (width x before len after : ℕ) (ends : Bool) → x < width → len ≤ before + (x + x / 70) → ends ≡ ends_line width x → after ≡ len + cond ends 2 1 → LinesLength width (x + 1) before after
-LinesLength-more width x before len after true inside few is longer =
-    record { within = λ more. grind (arith, nat_tests); length = omega arith }
-LinesLength-more width x before len after false inside few is longer =
-    record { within = λ more. omega arith; length = omega arith }
+LinesLength-more : (width x count : ℕ) (ends : Bool) → x < width → count ≡ x + x / 70 → ends ≡ ends_line width x → LinesLength width (x + 1) (count + cond ends 2 1)
+LinesLength-more width x count true inside long is =
+    record { within = λ more. grind (arith, nat_tests); all = λ last. omega arith }
+LinesLength-more width x count false inside long is =
+    record { within = λ more. grind (arith, nat_tests); all = λ last. grind (arith, nat_tests) }
+
+-- how long the text of a pixel is
+digit_text-length : (black ends : Bool) → length (digit_text black ends) ≡ cond ends 2 1
+digit_text-length black true = refl
+digit_text-length black false = refl
+
+-- the text of the first pixels of a row
+row_front : Cells → ℕ → ℕ → List ℕ
+row_front cells y x = flat_map (plain_digit cells) (range_with_len (y * cells.width) x)
+
+-- the text of one pixel more
+row_front-more : (cells : Cells) (y x : ℕ) → x < cells.width → length (row_front cells y (x + 1)) ≡ length (row_front cells y x) + cond (ends_line cells.width x) 2 1
+unfolding row_front
+row_front-more cells y x within =
+    ap length (sym (flat_map-more (plain_digit cells) [] (y * cells.width) x (digit_text (has cells x y) (ends_line cells.width x)) (plain_digit-at cells y x within)))
+    ∙ (length-append (flat_map (plain_digit cells) (range_with_len (y * cells.width) x)) (digit_text (has cells x y) (ends_line cells.width x))
+    ∙ ap (λ (n : ℕ). length (flat_map (plain_digit cells) (range_with_len (y * cells.width) x)) + n) (digit_text-length (has cells x y) (ends_line cells.width x)))
+
+-- how long that text is
+row_front-length : (cells : Cells) (y x : ℕ) → x ≤ cells.width → LinesLength cells.width x (length (row_front cells y x))
+unfolding row_front
+row_front-length cells y zero below = record { within = λ some. refl; all = λ none. omega arith }
+row_front-length cells y (suc x) below =
+    let before = row_front-length cells y x (omega arith) in
+    let inside : x < cells.width = omega arith in
+    let next : x + 1 ≡ suc x = omega arith in
+    let more = LinesLength-more cells.width x (length (row_front cells y x)) (ends_line cells.width x) inside (before.within inside) refl in
+    rw next at (subst (λ (n : ℕ). LinesLength cells.width (x + 1) n) (sym (row_front-more cells y x inside)) more)
+
+-- how long the lines of some rows are
+pub rows-length : (cells : Cells) (count : ℕ) → length (flat_map (plain_digit cells) (range_with_len 0 (count * cells.width))) ≡ count * row_length cells.width
+unfolding row_front
+rows-length cells zero = let none : zero * cells.width ≡ 0 = omega arith in rw none (omega arith)
+rows-length cells (suc count) =
+    let next : suc count * cells.width ≡ (count + 1) * cells.width = omega arith in
+    let row : length (flat_map (plain_digit cells) (range_with_len (count * cells.width) cells.width)) ≡ row_length cells.width = (row_front-length cells count cells.width (omega arith)).all refl in
+    let before = rows-length cells count in
+    ap (λ (n : ℕ). length (flat_map (plain_digit cells) (range_with_len 0 n))) next
+    ∙ (ap length (sym (flat_map-row (plain_digit cells) [] cells.width count))
+    ∙ (length-append (flat_map (plain_digit cells) (range_with_len 0 (count * cells.width))) (flat_map (plain_digit cells) (range_with_len (count * cells.width) cells.width))
+    ∙ omega (arith, row, before)))
 
 -- a plain image was written, and LF behind it
 pub record PlainWritten (cells : Cells) : Type 0 where

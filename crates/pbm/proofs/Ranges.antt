@@ -1,5 +1,5 @@
 -- Lists that go over a range.
-use Rattle.std.proofs.Common.{◌≡◌, ℕ, zero, suc, ◌+◌, ◌*◌, List, [], ◌∷◌, ◌++◌, map, refl, sym, ap, ◌∙◌, append_assoc, arith}
+use Rattle.std.proofs.Common.{◌≡◌, ℕ, zero, suc, ◌+◌, ◌-◌, ◌*◌, ◌≤◌, List, [], ◌∷◌, ◌++◌, map, refl, sym, ap, ◌∙◌, append_assoc, arith}
 use Rattle.std.specs.List.{range_with_len, flat_map}
 use Rattle.std.proofs.lemmas.Grind.{flat_map-append}
 use Rattle.std.proofs.lemmas.List.{append-nil, map-append}
@@ -49,3 +49,17 @@ pub flat_map-more : (f : ℕ → List ℕ) (before : List ℕ) (a n : ℕ) (item
 flat_map-more f before a n items is =
     append_assoc before (flat_map f (range_with_len a n)) items
     ∙ ap (λ (t : List ℕ). before ++ t) (ap (λ (t : List ℕ). flat_map f (range_with_len a n) ++ t) (is ∙ sym (append-nil (f (a + n)))) ∙ sym (ap (flat_map f) (range-more a n) ∙ flat_map-append f (range_with_len a n) ((a + n) ∷ [])))
+
+-- one row more, of the rows from one on, of a list that has some items for each place
+pub flat_map-row_from : (f : ℕ → List ℕ) (before : List ℕ) (across from y : ℕ) → from ≤ y → (before ++ flat_map f (range_with_len (from * across) ((y - from) * across))) ++ flat_map f (range_with_len (y * across) across) ≡ before ++ flat_map f (range_with_len (from * across) ((y + 1 - from) * across))
+flat_map-row_from f before across from y order =
+    let up : from + (y - from) ≡ y = omega (arith, order) in
+    let start : from * across + (y - from) * across ≡ y * across = omega arith ∙ ap (λ (k : ℕ). k * across) up in
+    let next : y + 1 - from ≡ (y - from) + 1 = omega (arith, order) in
+    let both : (y - from) * across + across ≡ ((y - from) + 1) * across = omega arith in
+    append_assoc before (flat_map f (range_with_len (from * across) ((y - from) * across))) (flat_map f (range_with_len (y * across) across))
+    ∙ ap (λ (t : List ℕ). before ++ t) (ap (λ (k : ℕ). flat_map f (range_with_len (from * across) ((y - from) * across)) ++ flat_map f (range_with_len k across)) (sym start)
+    ∙ (sym (flat_map-append f (range_with_len (from * across) ((y - from) * across)) (range_with_len (from * across + (y - from) * across) across))
+    ∙ (ap (flat_map f) (sym (range-append (from * across) ((y - from) * across) across))
+    ∙ (ap (λ (m : ℕ). flat_map f (range_with_len (from * across) m)) both
+    ∙ ap (λ (m : ℕ). flat_map f (range_with_len (from * across) (m * across))) (sym next)))))

@@ -54,7 +54,7 @@ lowest high true = (omega arith, omega arith)
 lowest high false = (omega arith, omega arith)
 
 -- each pixel is a digit, the last the lowest
-packed-bit : (cells : Cells) (x y n j : ℕ) → j < n → bit_at (packed cells x y n) j ≡ one (has cells (x + (n - 1 - j)) y)
+pub packed-bit : (cells : Cells) (x y n j : ℕ) → j < n → bit_at (packed cells x y n) j ≡ one (has cells (x + (n - 1 - j)) y)
 unfolding packed
 packed-bit cells x y zero j below = absurd (omega arith)
 packed-bit cells x y (suc n) zero below =

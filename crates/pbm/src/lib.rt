@@ -3,20 +3,24 @@
 //! Bytes are read from the front. A reader takes a slice, and gives what it read and the slice that is left behind it; nothing is copied.
 #![tactic(auto)]
 
+mod digit_row;
 mod front;
 mod gap;
 mod header;
 mod image;
 mod laws;
 mod number;
+mod pieces;
 mod plain_word;
 mod plain_writer;
 mod raster;
 mod raw_raster;
+mod raw_row;
 mod raw_writer;
 
 pub use image::read_image;
 pub use laws::{one_image, plain_text_is_an_image, raw_text_is_an_image, reads_what_is_found};
 pub use metric::PbmFault;
+pub use pieces::{PIECE, first_piece, next_piece, plain_length};
 pub use plain_writer::write_plain;
 pub use raw_writer::write_raw;

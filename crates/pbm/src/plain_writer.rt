@@ -1,59 +1,73 @@
 //! Writing an image in the plain form.
 
-ghost use Rattle.std.specs.Prelude.{◌≡◌, ◌+◌, ◌*◌, ◌<◌, ◌≤◌, ◌++◌, cond, vec_len, vec_capacity, OnOk, OnErr, IfErr};
+ghost use Rattle.std.specs.Prelude.{◌≡◌, ℕ, ◌+◌, ◌-◌, ◌*◌, ◌<◌, ◌≤◌, ◌++◌, length, slice_index, vec_len, vec_capacity, OnOk, OnErr, IfErr};
 ghost use Rattle.std.specs.List.{range_with_len, flat_map};
+ghost use Rattle.bits.specs.Cells.{has};
 ghost use Rattle.metric.specs.declared.refusal.Refusal.TheVariants.{Memory};
-ghost use Rattle.pbm.specs.Writing.{digit_text, ends_line, plain_digit, plain_text, row_length};
+ghost use Rattle.pbm.specs.Image.{pixel_byte};
+ghost use Rattle.pbm.specs.Writing.{plain_digit, plain_text, row_length};
 
+use crate::digit_row::{MOST_DIGITS, put_digits};
 use crate::front::{FRONT_ROOM, push_front};
 use crate::header::Form;
 use bits::Bitmap;
-use metric::{Cell, Refusal};
+use metric::Refusal;
 
 /// How many digits a line has.
-const LINE_DIGITS: u16 = 70;
-
-/// Whether a line ends behind the digit of column x.
-fn ends_line(width: u16, x: u16) -> bool
-    requires { x < width }
-    ensures { result ≡ ends_line width x }
-{
-    (x + 1) % LINE_DIGITS == 0 || x + 1 == width
-}
+const LINE_DIGITS: usize = 70;
 
 /// How many bytes the lines of a row take.
-fn row_length(width: u16) -> usize
+pub fn row_length(width: u16) -> usize
     ensures { result ≡ row_length width }
 {
-    usize::from(width) + usize::from(width).div_ceil(usize::from(LINE_DIGITS))
+    usize::from(width) + usize::from(width).div_ceil(LINE_DIGITS)
 }
 
-/// Adds the digit of a pixel, and LF where its line ends. There is room for both.
-fn push_digit(out: &mut Vec<u8>, black: bool, ends: bool)
-    requires { vec_len out.old + cond ends 2 1 ≤ vec_capacity out.old }
-    ensures text { out.new.items ≡ out.old.items ++ digit_text black ends }
-    ensures length { vec_len out.new ≡ vec_len out.old + cond ends 2 1 }
-    ensures room { vec_capacity out.new ≡ vec_capacity out.old }
+/// Adds the digits of row y in lines. There is room for them.
+fn push_lines(out: &mut Vec<u8>, bitmap: &Bitmap, y: u16, digits: &[u8])
+    requires room { vec_len out.old + row_length bitmap.now.width ≤ vec_capacity out.old }
+    requires as_many { length digits.now ≡ bitmap.now.width }
+    requires digits { (x : ℕ) → x < bitmap.now.width → slice_index digits.now x ≡ pixel_byte (has bitmap.now x y) }
+    ensures text { out.new.items ≡ out.old.items ++ flat_map (plain_digit bitmap.now) (range_with_len (y * bitmap.now.width) bitmap.now.width) }
+    ensures length { vec_len out.new ≡ vec_len out.old + row_length bitmap.now.width }
+    ensures room { vec_capacity out.old ≤ vec_capacity out.new }
 {
-    out.push_reserved(if black { b'1' } else { b'0' });
-    if ends {
+    let mut start = 0;
+    'lines: while start < digits.len() {
+        let end = digits.len().min(start + LINE_DIGITS);
+        let _ = out.extend_from_slice(&digits[start..end]);
         out.push_reserved(b'\n');
+        start = end;
     }
 }
 
-/// Adds the lines of row y. There is room for them.
-fn push_row(out: &mut Vec<u8>, bitmap: &Bitmap, y: u16)
+/// Adds the lines of row y, whose digits are put into `digits` first. There is room for them.
+fn push_row(out: &mut Vec<u8>, bitmap: &Bitmap, y: u16, digits: &mut [u8])
     requires inside { y < bitmap.now.height }
     requires room { vec_len out.old + row_length bitmap.now.width ≤ vec_capacity out.old }
+    requires digits { length digits.old ≡ 4096 }
     ensures text { out.new.items ≡ out.old.items ++ flat_map (plain_digit bitmap.now) (range_with_len (y * bitmap.now.width) bitmap.now.width) }
-    ensures length { vec_len out.new ≤ vec_len out.old + row_length bitmap.now.width }
-    ensures room { vec_capacity out.new ≡ vec_capacity out.old }
+    ensures length { vec_len out.new ≡ vec_len out.old + row_length bitmap.now.width }
+    ensures room { vec_capacity out.old ≤ vec_capacity out.new }
+    ensures digits { length digits.new ≡ 4096 }
 {
-    let width = bitmap.width();
-    'columns: for x in 0..width {
-        let black = bitmap.get(Cell { x, y });
-        let ends = ends_line(width, x);
-        push_digit(out, black, ends);
+    let width = usize::from(bitmap.width());
+    put_digits(bitmap.row_words(y), digits);
+    push_lines(out, bitmap, y, &digits[..width]);
+}
+
+/// Adds the lines of the rows from one on and before another. There is room for them.
+pub fn push_rows(out: &mut Vec<u8>, bitmap: &Bitmap, from: u16, to: u16)
+    requires order { from ≤ to }
+    requires inside { to ≤ bitmap.now.height }
+    requires room { vec_len out.old + (to - from) * row_length bitmap.now.width ≤ vec_capacity out.old }
+    ensures text { out.new.items ≡ out.old.items ++ flat_map (plain_digit bitmap.now) (range_with_len (from * bitmap.now.width) ((to - from) * bitmap.now.width)) }
+    ensures length { vec_len out.new ≡ vec_len out.old + (to - from) * row_length bitmap.now.width }
+    ensures room { vec_capacity out.old ≤ vec_capacity out.new }
+{
+    let mut digits = [0u8; MOST_DIGITS];
+    'rows: for y in from..to {
+        push_row(out, bitmap, y, &mut digits);
     }
 }
 
@@ -71,8 +85,6 @@ pub fn write_plain(bitmap: &Bitmap, out: &mut Vec<u8>) -> Result<(), Refusal>
         return Err(Refusal::Memory);
     }
     push_front(out, Form::Plain, bitmap);
-    'rows: for y in 0..height {
-        push_row(out, bitmap, y);
-    }
+    push_rows(out, bitmap, 0, height);
     Ok(())
 }

@@ -12,8 +12,9 @@ rows-preserved c = record {
   text = c.push_row.ensures.text
       ∙ ap (λ (t : List ℕ). t ++ map (raw_byte c.args.bitmap.now) (range_with_len (c.rows.y * bytes_across c.args.bitmap.now.width) (bytes_across c.args.bitmap.now.width))) c.rows.invariant.text
       ∙ map-row (raw_byte c.args.bitmap.now) c.push_front.new.out.items (bytes_across c.args.bitmap.now.width) c.rows.y;
-  length = omega arith;
-  room = c.push_row.ensures.room ∙ c.rows.invariant.room;
+  added = omega arith;
+  room = (let a = c.push_row.ensures.room in let b = c.rows.invariant.room in omega arith);
+  row = c.push_row.ensures.row;
 }
 
 pub returns-clause-text : goal.returns-clause-text

@@ -1,0 +1,66 @@
+//! A plain image in pieces, for a stream that takes one after another.
+
+ghost use Rattle.std.specs.Prelude.{◌≡◌, ◌+◌, ◌-◌, ◌*◌, ◌<◌, ◌≤◌, length, vec_len, vec_capacity, IfOk, IfErr};
+ghost use Rattle.std.specs.List.{range_with_len, flat_map};
+ghost use Rattle.metric.specs.declared.refusal.Refusal.TheVariants.{Memory};
+ghost use Rattle.pbm.specs.declared.header.Form.TheVariants.{Plain};
+ghost use Rattle.pbm.specs.Writing.{front_text, plain_digit, plain_text, row_length};
+
+use crate::front::push_front;
+use crate::header::Form;
+use crate::plain_writer::{push_rows, row_length};
+use bits::Bitmap;
+use metric::Refusal;
+use std::alloc::Global;
+
+/// The most bytes of a piece.
+pub const PIECE: usize = 65_536;
+
+/// The first piece of a bitmap's plain image: all before the raster, with room for any piece in its place. An error is want of memory.
+pub fn first_piece(alloc: Global, bitmap: &Bitmap) -> Result<Vec<u8>, Refusal>
+    ensures text { IfOk result (λ piece. piece.items ≡ front_text Plain bitmap.now) }
+    ensures room { IfOk result (λ piece. 65536 ≤ vec_capacity piece) }
+    ensures memory { IfErr result (λ refusal. refusal ≡ Memory) }
+{
+    let mut piece = Vec::new(alloc);
+    if piece.reserve(PIECE).is_err() {
+        return Err(Refusal::Memory);
+    }
+    push_front(&mut piece, Form::Plain, bitmap);
+    Ok(piece)
+}
+
+/// How many bytes a bitmap's plain image has, whose first piece this is.
+pub fn plain_length(bitmap: &Bitmap, first: &[u8]) -> usize
+    requires { first.now ≡ front_text Plain bitmap.now }
+    ensures { result ≡ length (plain_text bitmap.now) }
+{
+    first.len() + usize::from(bitmap.height()) * row_length(bitmap.width())
+}
+
+/// The row behind those that one piece holds from a row on, where there are so many.
+fn end_of_piece(bitmap: &Bitmap, from: u16) -> u16
+    requires { from < bitmap.now.height }
+    ensures more { from < result }
+    ensures inside { result ≤ bitmap.now.height }
+    ensures few { (result - from) * row_length bitmap.now.width ≤ 65536 }
+{
+    let rows = PIECE / row_length(bitmap.width());
+    (usize::from(from) + rows).min(usize::from(bitmap.height())) as u16
+}
+
+/// Puts the next piece in place of one: the lines of the rows from one on, as many as 64 KB hold. Answers the row behind them.
+pub fn next_piece(bitmap: &Bitmap, from: u16, piece: &mut Vec<u8>) -> u16
+    requires inside { from < bitmap.now.height }
+    requires room { 65536 ≤ vec_capacity piece.old }
+    ensures more { from < result }
+    ensures inside { result ≤ bitmap.now.height }
+    ensures text { piece.new.items ≡ flat_map (plain_digit bitmap.now) (range_with_len (from * bitmap.now.width) ((result - from) * bitmap.now.width)) }
+    ensures few { vec_len piece.new ≤ 65536 }
+    ensures room { 65536 ≤ vec_capacity piece.new }
+{
+    let to = end_of_piece(bitmap, from);
+    piece.clear();
+    push_rows(piece, bitmap, from, to);
+    to
+}
