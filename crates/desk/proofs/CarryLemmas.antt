@@ -21,6 +21,10 @@ use Rattle.shelf.proofs.LogParts.{entries-push}
 use Rattle.map_core.proofs.Replies.{HasKept, the_reply}
 use Rattle.desk.specs.declared.holding.Holding.{Holding}
 use Rattle.desk.specs.Holdings.{IsTold, IsOneStep, Does}
+use Rattle.map_core.specs.Drawing.{IsDraw}
+use Rattle.desk.specs.declared.holding.judged.Judged.{Judged}
+use Rattle.desk.specs.declared.holding.judged.Judged.TheVariants as kinds
+use Rattle.desk.specs.Judging.{IsJudged, IsAtOnce}
 use Rattle.desk.specs.Carries.{CanCarry, IsCarried, signed}
 use Rattle.map_core.proofs.LedgerLemmas.{place_of_ledger}
 use Rattle.desk.proofs.HoldDraw.{judged_other}
@@ -101,6 +105,22 @@ slot_told z k u h new by done c words reply told does kept is t there =
     let one : task_of by c done words ≡ t = the_task (sym (ap (λ (q : KeeperView). q.task) is) ∙ there) in
     slot_committed z k h new by done c words reply told does kept
     ∙ ap (λ (q : KeeperView × Task). newest_slot z.base (committed z.base q.0 q.1).log) (λ j. (sym is j, one j))
+
+-- what is done at once is a command of one step
+pub one_step : (h : Holding) (c : Command) (j : Judged) → IsJudged h c j → IsAtOnce j → IsOneStep c
+one_step h c (kinds.Draw stroke) judged once = drawn_once c judged.kind.0
+  where
+    drawn_once : (c : Command) → IsDraw c → IsOneStep c
+    drawn_once (Paint r black) draws = tt
+    drawn_once (Stamp x y b) draws = tt
+    drawn_once Publish draws = absurd draws
+    drawn_once Revert draws = tt
+    drawn_once Collect draws = absurd draws
+    drawn_once Checkpoint draws = tt
+one_step h c kinds.Revert judged once = subst IsOneStep (sym judged.kind) tt
+one_step h c kinds.Checkpoint judged once = subst IsOneStep (sym judged.kind) tt
+one_step h c kinds.Publish judged once = absurd once
+one_step h c kinds.Collect judged once = absurd once
 
 -- a command of one step has no scan
 pub no_scan : (z : StoreId) (k : KeeperView) (c : Command) (reply : Reply) → IsOneStep c → HasKept (story z.base (entries k.log)) c reply []

@@ -32,14 +32,9 @@ use Rattle.desk.specs.Carries.{CanCarry, IsCarried, signed}
 use Rattle.desk.specs.Desks.{DeskView, story_told, base_place, kept_part, kept_after, IsDesk, IsSteady, IsAccepted, IsWhy, IsRefused, IsApplied}
 
 -- where the log refuses a command, or there is no memory for its entry
-why_is : (z : StoreId) (d : DeskView) (h : Holding) (c : Command) (has_room : Bool) (refusal : Refusal) → IsTold z.base (entries d.log) h → (takes_room c ≡ false → has_room ≡ true) → Refuses h c has_room refusal
-    → IsWhy z d c refusal
-why_is z d h c has_room refusal told checkpoint (inl judged) = inl (sym (judged z.base (entries d.log) told))
-why_is z d h c has_room refusal told checkpoint (inr judged) = inr (sym (judged.0 z.base (entries d.log) told), judged.1, takes (takes_room c) has_room checkpoint judged.2)
-  where
-    takes : (takes has_room : Bool) → (takes ≡ false → has_room ≡ true) → has_room ≡ false → takes ≡ true
-    takes true has_room checkpoint none = refl
-    takes false has_room checkpoint none = absurd (let room = checkpoint refl in cc)
+why_is : (z : StoreId) (d : DeskView) (h : Holding) (c : Command) (refusal : Refusal) → IsTold z.base (entries d.log) h → Refuses h c refusal → IsWhy z d c refusal
+why_is z d h c refusal told (inl judged) = inl (sym (judged z.base (entries d.log) told))
+why_is z d h c refusal told (inr judged) = inr (sym (judged.0 z.base (entries d.log) told), judged.1, judged.2)
 
 -- a reader that holds steady has, once it has met the keeper, seen its log, and counts so many entries more
 met_steady : (z : Base) (k : KeeperView) (x : ReaderView) (more : ℕ) → IsSteady x → unmet_by x.number k.unmet ≡ more → met_by z k x ≡ record x { seen = k.log; made = x.made + more }
@@ -64,10 +59,10 @@ can_carry z d k h told is = record {
 }
 
 -- after a refusal
-pub refused_is : (z : StoreId) (d new : DeskView) (k : KeeperView) (h : Holding) (kept : List Signed) (as' : List (Option Seen)) (x y : ReaderView) (c : Command) (has_room : Bool) (refusal : Refusal) → IsDesk z d k h kept as'
-    → IsSteady x → (takes_room c ≡ false → has_room ≡ true) → Refuses h c has_room refusal → new ≡ d → y ≡ met_by z.base k x → IsRefused z d x c refusal new y
-refused_is z d new k h kept as' x y c has_room refusal desk steady checkpoint judged same met_is =
-    record { why = why_is z d h c has_room refusal desk.told checkpoint judged; same = same; seat_is = reader_met z d k h kept as' x y desk steady met_is }
+pub refused_is : (z : StoreId) (d new : DeskView) (k : KeeperView) (h : Holding) (kept : List Signed) (as' : List (Option Seen)) (x y : ReaderView) (c : Command) (refusal : Refusal) → IsDesk z d k h kept as'
+    → IsSteady x → Refuses h c refusal → new ≡ d → y ≡ met_by z.base k x → IsRefused z d x c refusal new y
+refused_is z d new k h kept as' x y c refusal desk steady judged same met_is =
+    record { why = why_is z d h c refusal desk.told judged; same = same; seat_is = reader_met z d k h kept as' x y desk steady met_is }
 
 -- what was done of a command that is accepted: the keeper rested at the desk's log, and carried it out
 pub record IsDone (z : StoreId) (d : DeskView) (k : KeeperView) (h : Holding) (by : ℕ) (c : Command) (reply : Reply) (after : KeeperView) (new : Holding) : Type 0 where

@@ -1,8 +1,7 @@
 -- What is held after a paint or a stamp, and after a revert.
 use Rattle.std.proofs.Common.{◌≡◌, ℕ, ◌+◌, ◌-◌, Bool, true, false, if◌then◌else◌, List, [], ◌∷◌, ◌++◌, length, drop, map, replicate, refl, ap, subst, sym, ◌∙◌, arith}
-use Rattle.std.specs.Prelude.{Option, Some, None, is_some, nat_lt}
+use Rattle.std.specs.Prelude.{Option, Some, None, is_some, nat_lt, Result, Ok, Err, IfErr}
 use Rattle.std.proofs.lemmas.List.{length-map}
-use mathlib.Core.Logic.{inl}
 use Rattle.bits.specs.Cells.{Cells}
 use Rattle.metric.specs.declared.refusal.Refusal.{Refusal}
 use Rattle.metric.specs.declared.refusal.Refusal.TheVariants.{OutOfRange, BlocksFull}
@@ -13,7 +12,7 @@ use Rattle.map_core.specs.declared.command.Reply.{Reply}
 use Rattle.map_core.specs.declared.command.Reply.TheVariants.{Painted, Reverted, Checkpointed}
 use Rattle.map_core.specs.declared.ledger.Ledger.{Ledger}
 use Rattle.map_core.specs.declared.setting.Setting.{Setting}
-use Rattle.map_core.specs.Drawing.{touched, differing, cells_changed, is_inside, draws, IsDraw}
+use Rattle.map_core.specs.Drawing.{touched, differing, cells_changed, is_inside, draws as is_draw, IsDraw}
 use Rattle.map_core.specs.Story.{Story, newest, bitmap_of, trues, new_ones, inuse}
 use Rattle.map_core.specs.Legal.{needed, refused, refused_blocks, IsReply, IsAnswer, told, after_draw}
 use Rattle.map_core.specs.Blocks.{Blocks, directory_of, own_after, moved, drawn_blocks}
@@ -28,7 +27,11 @@ use Rattle.map_core.proofs.TidyDraft.{free_is}
 use Rattle.grid.specs.Grids.{Draws, Reverts, draft, own_blocks, needed_by, refused_by}
 use Rattle.grid.specs.Pieces.{block_if}
 use Rattle.desk.specs.declared.holding.Holding.{Holding}
-use Rattle.desk.specs.Holdings.{summary_of, Holds, IsTold, Judges, Refuses, Does}
+use Rattle.desk.specs.declared.holding.judged.Judged.{Judged}
+use Rattle.desk.specs.declared.holding.judged.Judged.TheVariants as kinds
+use Rattle.grid.specs.declared.stroke.Stroke.{Stroke}
+use Rattle.desk.specs.Judging.{IsJudged, drawing_of}
+use Rattle.desk.specs.Holdings.{summary_of, Holds, IsTold, Judges, Does}
 use Rattle.desk.proofs.HoldLemmas.{tidy_told, told_more, holds_draft}
 
 -- so many blocks are needed as the log says
@@ -81,17 +84,28 @@ judged_draw k log h c answer tells draws by is =
     as_draw g s Checkpoint draws = absurd draws
 
 -- another command that the ledger doesn't refuse isn't refused
-pub judged_other : (k : Base) (log : List Entry) (h : Holding) (c : Command) → IsTold k log h → draws c ≡ false → refused_by_ledger h.ledger c ≡ None → None ≡ refused k.setting (story k log) c
+pub judged_other : (k : Base) (log : List Entry) (h : Holding) (c : Command) → IsTold k log h → is_draw c ≡ false → refused_by_ledger h.ledger c ≡ None → None ≡ refused k.setting (story k log) c
 judged_other k log h c tells other by =
     sym (refused_next k (story k log) h.ledger tells.holds.summary.ledger_is (tidy_told k log h tells).draft c by ∙ refused_for_none k.setting (story k log) c other)
 
 -- why the ledger refuses a command
-judged_why : (h : Holding) (c : Command) (refusal : Refusal) → refused_by_ledger h.ledger c ≡ Some refusal → Judges h c (Some refusal)
+pub judged_why : (h : Holding) (c : Command) (refusal : Refusal) → refused_by_ledger h.ledger c ≡ Some refusal → Judges h c (Some refusal)
 judged_why h c refusal by = λ k log tells. sym (refused_first k (story k log) h.ledger tells.holds.summary.ledger_is (tidy_told k log h tells).draft c refusal by)
 
--- a command that the ledger refuses
-pub judged_first : (h : Holding) (c : Command) (has_room : Bool) (refusal : Refusal) → refused_by_ledger h.ledger c ≡ Some refusal → Refuses h c has_room refusal
-judged_first h c has_room refusal by = inl (judged_why h c refusal by)
+-- a command that is judged isn't refused
+pub judged_none : (h : Holding) (c : Command) (j : Judged) → IsJudged h c j → Judges h c None
+judged_none h c (kinds.Draw stroke) judged = λ k log tells. judged_draw k log h c None tells judged.kind.0 judged.by judged.kind.1.accepted
+judged_none h c kinds.Publish judged = λ k log tells. judged_other k log h c tells (ap is_draw judged.kind) judged.by
+judged_none h c kinds.Revert judged = λ k log tells. judged_other k log h c tells (ap is_draw judged.kind) judged.by
+judged_none h c kinds.Collect judged = λ k log tells. judged_other k log h c tells (ap is_draw judged.kind) judged.by
+judged_none h c kinds.Checkpoint judged = λ k log tells. judged_other k log h c tells (ap is_draw judged.kind) judged.by
+
+-- why a paint or a stamp is refused, by what the grid answers to it
+pub drawing_why : (h : Holding) (c as' : Command) (stroke : Result Stroke Refusal) (judged : Result Judged Refusal) → IsDraw c → refused_by_ledger h.ledger c ≡ None → c ≡ as'
+    → IfErr stroke (λ refusal. refused_by h.grid h.arena.free as' ≡ Some refusal) → judged ≡ drawing_of stroke → IfErr judged (λ refusal. Judges h c (Some refusal))
+drawing_why h c as' (Ok stroke) judged draws by same why is = subst (λ (r : Result Judged Refusal). IfErr r (λ refusal. Judges h c (Some refusal))) (sym is) tt
+drawing_why h c as' (Err refusal) judged draws by same why is =
+    subst (λ (r : Result Judged Refusal). IfErr r (λ x. Judges h c (Some x))) (sym is) (λ k log tells. judged_draw k log h c (Some refusal) tells draws by (ap (refused_by h.grid h.arena.free) same ∙ why))
 
 -- a paint or a stamp is done
 pub draw_done : (old new : Holding) (c : Command) (changed : ℕ) (reply : Reply) → IsDraw c → refused_by_ledger old.ledger c ≡ None → refused_by old.grid old.arena.free c ≡ None

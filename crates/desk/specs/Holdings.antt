@@ -1,5 +1,5 @@
 -- What a desk holds of a map, and what that says of its log: this project's own rule.
-use Rattle.std.specs.Prelude.{◌≡◌, ℕ, ◌+◌, ◌≤◌, ◌⊎◌, Bool, false, List, [], ◌∷◌, ◌++◌, length, Option, Some, None}
+use Rattle.std.specs.Prelude.{◌≡◌, ℕ, ◌+◌, ◌≤◌, ◌⊎◌, true, List, [], ◌∷◌, ◌++◌, length, Option, Some, None}
 use Rattle.metric.specs.declared.refusal.Refusal.{Refusal}
 use Rattle.metric.specs.declared.refusal.Refusal.TheVariants.{Memory}
 use Rattle.map_core.specs.declared.command.Command.{Command}
@@ -12,7 +12,7 @@ use Rattle.map_core.specs.Blocks.{Blocks, directory_of, own_list}
 use Rattle.map_core.specs.Words.{Base}
 use Rattle.map_core.specs.Views.{story, blocks}
 use Rattle.map_core.specs.Tidy.{IsReady}
-use Rattle.map_core.specs.Ledger.{IsBalanced}
+use Rattle.map_core.specs.Ledger.{IsBalanced, takes_room}
 use Rattle.map_core.specs.Summary.{Summary, IsSummary}
 use Rattle.grid.specs.Grids.{draft, bitmap_at, own_blocks, newest_blocks, retired_blocks}
 use Rattle.desk.specs.declared.holding.Holding.{Holding}
@@ -50,9 +50,9 @@ pub record CanAnswer (h : Holding) : Type 0 where
 abbrev pub Judges : Holding → Command → Option Refusal → Type 0
 Judges h c refusal = (k : Base) (log : List Entry) → IsTold k log h → refusal ≡ refused k.setting (story k log) c
 
--- a command is refused: for this reason by the log, or for want of memory, where the log has no reason and no room was found
-abbrev pub Refuses : Holding → Command → Bool → Refusal → Type 0
-Refuses h c has_room refusal = Judges h c (Some refusal) ⊎ (Judges h c None × (refusal ≡ Memory) × (has_room ≡ false))
+-- a command is refused: for this reason by the log, or for want of memory for its entry, where the log has no reason
+abbrev pub Refuses : Holding → Command → Refusal → Type 0
+Refuses h c refusal = Judges h c (Some refusal) ⊎ (Judges h c None × (refusal ≡ Memory) × (takes_room c ≡ true))
 
 -- a paint, a stamp or a revert: its only step is its last
 abbrev pub IsOneStep : Command → Type 0

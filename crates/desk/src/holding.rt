@@ -1,6 +1,8 @@
 //! What a desk holds of a map: its ledger, its draft and versions as tiles, and the arena of their blocks.
 
 mod answer;
+mod judge;
+mod judged;
 
 ghost use Rattle.std.specs.Prelude.{◌≡◌, ◌+◌, [], length, IfOk, IfErr};
 ghost use Rattle.bits.specs.Tiles.{tile_count};
@@ -13,6 +15,7 @@ ghost use Rattle.desk.specs.Holdings.{IsTold};
 use arena::Arena;
 use bits::Bitmap;
 use grid::Grid;
+pub use judged::Judged;
 use map_core::{Ledger, Setting};
 use metric::Refusal;
 use std::alloc::Global;

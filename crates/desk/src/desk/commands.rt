@@ -2,9 +2,11 @@
 //!
 //! Condition of each: a seat that has announced a version holds one.
 
-ghost use Rattle.std.specs.Prelude.{◌≡◌, ◌<◌, true, false, Some, vec_len, vec_capacity, IfErr};
+ghost use Rattle.std.specs.Prelude.{◌≡◌, ◌<◌, true, Some, vec_len, vec_capacity, IfOk, IfErr, OnOk};
 ghost use Rattle.map_core.specs.declared.command.Command.TheVariants.{Paint, Stamp, Publish, Revert, Collect, Checkpoint};
-ghost use Rattle.map_core.specs.Ledger.{IsBalanced, takes_room};
+ghost use Rattle.map_core.specs.Ledger.{takes_room};
+ghost use Rattle.desk.specs.Holdings.{CanAnswer, Refuses};
+ghost use Rattle.desk.specs.Judging.{IsJudged};
 ghost use Rattle.map_core.specs.Legal.{IsLegal};
 ghost use Rattle.shelf.specs.Roles.{entries};
 ghost use Rattle.desk.specs.Desks.{IsApplied, IsSteady, answer_of, base_place, kept_after, kept_part};
@@ -12,19 +14,32 @@ ghost use Rattle.desk.specs.Desks.{IsApplied, IsSteady, answer_of, base_place, k
 use crate::carry::carry;
 use crate::desk::Desk;
 use crate::desk::answers::{answered, stamp_answered};
+use crate::holding::{Holding, Judged};
 use bits::Bitmap;
-use map_core::{Command, Entry, Ledger, Reply};
+use map_core::{Command, Entry, Reply};
 use metric::{Rect, Refusal};
 use shelf::{Asked, ReaderSeat, Signed, StoreName, Ticket, meet};
 
-/// Whether there is room for a command's entry. None is asked for where the ledger refuses the command, and a checkpoint needs none.
-fn finds_room(ledger: &Ledger, command: &Command, log: &mut Vec<Signed>) -> bool
-    requires { IsBalanced ledger.now }
+/// Judges a command, and finds room for its entry, which is asked for after the other refusals; a checkpoint needs none.
+fn admit<'a>(
+    holding: &Holding,
+    command: &'a Command,
+    log: &mut Vec<Signed>,
+) -> Result<Judged<'a>, Refusal>
+    requires { CanAnswer holding.now }
+    ensures judged { IfOk result (IsJudged holding.now command.now) }
+    ensures room { OnOk result (takes_room command.now ≡ true → vec_len log.new < vec_capacity log.new) }
+    ensures refused { IfErr result (λ refusal. Refuses holding.now command.now refusal) }
     ensures items { log.new.items ≡ log.old.items }
-    ensures room { result ≡ true → takes_room command.now ≡ true → vec_len log.new < vec_capacity log.new }
-    ensures checkpoint { takes_room command.now ≡ false → result ≡ true }
 {
-    !command.takes_room() || (ledger.judge(command).is_none() && log.reserve(1).is_ok())
+    let judged = match holding.judge(command) {
+        Ok(judged) => judged,
+        Err(refusal) => return Err(refusal),
+    };
+    if command.takes_room() && log.reserve(1).is_err() {
+        return Err(Refusal::Memory);
+    }
+    Ok(judged)
 }
 
 /// Keeps an entry behind the others. A checkpoint drops them all, and isn't kept itself; the room stays.
@@ -54,23 +69,22 @@ impl<Id: StoreName> Desk<Id> {
         ensures back { IfErr result (λ back. back.0 ≡ command) }
     {
         meet(&mut self.keeper, seat);
-        let has_room = finds_room(&self.holding.ledger, &command, &mut self.log);
         let asked = Asked {
             by: seat.number(),
             command,
         };
-        let carried = carry(
+        let judged = match admit(&self.holding, &asked.command, &mut self.log) {
+            Ok(judged) => judged,
+            Err(refusal) => return Err((asked.command, refusal)),
+        };
+        let reply = carry(
             &mut self.keeper,
             &mut self.holding,
             &mut self.announced,
             &asked,
-            has_room,
+            judged,
         );
         let Asked { by, command } = asked;
-        let reply = match carried {
-            Ok(reply) => reply,
-            Err(refusal) => return Err((command, refusal)),
-        };
         let entry = Entry { command, reply };
         keep(&mut self.log, Signed { by, entry });
         meet(&mut self.keeper, seat);

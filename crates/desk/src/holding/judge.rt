@@ -1,0 +1,57 @@
+//! Why commands are refused by what a desk holds, and what those do that aren't.
+
+ghost use Rattle.std.specs.Prelude.{◌≡◌, Some, None, IfOk, IfErr};
+ghost use Rattle.map_core.specs.Ledger.{refused_by_ledger};
+ghost use Rattle.desk.specs.Holdings.{CanAnswer, Judges};
+ghost use Rattle.desk.specs.Judging.{IsJudged, IsKind, drawing_of};
+
+use crate::holding::{Holding, Judged};
+use grid::Stroke;
+use map_core::Command;
+use metric::Refusal;
+
+/// What a paint or a stamp does, if it isn't refused.
+fn drawing(stroke: Result<Stroke, Refusal>) -> Result<Judged, Refusal>
+    ensures { result ≡ drawing_of stroke.entry }
+{
+    match stroke {
+        Ok(stroke) => Ok(Judged::Draw(stroke)),
+        Err(refusal) => Err(refusal),
+    }
+}
+
+impl Holding {
+    /// What a command does that the ledger doesn't refuse, or that it is refused for want of blocks.
+    fn judge_blocks<'a>(&self, command: &'a Command) -> Result<Judged<'a>, Refusal>
+        requires able { CanAnswer self.now }
+        requires judged { refused_by_ledger self.now.ledger command.now ≡ None }
+        ensures kind { IfOk result (IsKind self.now command.now) }
+        ensures refused { IfErr result (λ refusal. Judges self.now command.now (Some refusal)) }
+    {
+        match command {
+            Command::Paint { rect, black } => {
+                drawing(self.grid.judge_paint(&self.arena, *rect, *black))
+            }
+            Command::Stamp { x, y, bitmap } => {
+                drawing(self.grid.judge_stamp(&self.arena, *x, *y, bitmap))
+            }
+            Command::Publish => Ok(Judged::Publish),
+            Command::Revert => Ok(Judged::Revert),
+            Command::Collect => Ok(Judged::Collect),
+            Command::Checkpoint => Ok(Judged::Checkpoint),
+        }
+    }
+
+    /// Judges a command: what it does, or why it is refused: for its area (`OutOfRange`), for want of room in the log (`LogFull`), of a place (`PlacesUsed`), of
+    /// a slot (`VersionsFull`, a publish) or of blocks (`BlocksFull`, a paint or a stamp), in this order. It takes no memory.
+    pub fn judge<'a>(&self, command: &'a Command) -> Result<Judged<'a>, Refusal>
+        requires { CanAnswer self.now }
+        ensures judged { IfOk result (IsJudged self.now command.now) }
+        ensures refused { IfErr result (λ refusal. Judges self.now command.now (Some refusal)) }
+    {
+        match self.ledger.judge(command) {
+            Some(refusal) => Err(refusal),
+            None => self.judge_blocks(command),
+        }
+    }
+}
