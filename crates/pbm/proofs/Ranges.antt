@@ -63,3 +63,13 @@ flat_map-row_from f before across from y order =
     ∙ (ap (flat_map f) (sym (range-append (from * across) ((y - from) * across) across))
     ∙ (ap (λ (m : ℕ). flat_map f (range_with_len (from * across) m)) both
     ∙ ap (λ (m : ℕ). flat_map f (range_with_len (from * across) (m * across))) (sym next)))))
+
+-- some rows more, of a list that has some items for each place
+pub flat_map-rows : (f : ℕ → List ℕ) (across from to : ℕ) → from ≤ to → flat_map f (range_with_len 0 (from * across)) ++ flat_map f (range_with_len (from * across) ((to - from) * across)) ≡ flat_map f (range_with_len 0 (to * across))
+flat_map-rows f across from to order =
+    let up : from + (to - from) ≡ to = omega (arith, order) in
+    let both : from * across + (to - from) * across ≡ to * across = omega arith ∙ ap (λ (k : ℕ). k * across) up in
+    let none : 0 + from * across ≡ from * across = omega arith in
+    sym (flat_map-append f (range_with_len 0 (from * across)) (range_with_len (from * across) ((to - from) * across)))
+    ∙ (ap (flat_map f) (ap (λ (k : ℕ). range_with_len 0 (from * across) ++ range_with_len k ((to - from) * across)) (sym none) ∙ sym (range-append 0 (from * across) ((to - from) * across)))
+    ∙ ap (λ (m : ℕ). flat_map f (range_with_len 0 m)) both)

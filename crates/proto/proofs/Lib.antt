@@ -7,3 +7,4 @@ pub mod Speaking
 pub mod Splitting
 pub mod Wires
 pub mod Writing
+pub mod Dumping

@@ -3,6 +3,8 @@ use Rattle.std.specs.Prelude.{◌≡◌, ◌≢◌, ℕ, ◌+◌, ◌<◌, ◌�
 use Rattle.std.specs.List.{flat_map}
 use Rattle.metric.specs.Stream.{Appends, AppendsFront, Takes}
 use Rattle.metric.specs.declared.refusal.Refusal.{Refusal}
+use Rattle.metric.specs.declared.stream.WriteFault.{WriteFault}
+use Rattle.bits.specs.Cells.{Cells}
 use Rattle.metric.specs.declared.refusal.Refusal.TheVariants as refusals
 use Rattle.shelf.specs.Store.{StoreId}
 use Rattle.proto.specs.declared.serve.end.End.{End}
@@ -12,8 +14,8 @@ use Rattle.proto.specs.declared.answer.Answer.TheVariants as answers
 use Rattle.proto.specs.Replies.{reply_line}
 use Rattle.proto.specs.Said.{Said, HasPoints}
 use Rattle.proto.specs.Said as saids
-use Rattle.proto.specs.Callers.{CallerValue}
-use Rattle.proto.specs.Exchanges.{Exchange, IsExchange, IsLine, IsLineAnswer, line_said, body_of, counts}
+use Rattle.proto.specs.Callers.{CallerValue, bitmap_held}
+use Rattle.proto.specs.Exchanges.{Exchange, IsDump, IsExchange, IsLine, IsLineAnswer, line_said, body_of, counts}
 use Rattle.proto.specs.Wire.{Wire, HasNotWritten, HasRead, HasWritten, IsReadOut}
 
 -- the bytes of an exchange: its line, LF, and the bytes that it counts
@@ -173,6 +175,23 @@ abbrev pub IsSaid : Option End → Wire → List ℕ → Wire → Type 0
 IsSaid None old text new = HasWritten old text new
 IsSaid (Some ends.WriteFailed) old text new = HasNotWritten old text new
 IsSaid end old text new = ⊥
+
+-- how a stream ends behind such a write, if it does
+abbrev pub end_after : Result (Unit {0}) WriteFault → Option End
+end_after (Ok done) = None
+end_after (Err fault) = Some ends.WriteFailed
+
+-- the dump of a bitmap was said: its plain image behind the number of its bytes, or want of memory
+pub record IsDumped (cells : Cells) (end : Option End) (wire wire_after : Wire) : Type 0 where
+  pub answer : Answer
+  pub body : List ℕ
+  pub is_dump : IsDump cells answer body
+  pub said : IsSaid end wire (reply_line answer ++ body) wire_after
+
+-- DUMP was answered a caller, and its answer was said: the dump of the version that it has pinned, or that it has none
+abbrev pub IsDumpSaid : StoreId → Option End → Wire → CallerValue → Wire → Type 0
+IsDumpSaid store end wire old wire_after =
+    elim old.pin as (λ _. Type 0) [ None ↦ IsSaid end wire (reply_line (answers.Refused refusals.NotPinned)) wire_after | Some version ↦ IsDumped (bitmap_held store old) end wire wire_after ]
 
 -- a line, with the bytes that were kept, was answered, and its answer was said
 pub record HasAnswered {A : Type 0} (store : StoreId) (heard : Result Said Refusal) (kept : Option (Vec ℕ A)) (end : Option End) (wire : Wire) (old : CallerValue) (wire_after : Wire) (new : CallerValue) : Type 0 where

@@ -7,6 +7,7 @@ ghost use Rattle.proto.specs.Wire.{CanGoOn, wire_of};
 
 mod caller;
 mod counted;
+mod dump;
 mod end;
 mod exchange;
 mod line_buffer;

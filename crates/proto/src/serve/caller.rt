@@ -5,14 +5,18 @@ ghost use Rattle.shelf.specs.Steps.{leaving};
 ghost use Rattle.desk.specs.Desks.{answer_of};
 ghost use Rattle.proto.specs.Asked.{asked_by};
 ghost use Rattle.proto.specs.Callers.{IsCommanded, IsPinAnswer, IsUnpinAnswer, free, told_as};
-ghost use Rattle.proto.specs.Exchanges.{IsDumpAnswer, IsQueryAnswer, WithPin, body_of};
+ghost use Rattle.proto.specs.Exchanges.{IsQueryAnswer, WithPin};
+ghost use Rattle.proto.specs.Served.{IsDumpSaid};
+ghost use Rattle.proto.specs.Wire.{CanGoOn, wire_of};
 
 use crate::answer::Answer;
 use crate::answering::answer_of;
 use crate::query::Query;
-use crate::serve::exchange::{Spoken, dump_of};
+use crate::serve::dump::{say_dump, say_not_pinned};
+use crate::serve::end::End;
+use crate::text::Text;
 use map_core::{Command, Reply};
-use metric::Refusal;
+use metric::{Refusal, Stream};
 use session::{Pinned, Session, Store};
 use shelf::StoreName;
 use std::alloc::Global;
@@ -85,18 +89,15 @@ impl<Id: StoreName> Caller<Id> {
         }
     }
 
-    /// What DUMP is answered: the plain image of the bitmap that it has pinned follows the number of its bytes.
-    pub fn dump(&mut self, alloc: Global) -> Spoken
+    /// Says what DUMP is answered: the plain image of the bitmap that it has pinned follows the number of its bytes. Answers how the stream ends there, if it does.
+    pub fn dump<S: Stream>(&mut self, alloc: Global, stream: &mut S, text: &mut Text) -> Option<End>
+        requires { CanGoOn (wire_of S.rest S.held S.failed_reads S.failed_writes stream.old) }
         ensures caller { self.new ≡ self.old }
-        ensures answer { WithPin (λ _. IsDumpAnswer Id.store self.old result.answer self.old) self.old result.answer self.old }
-        ensures body { result.body.items ≡ body_of Id.store self.old result.answer }
+        ensures said { IsDumpSaid Id.store result (wire_of S.rest S.held S.failed_reads S.failed_writes stream.old) self.old (wire_of S.rest S.held S.failed_reads S.failed_writes stream.new) }
     {
         match &mut self.seat {
-            Seat::Free(_) => Spoken {
-                answer: Answer::Refused(Refusal::NotPinned),
-                body: Vec::new(alloc),
-            },
-            Seat::Holding(pinned) => dump_of(alloc, pinned.bitmap()),
+            Seat::Free(_) => say_not_pinned(stream, text),
+            Seat::Holding(pinned) => say_dump(alloc, pinned.bitmap(), stream, text),
         }
     }
 

@@ -1,52 +1,20 @@
 //! What one line is answered.
 
 ghost use Rattle.std.specs.Prelude.{◌≡◌, ◌≢◌, ℕ, List, Ok, true, false};
-ghost use Rattle.proto.specs.Asked.{asked_by};
-ghost use Rattle.proto.specs.Exchanges.{IsDump, IsDumpAnswer, IsLineAnswer, IsQueryAnswer, IsStampAnswer, WithPin, body_of, seen_in, with_pin};
+ghost use Rattle.proto.specs.Exchanges.{IsLineAnswer, IsStampAnswer, seen_in, with_pin};
 ghost use Rattle.proto.specs.Said as saids;
 ghost use Rattle.proto.specs.Served.{AreKept};
 
 use crate::answer::Answer;
 use crate::line::Line;
 use crate::serve::caller::Caller;
-use bits::Bitmap;
 use map_core::Command;
 use metric::{PbmFault, Refusal};
-use pbm::{read_image, write_plain};
+use pbm::read_image;
 use session::Store;
 use shelf::StoreName;
 use std::alloc::Global;
 use std::sync::Wait;
-
-/// What a line is answered: the reply line's answer, and the bytes that follow it.
-#[derive(Drop)]
-pub struct Spoken {
-    pub answer: Answer,
-    pub body: Vec<u8>,
-}
-
-/// What a line, with the bytes that it counts, is answered. QUIT is no such line.
-pub fn answer_line<Id: StoreName, R: Wait>(
-    rt: &R,
-    alloc: Global,
-    store: &Store<Id>,
-    caller: Caller<Id>,
-    asked: Result<Line, Refusal>,
-    kept: Option<Vec<u8>>,
-) -> (Caller<Id>, Spoken)
-    requires { seen_in asked ≢ Ok saids.quit }
-    ensures answer { (bytes : List ℕ) → AreKept kept bytes → IsLineAnswer Id.store (seen_in asked) bytes caller result.1.answer result.0 }
-    ensures body { result.1.body.items ≡ body_of Id.store caller result.1.answer }
-{
-    if says_dump(&asked) {
-        let mut caller = caller;
-        let spoken = caller.dump(alloc);
-        return (caller, spoken);
-    }
-    let (caller, answer) = answer_short(rt, alloc, store, caller, asked, kept);
-    let body = Vec::new(alloc);
-    (caller, Spoken { answer, body })
-}
 
 /// Whether a line says QUIT.
 pub fn says_quit(asked: &Result<Line, Refusal>) -> bool
@@ -60,7 +28,7 @@ pub fn says_quit(asked: &Result<Line, Refusal>) -> bool
 }
 
 /// Whether a line says DUMP.
-fn says_dump(asked: &Result<Line, Refusal>) -> bool
+pub fn says_dump(asked: &Result<Line, Refusal>) -> bool
     ensures yes { result ≡ true → seen_in asked.now ≡ Ok saids.dump }
     ensures no { result ≡ false → seen_in asked.now ≢ Ok saids.dump }
 {
@@ -71,7 +39,7 @@ fn says_dump(asked: &Result<Line, Refusal>) -> bool
 }
 
 /// What a line is answered that isn't DUMP: nothing follows its reply line.
-fn answer_short<Id: StoreName, R: Wait>(
+pub fn answer_line<Id: StoreName, R: Wait>(
     rt: &R,
     alloc: Global,
     store: &Store<Id>,
@@ -81,7 +49,7 @@ fn answer_short<Id: StoreName, R: Wait>(
 ) -> (Caller<Id>, Answer)
     requires quit { seen_in asked ≢ Ok saids.quit }
     requires dump { seen_in asked ≢ Ok saids.dump }
-    ensures answer { (bytes : List ℕ) → AreKept kept bytes → IsLineAnswer Id.store (seen_in asked) bytes caller result.1 result.0 }
+    ensures { (bytes : List ℕ) → AreKept kept bytes → IsLineAnswer Id.store (seen_in asked) bytes caller result.1 result.0 }
 {
     let mut caller = caller;
     match asked {
@@ -137,22 +105,5 @@ fn stamp<Id: StoreName, R: Wait>(
         }
         Err(PbmFault::Memory) => (caller, Answer::Refused(Refusal::Memory)),
         Err(fault) => (caller, Answer::Refused(Refusal::BadImage(fault))),
-    }
-}
-
-/// The plain image of a bitmap, behind the number of its bytes; or want of memory.
-pub fn dump_of(alloc: Global, bitmap: &Bitmap) -> Spoken
-    ensures { IsDump bitmap.now result.answer result.body.items }
-{
-    let mut body = Vec::new(alloc);
-    match write_plain(bitmap, &mut body) {
-        Ok(()) => Spoken {
-            answer: Answer::Dumped(body.len() as u64),
-            body,
-        },
-        Err(refusal) => Spoken {
-            answer: Answer::Refused(refusal),
-            body,
-        },
     }
 }

@@ -1,6 +1,6 @@
-//! What a client is told: a reply line, and what follows it.
+//! What a client is told: a reply line.
 
-ghost use Rattle.std.specs.Prelude.{◌≡◌, ◌++◌, OnOk, OnErr};
+ghost use Rattle.std.specs.Prelude.{OnOk, OnErr};
 ghost use Rattle.proto.specs.Replies.{reply_line};
 ghost use Rattle.proto.specs.Served.{HasSaid};
 ghost use Rattle.proto.specs.Wire.{CanGoOn, HasNotWritten, HasWritten, wire_of};
@@ -12,35 +12,14 @@ use crate::serve::wire::{pass_on, put};
 use crate::text::Text;
 use metric::{Stream, WriteFault};
 
-/// Writes a reply line and what follows it.
-pub fn say<S: Stream>(
-    stream: &mut S,
-    text: &mut Text,
-    answer: &Answer,
-    body: &[u8],
-) -> Result<(), WriteFault>
+/// Writes a reply line.
+pub fn say<S: Stream>(stream: &mut S, text: &mut Text, answer: &Answer) -> Result<(), WriteFault>
     requires { CanGoOn (wire_of S.rest S.held S.failed_reads S.failed_writes stream.old) }
-    ensures whole { OnOk result (HasWritten (wire_of S.rest S.held S.failed_reads S.failed_writes stream.old) (reply_line answer.now ++ body.now) (wire_of S.rest S.held S.failed_reads S.failed_writes stream.new)) }
-    ensures front { OnErr result (HasNotWritten (wire_of S.rest S.held S.failed_reads S.failed_writes stream.old) (reply_line answer.now ++ body.now) (wire_of S.rest S.held S.failed_reads S.failed_writes stream.new)) }
+    ensures whole { OnOk result (HasWritten (wire_of S.rest S.held S.failed_reads S.failed_writes stream.old) (reply_line answer.now) (wire_of S.rest S.held S.failed_reads S.failed_writes stream.new)) }
+    ensures front { OnErr result (HasNotWritten (wire_of S.rest S.held S.failed_reads S.failed_writes stream.old) (reply_line answer.now) (wire_of S.rest S.held S.failed_reads S.failed_writes stream.new)) }
 {
     reply_text(answer, text);
-    match put(stream, text.as_bytes()) {
-        Ok(()) => put_body(stream, body),
-        Err(fault) => Err(fault),
-    }
-}
-
-/// Writes what follows a reply line, if anything does.
-fn put_body<S: Stream>(stream: &mut S, body: &[u8]) -> Result<(), WriteFault>
-    requires { CanGoOn (wire_of S.rest S.held S.failed_reads S.failed_writes stream.old) }
-    ensures whole { OnOk result (HasWritten (wire_of S.rest S.held S.failed_reads S.failed_writes stream.old) body.now (wire_of S.rest S.held S.failed_reads S.failed_writes stream.new)) }
-    ensures front { OnErr result (HasNotWritten (wire_of S.rest S.held S.failed_reads S.failed_writes stream.old) body.now (wire_of S.rest S.held S.failed_reads S.failed_writes stream.new)) }
-{
-    if body.is_empty() {
-        Ok(())
-    } else {
-        put(stream, body)
-    }
+    put(stream, text.as_bytes())
 }
 
 /// Writes the last reply line of a stream, which is passed on at once. Answers how the stream ends: as it was to, or by a failed write.

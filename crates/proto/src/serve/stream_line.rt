@@ -10,8 +10,9 @@ use crate::answer::Answer;
 use crate::line::{Line, parse_line};
 use crate::serve::caller::Caller;
 use crate::serve::counted::read_counted;
+use crate::serve::dump::end_of;
 use crate::serve::end::End;
-use crate::serve::exchange::{answer_line, says_quit};
+use crate::serve::exchange::{answer_line, says_dump, says_quit};
 use crate::serve::line_buffer::LineBuffer;
 use crate::serve::say::{say, say_last};
 use crate::text::Text;
@@ -97,11 +98,33 @@ fn serve_whole<Id: StoreName, R: Wait, S: Stream>(
     requires quit { seen_in asked ≢ Ok saids.quit }
     ensures { HasAnswered Id.store (seen_in asked) kept result.1 (wire_of S.rest S.held S.failed_reads S.failed_writes stream.old) caller (wire_of S.rest S.held S.failed_reads S.failed_writes stream.new) result.0 }
 {
-    let (caller, spoken) = answer_line(rt, alloc, store, caller, asked, kept);
-    match say(stream, text, &spoken.answer, spoken.body.as_slice()) {
-        Ok(()) => (caller, None),
-        Err(_) => (caller, Some(End::WriteFailed)),
+    if says_dump(&asked) {
+        let mut caller = caller;
+        let end = caller.dump(alloc, stream, text);
+        return (caller, end);
     }
+    serve_short(rt, alloc, store, caller, asked, kept, stream, text)
+}
+
+/// Serves a line whose bytes were read, and that isn't DUMP: nothing follows its reply line.
+fn serve_short<Id: StoreName, R: Wait, S: Stream>(
+    rt: &R,
+    alloc: Global,
+    store: &Store<Id>,
+    caller: Caller<Id>,
+    asked: Result<Line, Refusal>,
+    kept: Option<Vec<u8>>,
+    stream: &mut S,
+    text: &mut Text,
+) -> (Caller<Id>, Option<End>)
+    requires wire { CanGoOn (wire_of S.rest S.held S.failed_reads S.failed_writes stream.old) }
+    requires quit { seen_in asked ≢ Ok saids.quit }
+    requires dump { seen_in asked ≢ Ok saids.dump }
+    ensures { HasAnswered Id.store (seen_in asked) kept result.1 (wire_of S.rest S.held S.failed_reads S.failed_writes stream.old) caller (wire_of S.rest S.held S.failed_reads S.failed_writes stream.new) result.0 }
+{
+    let (caller, answer) = answer_line(rt, alloc, store, caller, asked, kept);
+    let end = end_of(say(stream, text, &answer));
+    (caller, end)
 }
 
 /// What a line of a stream says, without the CR at its end.

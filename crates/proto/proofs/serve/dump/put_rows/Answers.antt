@@ -1,0 +1,18 @@
+-- A piece more was written, or its write failed.
+use Rattle.std.proofs.Common.{◌∙◌}
+use Rattle.proto.proofs.Dumping.{rows_on, rows_failed}
+use Rattle.proto.proofs.serve.dump.put_rows.Goals as goal
+
+pub pieces-preserved : goal.pieces-preserved
+pieces-preserved g c = record {
+  side = c.pieces.invariant.side;
+  rows = c.next_piece-next.ensures.inside;
+  room = c.next_piece-next.ensures.room;
+  written = rows_on c.args.bitmap.now _ _ _ c.pieces.y c.next_piece-next.result c.as_slice.result.now
+      c.next_piece-next.ensures.more (c.as_slice.ensures.value ∙ c.next_piece-next.ensures.text) c.pieces.invariant.written c.in-Ok.ensures.whole;
+}
+
+pub returns-in-Err-clause-front : goal.returns-in-Err-clause-front
+returns-in-Err-clause-front g c =
+    rows_failed c.args.bitmap.now _ _ _ c.pieces.y c.next_piece-next.result c.args.bitmap.now.height c.as_slice.result.now
+    c.next_piece-next.ensures.more c.next_piece-next.ensures.inside (c.as_slice.ensures.value ∙ c.next_piece-next.ensures.text) c.pieces.invariant.written c.in-Err.ensures.front
