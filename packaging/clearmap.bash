@@ -5,13 +5,15 @@ _clearmap() {
         words='dist steps serve ask help --help --version'
     elif [ "$before" = --metric ]; then
         words='euclid2 city chess'
+    elif [ "$before" = --edge ]; then
+        words='open wall'
     elif [ "$before" = --query ]; then
         words='AT RECT PATH CLEAROF'
     else
         case $command in
-            dist) words='--metric --nearest --query --workers --help' ;;
+            dist) words='--metric --edge --nearest --query --workers --help' ;;
             steps) words='--help' ;;
-            serve) words='--connections --port --blocks --versions --log --workers --help' ;;
+            serve) words='--connections --port --edge --blocks --versions --log --workers --help' ;;
             ask) words='--port --help' ;;
             help) words='dist steps serve ask' ;;
         esac

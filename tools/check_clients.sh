@@ -50,7 +50,7 @@ serve() {
 
 if compiler=$(command -v "${CXX:-g++}"); then
     "$compiler" -std=c++17 -O1 -Wall -Wextra -Werror -pthread -o "$scratch/test" clients/cpp/test_clearmap.cpp || failed=1
-    serve && post=$port && serve --blocks 2 --versions 2 --log 3 && "$scratch/test" "$post" "$port" || failed=1
+    serve && post=$port && serve --edge wall && walled=$port && serve --blocks 2 --versions 2 --log 3 && "$scratch/test" "$post" "$port" "$walled" || failed=1
 else
     echo "clients/cpp left out: there is no ${CXX:-g++}"
 fi

@@ -1,9 +1,9 @@
 #!/usr/bin/python3
 """Compares the built program with a plain minimum written here, on random small maps.
 
-Maps of all small sizes and densities, in both forms of PBM with comments and odd whitespace, every metric, with and
-without `--nearest`, or with a query line, good or bad; and the same images damaged at one place, which are judged by a
-reader written here from the format's description alone. The program is called directly, so build it first
+Maps of all small sizes and densities, in both forms of PBM with comments and odd whitespace, every metric, with an open
+border and with a wall, with and without `--nearest`, or with a query line, good or bad; and the same images damaged at one
+place, which are judged by a reader written here from the format's description alone. The program is called directly, so build it first
 (`./clearmap --version`).
 
     tools/compare_with_oracle.py [--seed N] [--maps N]
@@ -34,6 +34,12 @@ class Fault(Exception):
 def nearest(cells, distance, x, y):
     """The key of the nearest obstacle: distance, column, row difference, row."""
     return min(((distance(abs(x - a), abs(y - b)), a, abs(y - b), b) for a, b in cells), default=None)
+
+
+def frame(width, height):
+    """The cells round a map, which are obstacles where its border is a wall."""
+    columns, rows = range(-1, width + 1), range(-1, height + 1)
+    return {(x, y) for x in columns for y in (-1, height)} | {(x, y) for x in (-1, width) for y in rows}
 
 
 def table(width, height, cells, metric, tell):
@@ -265,12 +271,14 @@ def random_line(rng):
     return " ".join(words)
 
 
-def wanted(image, metric, tell, line):
+def wanted(image, metric, walled, tell, line):
     """What the program has to print, and its status."""
     try:
         width, height, cells = read(image)
     except Fault as fault:
         return f"ERR 15 BadImage {fault}\n".encode(), 1
+    if walled:
+        cells = cells | frame(width, height)
     if line is None:
         return table(width, height, cells, metric, tell), 0
     text = reply(width, height, cells, line)
@@ -307,16 +315,17 @@ def main():
         image = random_image(rng)
         if rng.random() < 0.4:
             image = damaged(rng, image)
-        metric, tell = rng.choice(list(METRICS)), rng.random() < 0.5
+        metric, walled, tell = rng.choice(list(METRICS)), rng.random() < 0.5, rng.random() < 0.5
         line = random_line(rng) if rng.random() < 0.5 else None
-        text, status = wanted(image, metric, tell, line)
+        text, status = wanted(image, metric, walled, tell, line)
         words = [given.program, "dist", "--metric", metric] + ["--nearest"] * tell
+        words += ["--edge", "wall"] if walled else ["--edge", "open"] * (rng.random() < 0.5)
         words += [] if line is None else [f"--query={line}"]
         run = subprocess.run(words, input=image, capture_output=True)
         refused += status
         if (run.stdout, run.returncode) != (text, status):
             wrong += 1
-            print(f"DIFFERS {image!r} {metric} {tell} {line!r}: {run.stdout!r} {run.returncode}, wanted {text!r} {status}")
+            print(f"DIFFERS {image!r} {metric} {walled} {tell} {line!r}: {run.stdout!r} {run.returncode}, wanted {text!r} {status}")
         asked = scipy_disagrees(image)
         scipy_asked += asked is not None
         if asked:

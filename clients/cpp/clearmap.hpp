@@ -38,7 +38,7 @@ namespace clearmap {
 /// How a distance is measured.
 enum class Metric { euclid2, city, chess };
 
-/// A column and a row, from 0 at the upper left.
+/// A column and a row, from 0 at the upper left. An obstacle on the frame of a map whose border is a wall lies at -1, or one cell after the last.
 struct Cell {
     int x, y;
     friend bool operator==(Cell a, Cell b) { return a.x == b.x && a.y == b.y; }
@@ -133,6 +133,15 @@ inline std::optional<std::uint32_t> number(const std::string& word) {
     return static_cast<std::uint32_t>(value);
 }
 
+/// A column or a row of an obstacle, which may have a sign.
+inline std::optional<int> coordinate(const std::string& word) {
+    bool negative = !word.empty() && word[0] == '-';
+    auto value = number(word.substr(negative));
+    if (!value || *value > static_cast<std::uint32_t>(std::numeric_limits<int>::max())) return std::nullopt;
+    int size = static_cast<int>(*value);
+    return negative ? -size : size;
+}
+
 inline std::string points(const Path& path) {
     std::string text;
     for (Cell cell : path) text += ' ' + std::to_string(cell.x) + ' ' + std::to_string(cell.y);
@@ -221,6 +230,15 @@ public:
             if (auto n = number(said[i])) found.push_back(*n);
         if (said[0] != "OK" || said.size() != count + 1 || found.size() != count) wrong(said[0]);
         return found;
+    }
+
+    /// The obstacle that the last two words of a reply name; they are taken off it.
+    Cell obstacle(std::vector<std::string>& said) {
+        if (said.size() < 3) wrong(said[0]);
+        auto x = coordinate(said[said.size() - 2]), y = coordinate(said.back());
+        if (!x || !y) wrong(said[0]);
+        said.resize(said.size() - 2);
+        return {*x, *y};
     }
 
     std::string bytes(std::size_t count) {
@@ -449,16 +467,14 @@ private:
         }
     }
 
-    std::optional<Tightest> read(const Queries::Query& query, const std::vector<std::string>& said) {
+    std::optional<Tightest> read(const Queries::Query& query, std::vector<std::string> said) {
         bool clear = query.kind == Queries::Kind::clear;
         if (said == std::vector<std::string>{"NONE"} && !clear) return std::nullopt;
         if (said == std::vector<std::string>{"OK", "CLEAR"} && clear) return std::nullopt;
-        if (query.kind == Queries::Kind::at) {
-            auto n = wire().numbers(said, 3);
-            return Tightest{n[0], query.asked, detail::cell(n[1], n[2])};
-        }
-        auto n = wire().numbers(said, 5);
-        return Tightest{n[0], detail::cell(n[1], n[2]), detail::cell(n[3], n[4])};
+        Cell obstacle = wire().obstacle(said);
+        if (query.kind == Queries::Kind::at) return Tightest{wire().numbers(said, 1)[0], query.asked, obstacle};
+        auto n = wire().numbers(said, 3);
+        return Tightest{n[0], detail::cell(n[1], n[2]), obstacle};
     }
 
     detail::Wire* wire_;

@@ -1,5 +1,6 @@
-// Tests of clearmap.hpp: test_clearmap POST SMALL, the ports of two servers of the map with one obstacle at column 2 of row 1 of 6 by 4; the second
-// has two blocks, two versions and a log of three. Servers that answer wrongly, late or not at all are threads of this program.
+// Tests of clearmap.hpp: test_clearmap POST SMALL WALLED, the ports of three servers of the map with one obstacle at column 2 of row 1 of 6 by 4; the
+// second has two blocks, two versions and a log of three, and the border of the third is a wall. Servers that answer wrongly, late or not at all are
+// threads of this program.
 #include "clearmap.hpp"
 
 #include <cstdio>
@@ -140,6 +141,21 @@ static void queries(std::uint16_t port) {
     CHECK(throws<ConnectionLost>([&] { map.at({0, 0}); }));
 }
 
+/// The cells round the map are obstacles too: the frame.
+static void walls(std::uint16_t port) {
+    Client client(port);
+    Pinned map = client.pin();
+    CHECK(map.at({0, 1})->distance == 1 && map.at({0, 1})->obstacle == (Cell{-1, 1}));
+    CHECK(map.at({3, 0})->distance == 1 && map.at({3, 0})->obstacle == (Cell{3, -1}));
+    CHECK(map.at({5, 2})->obstacle == (Cell{6, 2}) && map.at({4, 3})->obstacle == (Cell{4, 4}));
+    CHECK(map.at({2, 2})->obstacle == (Cell{2, 1}));
+    auto least = map.rect(4, 1, 5, 2);
+    CHECK(least->distance == 4 && least->cell == (Cell{4, 1}) && least->obstacle == (Cell{2, 1}));
+    auto first = map.clear_of(2, {{4, 2}, {5, 2}});
+    CHECK(first->distance == 1 && first->cell == (Cell{5, 2}) && first->obstacle == (Cell{6, 2}));
+    CHECK(map.dump() == "P1\n6 4\n000000\n001000\n000000\n000000\n");
+}
+
 static void commands(std::uint16_t port) {
     Client painter(port), planner(port);
     Pinned before = planner.pin();
@@ -243,6 +259,13 @@ static void failures() {
         CHECK(throws<WrongAnswer>([&] { map.clear_of(1, {{0, 0}}); }));
         CHECK(closed(client));
     }
+    for (const char* answer : {"OK -1 2 1\n", "OK 1 --2 1\n", "OK 1 2 -\n", "OK 1 -\n", "OK 1 2 2147483648\n", "OK 1 -2 1 0\n", "OK 1 2\n", "NONE 1 2\n"}) {
+        Fake fake({"OK 0\n", answer}, false);
+        Client client(fake.port, std::chrono::seconds(2));
+        Pinned map = client.pin();
+        CHECK(throws<WrongAnswer>([&] { map.at({0, 0}); }));
+        CHECK(closed(client));
+    }
     Fake endless({std::string(200, 'A')}, false);
     Client client(endless.port);
     CHECK(throws<WrongAnswer>([&] { client.pin(); }));
@@ -269,8 +292,9 @@ static void frames() {
 }
 
 int main(int count, char** words) {
-    if (count != 3) return 2;
+    if (count != 4) return 2;
     queries(static_cast<std::uint16_t>(std::atoi(words[1])));
+    walls(static_cast<std::uint16_t>(std::atoi(words[3])));
     commands(static_cast<std::uint16_t>(std::atoi(words[1])));
     refusals(static_cast<std::uint16_t>(std::atoi(words[2])));
     checkpoints(static_cast<std::uint16_t>(std::atoi(words[2])));

@@ -145,6 +145,19 @@ class Serving(unittest.TestCase):
             self.assertIsNone(pinned.clear_of(99, [(0, 0)]))
             self.assertEqual(pinned.clearance([(0, 0)]), math.inf)
 
+    def test_walls(self):
+        """The cells round the map are obstacles: the frame, whose cells lie at -1 and one cell after the last."""
+        with Server(b"P1\n5 3\n00000\n00000\n00000\n", "--edge", "wall") as server, clearmap.Client(server.port) as client, client.pin() as pinned:
+            self.assertEqual(pinned.at(0, 1), clearmap.Near(1, (-1, 1)))
+            self.assertEqual(pinned.at(2, 1, "chess"), (2, (0, -1)))
+            self.assertEqual(pinned.at(4, 1), (1, (5, 1)))
+            self.assertEqual(pinned.at(2, 2), (1, (2, 3)))
+            self.assertEqual(pinned.rect(1, 1, 4, 2), clearmap.Tightest(4, (1, 1), (-1, 1)))
+            self.assertEqual(pinned.path([(2, 1), (0, 1)]), (1, (0, 1), (-1, 1)))
+            self.assertEqual(pinned.clear_of(5, [(2, 1), (0, 1)]), (4, (2, 1), (2, -1)))
+            self.assertEqual(pinned.clearance([(2, 1), (3, 1)]), 2.0)
+            self.assertEqual(pinned.dump(), b"P1\n5 3\n00000\n00000\n00000\n")
+
     def test_many_in_one_trip(self):
         with Server() as server, clearmap.Client(server.port) as client, client.pin() as pinned:
             queries = clearmap.Queries()
@@ -276,6 +289,10 @@ class Failures(unittest.TestCase):
             (b"OK 0 0\n", lambda client: clearmap.Pinned(client, 0).at(0, 0)),
             (b"NONE\n", lambda client: clearmap.Pinned(client, 0).clear_of(1, [(0, 0)])),
             (b"OK 9999999999\n", lambda client: clearmap.Pinned(client, 0).dump()),
+            (b"OK -1 0 0\n", lambda client: clearmap.Pinned(client, 0).at(0, 0)),
+            (b"OK 1 --1 0\n", lambda client: clearmap.Pinned(client, 0).at(0, 0)),
+            (b"OK 1 -1 0 0 0\n", lambda client: clearmap.Pinned(client, 0).rect(0, 0, 1, 1)),
+            (b"OK -1 0\n", lambda client: client.publish()),
         )
         for answer, call in rows:
             with self.subTest(answer=answer), Fake(answer, closes=False) as fake, clearmap.Client(fake.port, timeout=5) as client:
@@ -295,7 +312,9 @@ class Tables(unittest.TestCase):
         self.assertEqual(self.table(room), [[0, 1, 4], [1, 2, 5]])
         self.assertEqual(self.table(room, "--nearest")[1][2], clearmap.Near(5, (0, 0)))
         self.assertEqual(self.table(b"P1\n2 1\n00\n"), [[None, None]])
-        for text in ("ERR 15 BadImage Truncated\n", "", "0 1\n0\n", "1/2\n", "-1\n", "0  1\n"):
+        walled = self.table(b"P1\n2 1\n00\n", "--edge", "wall", "--nearest")
+        self.assertEqual(walled, [[clearmap.Near(1, (-1, 0)), clearmap.Near(1, (1, -1))]])
+        for text in ("ERR 15 BadImage Truncated\n", "", "0 1\n0\n", "1/2\n", "-1\n", "0  1\n", "-1/0/0\n", "1/-/0\n", "1/2/3/4\n"):
             with self.assertRaises(clearmap.WrongAnswer, msg=text):
                 clearmap.read_distances(io.StringIO(text))
 

@@ -1,5 +1,6 @@
 """Builds a measuring program over some crates, in a scratch copy of them."""
 import pathlib
+import re
 import shutil
 import subprocess
 import sys
@@ -26,6 +27,12 @@ def crates_below(names, lines):
     return [crate for crate in needs if crate in found]
 
 
+def without_edge(text):
+    """The program for crates in which each border is open."""
+    text = re.sub(r"\n *(let edge = .*;|edge: Edge(::Open)?,)", "", text)
+    return text.replace("edge, ", "").replace("Edge, ", "").replace("walled = ", "let _ = ").replace("let mut let _", "let _")
+
+
 def build(folder, text, uses, root=ROOT, answers=None):
     """Proves and builds this text, over the crates that it uses, as a program named `measure` in this folder.
 
@@ -50,7 +57,8 @@ def build(folder, text, uses, root=ROOT, answers=None):
     if answers:
         (measure / "proofs" / "main").mkdir(parents=True)
         (measure / "proofs" / "main" / "Invariants.antt").write_text(answers)
-    (measure / "src" / "main.rt").write_text(text)
+    edged = (root / "crates" / "metric" / "src" / "edge.rt").exists()
+    (measure / "src" / "main.rt").write_text(text if edged else without_edge(text))
     (folder / "crates.txt").write_text("\n".join([*kept, f"measure: {' '.join(uses)}"]) + "\n")
     built = subprocess.run(["rt", "run"], cwd=measure, capture_output=True, text=True)
     program = measure / "out" / "measure"

@@ -22,7 +22,7 @@ import time
 import bench
 from program import HERE, ROOT, build
 
-LOOPS = ["clearance/src/" + name for name in "bit row search nearest segment strip area walk".split()] + ["pbm/src/raw_raster"]
+LOOPS = ["metric/src/edge"] + ["clearance/src/" + name for name in "bit row rows words search nearest found frame border segment strip area walk".split()] + ["pbm/src/raw_raster"]
 SIDE = 4096
 
 
@@ -31,6 +31,8 @@ def rust_of(source):
     kept = []
     for line in source.splitlines():
         word = line.strip().split(" ")[0]
+        if word in ("requires", "ensures") and line.endswith(";"):
+            kept.append(";")
         if word in ("ghost", "requires", "ensures", "use") or line.startswith("//!") or "#[tactic" in line:
             continue
         kept.append(line)
@@ -40,14 +42,16 @@ def rust_of(source):
 def raw_loops(source):
     """Of the raw raster's file what reads words."""
     end = source.index("/// Reads a raw raster into a blank bitmap, and gives")
-    return source[:end]
+    return source[:end].replace("\nfn ", "\npub fn ")
 
 
 def build_twin(folder):
     parts = [(HERE / "queries" / "twin_head.rs").read_text()]
     for name in LOOPS:
         source = (ROOT / "crates" / f"{name}.rt").read_text()
-        parts.append(rust_of(raw_loops(source) if "raw_raster" in name else source))
+        text = rust_of(raw_loops(source) if "raw_raster" in name else source)
+        module = name.rpartition("/")[2]
+        parts.append(f"mod {module} {{\nuse super::*;\n{text}\n}}\npub use {module}::*;")
     parts.append((HERE / "queries" / "twin_tail.rs").read_text())
     path = folder / "twin.rs"
     path.write_text("\n".join(parts))

@@ -5,6 +5,8 @@ Each map is worked by the program and by OpenCV in turn, and the least time of a
 for each map, then the ratios' geometric means and largest values beside the aims, and how the time a cell grows from the smallest to the largest maps. The sums of
 the answers have to be the same for each number of workers and for the table. With `--before CLONE` the one-worker times of another clone of this repository stand beside them.
 
+With `--wall` each time where the border is open stands beside the same where it is a wall, in place of OpenCV's.
+
 With `--hard` the maps are those of `hard_maps.py` besides, without OpenCV, and each map's nanoseconds a cell stand beside the most that one of the others takes: no map should take over 2.5 times as much.
 
 OpenCV is Debian's `python3-opencv`.
@@ -53,7 +55,7 @@ def alone(text):
     """The program for crates that know no workers."""
     text = text.replace("use field::{Workers, rows, rows_with};", "use field::rows;").replace("for count in [1, 2, 4]", "for count in [1]")
     start, end = text.index("    let nears = match Workers"), text.index("    match nears {")
-    return text[:start] + "    let _ = count;\n    let nears = rows::<M>(alloc, bitmap, 0, height);\n" + text[end:]
+    return text[:start] + "    let _ = count;\n    let nears = rows::<M>(alloc, bitmap, edge, 0, height);\n" + text[end:]
 
 
 def program_text(root):
@@ -65,8 +67,8 @@ def program_text(root):
     return text if (field / "src" / "workers.rt").exists() else alone(text)
 
 
-def figures(program, source):
-    text = subprocess.run([str(program), str(source)], capture_output=True, text=True, check=True).stdout
+def figures(program, source, edge="open"):
+    text = subprocess.run([str(program), str(source), edge], capture_output=True, text=True, check=True).stdout
     return {line.split()[0]: (int(line.split()[1]) / 1e6, line.split()[2]) for line in text.splitlines()}
 
 
@@ -122,6 +124,26 @@ def print_map(name, side, metric, now, peer, old):
     return ratios
 
 
+def print_walls(program, sides, rounds, source):
+    """The times where the border is a wall, beside those where it is open, on maps with obstacles."""
+    print("| Map | Cells a side | Metric | rows, open, ms | rows, wall, ms | ratio | table, open, ms | table, wall, ms | ratio (aim: 1.1) |")
+    print("|" + "---|" * 9)
+    for side in sides:
+        for name, make in bench.MAPS:
+            make(side, random.Random(f"{bench.SEED} {name} {side}")).write(source)
+            runs = {"open": [], "wall": []}
+            for _ in range(rounds):
+                for edge, found in runs.items():
+                    found.append(figures(program, source, edge))
+            found = {edge: least(run) for edge, run in runs.items()}
+            for metric in METRICS:
+                told = []
+                for kind in KINDS:
+                    of_open, of_wall = (found[edge][f"{metric}{kind}-1"][0] for edge in runs)
+                    told += [f"{of_open:.2f}", f"{of_wall:.2f}", f"{of_wall / of_open:.2f}"]
+                print(f"| {name} | {side} | {metric} | {' | '.join(told)} |", flush=True)
+
+
 def hard_map(make):
     def drawn(side, rng):
         bitmap = bench.Bitmap(side)
@@ -160,6 +182,7 @@ def main():
     parser.add_argument("--sizes", type=int, nargs="+", default=[512, 1024, 4096])
     parser.add_argument("--rounds", type=int, default=2, help="how often the program and OpenCV run in turn")
     parser.add_argument("--before", type=pathlib.Path)
+    parser.add_argument("--wall", action="store_true", help="the border as a wall beside an open one, without OpenCV")
     parser.add_argument("--hard", action="store_true", help="hard maps besides, without OpenCV")
     parser.add_argument("--huge-pages", action="store_true", help="ask for huge pages in all programs that are measured")
     given = parser.parse_args()
@@ -169,6 +192,9 @@ def main():
         before = build(work / "before", program_text(given.before), USES, given.before) if given.before else None
         if given.huge_pages:
             bench.ask_for_huge_pages()
+        if given.wall:
+            print_walls(program, given.sizes, given.rounds, work / "map.pbm")
+            return
         if given.hard:
             programs = {"now": program, "before": before} if before else {"now": program}
             print_hard(programs, given.sizes, given.rounds, work / "map.pbm")

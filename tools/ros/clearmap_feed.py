@@ -31,8 +31,8 @@ class Clearance:
 class Feed:
     """A map's way to a server. Its calls may come from any thread, and wait for one another."""
 
-    def __init__(self, port: int = 0, program: str = "clearmap", checkpoints: bool = False) -> None:
-        self.port, self._given, self._program = port, port != 0, program
+    def __init__(self, port: int = 0, program: str = "clearmap", checkpoints: bool = False, edge: str = "open") -> None:
+        self.port, self._given, self._program, self._edge = port, port != 0, program, edge
         self._checkpoints = checkpoints or not self._given
         self._lock = threading.Lock()
         self._server: Optional["subprocess.Popen[bytes]"] = None
@@ -78,7 +78,7 @@ class Feed:
         tightest = min(found, key=lambda it: it.distance, default=None)
         if tightest is None:
             return Clearance(version, math.inf, math.inf)
-        places = (frame.centre(tightest.cell), frame.centre(tightest.obstacle))
+        places = (frame.centre(tightest.cell), frame.middle(tightest.obstacle))
         return Clearance(version, frame.metres(tightest.distance), frame.free_metres(tightest.distance), *places)
 
     # the server
@@ -115,7 +115,7 @@ class Feed:
     def _start(self, grid: Optional[grids.Grid]) -> None:
         if grid is None:
             raise clearmap.ConnectionLost("the server has ended; the next map starts another")
-        words = [self._program, "serve", "--connections", CONNECTIONS, "--port", "0"]
+        words = [self._program, "serve", "--connections", CONNECTIONS, "--port", "0", "--edge", self._edge]
         try:
             server = subprocess.Popen(words, stdin=subprocess.PIPE, stdout=subprocess.PIPE)
         except OSError as fault:

@@ -45,6 +45,7 @@ and publishes these:
 Its parameters:
 
   ~port              the server's port; 0, which is the default, starts a server with the first map, whose port is ~server_port
+  ~edge              open; with wall the cells round the map are obstacles, on a server of the node's own
   ~occupied_thresh   0.65: a cell above it is an obstacle
   ~free_thresh       0.196: a cell below it is free, and one between the two an obstacle
   ~unknown_is_free   false: unknown cells are obstacles, which is the safe choice
@@ -72,7 +73,7 @@ class Node:
         reading = grids.Reading(*(rospy.get_param("~" + name, default) for name, default in (("occupied_thresh", 0.65), ("free_thresh", 0.196), ("unknown_is_free", False))))
         self.table = reading.table()
         self.safe = rospy.get_param("~free_in_any_case", False)
-        self.feed = Feed(self.port(), program(), rospy.get_param("~checkpoints", False))
+        self.feed = Feed(self.port(), program(), rospy.get_param("~checkpoints", False), self.edge())
         self.turns = threading.Lock()
         self.frame_id = ""
         self.clearances = rospy.Publisher("~clearance", Float64, queue_size=10)
@@ -88,6 +89,13 @@ class Node:
         if not isinstance(port, int) or not 0 <= port <= 65535:
             raise RosError(f"'{port}' is no port: 1 to 65535, or 0 for a server of the node's own")
         return port
+
+    def edge(self) -> str:
+        """What the border of a map is, on a server of the node's own."""
+        edge = self.rospy.get_param("~edge", "open")
+        if edge not in ("open", "wall"):
+            raise RosError(f"'{edge}' is no edge: open or wall")
+        return edge
 
     def told(self, what: str, call) -> object:
         """What a call gives, or None and one line of the log."""

@@ -248,6 +248,11 @@ class Frame:
         x, y = cell
         if not (0 <= x < self.width and 0 <= y < self.height):
             raise RosError(f"the cell ({x}, {y}) isn't on the map")
+        return self.middle(cell)
+
+    def middle(self, cell: Cell) -> Tuple[float, float]:
+        """The middle of a cell, in metres, also of one that lies round the map: an obstacle where the border is a wall."""
+        x, y = cell
         half = Fraction(1, 2)
         return float(self.origin_x + (x + half) * self.resolution), float(self.origin_y + (self.height - 1 - y + half) * self.resolution)
 

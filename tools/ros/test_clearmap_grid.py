@@ -163,6 +163,13 @@ class Feeds(unittest.TestCase):
         feed.put(POST, FRAME)
         self.assertEqual(feed.clearance(long).metres, 0.5)
 
+    def test_walls(self):
+        feed = self.feed(program=PROGRAM, edge="wall")
+        feed.put(grid("000000", "000000", "000000", "000000"), FRAME)
+        # the obstacle is the cell of the frame to the left of the map's lower left cell
+        found = feed.clearance([(-0.9, -1.9), (-0.9, -1.9)])
+        self.assertEqual((found.metres, found.cell, found.obstacle), (0.5, (-0.75, -1.75), (-1.25, -1.75)))
+
     def test_a_given_server(self):
         served = self.served(b"P1\n6 4\n000000\n000000\n000000\n000000\n")
         feed = self.feed(served.port)

@@ -8,7 +8,7 @@ import struct
 import subprocess
 import threading
 import zlib
-from typing import BinaryIO, List
+from typing import BinaryIO, List, Optional, Tuple
 
 import numpy
 
@@ -103,10 +103,35 @@ def read_table(table: BinaryIO, width: int, height: int) -> "numpy.ndarray[objec
     return distances.reshape(height, width)
 
 
-def make_picture(program: str, image: bytes, metric: str, workers: int) -> Picture:
+def size_of(image: bytes) -> Tuple[int, int]:
+    """The width and the height of a plain PBM image, as a server dumps it."""
+    width, height = image.split(b"\n", 2)[1].split()
+    return int(width), int(height)
+
+
+def telling_cell(image: bytes) -> Optional[Tuple[int, int]]:
+    """A cell on the border of a plain PBM image, as a server dumps it, all of whose neighbours are free: its nearest obstacle is one step away by `chess` just
+    where the border is a wall. None where there is no such cell; then no cell of the border is farther than that from an obstacle anyway."""
+    width, height = size_of(image)
+    bits = numpy.frombuffer(image.split(b"\n", 2)[2].translate(None, b" \n"), numpy.uint8).reshape(height, width) == ord("1")
+    sides = (
+        (bits[:2].any(axis=0), lambda at: (at, 0)),
+        (bits[-2:].any(axis=0), lambda at: (at, height - 1)),
+        (bits[:, :2].any(axis=1), lambda at: (0, at)),
+        (bits[:, -2:].any(axis=1), lambda at: (width - 1, at)),
+    )
+    for line, cell in sides:
+        near = numpy.pad(line, 1)
+        free = numpy.flatnonzero(~(near[:-2] | near[1:-1] | near[2:]))
+        if free.size:
+            return cell(int(free[0]))
+    return None
+
+
+def make_picture(program: str, image: bytes, metric: str, edge: str, workers: int) -> Picture:
     """The picture of a plain PBM image, as a server dumps it."""
-    width, height = map(int, image.split(b"\n", 2)[1].split())
-    words = [program, "dist", "--metric", metric, "--workers", str(workers)]
+    width, height = size_of(image)
+    words = [program, "dist", "--metric", metric, "--edge", edge, "--workers", str(workers)]
     try:
         run = subprocess.Popen(words, stdin=subprocess.PIPE, stdout=subprocess.PIPE)
     except OSError as fault:

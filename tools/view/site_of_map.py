@@ -4,7 +4,7 @@ import json
 import os
 import pathlib
 import secrets
-from typing import Awaitable, Callable, Dict, List, Optional
+from typing import Awaitable, Callable, Dict, List, Optional, Tuple
 
 from aiohttp import web
 
@@ -32,9 +32,9 @@ Handler = Callable[[web.Request], Awaitable[web.StreamResponse]]
 class Shown:
     """One version on the page, with its pictures by metric: each is made when a page first wants it."""
 
-    def __init__(self, serial: int, version: int, image: bytes) -> None:
-        self.serial, self.version, self.image = serial, version, image
-        self.width, self.height = map(int, image.split(b"\n", 2)[1].split())
+    def __init__(self, serial: int, version: int, image: bytes, edge: str) -> None:
+        self.serial, self.version, self.image, self.edge = serial, version, image, edge
+        self.width, self.height = picture.size_of(image)
         self.pictures: Dict[str, "asyncio.Task[picture.Picture]"] = {}
 
 
@@ -87,9 +87,9 @@ class Site:
         try:
             pinned = await asyncio.to_thread(self.watched.renew)
             if pinned != self.pinned or not self.shown:
-                image = await asyncio.to_thread(self.watched.dump)
+                image, edge = await asyncio.to_thread(self.watched_map)
                 self.serial += 1
-                self.shown = [Shown(self.serial, pinned[1], image), *self.shown[:1]]
+                self.shown = [Shown(self.serial, pinned[1], image, edge), *self.shown[:1]]
                 self.pinned = pinned
                 await self.tell("")
             elif self.fault:
@@ -98,6 +98,13 @@ class Site:
             said = f"The server at port {self.port} can't be asked: {fault}. It is tried again."
             if said != self.fault:
                 await self.tell(said)
+
+    def watched_map(self) -> Tuple[bytes, str]:
+        """The pinned version, and whether its border is open or a wall, as it shows where its neighbours are free."""
+        image = self.watched.dump()
+        cell = picture.telling_cell(image)
+        near = self.watched.ask(clearmap.Queries().at(*cell, "chess"))[1][0] if cell else None
+        return image, "wall" if isinstance(near, clearmap.Near) and near.distance == 1 else "open"
 
     async def watch(self, _: web.Application):
         """Looks again and again, but never while a picture is being made: so the pin stays on what the page is about to show."""
@@ -210,7 +217,7 @@ class Site:
         shown, metric = self.newest(), request.match_info["metric"]
         if metric not in shown.pictures:
             workers = min(16, os.cpu_count() or 1)
-            shown.pictures[metric] = asyncio.create_task(asyncio.to_thread(picture.make_picture, self.program, shown.image, metric, workers))
+            shown.pictures[metric] = asyncio.create_task(asyncio.to_thread(picture.make_picture, self.program, shown.image, metric, shown.edge, workers))
         made = await asyncio.shield(shown.pictures[metric])
         about = {"serial": shown.serial, "version": shown.version, "metric": metric, "width": made.width, "height": made.height, "most": made.most}
         return web.json_response({**about, "levels": len(made.levels), "side": picture.SIDE, "colours": picture.palette()})

@@ -114,21 +114,39 @@ def decoded(png):
 
 class Pictures(unittest.TestCase):
     def test_bytes(self):
-        made = picture.make_picture(PROGRAM, b"P1\n4 1\n1000\n", "city", 1)
+        made = picture.make_picture(PROGRAM, b"P1\n4 1\n1000\n", "city", "open", 1)
         self.assertEqual((made.width, made.height, made.most), (4, 1, 3.0))
         self.assertEqual(decoded(made.piece(0, 0, 0)), [[0, 85, 169, 254]])
-        made = picture.make_picture(PROGRAM, POST, "euclid2", 2)
+        made = picture.make_picture(PROGRAM, POST, "euclid2", "open", 2)
         self.assertAlmostEqual(made.most, 13**0.5, places=5)
         self.assertEqual(decoded(made.piece(0, 0, 0))[1][2], 0)
         self.assertEqual(decoded(made.piece(0, 0, 0))[3][5], 254)
 
     def test_no_obstacle(self):
-        made = picture.make_picture(PROGRAM, b"P1\n2 2\n00\n00\n", "chess", 1)
+        made = picture.make_picture(PROGRAM, b"P1\n2 2\n00\n00\n", "chess", "open", 1)
         self.assertEqual((made.most, decoded(made.piece(0, 0, 0))), (None, [[254, 254], [254, 254]]))
 
     def test_all_obstacles(self):
-        made = picture.make_picture(PROGRAM, b"P1\n1 1\n1\n", "euclid2", 1)
+        made = picture.make_picture(PROGRAM, b"P1\n1 1\n1\n", "euclid2", "open", 1)
         self.assertEqual((made.most, decoded(made.piece(0, 0, 0))), (0.0, [[0]]))
+
+    def test_walls(self):
+        made = picture.make_picture(PROGRAM, b"P1\n5 3\n00000\n00000\n00000\n", "euclid2", "wall", 1)
+        self.assertEqual((made.most, decoded(made.piece(0, 0, 0))), (2.0, [[127] * 5, [127, 254, 254, 254, 127], [127] * 5]))
+
+    def test_cells_that_tell_a_wall(self):
+        rows = (
+            (b"P1\n1 1\n0\n", (0, 0)),
+            (b"P1\n1 1\n1\n", None),
+            (b"P1\n5 3\n01000\n00000\n00000\n", (3, 0)),
+            (b"P1\n5 3\n00100\n00000\n00000\n", (0, 0)),
+            (b"P1\n5 3\n01010\n00000\n00000\n", (0, 2)),
+            (b"P1\n3 6\n000\n110\n000\n000\n000\n111\n", (0, 3)),
+            (b"P1\n3 6\n110\n100\n100\n100\n100\n111\n", (2, 2)),
+            (b"P1\n3 3\n000\n010\n000\n", None),
+        )
+        for image, wanted in rows:
+            self.assertEqual(picture.telling_cell(image), wanted, image)
 
     def test_levels(self):
         distances = numpy.ones((600, 1100), numpy.int32)
@@ -147,7 +165,7 @@ class Pictures(unittest.TestCase):
     def test_refused(self):
         for program, image in ((PROGRAM, b"P1\n2 1\n1\n"), ("/no/such/program", POST)):
             with self.assertRaises(picture.PictureError):
-                picture.make_picture(program, image, "city", 1)
+                picture.make_picture(program, image, "city", "open", 1)
 
 
 class Requests(unittest.TestCase):
@@ -165,6 +183,16 @@ class Requests(unittest.TestCase):
         self.states = states
         self.token = re.search(rb'name="token" content="([^"]*)"', viewed.ask("GET", "/")[1])[1].decode()
         return viewed, state
+
+    def test_walls(self):
+        """The picture is of the map with its frame where the server's border is a wall, and so are the answers."""
+        self.served.end()
+        self.served = Served(b"P1\n5 3\n00000\n00000\n00000\n", "--edge", "wall")
+        self.addCleanup(self.served.end)
+        viewed, _ = self.view()
+        self.assertEqual(json.loads(viewed.ask("GET", "/picture/euclid2")[1])["most"], 2.0)
+        told = json.loads(viewed.ask("GET", "/at?metric=chess&x=2&y=1")[1])
+        self.assertEqual((told["distance"], told["obstacle"]), (2, [0, -1]))
 
     def test_answers(self):
         viewed, state = self.view()

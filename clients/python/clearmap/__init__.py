@@ -155,14 +155,14 @@ ENDING = (13, 14)  # the server ends the connection behind these
 
 
 class Near(NamedTuple):
-    """A distance, and the obstacle it is to."""
+    """A distance, and the obstacle it is to. On a map whose border is a wall the obstacle may lie on the frame: at -1, or one cell after the last."""
 
     distance: int
     obstacle: Cell
 
 
 class Tightest(NamedTuple):
-    """The cell that was found, its distance, and the obstacle it is to."""
+    """The cell that was found, its distance, and the obstacle it is to, which may lie on the frame of a map whose border is a wall."""
 
     distance: int
     cell: Cell
@@ -187,9 +187,9 @@ class Collected(NamedTuple):
 Entry = Union[int, Near, None]
 
 
-def _numbers(count: int) -> Callable[[str, str], Tuple[int, ...]]:
-    """A reader of `OK` and so many numbers."""
-    form = re.compile("OK" + r" (\d{1,10})" * count)
+def _numbers(count: int, signed: int = 0) -> Callable[[str, str], Tuple[int, ...]]:
+    """A reader of `OK` and so many numbers, the last of which may have a sign: the coordinates of an obstacle."""
+    form = re.compile("OK" + r" (\d{1,10})" * (count - signed) + r" (-?\d{1,10})" * signed)
 
     def read(reply: str, line: str) -> Tuple[int, ...]:
         match = form.fullmatch(reply)
@@ -200,14 +200,15 @@ def _numbers(count: int) -> Callable[[str, str], Tuple[int, ...]]:
     return read
 
 
-_one, _two, _three, _five = _numbers(1), _numbers(2), _numbers(3), _numbers(5)
+_one, _two, _three = _numbers(1), _numbers(2), _numbers(3)
+_obstacle_of, _cell_and_obstacle = _numbers(3, signed=2), _numbers(5, signed=2)
 
 
 def _near(reply: str, line: str) -> Optional[Near]:
     """The answer of AT."""
     if reply == "NONE":
         return None
-    distance, x, y = _three(reply, line)
+    distance, x, y = _obstacle_of(reply, line)
     return Near(distance, (x, y))
 
 
@@ -215,7 +216,7 @@ def _tightest(reply: str, line: str) -> Optional[Tightest]:
     """The answer of RECT and PATH."""
     if reply == "NONE":
         return None
-    distance, x, y, ox, oy = _five(reply, line)
+    distance, x, y, ox, oy = _cell_and_obstacle(reply, line)
     return Tightest(distance, (x, y), (ox, oy))
 
 
@@ -551,10 +552,11 @@ def read_distances(text: TextIO) -> List[List[Entry]]:
     def entry(word: str) -> Entry:
         if word == "-":
             return None
-        numbers = word.split("/")
-        if len(numbers) not in (1, 3) or not all(re.fullmatch(r"\d{1,10}", number) for number in numbers):
+        match = re.fullmatch(r"(\d{1,10})(?:/(-?\d{1,10})/(-?\d{1,10}))?", word)
+        if not match:
             raise WrongAnswer(f"'{word}' is no entry of a table of distances")
-        return int(word) if len(numbers) == 1 else Near(int(numbers[0]), (int(numbers[1]), int(numbers[2])))
+        distance, x, y = match.groups()
+        return int(distance) if x is None else Near(int(distance), (int(x), int(y)))
 
     rows = [[entry(word) for word in line.rstrip("\n").split(" ")] for line in text]
     if len({len(row) for row in rows}) != 1:

@@ -1,6 +1,7 @@
 pub mod CellsLemmas
 pub mod ChangesLemmas
 pub mod FillLemmas
+pub mod Framing
 pub mod StoredLemmas
 pub mod TileLemmas
 pub mod WriteLemmas

@@ -1,5 +1,6 @@
 pub mod Cells
 pub mod Changes
+pub mod Edges
 pub mod Stored
 pub mod Tiles
 pub mod TileWords

@@ -1,23 +1,22 @@
 -- The first cell of a list that has an obstacle near, and what it says of the answers.
-use Rattle.std.proofs.Common.{◌≡◌, ℕ, ◌+◌, ◌<◌, ◌≤◌, List, length, Option, Some, None, sym, subst, ◌∙◌, arith}
+use Rattle.std.proofs.Common.{◌≡◌, ℕ, ℤ, ◌+◌, ◌<◌, ◌≤◌, List, length, Option, Some, None, sym, subst, ◌∙◌, arith}
 use Rattle.std.proofs.lemmas.List.{get_or_default}
 use Rattle.metric.specs.declared.cell.Cell.{Cell}
 use Rattle.metric.specs.declared.near.Near.{Near}
-use Rattle.metric.specs.Distance.{distance_between}
-use Rattle.metric.specs.Nearest.{key_of, IsNearest}
-use Rattle.metric.proofs.NearestLemmas.{IsAtMost-distance}
+use Rattle.metric.specs.Nearest.{spot_distance, spot_key, IsNearest}
+use Rattle.metric.proofs.NearestLemmas.{IsNoGreater-distance}
 use Rattle.clearance.specs.Answers.{IsNearestAt, IsLeastOf, IsClearOf}
 use Rattle.clearance.specs.Firsts.{IsCellNear, IsCellWithNear, origin, cell_in, distance_at, AreFarBefore, IsFirstOrNone}
 
 -- the nearest obstacle is no farther than any
-pub nearest-least : (distance : ℕ → ℕ → ℕ) (Obstacle : ℕ → ℕ → Type 0) (x y : ℕ) (near : Near) (a b : ℕ) → IsNearest distance Obstacle x y near → Obstacle a b → near.dist ≤ distance_between distance x y a b
+pub nearest-least : (distance : ℕ → ℕ → ℕ) (Obstacle : ℤ → ℤ → Type 0) (x y : ℕ) (near : Near) (a b : ℤ) → IsNearest distance Obstacle x y near → Obstacle a b → near.dist ≤ spot_distance distance x y a b
 nearest-least distance Obstacle x y near a b is obstacle =
-    let most = IsAtMost-distance (key_of distance x y near.cell.x near.cell.y) (key_of distance x y a b) (is.least a b obstacle) in
+    let most = IsNoGreater-distance (spot_key distance x y near.cell.x near.cell.y) (spot_key distance x y a b) (is.least a b obstacle) in
     let dist = is.distance_is in
     omega arith
 
 -- the cell of the list behind cells that are far, with its nearest obstacle
-pub IsFirstOrNone-at : (distance : ℕ → ℕ → ℕ) (Obstacle : ℕ → ℕ → Type 0) (cells : List Cell) (limit place : ℕ) (cell : Cell) (found : Option (Cell × Near))
+pub IsFirstOrNone-at : (distance : ℕ → ℕ → ℕ) (Obstacle : ℤ → ℤ → Type 0) (cells : List Cell) (limit place : ℕ) (cell : Cell) (found : Option (Cell × Near))
     → place < length cells → cell_in cells place ≡ cell → IsCellNear distance Obstacle limit cell.x cell.y → AreFarBefore distance Obstacle cells limit place
     → IsCellWithNear distance Obstacle cell found → IsFirstOrNone distance Obstacle cells limit found
 IsFirstOrNone-at distance Obstacle cells limit place cell None within here near before none = λ i a b inside obstacle. absurd (none a b obstacle)
@@ -34,14 +33,14 @@ IsFirstOrNone-at distance Obstacle cells limit place cell (Some found) within he
 }
 
 -- a cell of the list, whatever stands in for one past its end
-at_default : (distance : ℕ → ℕ → ℕ) (Obstacle : ℕ → ℕ → Type 0) (cells : List Cell) (i : ℕ) (cell : Cell) (other : Near) → i < length cells → IsNearestAt distance Obstacle cells i cell other
+at_default : (distance : ℕ → ℕ → ℕ) (Obstacle : ℤ → ℤ → Type 0) (cells : List Cell) (i : ℕ) (cell : Cell) (other : Near) → i < length cells → IsNearestAt distance Obstacle cells i cell other
     → IsNearest distance Obstacle (cell_in cells i).x (cell_in cells i).y other
 at_default distance Obstacle cells i cell other within is =
     subst (λ (c : Cell). IsNearest distance Obstacle c.x c.y other) (get_or_default cells i cell origin within) is
 
 -- the nearest obstacle of a cell that is far is far
-far_nearest : (distance : ℕ → ℕ → ℕ) (Obstacle : ℕ → ℕ → Type 0) (cells : List Cell) (limit i : ℕ) (cell : Cell) (other : Near) → i < length cells
-    → IsNearestAt distance Obstacle cells i cell other → ((a b : ℕ) → Obstacle a b → limit ≤ distance_at distance cells i a b) → limit ≤ other.dist
+far_nearest : (distance : ℕ → ℕ → ℕ) (Obstacle : ℤ → ℤ → Type 0) (cells : List Cell) (limit i : ℕ) (cell : Cell) (other : Near) → i < length cells
+    → IsNearestAt distance Obstacle cells i cell other → ((a b : ℤ) → Obstacle a b → limit ≤ distance_at distance cells i a b) → limit ≤ other.dist
 far_nearest distance Obstacle cells limit i cell other within is far =
     let here = at_default distance Obstacle cells i cell other within is in
     let low = far other.cell.x other.cell.y here.obstacle in
@@ -49,7 +48,7 @@ far_nearest distance Obstacle cells limit i cell other within is far =
     omega arith
 
 -- the first cell that has an obstacle nearer than d
-pub IsClearOf-first : (distance : ℕ → ℕ → ℕ) (Obstacle : ℕ → ℕ → Type 0) (cells : List Cell) (d : ℕ) (found : Option (Cell × Near))
+pub IsClearOf-first : (distance : ℕ → ℕ → ℕ) (Obstacle : ℤ → ℤ → Type 0) (cells : List Cell) (d : ℕ) (found : Option (Cell × Near))
     → IsFirstOrNone distance Obstacle cells d found → IsClearOf distance Obstacle cells d found
 IsClearOf-first distance Obstacle cells d None far = λ i other cell within is. far_nearest distance Obstacle cells d i cell other within is (λ a b obstacle. far i a b within obstacle)
 IsClearOf-first distance Obstacle cells d (Some found) first = record {
@@ -64,7 +63,7 @@ IsClearOf-first distance Obstacle cells d (Some found) first = record {
 }
 
 -- the first cell that has an obstacle at the least distance of all
-pub IsLeastOf-first : (distance : ℕ → ℕ → ℕ) (Obstacle : ℕ → ℕ → Type 0) (cells : List Cell) (least : ℕ) (found : Option (Cell × Near))
+pub IsLeastOf-first : (distance : ℕ → ℕ → ℕ) (Obstacle : ℤ → ℤ → Type 0) (cells : List Cell) (least : ℕ) (found : Option (Cell × Near))
     → AreFarBefore distance Obstacle cells least (length cells) → (place : ℕ) → place < length cells → IsCellNear distance Obstacle (least + 1) (cell_in cells place).x (cell_in cells place).y
     → IsFirstOrNone distance Obstacle cells (least + 1) found → IsLeastOf distance Obstacle cells found
 IsLeastOf-first distance Obstacle cells least None all place within near far =

@@ -1,5 +1,7 @@
 pub mod Bits
 pub mod Firsts
+pub mod FrameLemmas
+pub mod Borders
 pub mod NearestSearches
 pub mod PieceFirsts
 pub mod RectFirsts

@@ -2,21 +2,21 @@
 use Rattle.std.proofs.Common.{◌≡◌, ℕ, ◌+◌, ◌-◌, ◌^◌, ◌<◌, ◌≤◌, ◌⊎◌, inl, inr, List, length, get_or, Option, Some, None, refl, sym, ap, subst, ◌∙◌, arith}
 use Rattle.std.specs.Int.{abs_diff}
 use Rattle.std.proofs.lemmas.Bool.{cases_lt}
-use Rattle.metric.specs.declared.near.Near.{Near}
 use Rattle.metric.specs.Distance.{Grows, distance_between}
 use Rattle.metric.specs.Crossing.{StaysNearer}
-use Rattle.metric.specs.Nearest.{Key, key_of, IsAtMost, IsNearest, IsNear}
-use Rattle.metric.proofs.NearestLemmas.{IsAtMost-transitive}
+use Rattle.metric.specs.Cellwise.{Key, key_of, IsAtMost}
+use Rattle.metric.proofs.CellwiseLemmas.{IsAtMost-transitive}
 use Rattle.metric.proofs.Growing.{of_grows, of_grows_with_dx}
 use Rattle.bits.specs.Cells.{Cells, IsBitmap, IsObstacle}
 use Rattle.bits.specs.Words.{IsRowOf}
 use Rattle.clearance.specs.Rows.{IsFar, IsFirstMark, IsLastMark, IsNextNearer, IsLastNearer}
-use Rattle.clearance.specs.Nearest.{IsNearAmong, limit_of, IsWithin, IsWithinOrAbove, IsRowBefore, IsRowUpTo, IsSeenInRow, IsAhead, IsBetter}
+use Rattle.clearance.specs.declared.found.Found.{Found}
+use Rattle.clearance.specs.Nearest.{IsFound, IsNearCell, IsNearAmong, limit_of, IsWithin, IsWithinOrAbove, IsRowBefore, IsRowUpTo, IsSeenInRow, IsAhead, IsBetter}
 use Rattle.clearance.proofs.RowSearches.{mark_within}
 use Rattle.clearance.proofs.Searches.{marked_obstacle, obstacle_marked, obstacle_within, unmarked_row}
 
 -- the obstacles that have been looked at, said otherwise
-pub IsNearAmong-same : (distance : ℕ → ℕ → ℕ) (Obstacle IsSeen IsNext : ℕ → ℕ → Type 0) (x y : ℕ) (best : Option Near)
+pub IsNearAmong-same : (distance : ℕ → ℕ → ℕ) (Obstacle IsSeen IsNext : ℕ → ℕ → Type 0) (x y : ℕ) (best : Option Found)
     → ((a b : ℕ) → Obstacle a b → IsSeen a b → IsNext a b) → ((a b : ℕ) → Obstacle a b → IsNext a b → IsSeen a b)
     → IsNearAmong distance Obstacle IsSeen x y best → IsNearAmong distance Obstacle IsNext x y best
 IsNearAmong-same distance Obstacle IsSeen IsNext x y None there back none = λ a b both. none a b (both.0, back a b both.0 both.1)
@@ -27,7 +27,7 @@ IsNearAmong-same distance Obstacle IsSeen IsNext x y (Some near) there back is =
 }
 
 -- obstacles that are far leave the best as it is
-pub IsNearAmong-far : (distance : ℕ → ℕ → ℕ) (Obstacle IsSeen IsNext : ℕ → ℕ → Type 0) (x y : ℕ) (best : Option Near)
+pub IsNearAmong-far : (distance : ℕ → ℕ → ℕ) (Obstacle IsSeen IsNext : ℕ → ℕ → Type 0) (x y : ℕ) (best : Option Found)
     → ((a b : ℕ) → Obstacle a b → IsSeen a b → IsNext a b)
     → ((a b : ℕ) → Obstacle a b → IsNext a b → IsSeen a b ⊎ IsFar (distance_between distance x y a b) (limit_of best))
     → IsNearAmong distance Obstacle IsSeen x y best → IsNearAmong distance Obstacle IsNext x y best
@@ -45,8 +45,8 @@ IsNearAmong-far distance Obstacle IsSeen IsNext x y (Some near) there back is = 
 }
 
 -- once all obstacles have been looked at, the best is the nearest
-pub IsNearAmong-all : (distance : ℕ → ℕ → ℕ) (Obstacle IsSeen : ℕ → ℕ → Type 0) (x y : ℕ) (best : Option Near)
-    → ((a b : ℕ) → Obstacle a b → IsSeen a b) → IsNearAmong distance Obstacle IsSeen x y best → IsNear distance Obstacle x y best
+pub IsNearAmong-all : (distance : ℕ → ℕ → ℕ) (Obstacle IsSeen : ℕ → ℕ → Type 0) (x y : ℕ) (best : Option Found)
+    → ((a b : ℕ) → Obstacle a b → IsSeen a b) → IsNearAmong distance Obstacle IsSeen x y best → IsNearCell distance Obstacle x y best
 IsNearAmong-all distance Obstacle IsSeen x y None all none = λ a b obstacle. none a b (obstacle, all a b obstacle)
 IsNearAmong-all distance Obstacle IsSeen x y (Some near) all is = record {
   obstacle = is.obstacle.0;
@@ -55,7 +55,7 @@ IsNearAmong-all distance Obstacle IsSeen x y (Some near) all is = record {
 }
 
 -- the key of what has been found
-abbrev key_at : (ℕ → ℕ → ℕ) → ℕ → ℕ → Near → Key
+abbrev key_at : (ℕ → ℕ → ℕ) → ℕ → ℕ → Found → Key
 key_at distance x y near = key_of distance x y near.cell.x near.cell.y
 
 -- seen from the row y, this row is looked at no later than another
@@ -63,7 +63,7 @@ abbrev pub IsNoLater : ℕ → ℕ → ℕ → Type 0
 IsNoLater y row b = (abs_diff y b < abs_diff y row) ⊎ ((abs_diff y b ≡ abs_diff y row) × (b ≤ row))
 
 -- an obstacle that is ahead of one in no earlier row has the lesser key
-ahead_at_most : (distance : ℕ → ℕ → ℕ) (x y : ℕ) (one other : Near) → one.dist ≡ distance_between distance x y one.cell.x one.cell.y → other.dist ≡ distance_between distance x y other.cell.x other.cell.y
+ahead_at_most : (distance : ℕ → ℕ → ℕ) (x y : ℕ) (one other : Found) → one.dist ≡ distance_between distance x y one.cell.x one.cell.y → other.dist ≡ distance_between distance x y other.cell.x other.cell.y
     → IsNoLater y other.cell.y one.cell.y → IsAhead one other → IsAtMost (key_at distance x y one) (key_at distance x y other)
 ahead_at_most distance x y one other one_is other_is rows (inl nearer) = record { order = inl (omega arith) }
 ahead_at_most distance x y one other one_is other_is rows (inr same) =
@@ -74,7 +74,7 @@ ahead_at_most distance x y one other one_is other_is rows (inr same) =
     }
 
 -- an obstacle that isn't ahead of another has the greater key
-behind_at_most : (distance : ℕ → ℕ → ℕ) (x y : ℕ) (one other : Near) → one.dist ≡ distance_between distance x y one.cell.x one.cell.y → other.dist ≡ distance_between distance x y other.cell.x other.cell.y
+behind_at_most : (distance : ℕ → ℕ → ℕ) (x y : ℕ) (one other : Found) → one.dist ≡ distance_between distance x y one.cell.x one.cell.y → other.dist ≡ distance_between distance x y other.cell.x other.cell.y
     → (IsAhead one other → ⊥) → IsAtMost (key_at distance x y other) (key_at distance x y one)
 behind_at_most distance x y one other one_is other_is behind = elim (cases_lt other.dist one.dist) [
   | inl nearer ↦ record { order = inl (omega arith) }
@@ -88,13 +88,13 @@ behind_at_most distance x y one other one_is other_is behind = elim (cases_lt ot
 ]
 
 -- one obstacle more, in a row that isn't before those that have been looked at
-pub IsNearAmong-more : (distance : ℕ → ℕ → ℕ) (Obstacle IsSeen IsNext : ℕ → ℕ → Type 0) (x y : ℕ) (best : Option Near) (next better : Near)
+pub IsNearAmong-more : (distance : ℕ → ℕ → ℕ) (Obstacle IsSeen IsNext : ℕ → ℕ → Type 0) (x y : ℕ) (best : Option Found) (next better : Found)
     → Obstacle next.cell.x next.cell.y → IsNext next.cell.x next.cell.y → next.dist ≡ distance_between distance x y next.cell.x next.cell.y
     → ((a b : ℕ) → IsSeen a b → IsNext a b)
     → ((a b : ℕ) → Obstacle a b → IsNext a b → IsSeen a b ⊎ IsAtMost (key_of distance x y next.cell.x next.cell.y) (key_of distance x y a b))
     → ((a b : ℕ) → IsSeen a b → IsNoLater y next.cell.y b)
     → IsBetter best next better → IsNearAmong distance Obstacle IsSeen x y best
-    → IsNearest distance (λ a b. Obstacle a b × IsNext a b) x y better
+    → IsFound distance (λ a b. Obstacle a b × IsNext a b) x y better
 IsNearAmong-more distance Obstacle IsSeen IsNext x y None next better obstacle is_next dist there back rows is none = rw is (record {
   obstacle = (obstacle, is_next);
   distance_is = dist;
@@ -132,12 +132,12 @@ row_at_most distance x y a c row nearer left = elim (cases_lt (distance_between 
 ]
 
 -- the first obstacle of the row from the cell's column on is the nearest of them
-pub IsNearAmong-right : (distance : ℕ → ℕ → ℕ) → StaysNearer distance → (cells : Cells) (x y row gap limit dist column : ℕ) (words : List ℕ) (best : Option Near) (better : Near)
+pub IsNearAmong-right : (distance : ℕ → ℕ → ℕ) → StaysNearer distance → (cells : Cells) (x y row gap limit dist column : ℕ) (words : List ℕ) (best : Option Found) (better : Found)
     → IsBitmap cells → x < cells.width → y < cells.height → row < cells.height → IsRowOf cells row words → length words ≤ 64 → gap ≡ abs_diff y row
     → IsFirstMark distance words x x gap limit column → dist ≡ distance (column - x) gap
     → IsBetter best (record { dist = dist; cell = record { x = column; y = row } }) better
     → IsNearAmong distance (IsObstacle cells) (λ a b. IsRowBefore y row b) x y best
-    → IsNearest distance (λ a b. IsObstacle cells a b × IsSeenInRow y row (λ a'. x ≤ a') a b) x y better
+    → IsFound distance (λ a b. IsObstacle cells a b × IsSeenInRow y row (λ a'. x ≤ a') a b) x y better
 IsNearAmong-right distance stays cells x y row gap limit dist column words best better bitmap inside_x inside_y inside_row is_row few gap_is mark dist_is is before =
     let order = mark.order in
     let across : column - x ≡ abs_diff x column = omega arith in
@@ -163,7 +163,7 @@ IsNearAmong-right distance stays cells x y row gap limit dist column words best 
     is before
 
 -- where no obstacle from the cell's column on is near, the best stays
-pub IsNearAmong-right_none : (distance : ℕ → ℕ → ℕ) (cells : Cells) (x y row gap limit : ℕ) (words : List ℕ) (best : Option Near)
+pub IsNearAmong-right_none : (distance : ℕ → ℕ → ℕ) (cells : Cells) (x y row gap limit : ℕ) (words : List ℕ) (best : Option Found)
     → IsBitmap cells → IsRowOf cells row words → gap ≡ abs_diff y row → limit ≡ limit_of best
     → IsNextNearer distance words x x gap limit None
     → IsNearAmong distance (IsObstacle cells) (λ a b. IsRowBefore y row b) x y best
@@ -186,12 +186,12 @@ IsNearAmong-right_none distance cells x y row gap limit words best bitmap is_row
     before
 
 -- the last obstacle of the row before those that have been looked at
-pub IsNearAmong-left : (distance : ℕ → ℕ → ℕ) (cells : Cells) (x y row gap limit dist column end : ℕ) (words : List ℕ) (best : Option Near) (better : Near)
+pub IsNearAmong-left : (distance : ℕ → ℕ → ℕ) (cells : Cells) (x y row gap limit dist column end : ℕ) (words : List ℕ) (best : Option Found) (better : Found)
     → IsBitmap cells → end ≤ x → IsRowOf cells row words → gap ≡ abs_diff y row
     → IsLastMark distance words end x gap limit column → dist ≡ distance (x - column) gap
     → IsBetter best (record { dist = dist; cell = record { x = column; y = row } }) better
     → IsNearAmong distance (IsObstacle cells) (IsSeenInRow y row (λ a. end ≤ a)) x y best
-    → IsNearest distance (λ a b. IsObstacle cells a b × IsSeenInRow y row (λ a'. column ≤ a') a b) x y better
+    → IsFound distance (λ a b. IsObstacle cells a b × IsSeenInRow y row (λ a'. column ≤ a') a b) x y better
 IsNearAmong-left distance cells x y row gap limit dist column end words best better bitmap left is_row gap_is mark dist_is is before =
     let order = mark.order in
     let across : x - column ≡ abs_diff x column = omega arith in
@@ -221,7 +221,7 @@ IsNearAmong-left distance cells x y row gap limit dist column end words best bet
     is before
 
 -- where no obstacle before those that have been looked at is near, the best stays, and the row is done
-pub IsNearAmong-left_none : (distance : ℕ → ℕ → ℕ) (cells : Cells) (x y row gap limit end : ℕ) (words : List ℕ) (best : Option Near)
+pub IsNearAmong-left_none : (distance : ℕ → ℕ → ℕ) (cells : Cells) (x y row gap limit end : ℕ) (words : List ℕ) (best : Option Found)
     → IsBitmap cells → end ≤ x → IsRowOf cells row words → gap ≡ abs_diff y row → limit ≡ limit_of best
     → IsLastNearer distance words end x gap limit None
     → IsNearAmong distance (IsObstacle cells) (IsSeenInRow y row (λ a. end ≤ a)) x y best
@@ -246,7 +246,7 @@ IsNearAmong-left_none distance cells x y row gap limit end words best bitmap lef
     before
 
 -- a row without an obstacle is done
-pub IsNearAmong-blank : (distance : ℕ → ℕ → ℕ) (cells : Cells) (x y row : ℕ) (words : List ℕ) (best : Option Near) → IsBitmap cells → IsRowOf cells row words
+pub IsNearAmong-blank : (distance : ℕ → ℕ → ℕ) (cells : Cells) (x y row : ℕ) (words : List ℕ) (best : Option Found) → IsBitmap cells → IsRowOf cells row words
     → ((k : ℕ) → k < length words → get_or words k 0 ≡ 0)
     → IsNearAmong distance (IsObstacle cells) (λ a b. IsRowBefore y row b) x y best → IsNearAmong distance (IsObstacle cells) (IsRowUpTo y row) x y best
 IsNearAmong-blank distance cells x y row words best bitmap is_row blank =
@@ -259,7 +259,7 @@ IsNearAmong-blank distance cells x y row words best bitmap is_row blank =
     ])
 
 -- where there is no other row so many rows away, those of that many rows have been looked at
-pub IsNearAmong-no_below : (distance : ℕ → ℕ → ℕ) (cells : Cells) (x y gap : ℕ) (best : Option Near) → IsBitmap cells → (gap ≡ 0) ⊎ (cells.height ≤ y + gap)
+pub IsNearAmong-no_below : (distance : ℕ → ℕ → ℕ) (cells : Cells) (x y gap : ℕ) (best : Option Found) → IsBitmap cells → (gap ≡ 0) ⊎ (cells.height ≤ y + gap)
     → IsNearAmong distance (IsObstacle cells) (IsWithinOrAbove y gap) x y best → IsNearAmong distance (IsObstacle cells) (IsWithin y (gap + 1)) x y best
 IsNearAmong-no_below distance cells x y gap best bitmap none =
     IsNearAmong-same distance (IsObstacle cells) (IsWithinOrAbove y gap) (IsWithin y (gap + 1)) x y best
@@ -272,9 +272,9 @@ IsNearAmong-no_below distance cells x y gap best bitmap none =
     ])
 
 -- once rows are farther away than the best, the best is the nearest
-pub IsNear-beyond : (distance : ℕ → ℕ → ℕ) → Grows distance → StaysNearer distance → (cells : Cells) (x y gap : ℕ) (best : Option Near) → IsBitmap cells → x < cells.width → y < cells.height
+pub IsNear-beyond : (distance : ℕ → ℕ → ℕ) → Grows distance → StaysNearer distance → (cells : Cells) (x y gap : ℕ) (best : Option Found) → IsBitmap cells → x < cells.width → y < cells.height
     → limit_of best ≤ distance 0 gap → limit_of best < 2 ^ 32
-    → IsNearAmong distance (IsObstacle cells) (IsWithin y gap) x y best → IsNear distance (IsObstacle cells) x y best
+    → IsNearAmong distance (IsObstacle cells) (IsWithin y gap) x y best → IsNearCell distance (IsObstacle cells) x y best
 IsNear-beyond distance grows stays cells x y gap best bitmap column row low small before =
     IsNearAmong-all distance (IsObstacle cells) (λ a b. a ≤ 4095) x y best (λ a b obstacle. (obstacle_within cells bitmap a b obstacle).2)
     (IsNearAmong-far distance (IsObstacle cells) (IsWithin y gap) (λ a b. a ≤ 4095) x y best (λ a b obstacle seen. (obstacle_within cells bitmap a b obstacle).2)
@@ -290,7 +290,7 @@ IsNear-beyond distance grows stays cells x y gap best bitmap column row low smal
     before)
 
 -- once as many rows have been looked at as the bitmap has, the best is the nearest
-pub IsNear-all : (distance : ℕ → ℕ → ℕ) (cells : Cells) (x y gap : ℕ) (best : Option Near) → IsBitmap cells → y < cells.height → cells.height ≤ gap
-    → IsNearAmong distance (IsObstacle cells) (IsWithin y gap) x y best → IsNear distance (IsObstacle cells) x y best
+pub IsNear-all : (distance : ℕ → ℕ → ℕ) (cells : Cells) (x y gap : ℕ) (best : Option Found) → IsBitmap cells → y < cells.height → cells.height ≤ gap
+    → IsNearAmong distance (IsObstacle cells) (IsWithin y gap) x y best → IsNearCell distance (IsObstacle cells) x y best
 IsNear-all distance cells x y gap best bitmap row ended =
     IsNearAmong-all distance (IsObstacle cells) (IsWithin y gap) x y best (λ a b obstacle. let last = (obstacle_within cells bitmap a b obstacle).1 in omega arith)

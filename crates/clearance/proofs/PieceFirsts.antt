@@ -1,10 +1,10 @@
 -- The cells behind a point, up to the next, as the lines of a strip, and as a piece of a path.
-use Rattle.std.proofs.Common.{◌≡◌, ℕ, ◌+◌, ◌-◌, ◌^◌, ◌<◌, ◌≤◌, inl, inr, List, length, get_or, Option, Some, None, refl, sym, subst, ◌∙◌, arith}
+use Rattle.std.proofs.Common.{◌≡◌, ℕ, ℤ, ◌+◌, ◌-◌, ◌^◌, ◌<◌, ◌≤◌, inl, inr, List, length, get_or, Option, Some, None, refl, sym, subst, ◌∙◌, arith}
 use Rattle.std.proofs.lemmas.Bool.{cases_lt}
 use Rattle.metric.specs.declared.cell.Cell.{Cell}
 use Rattle.metric.specs.declared.near.Near.{Near}
 use Rattle.metric.specs.declared.rect.Rect.{Rect}
-use Rattle.metric.specs.Distance.{distance_between}
+use Rattle.metric.specs.Nearest.{spot_distance}
 use Rattle.clearance.specs.Paths.{towards, cells_up_to, cells_of_path}
 use Rattle.clearance.specs.Rows.{IsFar}
 use Rattle.clearance.specs.Search.{IsInRect, IsLeastBelow}
@@ -53,7 +53,7 @@ cell_at from to i within =
     (step, get_or-cells_up_to from to i step)
 
 -- the least over the piece's lines is the least over its cells
-pub IsLeastOver-piece : (distance : ℕ → ℕ → ℕ) (Obstacle : ℕ → ℕ → Type 0) (from to : Cell) (strip : Strip) (rect : Rect) (limit least count : ℕ)
+pub IsLeastOver-piece : (distance : ℕ → ℕ → ℕ) (Obstacle : ℤ → ℤ → Type 0) (from to : Cell) (strip : Strip) (rect : Rect) (limit least count : ℕ)
     → ((k x y : ℕ) → 1 ≤ k → k ≤ count → IsOnLine strip k x y → IsInRect rect x y)
     → ((x y : ℕ) → IsInRect rect x y → (k : ℕ) × (1 ≤ k) × (k ≤ count) × IsOnLine strip k x y)
     → IsPieceStrip from to strip → count ≡ cell_count from to
@@ -65,7 +65,7 @@ IsLeastOver-piece distance Obstacle from to strip rect limit least count all onl
       let step = cell.0 in
       let on_line = piece-line strip from to i is in
       let far = low.far (cell_of_step from to i).x (cell_of_step from to i).y a b (all (1 + i) (cell_of_step from to i).x (cell_of_step from to i).y (omega arith) (omega arith) on_line) obstacle in
-      subst (λ (c : Cell). IsFar (distance_between distance c.x c.y a b) least) (sym cell.1) far;
+      subst (λ (c : Cell). IsFar (spot_distance distance c.x c.y a b) least) (sym cell.1) far;
   reached = λ less.
       let reached = low.reached less in
       let (k, first, last, on_line) = only reached.x reached.y reached.cell in
@@ -75,11 +75,11 @@ IsLeastOver-piece distance Obstacle from to strip rect limit least count all onl
       let cell = cell_at from to (k - 1) within in
       let next : k ≡ 1 + (k - 1) = omega arith in
       let here : cell_in (cells_up_to from to) (k - 1) ≡ record { x = reached.x; y = reached.y } = cell.1 ∙ rw (← next) (rw (at.0, at.1) refl) in
-      (k - 1, within, reached.a, reached.b, reached.obstacle, subst (λ (c : Cell). distance_between distance c.x c.y reached.a reached.b ≡ least) (sym here) reached.distance_is);
+      (k - 1, within, reached.a, reached.b, reached.obstacle, subst (λ (c : Cell). spot_distance distance c.x c.y reached.a reached.b ≡ least) (sym here) reached.distance_is);
 }
 
 -- of the piece's lines some has an obstacle near
-pub IsSomeNear-piece : (distance : ℕ → ℕ → ℕ) (Obstacle : ℕ → ℕ → Type 0) (from to : Cell) (strip : Strip) (limit count : ℕ)
+pub IsSomeNear-piece : (distance : ℕ → ℕ → ℕ) (Obstacle : ℤ → ℤ → Type 0) (from to : Cell) (strip : Strip) (limit count : ℕ)
     → IsPieceStrip from to strip → count ≡ cell_count from to → IsListNear distance Obstacle (cells_up_to from to) limit → IsSomeNear distance Obstacle strip limit 1 count
 IsSomeNear-piece distance Obstacle from to strip limit count is count_is (i, within, near) =
     let cell = cell_at from to i within in
@@ -90,7 +90,7 @@ IsSomeNear-piece distance Obstacle from to strip limit count is count_is (i, wit
     (1 + i, first, last, record { x = (cell_of_step from to i).x; y = (cell_of_step from to i).y; on_line = piece-line strip from to i is; a = here.a; b = here.b; obstacle = here.obstacle; nearer = here.nearer })
 
 -- the first line is the first cell
-pub IsFirstOrNone-piece : (distance : ℕ → ℕ → ℕ) (Obstacle : ℕ → ℕ → Type 0) (from to : Cell) (strip : Strip) (limit count step : ℕ) (cell : Cell) (found : Option (Cell × Near))
+pub IsFirstOrNone-piece : (distance : ℕ → ℕ → ℕ) (Obstacle : ℤ → ℤ → Type 0) (from to : Cell) (strip : Strip) (limit count step : ℕ) (cell : Cell) (found : Option (Cell × Near))
     → IsFirstNear distance Obstacle strip limit 1 count step → IsPieceStrip from to strip → count ≡ cell_count from to
     → cell.x ≡ towards strip.from.x strip.to.x step → cell.y ≡ towards strip.from.y strip.to.y step
     → IsCellWithNear distance Obstacle cell found → IsFirstOrNone distance Obstacle (cells_up_to from to) limit found
@@ -115,7 +115,7 @@ IsFirstOrNone-piece distance Obstacle from to strip limit count step cell found 
     (λ i a b earlier obstacle.
     let before = cell_at from to i (omega arith) in
     let far = first.before (1 + i) (omega arith) (omega arith) (cell_of_step from to i).x (cell_of_step from to i).y a b (piece-line strip from to i is) obstacle in
-    subst (λ (c : Cell). limit ≤ distance_between distance c.x c.y a b) (sym before.1) far)
+    subst (λ (c : Cell). limit ≤ spot_distance distance c.x c.y a b) (sym before.1) far)
     with
 
 -- a piece's cell at its place of the path
@@ -137,7 +137,7 @@ place-piece points place j i from walked more later before =
     (within, rw same at at.1)
 
 -- one piece more is far
-pub AreFarBefore-more : (distance : ℕ → ℕ → ℕ) (Obstacle : ℕ → ℕ → Type 0) (points : List Cell) (place j limit : ℕ) (from : Cell) → IsWalkedTo points place j from → j < length points
+pub AreFarBefore-more : (distance : ℕ → ℕ → ℕ) (Obstacle : ℤ → ℤ → Type 0) (points : List Cell) (place j limit : ℕ) (from : Cell) → IsWalkedTo points place j from → j < length points
     → AreFarBefore distance Obstacle (cells_up_to from (get_or points j origin)) limit (length (cells_up_to from (get_or points j origin)))
     → AreFarBefore distance Obstacle (cells_of_path points) limit place
     → AreFarBefore distance Obstacle (cells_of_path points) limit (place + cell_count from (get_or points j origin))
@@ -145,23 +145,23 @@ AreFarBefore-more distance Obstacle points place j limit from walked more piece 
   | inl earlier ↦ before i a b earlier obstacle
   | inr later ↦
       let at = place-piece points place j i from walked more later within in
-      subst (λ (c : Cell). limit ≤ distance_between distance c.x c.y a b) (sym at.1) (piece (i - place) a b at.0 obstacle)
+      subst (λ (c : Cell). limit ≤ spot_distance distance c.x c.y a b) (sym at.1) (piece (i - place) a b at.0 obstacle)
 ]
 
 -- a piece whose least isn't below the limit is far
-pub AreFarBefore-piece : (distance : ℕ → ℕ → ℕ) (Obstacle : ℕ → ℕ → Type 0) (cells : List Cell) (limit least : ℕ) → IsLeastOver distance Obstacle cells limit least → limit ≤ least
+pub AreFarBefore-piece : (distance : ℕ → ℕ → ℕ) (Obstacle : ℤ → ℤ → Type 0) (cells : List Cell) (limit least : ℕ) → IsLeastOver distance Obstacle cells limit least → limit ≤ least
     → AreFarBefore distance Obstacle cells limit (length cells)
 AreFarBefore-piece distance Obstacle cells limit least is no_less = λ i a b within obstacle. let far = (is.far i a b within obstacle).not_below in omega arith
 
 -- a piece whose least is below the limit has a cell that is near
-pub IsListNear-piece : (distance : ℕ → ℕ → ℕ) (Obstacle : ℕ → ℕ → Type 0) (cells : List Cell) (limit least : ℕ) → IsLeastOver distance Obstacle cells limit least → least < limit
+pub IsListNear-piece : (distance : ℕ → ℕ → ℕ) (Obstacle : ℤ → ℤ → Type 0) (cells : List Cell) (limit least : ℕ) → IsLeastOver distance Obstacle cells limit least → least < limit
     → IsListNear distance Obstacle cells limit
 IsListNear-piece distance Obstacle cells limit least is less =
     let (i, within, a, b, obstacle, dist) = is.reached less in
     (i, within, record { a = a; b = b; obstacle = obstacle; nearer = rw dist less })
 
 -- the first cell of the first piece that is near is the first of the path
-pub IsFirstOrNone-path : (distance : ℕ → ℕ → ℕ) (Obstacle : ℕ → ℕ → Type 0) (points : List Cell) (place j limit : ℕ) (from : Cell) (found : Option (Cell × Near)) → IsWalkedTo points place j from → j < length points
+pub IsFirstOrNone-path : (distance : ℕ → ℕ → ℕ) (Obstacle : ℤ → ℤ → Type 0) (points : List Cell) (place j limit : ℕ) (from : Cell) (found : Option (Cell × Near)) → IsWalkedTo points place j from → j < length points
     → AreFarBefore distance Obstacle (cells_of_path points) limit place
     → IsListNear distance Obstacle (cells_up_to from (get_or points j origin)) limit
     → IsFirstOrNone distance Obstacle (cells_up_to from (get_or points j origin)) limit found
@@ -184,12 +184,12 @@ IsFirstOrNone-path distance Obstacle points place j limit from (Some found) walk
             let last = first.within in
             let size = length-cells_up_to from (get_or points j origin) in
             let here = place-piece points place j i from walked more late (omega arith) in
-            subst (λ (c : Cell). limit ≤ distance_between distance c.x c.y a b) (sym here.1) (first.before (i - place) a b (omega arith) obstacle)
+            subst (λ (c : Cell). limit ≤ spot_distance distance c.x c.y a b) (sym here.1) (first.before (i - place) a b (omega arith) obstacle)
       ];
     }
 
 -- the least over one piece more
-pub IsLeastBefore-more : (distance : ℕ → ℕ → ℕ) (Obstacle : ℕ → ℕ → Type 0) (points : List Cell) (place j limit least next : ℕ) (from : Cell) → IsWalkedTo points place j from → j < length points
+pub IsLeastBefore-more : (distance : ℕ → ℕ → ℕ) (Obstacle : ℤ → ℤ → Type 0) (points : List Cell) (place j limit least next : ℕ) (from : Cell) → IsWalkedTo points place j from → j < length points
     → IsLeastOver distance Obstacle (cells_up_to from (get_or points j origin)) least next
     → IsLeastBefore distance Obstacle (cells_of_path points) limit place least
     → IsLeastBefore distance Obstacle (cells_of_path points) limit (place + cell_count from (get_or points j origin)) next
@@ -203,14 +203,14 @@ IsLeastBefore-more distance Obstacle points place j limit least next from walked
         | inl earlier ↦ IsFar-lower (distance_at distance (cells_of_path points) i a b) least next lower (before.far i a b earlier obstacle)
         | inr later ↦
             let at = place-piece points place j i from walked more later within in
-            subst (λ (c : Cell). IsFar (distance_between distance c.x c.y a b) next) (sym at.1) (piece.far (i - place) a b at.0 obstacle)
+            subst (λ (c : Cell). IsFar (spot_distance distance c.x c.y a b) next) (sym at.1) (piece.far (i - place) a b at.0 obstacle)
       ];
       reached = λ less. elim (cases_lt next least) [
         | inl lowered ↦
             let (i, within, a, b, obstacle, dist) = piece.reached lowered in
             let at = piece-place points place j i from walked more within in
             let inside : place + i < place + cell_count from (get_or points j origin) = omega arith in
-            (place + i, inside, a, b, obstacle, subst (λ (c : Cell). distance_between distance c.x c.y a b ≡ next) (sym at.1) dist)
+            (place + i, inside, a, b, obstacle, subst (λ (c : Cell). spot_distance distance c.x c.y a b ≡ next) (sym at.1) dist)
         | inr same ↦
             let (i, within, a, b, obstacle, dist) = before.reached (omega arith) in
             let inside : i < place + cell_count from (get_or points j origin) = omega arith in
@@ -220,7 +220,7 @@ IsLeastBefore-more distance Obstacle points place j limit least next from walked
     }
 
 -- before the first piece the least is the limit
-pub IsLeastBefore-none : (distance : ℕ → ℕ → ℕ) (Obstacle : ℕ → ℕ → Type 0) (cells : List Cell) (limit : ℕ) → IsLeastBefore distance Obstacle cells limit 0 limit
+pub IsLeastBefore-none : (distance : ℕ → ℕ → ℕ) (Obstacle : ℤ → ℤ → Type 0) (cells : List Cell) (limit : ℕ) → IsLeastBefore distance Obstacle cells limit 0 limit
 IsLeastBefore-none distance Obstacle cells limit = record {
   within = omega arith;
   far = λ i a b within obstacle. absurd (omega arith);
@@ -228,19 +228,19 @@ IsLeastBefore-none distance Obstacle cells limit = record {
 }
 
 -- once all pieces have been looked at, the least is that of all cells
-pub IsLeastOver-all : (distance : ℕ → ℕ → ℕ) (Obstacle : ℕ → ℕ → Type 0) (cells : List Cell) (limit place least : ℕ) → length cells ≤ place → place ≤ length cells
+pub IsLeastOver-all : (distance : ℕ → ℕ → ℕ) (Obstacle : ℤ → ℤ → Type 0) (cells : List Cell) (limit place least : ℕ) → length cells ≤ place → place ≤ length cells
     → IsLeastBefore distance Obstacle cells limit place least → IsLeastOver distance Obstacle cells limit least
 IsLeastOver-all distance Obstacle cells limit place least all most is =
     let same : place ≡ length cells = omega arith in
     subst (λ (n : ℕ). IsLeastBefore distance Obstacle cells limit n least) same is
 
 -- where the least of all cells isn't one that a distance may have, there is no obstacle
-pub IsLeastOver-none : (distance : ℕ → ℕ → ℕ) (Obstacle : ℕ → ℕ → Type 0) (cells : List Cell) (limit least : ℕ) → 0 < length cells → IsLeastOver distance Obstacle cells limit least → 2 ^ 32 ≤ least
-    → (a b : ℕ) → Obstacle a b → ⊥
+pub IsLeastOver-none : (distance : ℕ → ℕ → ℕ) (Obstacle : ℤ → ℤ → Type 0) (cells : List Cell) (limit least : ℕ) → 0 < length cells → IsLeastOver distance Obstacle cells limit least → 2 ^ 32 ≤ least
+    → (a b : ℤ) → Obstacle a b → ⊥
 IsLeastOver-none distance Obstacle cells limit least some is none a b obstacle = let small = (is.far 0 a b some obstacle).is_limit in absurd (omega arith)
 
 -- the first cell at the least distance of all
-pub IsLeastOf-over : (distance : ℕ → ℕ → ℕ) (Obstacle : ℕ → ℕ → Type 0) (cells : List Cell) (limit least : ℕ) (found : Option (Cell × Near)) → IsLeastOver distance Obstacle cells limit least → least < limit
+pub IsLeastOf-over : (distance : ℕ → ℕ → ℕ) (Obstacle : ℤ → ℤ → Type 0) (cells : List Cell) (limit least : ℕ) (found : Option (Cell × Near)) → IsLeastOver distance Obstacle cells limit least → least < limit
     → IsFirstOrNone distance Obstacle cells (least + 1) found → IsLeastOf distance Obstacle cells found
 IsLeastOf-over distance Obstacle cells limit least found is less first =
     let (i, within, a, b, obstacle, dist) = is.reached less in

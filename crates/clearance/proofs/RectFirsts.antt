@@ -1,12 +1,12 @@
 -- The first cell of a rectangle that has an obstacle near, by its row and its column.
-use Rattle.std.proofs.Common.{◌≡◌, ℕ, ◌+◌, ◌-◌, ◌*◌, ◌/◌, ◌%◌, ◌^◌, ◌<◌, ◌≤◌, ◌⊎◌, inl, inr, Option, refl, sym, subst, ◌∙◌, arith}
+use Rattle.std.proofs.Common.{◌≡◌, ℕ, ℤ, ◌+◌, ◌-◌, ◌*◌, ◌/◌, ◌%◌, ◌^◌, ◌<◌, ◌≤◌, ◌⊎◌, inl, inr, Option, refl, sym, subst, ◌∙◌, arith}
 use Rattle.std.proofs.Math.Nat.{div-lt_iff_lt-mul, mul-le-mul_left}
 use Rattle.std.proofs.lemmas.Bool.{cases_lt}
 use Rattle.std.proofs.lemmas.Bool.Decides.{nat_tests}
 use Rattle.metric.specs.declared.cell.Cell.{Cell}
 use Rattle.metric.specs.declared.near.Near.{Near}
 use Rattle.metric.specs.declared.rect.Rect.{Rect}
-use Rattle.metric.specs.Distance.{distance_between}
+use Rattle.metric.specs.Nearest.{spot_distance}
 use Rattle.clearance.specs.Answers.{cells_of_rect, IsLeastOf}
 use Rattle.clearance.specs.Paths.{towards}
 use Rattle.clearance.specs.Search.{IsInRect, IsLeastBelow}
@@ -64,7 +64,7 @@ line-rows rect strip k x y is within on_line =
     (record { left = omega arith; right = omega arith; top = omega arith; bottom = omega arith }, row)
 
 -- of the rows some has an obstacle near
-pub IsSomeNear-rows : (distance : ℕ → ℕ → ℕ) (Obstacle : ℕ → ℕ → Type 0) (rect : Rect) (strip : Strip) (limit : ℕ) → IsRowsStrip rect strip → IsRectNear distance Obstacle rect limit
+pub IsSomeNear-rows : (distance : ℕ → ℕ → ℕ) (Obstacle : ℤ → ℤ → Type 0) (rect : Rect) (strip : Strip) (limit : ℕ) → IsRowsStrip rect strip → IsRectNear distance Obstacle rect limit
     → IsSomeNear distance Obstacle strip limit 0 (rect.y1 - 1 - rect.y0)
 IsSomeNear-rows distance Obstacle rect strip limit is near =
     let top = near.cell.top in
@@ -78,7 +78,7 @@ IsSomeNear-rows distance Obstacle rect strip limit is near =
     )
 
 -- the first line is the first row
-pub IsFirstRow-line : (distance : ℕ → ℕ → ℕ) (Obstacle : ℕ → ℕ → Type 0) (rect : Rect) (strip : Strip) (limit k : ℕ) → IsFirstNear distance Obstacle strip limit 0 (rect.y1 - 1 - rect.y0) k
+pub IsFirstRow-line : (distance : ℕ → ℕ → ℕ) (Obstacle : ℤ → ℤ → Type 0) (rect : Rect) (strip : Strip) (limit k : ℕ) → IsFirstNear distance Obstacle strip limit 0 (rect.y1 - 1 - rect.y0) k
     → IsRowsStrip rect strip → IsFirstRow distance Obstacle rect limit (rect.y0 + k)
 IsFirstRow-line distance Obstacle rect strip limit k first is =
     let within = first.within in
@@ -128,7 +128,7 @@ line-columns rect strip k x b y is within on_line =
     (omega arith, row)
 
 -- of the row's cells some has an obstacle near
-pub IsSomeNear-columns : (distance : ℕ → ℕ → ℕ) (Obstacle : ℕ → ℕ → Type 0) (rect : Rect) (strip : Strip) (limit y : ℕ) → IsColumnsStrip rect y strip → IsFirstRow distance Obstacle rect limit y
+pub IsSomeNear-columns : (distance : ℕ → ℕ → ℕ) (Obstacle : ℤ → ℤ → Type 0) (rect : Rect) (strip : Strip) (limit y : ℕ) → IsColumnsStrip rect y strip → IsFirstRow distance Obstacle rect limit y
     → IsSomeNear distance Obstacle strip limit 0 (rect.x1 - 1 - rect.x0)
 IsSomeNear-columns distance Obstacle rect strip limit y is row =
     let left = row.cell.left in
@@ -142,7 +142,7 @@ IsSomeNear-columns distance Obstacle rect strip limit y is row =
     )
 
 -- the first line is the first column
-pub IsFirstColumn-line : (distance : ℕ → ℕ → ℕ) (Obstacle : ℕ → ℕ → Type 0) (rect : Rect) (strip : Strip) (limit y k : ℕ) → IsFirstNear distance Obstacle strip limit 0 (rect.x1 - 1 - rect.x0) k
+pub IsFirstColumn-line : (distance : ℕ → ℕ → ℕ) (Obstacle : ℤ → ℤ → Type 0) (rect : Rect) (strip : Strip) (limit y k : ℕ) → IsFirstNear distance Obstacle strip limit 0 (rect.x1 - 1 - rect.x0) k
     → IsColumnsStrip rect y strip → rect.y0 ≤ y → y < rect.y1 → IsFirstColumn distance Obstacle rect limit y (rect.x0 + k)
 IsFirstColumn-line distance Obstacle rect strip limit y k first is top bottom =
     let within = first.within in
@@ -191,7 +191,7 @@ earlier_place width row column i some within earlier = elim (cases_lt (i / width
 ]
 
 -- the cell of an earlier place is far
-far_place : (distance : ℕ → ℕ → ℕ) (Obstacle : ℕ → ℕ → Type 0) (rect : Rect) (limit x y row column : ℕ) → IsFirstRow distance Obstacle rect limit y → IsFirstColumn distance Obstacle rect limit y x
+far_place : (distance : ℕ → ℕ → ℕ) (Obstacle : ℤ → ℤ → Type 0) (rect : Rect) (limit x y row column : ℕ) → IsFirstRow distance Obstacle rect limit y → IsFirstColumn distance Obstacle rect limit y x
     → row < rect.y1 - rect.y0 → column < rect.x1 - rect.x0 → (row < y - rect.y0) ⊎ ((row ≡ y - rect.y0) × (column < x - rect.x0))
     → IsCellFar distance Obstacle limit (rect.x0 + column) (rect.y0 + row)
 far_place distance Obstacle rect limit x y row column first_row first_column below right (inl upper) =
@@ -204,7 +204,7 @@ far_place distance Obstacle rect limit x y row column first_row first_column bel
     subst (λ (n : ℕ). IsCellFar distance Obstacle limit (rect.x0 + column) n) is (first_column.before (rect.x0 + column) (omega arith) (omega arith))
 
 -- the first column of the first row is the first cell
-pub IsFirstOrNone-rect : (distance : ℕ → ℕ → ℕ) (Obstacle : ℕ → ℕ → Type 0) (rect : Rect) (limit x y : ℕ) (found : Option (Cell × Near))
+pub IsFirstOrNone-rect : (distance : ℕ → ℕ → ℕ) (Obstacle : ℤ → ℤ → Type 0) (rect : Rect) (limit x y : ℕ) (found : Option (Cell × Near))
     → IsFirstRow distance Obstacle rect limit y → IsFirstColumn distance Obstacle rect limit y x → IsCellWithNear distance Obstacle (record { x = x; y = y }) found
     → IsFirstOrNone distance Obstacle (cells_of_rect rect.x0 rect.y0 rect.x1 rect.y1) limit found
 IsFirstOrNone-rect distance Obstacle rect limit x y found row column with =
@@ -225,11 +225,11 @@ IsFirstOrNone-rect distance Obstacle rect limit x y found row column with =
     let i_row : ℕ = i / (rect.x1 - rect.x0) in
     let i_column : ℕ = i % (rect.x1 - rect.x0) in
     let far = far_place distance Obstacle rect limit x y i_row i_column row column cell.0 cell.1 (earlier_place (rect.x1 - rect.x0) (y - rect.y0) (x - rect.x0) i (omega arith) (omega arith) earlier) a b obstacle in
-    subst (λ (c : Cell). limit ≤ distance_between distance c.x c.y a b) (sym cell.2) far)
+    subst (λ (c : Cell). limit ≤ spot_distance distance c.x c.y a b) (sym cell.2) far)
     with
 
 -- where the least over the rectangle is one that a distance may have, a cell has an obstacle there
-pub IsRectNear-least : (distance : ℕ → ℕ → ℕ) (Obstacle : ℕ → ℕ → Type 0) (rect : Rect) (limit least : ℕ) → IsLeastBelow distance Obstacle rect limit least → least < limit
+pub IsRectNear-least : (distance : ℕ → ℕ → ℕ) (Obstacle : ℤ → ℤ → Type 0) (rect : Rect) (limit least : ℕ) → IsLeastBelow distance Obstacle rect limit least → least < limit
     → IsRectNear distance Obstacle rect (least + 1)
 IsRectNear-least distance Obstacle rect limit least is less =
     let reached = is.reached less in
@@ -237,8 +237,8 @@ IsRectNear-least distance Obstacle rect limit least is less =
     record { x = reached.x; y = reached.y; cell = reached.cell; near = record { a = reached.a; b = reached.b; obstacle = reached.obstacle; nearer = omega arith } }
 
 -- where it isn't, there is no obstacle
-pub IsLeastBelow-none : (distance : ℕ → ℕ → ℕ) (Obstacle : ℕ → ℕ → Type 0) (rect : Rect) (limit least : ℕ) → IsLeastBelow distance Obstacle rect limit least → 2 ^ 32 ≤ least
-    → (a b : ℕ) → Obstacle a b → ⊥
+pub IsLeastBelow-none : (distance : ℕ → ℕ → ℕ) (Obstacle : ℤ → ℤ → Type 0) (rect : Rect) (limit least : ℕ) → IsLeastBelow distance Obstacle rect limit least → 2 ^ 32 ≤ least
+    → (a b : ℤ) → Obstacle a b → ⊥
 IsLeastBelow-none distance Obstacle rect limit least is none a b obstacle =
     let columns = rect.has_cells.columns in
     let rows = rect.has_cells.rows in
@@ -246,7 +246,7 @@ IsLeastBelow-none distance Obstacle rect limit least is none a b obstacle =
     absurd (omega arith)
 
 -- the first cell at the least distance of the rectangle
-pub IsLeastOf-rect : (distance : ℕ → ℕ → ℕ) (Obstacle : ℕ → ℕ → Type 0) (rect : Rect) (limit least : ℕ) (found : Option (Cell × Near))
+pub IsLeastOf-rect : (distance : ℕ → ℕ → ℕ) (Obstacle : ℤ → ℤ → Type 0) (rect : Rect) (limit least : ℕ) (found : Option (Cell × Near))
     → IsLeastBelow distance Obstacle rect limit least → least < limit
     → IsFirstOrNone distance Obstacle (cells_of_rect rect.x0 rect.y0 rect.x1 rect.y1) (least + 1) found → IsLeastOf distance Obstacle (cells_of_rect rect.x0 rect.y0 rect.x1 rect.y1) found
 IsLeastOf-rect distance Obstacle rect limit least found is less first =
@@ -271,5 +271,5 @@ IsLeastOf-rect distance Obstacle rect limit least found is less first =
     let columns = rect.has_cells.columns in
     let rows = rect.has_cells.rows in
     let far = (is.far (rect.x0 + i % (rect.x1 - rect.x0)) (rect.y0 + i / (rect.x1 - rect.x0)) a b (cell_of_place rect (i / (rect.x1 - rect.x0)) (i % (rect.x1 - rect.x0)) row column) obstacle).not_below in
-    subst (λ (c : Cell). least ≤ distance_between distance c.x c.y a b) (sym here.2) far)
+    subst (λ (c : Cell). least ≤ spot_distance distance c.x c.y a b) (sym here.2) far)
     place (rw size inside) (subst (λ (c : Cell). IsCellNear distance Obstacle (least + 1) c.x c.y) (sym cell) near.near) first

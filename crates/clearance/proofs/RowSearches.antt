@@ -85,7 +85,7 @@ first_in_word words start k place front p column kept cleared begin before withi
 
 -- the first mark is the answer, where it's near enough
 pub IsNextNearer-first : (distance : ℕ → ℕ → ℕ) → StaysNearer distance → (words : List ℕ) (start edge gap limit column : ℕ) (found : Option ℕ)
-    → length words ≤ 64 → gap ≤ 4095 → IsFirst words start column → IsWhereNearer (distance (column - edge) gap) limit column found
+    → length words ≤ 64 → gap ≤ 4097 → IsFirst words start column → IsWhereNearer (distance (column - edge) gap) limit column found
     → IsNextNearer distance words start edge gap limit found
 IsNextNearer-first distance stays words start edge gap limit column None few row is far = λ x from marked.
     elim (cases_lt x column) [
@@ -104,7 +104,7 @@ IsNextNearer-first distance stays words start edge gap limit column (Some found)
 
 -- where the columns before one have no mark and that is far, so are all marks
 pub IsNextNearer-far : (distance : ℕ → ℕ → ℕ) → StaysNearer distance → (words : List ℕ) (start edge gap limit column : ℕ)
-    → length words ≤ 64 → gap ≤ 4095 → AreUnmarked words start column → IsFar (distance (column - edge) gap) limit
+    → length words ≤ 64 → gap ≤ 4097 → AreUnmarked words start column → IsFar (distance (column - edge) gap) limit
     → IsNextNearer distance words start edge gap limit None
 IsNextNearer-far distance stays words start edge gap limit column few row before far = λ x from marked.
     elim (cases_lt x column) [
@@ -162,7 +162,7 @@ last_in_word words end k place back p column few kept cleared finish after withi
 
 -- the last mark is the answer, where it's near enough
 pub IsLastNearer-last : (distance : ℕ → ℕ → ℕ) → StaysNearer distance → (words : List ℕ) (end edge gap limit column : ℕ) (found : Option ℕ)
-    → edge ≤ 4095 → gap ≤ 4095 → IsLast words end column → IsWhereNearer (distance (edge - column) gap) limit column found
+    → edge ≤ 4095 → gap ≤ 4097 → IsLast words end column → IsWhereNearer (distance (edge - column) gap) limit column found
     → IsLastNearer distance words end edge gap limit found
 IsLastNearer-last distance stays words end edge gap limit column None within row is far = λ x before marked.
     elim (cases_lt column x) [
@@ -180,7 +180,7 @@ IsLastNearer-last distance stays words end edge gap limit column (Some found) wi
 
 -- where the columns from one on have no mark and the one before it is far, so are all marks
 pub IsLastNearer-far : (distance : ℕ → ℕ → ℕ) → StaysNearer distance → (words : List ℕ) (end edge gap limit column : ℕ)
-    → edge ≤ 4095 → gap ≤ 4095 → AreUnmarked words (column + 1) end → IsFar (distance (edge - column) gap) limit
+    → edge ≤ 4095 → gap ≤ 4097 → AreUnmarked words (column + 1) end → IsFar (distance (edge - column) gap) limit
     → IsLastNearer distance words end edge gap limit None
 IsLastNearer-far distance stays words end edge gap limit column within row after far = λ x before marked.
     elim (cases_lt column x) [

@@ -1,10 +1,10 @@
 -- The words of a row of a map, one by one.
-use Rattle.std.proofs.Common.{◌≡◌, ℕ, ◌+◌, ◌-◌, ◌*◌, ◌/◌, ◌%◌, ◌^◌, ◌<◌, ◌≤◌, Bool, List, length, get_or, refl, sym, ap, subst, ◌∙◌, arith}
+use Rattle.std.proofs.Common.{◌≡◌, ℕ, ◌+◌, ◌*◌, ◌/◌, ◌%◌, ◌^◌, ◌<◌, List, length, get_or, sym, ap, ◌∙◌, arith}
 use Rattle.std.specs.Int.{bit_at}
 use Rattle.std.proofs.lemmas.List.FromFn.{length-map-range_with_len, get_or-map-range_with_len}
 use Rattle.std.proofs.lemmas.Nat.{div-mul-add, mod-mul-add}
 use Rattle.std.proofs.lemmas.Nat.Bits.{same_from_bits_below}
-use Rattle.bits.specs.Cells.{Cells, has, IsBitmap}
+use Rattle.bits.specs.Cells.{Cells, has}
 use Rattle.bits.specs.Words.{words_across, IsRowOf}
 use Rattle.bits.specs.Tiles.{word_where, row_word}
 use Rattle.bits.proofs.TileLemmas.{bit_at-word_where, word_where-lt}

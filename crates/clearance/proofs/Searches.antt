@@ -11,7 +11,7 @@ use Rattle.bits.specs.Cells.{Cells, has, IsBitmap, IsObstacle}
 use Rattle.bits.specs.Words.{IsRowOf}
 use Rattle.bits.proofs.CellsLemmas.{has-outside}
 use Rattle.clearance.specs.Rows.{IsMarked, IsFar, IsFirstMark, IsLastMark}
-use Rattle.clearance.specs.Search.{IsLeastBelow, column_gap, row_gap, rect_distance, IsLeastAmong, IsLeastWithin, IsLoweredBy, IsLoweredRight, IsLoweredLeft}
+use Rattle.clearance.specs.Search.{IsLeastInBits, column_gap, row_gap, rect_distance, IsLeastAmong, IsLeastWithin, IsLoweredBy, IsLoweredRight, IsLoweredLeft}
 use Rattle.clearance.proofs.RowSearches.{mark_within, unmarked_past}
 
 -- what is far stays so for a lower limit
@@ -24,7 +24,7 @@ IsFar-greater dist more limit grown far = record { not_below = let low = far.not
 
 -- the first mark from the rectangle's first column on lowers the least
 pub IsLoweredRight-some : (distance : ℕ → ℕ → ℕ) → StaysNearer distance → (words : List ℕ) (rect : Rect) (gap before column least : ℕ)
-    → length words ≤ 64 → gap ≤ 4095 → IsFirstMark distance words rect.x0 (rect.x1 - 1) gap before column → least ≡ distance (column - (rect.x1 - 1)) gap → least < 2 ^ 32
+    → length words ≤ 64 → gap ≤ 4097 → IsFirstMark distance words rect.x0 (rect.x1 - 1) gap before column → least ≡ distance (column - (rect.x1 - 1)) gap → least < 2 ^ 32
     → IsLoweredRight distance words rect gap before least
 IsLoweredRight-some distance stays words rect gap before column least few row mark is small =
     let order = mark.order in
@@ -43,7 +43,7 @@ IsLoweredRight-some distance stays words rect gap before column least few row ma
 
 -- the last mark before the rectangle's first column lowers the least
 pub IsLoweredLeft-some : (distance : ℕ → ℕ → ℕ) → StaysNearer distance → (words : List ℕ) (rect : Rect) (gap before column least : ℕ)
-    → gap ≤ 4095 → IsLastMark distance words rect.x0 rect.x0 gap before column → least ≡ distance (rect.x0 - column) gap → least < 2 ^ 32
+    → gap ≤ 4097 → IsLastMark distance words rect.x0 rect.x0 gap before column → least ≡ distance (rect.x0 - column) gap → least < 2 ^ 32
     → IsLoweredLeft distance words rect gap before least
 IsLoweredLeft-some distance stays words rect gap before column least row mark is small =
     let order = mark.order in
@@ -201,7 +201,7 @@ IsLeastAmong-far distance grows stays cells rect IsRow IsNext gap limit least bi
 -- once all rows have been looked at, the least is that of the rectangle's cells
 pub IsLeastBelow-all : (distance : ℕ → ℕ → ℕ) → Grows distance → StaysNearer distance → (cells : Cells) (rect : Rect) (IsRow : ℕ → Type 0) (limit least : ℕ)
     → IsBitmap cells → ((a b : ℕ) → IsObstacle cells a b → IsRow b)
-    → IsLeastAmong distance (IsObstacle cells) rect IsRow limit least → IsLeastBelow distance (IsObstacle cells) rect limit least
+    → IsLeastAmong distance (IsObstacle cells) rect IsRow limit least → IsLeastInBits distance (IsObstacle cells) rect limit least
 IsLeastBelow-all distance grows stays cells rect IsRow limit least bitmap all is =
     let columns = rect.has_cells.columns in
     let rows = rect.has_cells.rows in

@@ -1,5 +1,5 @@
 -- The lines of a strip, as the cells of rectangles, and the search for the first of them by halves.
-use Rattle.std.proofs.Common.{◌≡◌, ℕ, ◌+◌, ◌<◌, ◌≤◌, min, max, inl, inr, sym, subst, arith}
+use Rattle.std.proofs.Common.{◌≡◌, ℕ, ℤ, ◌+◌, ◌<◌, ◌≤◌, min, max, inl, inr, sym, subst, arith}
 use Rattle.std.specs.Int.{abs_diff}
 use Rattle.std.proofs.lemmas.Bool.{cases_lt, cases_eq}
 use Rattle.std.proofs.lemmas.Bool.Decides.{nat_tests}
@@ -127,7 +127,7 @@ in_rect-line strip first last x0 y0 x1 y1 x y corners order left right top botto
 ]
 
 -- where the least over some lines is below the limit, some line has an obstacle near
-pub IsSomeNear-lower : (distance : ℕ → ℕ → ℕ) (Obstacle : ℕ → ℕ → Type 0) (strip : Strip) (rect : Rect) (limit low middle least : ℕ)
+pub IsSomeNear-lower : (distance : ℕ → ℕ → ℕ) (Obstacle : ℤ → ℤ → Type 0) (strip : Strip) (rect : Rect) (limit low middle least : ℕ)
     → ((x y : ℕ) → IsInRect rect x y → (k : ℕ) × (low ≤ k) × (k ≤ middle) × IsOnLine strip k x y)
     → IsLeastBelow distance Obstacle rect limit least → least < limit → IsSomeNear distance Obstacle strip limit low middle
 IsSomeNear-lower distance Obstacle strip rect limit low middle least only is less =
@@ -136,7 +136,7 @@ IsSomeNear-lower distance Obstacle strip rect limit low middle least only is les
     (k, from, within, record { x = reached.x; y = reached.y; on_line = on_line; a = reached.a; b = reached.b; obstacle = reached.obstacle; nearer = rw (reached.distance_is) less })
 
 -- where it isn't, none has
-pub IsLineFar-lower : (distance : ℕ → ℕ → ℕ) (Obstacle : ℕ → ℕ → Type 0) (strip : Strip) (rect : Rect) (limit low middle least : ℕ)
+pub IsLineFar-lower : (distance : ℕ → ℕ → ℕ) (Obstacle : ℤ → ℤ → Type 0) (strip : Strip) (rect : Rect) (limit low middle least : ℕ)
     → ((k x y : ℕ) → low ≤ k → k ≤ middle → IsOnLine strip k x y → IsInRect rect x y)
     → IsLeastBelow distance Obstacle rect limit least → limit ≤ least → (k : ℕ) → low ≤ k → k ≤ middle → IsLineFar distance Obstacle strip limit k
 IsLineFar-lower distance Obstacle strip rect limit low middle least all is no_less = λ k from within x y a b on_line obstacle.
@@ -144,7 +144,7 @@ IsLineFar-lower distance Obstacle strip rect limit low middle least all is no_le
     omega arith
 
 -- where the lines of the lower half are far, one of the upper half is near
-pub IsSomeNear-upper : (distance : ℕ → ℕ → ℕ) (Obstacle : ℕ → ℕ → Type 0) (strip : Strip) (limit low middle high : ℕ)
+pub IsSomeNear-upper : (distance : ℕ → ℕ → ℕ) (Obstacle : ℤ → ℤ → Type 0) (strip : Strip) (limit low middle high : ℕ)
     → ((k : ℕ) → low ≤ k → k ≤ middle → IsLineFar distance Obstacle strip limit k)
     → IsSomeNear distance Obstacle strip limit low high → IsSomeNear distance Obstacle strip limit (middle + 1) high
 IsSomeNear-upper distance Obstacle strip limit low middle high far (k, from, within, near) = elim (cases_lt middle k) [
@@ -156,7 +156,7 @@ IsSomeNear-upper distance Obstacle strip limit low middle high far (k, from, wit
 ]
 
 -- the lines before the upper half are far
-pub AreLinesFar-more : (distance : ℕ → ℕ → ℕ) (Obstacle : ℕ → ℕ → Type 0) (strip : Strip) (limit first low middle : ℕ)
+pub AreLinesFar-more : (distance : ℕ → ℕ → ℕ) (Obstacle : ℤ → ℤ → Type 0) (strip : Strip) (limit first low middle : ℕ)
     → ((k : ℕ) → first ≤ k → k < low → IsLineFar distance Obstacle strip limit k) → ((k : ℕ) → low ≤ k → k ≤ middle → IsLineFar distance Obstacle strip limit k)
     → (k : ℕ) → first ≤ k → k < middle + 1 → IsLineFar distance Obstacle strip limit k
 AreLinesFar-more distance Obstacle strip limit first low middle before half = λ k from within. elim (cases_lt k low) [
@@ -165,7 +165,7 @@ AreLinesFar-more distance Obstacle strip limit first low middle before half = λ
 ]
 
 -- once one line is left, it's the first that is near
-pub IsFirstNear-one : (distance : ℕ → ℕ → ℕ) (Obstacle : ℕ → ℕ → Type 0) (strip : Strip) (limit first last low high : ℕ) → first ≤ low → high ≤ last → high ≤ low
+pub IsFirstNear-one : (distance : ℕ → ℕ → ℕ) (Obstacle : ℤ → ℤ → Type 0) (strip : Strip) (limit first last low high : ℕ) → first ≤ low → high ≤ last → high ≤ low
     → IsSomeNear distance Obstacle strip limit low high → ((k : ℕ) → first ≤ k → k < low → IsLineFar distance Obstacle strip limit k)
     → IsFirstNear distance Obstacle strip limit first last low
 IsFirstNear-one distance Obstacle strip limit first last low high start end one (k, from, within, near) before =

@@ -1,5 +1,5 @@
 -- The answers of queries over several cells: this project's own rule.
-use Rattle.std.specs.Prelude.{◌≡◌, ℕ, ◌-◌, ◌<◌, ◌≤◌, ◌⊎◌, List, length, map, Option, Some, None, slice_index_or}
+use Rattle.std.specs.Prelude.{◌≡◌, ℕ, ℤ, ◌-◌, ◌<◌, ◌≤◌, ◌⊎◌, List, length, map, Option, Some, None, slice_index_or}
 use Rattle.std.specs.List.{range_with_len, flat_map}
 use Rattle.metric.specs.declared.cell.Cell.{Cell}
 use Rattle.metric.specs.declared.near.Near.{Near}
@@ -14,11 +14,11 @@ abbrev pub cells_of_rect : ℕ → ℕ → ℕ → ℕ → List Cell
 cells_of_rect x0 y0 x1 y1 = flat_map (λ y. map (λ x. record { x = x; y = y }) (range_with_len x0 (x1 - x0))) (range_with_len y0 (y1 - y0))
 
 -- the nearest obstacle of the cell at this place of a list
-abbrev pub IsNearestAt : (ℕ → ℕ → ℕ) → (ℕ → ℕ → Type 0) → List Cell → ℕ → Cell → Near → Type 0
+abbrev pub IsNearestAt : (ℕ → ℕ → ℕ) → (ℤ → ℤ → Type 0) → List Cell → ℕ → Cell → Near → Type 0
 IsNearestAt distance Obstacle cells place other near = let cell = slice_index_or cells place other in IsNearest distance Obstacle cell.x cell.y near
 
 -- a cell of the list with its nearest obstacle: none of the list is nearer to an obstacle, and none before it is as near
-pub record IsFirstLeast (distance : ℕ → ℕ → ℕ) (Obstacle : ℕ → ℕ → Type 0) (cells : List Cell) (cell : Cell) (near : Near) : Type 0 where
+pub record IsFirstLeast (distance : ℕ → ℕ → ℕ) (Obstacle : ℤ → ℤ → Type 0) (cells : List Cell) (cell : Cell) (near : Near) : Type 0 where
   pub place : ℕ
   pub within : place < length cells
   pub cell_is : slice_index_or cells place cell ≡ cell
@@ -27,12 +27,12 @@ pub record IsFirstLeast (distance : ℕ → ℕ → ℕ) (Obstacle : ℕ → ℕ
   pub first : (i : ℕ) (other : Near) → i < place → IsNearestAt distance Obstacle cells i cell other → near.dist < other.dist
 
 -- the least distance over the cells of a list, at the first such cell; none where there is no obstacle
-abbrev pub IsLeastOf : (ℕ → ℕ → ℕ) → (ℕ → ℕ → Type 0) → List Cell → Option (Cell × Near) → Type 0
-IsLeastOf distance Obstacle cells None = (a b : ℕ) → Obstacle a b → ⊥
+abbrev pub IsLeastOf : (ℕ → ℕ → ℕ) → (ℤ → ℤ → Type 0) → List Cell → Option (Cell × Near) → Type 0
+IsLeastOf distance Obstacle cells None = (a b : ℤ) → Obstacle a b → ⊥
 IsLeastOf distance Obstacle cells (Some found) = IsFirstLeast distance Obstacle cells found.0 found.1
 
 -- the first cell of the list whose distance is below d, with its nearest obstacle
-pub record IsFirstBelow (distance : ℕ → ℕ → ℕ) (Obstacle : ℕ → ℕ → Type 0) (cells : List Cell) (d : ℕ) (cell : Cell) (near : Near) : Type 0 where
+pub record IsFirstBelow (distance : ℕ → ℕ → ℕ) (Obstacle : ℤ → ℤ → Type 0) (cells : List Cell) (d : ℕ) (cell : Cell) (near : Near) : Type 0 where
   pub place : ℕ
   pub within : place < length cells
   pub cell_is : slice_index_or cells place cell ≡ cell
@@ -41,7 +41,7 @@ pub record IsFirstBelow (distance : ℕ → ℕ → ℕ) (Obstacle : ℕ → ℕ
   pub first : (i : ℕ) (other : Near) → i < place → IsNearestAt distance Obstacle cells i cell other → d ≤ other.dist
 
 -- the list is clear of d where each distance is none or at least d; otherwise its first cell that is nearer
-abbrev pub IsClearOf : (ℕ → ℕ → ℕ) → (ℕ → ℕ → Type 0) → List Cell → ℕ → Option (Cell × Near) → Type 0
+abbrev pub IsClearOf : (ℕ → ℕ → ℕ) → (ℤ → ℤ → Type 0) → List Cell → ℕ → Option (Cell × Near) → Type 0
 IsClearOf distance Obstacle cells d None = (i : ℕ) (other : Near) (cell : Cell) → i < length cells → IsNearestAt distance Obstacle cells i cell other → d ≤ other.dist
 IsClearOf distance Obstacle cells d (Some found) = IsFirstBelow distance Obstacle cells d found.0 found.1
 

@@ -1,47 +1,46 @@
 -- The first cell of a list that has an obstacle near, and the least distance of its cells: this project's own rule.
-use Rattle.std.specs.Prelude.{◌≡◌, ℕ, ◌<◌, ◌≤◌, List, length, slice_index_or, Option, Some, None}
+use Rattle.std.specs.Prelude.{◌≡◌, ℕ, ℤ, ◌<◌, ◌≤◌, List, length, slice_index_or, Option, Some, None}
 use Rattle.metric.specs.declared.cell.Cell.{Cell}
 use Rattle.metric.specs.declared.near.Near.{Near}
-use Rattle.metric.specs.Distance.{distance_between}
-use Rattle.metric.specs.Nearest.{IsNearest}
+use Rattle.metric.specs.Nearest.{IsNearest, spot_distance}
 use Rattle.metric.specs.declared.rect.Rect.{Rect}
 use Rattle.clearance.specs.Rows.{IsFar}
 use Rattle.clearance.specs.Search.{IsInRect}
 
 -- the cell (x, y) has an obstacle at a distance below the limit
-pub record IsCellNear (distance : ℕ → ℕ → ℕ) (Obstacle : ℕ → ℕ → Type 0) (limit x y : ℕ) : Type 0 where
-  pub a : ℕ
-  pub b : ℕ
+pub record IsCellNear (distance : ℕ → ℕ → ℕ) (Obstacle : ℤ → ℤ → Type 0) (limit x y : ℕ) : Type 0 where
+  pub a : ℤ
+  pub b : ℤ
   pub obstacle : Obstacle a b
-  pub nearer : distance_between distance x y a b < limit
+  pub nearer : spot_distance distance x y a b < limit
 
 -- the cell (x, y) has none
-abbrev pub IsCellFar : (ℕ → ℕ → ℕ) → (ℕ → ℕ → Type 0) → ℕ → ℕ → ℕ → Type 0
-IsCellFar distance Obstacle limit x y = (a b : ℕ) → Obstacle a b → limit ≤ distance_between distance x y a b
+abbrev pub IsCellFar : (ℕ → ℕ → ℕ) → (ℤ → ℤ → Type 0) → ℕ → ℕ → ℕ → Type 0
+IsCellFar distance Obstacle limit x y = (a b : ℤ) → Obstacle a b → limit ≤ spot_distance distance x y a b
 
 -- some cell of the rectangle has an obstacle at a distance below the limit
-pub record IsRectNear (distance : ℕ → ℕ → ℕ) (Obstacle : ℕ → ℕ → Type 0) (rect : Rect) (limit : ℕ) : Type 0 where
+pub record IsRectNear (distance : ℕ → ℕ → ℕ) (Obstacle : ℤ → ℤ → Type 0) (rect : Rect) (limit : ℕ) : Type 0 where
   pub x : ℕ
   pub y : ℕ
   pub cell : IsInRect rect x y
   pub near : IsCellNear distance Obstacle limit x y
 
 -- the first row of the rectangle in which a cell has an obstacle at a distance below the limit
-pub record IsFirstRow (distance : ℕ → ℕ → ℕ) (Obstacle : ℕ → ℕ → Type 0) (rect : Rect) (limit y : ℕ) : Type 0 where
+pub record IsFirstRow (distance : ℕ → ℕ → ℕ) (Obstacle : ℤ → ℤ → Type 0) (rect : Rect) (limit y : ℕ) : Type 0 where
   pub x : ℕ
   pub cell : IsInRect rect x y
   pub near : IsCellNear distance Obstacle limit x y
   pub above : (a b : ℕ) → IsInRect rect a b → b < y → IsCellFar distance Obstacle limit a b
 
 -- the first column of the rectangle in which the cell of the row y has an obstacle at a distance below the limit
-pub record IsFirstColumn (distance : ℕ → ℕ → ℕ) (Obstacle : ℕ → ℕ → Type 0) (rect : Rect) (limit y x : ℕ) : Type 0 where
+pub record IsFirstColumn (distance : ℕ → ℕ → ℕ) (Obstacle : ℤ → ℤ → Type 0) (rect : Rect) (limit y x : ℕ) : Type 0 where
   pub cell : IsInRect rect x y
   pub near : IsCellNear distance Obstacle limit x y
   pub before : (a : ℕ) → rect.x0 ≤ a → a < x → IsCellFar distance Obstacle limit a y
 
 -- a cell with its nearest obstacle; none where there is no obstacle
-abbrev pub IsCellWithNear : (ℕ → ℕ → ℕ) → (ℕ → ℕ → Type 0) → Cell → Option (Cell × Near) → Type 0
-IsCellWithNear distance Obstacle cell None = (a b : ℕ) → Obstacle a b → ⊥
+abbrev pub IsCellWithNear : (ℕ → ℕ → ℕ) → (ℤ → ℤ → Type 0) → Cell → Option (Cell × Near) → Type 0
+IsCellWithNear distance Obstacle cell None = (a b : ℤ) → Obstacle a b → ⊥
 IsCellWithNear distance Obstacle cell (Some found) = (found.0 ≡ cell) × IsNearest distance Obstacle cell.x cell.y found.1
 
 -- the cell (0, 0)
@@ -53,19 +52,19 @@ abbrev pub cell_in : List Cell → ℕ → Cell
 cell_in cells place = slice_index_or cells place origin
 
 -- the distance of the cell at this place of the list to the cell (a, b)
-abbrev pub distance_at : (ℕ → ℕ → ℕ) → List Cell → ℕ → ℕ → ℕ → ℕ
-distance_at distance cells place a b = distance_between distance (cell_in cells place).x (cell_in cells place).y a b
+abbrev pub distance_at : (ℕ → ℕ → ℕ) → List Cell → ℕ → ℤ → ℤ → ℕ
+distance_at distance cells place a b = spot_distance distance (cell_in cells place).x (cell_in cells place).y a b
 
 -- some cell of the list has an obstacle at a distance below the limit
-abbrev pub IsListNear : (ℕ → ℕ → ℕ) → (ℕ → ℕ → Type 0) → List Cell → ℕ → Type 0
+abbrev pub IsListNear : (ℕ → ℕ → ℕ) → (ℤ → ℤ → Type 0) → List Cell → ℕ → Type 0
 IsListNear distance Obstacle cells limit = (i : ℕ) × (i < length cells) × IsCellNear distance Obstacle limit (cell_in cells i).x (cell_in cells i).y
 
 -- no cell before this place of the list has an obstacle at a distance below the limit
-abbrev pub AreFarBefore : (ℕ → ℕ → ℕ) → (ℕ → ℕ → Type 0) → List Cell → ℕ → ℕ → Type 0
-AreFarBefore distance Obstacle cells limit place = (i a b : ℕ) → i < place → Obstacle a b → limit ≤ distance_at distance cells i a b
+abbrev pub AreFarBefore : (ℕ → ℕ → ℕ) → (ℤ → ℤ → Type 0) → List Cell → ℕ → ℕ → Type 0
+AreFarBefore distance Obstacle cells limit place = (i : ℕ) (a b : ℤ) → i < place → Obstacle a b → limit ≤ distance_at distance cells i a b
 
 -- the first cell of the list that has an obstacle at a distance below the limit, with its nearest obstacle
-pub record IsFirstNearer (distance : ℕ → ℕ → ℕ) (Obstacle : ℕ → ℕ → Type 0) (cells : List Cell) (limit : ℕ) (cell : Cell) (near : Near) : Type 0 where
+pub record IsFirstNearer (distance : ℕ → ℕ → ℕ) (Obstacle : ℤ → ℤ → Type 0) (cells : List Cell) (limit : ℕ) (cell : Cell) (near : Near) : Type 0 where
   pub place : ℕ
   pub within : place < length cells
   pub cell_is : cell_in cells place ≡ cell
@@ -74,16 +73,16 @@ pub record IsFirstNearer (distance : ℕ → ℕ → ℕ) (Obstacle : ℕ → �
   pub before : AreFarBefore distance Obstacle cells limit place
 
 -- the first cell of the list that has an obstacle at a distance below the limit; none where no cell has
-abbrev pub IsFirstOrNone : (ℕ → ℕ → ℕ) → (ℕ → ℕ → Type 0) → List Cell → ℕ → Option (Cell × Near) → Type 0
+abbrev pub IsFirstOrNone : (ℕ → ℕ → ℕ) → (ℤ → ℤ → Type 0) → List Cell → ℕ → Option (Cell × Near) → Type 0
 IsFirstOrNone distance Obstacle cells limit None = AreFarBefore distance Obstacle cells limit (length cells)
 IsFirstOrNone distance Obstacle cells limit (Some found) = IsFirstNearer distance Obstacle cells limit found.0 found.1
 
 -- the least of the limit and of the distances of the list's cells before a place to the obstacles
-pub record IsLeastBefore (distance : ℕ → ℕ → ℕ) (Obstacle : ℕ → ℕ → Type 0) (cells : List Cell) (limit place least : ℕ) : Type 0 where
+pub record IsLeastBefore (distance : ℕ → ℕ → ℕ) (Obstacle : ℤ → ℤ → Type 0) (cells : List Cell) (limit place least : ℕ) : Type 0 where
   pub within : least ≤ limit
-  pub far : (i a b : ℕ) → i < place → Obstacle a b → IsFar (distance_at distance cells i a b) least
-  pub reached : least < limit → (i : ℕ) × (i < place) × (a : ℕ) × (b : ℕ) × Obstacle a b × (distance_at distance cells i a b ≡ least)
+  pub far : (i : ℕ) (a b : ℤ) → i < place → Obstacle a b → IsFar (distance_at distance cells i a b) least
+  pub reached : least < limit → (i : ℕ) × (i < place) × (a : ℤ) × (b : ℤ) × Obstacle a b × (distance_at distance cells i a b ≡ least)
 
 -- the least of the limit and of the distances of all cells of the list
-abbrev pub IsLeastOver : (ℕ → ℕ → ℕ) → (ℕ → ℕ → Type 0) → List Cell → ℕ → ℕ → Type 0
+abbrev pub IsLeastOver : (ℕ → ℕ → ℕ) → (ℤ → ℤ → Type 0) → List Cell → ℕ → ℕ → Type 0
 IsLeastOver distance Obstacle cells limit least = IsLeastBefore distance Obstacle cells limit (length cells) least

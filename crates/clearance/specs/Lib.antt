@@ -1,5 +1,6 @@
 pub mod Answers
 pub mod Firsts
+pub mod Frames
 pub mod Nearest
 pub mod Paths
 pub mod Rows

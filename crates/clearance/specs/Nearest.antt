@@ -2,22 +2,31 @@
 use Rattle.std.specs.Prelude.{◌≡◌, ℕ, ◌+◌, ◌^◌, ◌<◌, ◌≤◌, ◌⊎◌, Option, Some, None}
 use Rattle.std.specs.Int.{abs_diff}
 use Rattle.metric.specs.declared.cell.Cell.{Cell}
-use Rattle.metric.specs.declared.near.Near.{Near}
-use Rattle.metric.specs.Nearest.{IsNear}
+use Rattle.metric.specs.Cellwise.{IsNearestCell}
 use Rattle.bits.specs.Cells.{Cells, IsBitmap, IsInside, IsObstacle}
+use Rattle.clearance.specs.declared.found.Found.{Found}
+
+-- what is found has the least key of a set of cells, seen from the cell (x, y)
+abbrev pub IsFound : (ℕ → ℕ → ℕ) → (ℕ → ℕ → Type 0) → ℕ → ℕ → Found → Type 0
+IsFound distance Obstacle x y found = IsNearestCell distance Obstacle x y found.dist found.cell.x found.cell.y
+
+-- the nearest of a set of cells, or none where there is none
+abbrev pub IsNearCell : (ℕ → ℕ → ℕ) → (ℕ → ℕ → Type 0) → ℕ → ℕ → Option Found → Type 0
+IsNearCell distance Obstacle x y None = (a b : ℕ) → Obstacle a b → ⊥
+IsNearCell distance Obstacle x y (Some found) = IsFound distance Obstacle x y found
 
 -- the nearest of the obstacles that have been looked at
-abbrev pub IsNearAmong : (ℕ → ℕ → ℕ) → (ℕ → ℕ → Type 0) → (ℕ → ℕ → Type 0) → ℕ → ℕ → Option Near → Type 0
-IsNearAmong distance Obstacle IsSeen x y best = IsNear distance (λ a b. Obstacle a b × IsSeen a b) x y best
+abbrev pub IsNearAmong : (ℕ → ℕ → ℕ) → (ℕ → ℕ → Type 0) → (ℕ → ℕ → Type 0) → ℕ → ℕ → Option Found → Type 0
+IsNearAmong distance Obstacle IsSeen x y best = IsNearCell distance (λ a b. Obstacle a b × IsSeen a b) x y best
 
 -- a search for the nearest obstacle of a bitmap's cell: the nearest of the obstacles that have been looked at
-pub record IsSought (distance : ℕ → ℕ → ℕ) (cells : Cells) (cell : Cell) (IsSeen : ℕ → ℕ → Type 0) (best : Option Near) : Type 0 where
+pub record IsSought (distance : ℕ → ℕ → ℕ) (cells : Cells) (cell : Cell) (IsSeen : ℕ → ℕ → Type 0) (best : Option Found) : Type 0 where
   pub bitmap : IsBitmap cells
   pub inside : IsInside cells cell.x cell.y
   pub near : IsNearAmong distance (IsObstacle cells) IsSeen cell.x cell.y best
 
 -- a limit above the distance of the best so far; above each distance where there is none
-abbrev pub limit_of : Option Near → ℕ
+abbrev pub limit_of : Option Found → ℕ
 limit_of None = 2 ^ 32
 limit_of (Some near) = near.dist + 1
 
@@ -42,10 +51,10 @@ abbrev pub IsSeenInRow : ℕ → ℕ → (ℕ → Type 0) → ℕ → ℕ → Ty
 IsSeenInRow y row IsColumn a b = IsRowBefore y row b ⊎ ((b ≡ row) × IsColumn a)
 
 -- an obstacle is ahead of another one that isn't in a row before its own: it's nearer, or as near and in a column that isn't to the right
-abbrev pub IsAhead : Near → Near → Type 0
+abbrev pub IsAhead : Found → Found → Type 0
 IsAhead one other = (one.dist < other.dist) ⊎ ((one.dist ≡ other.dist) × (one.cell.x ≤ other.cell.x))
 
 -- of the best so far, if any, and an obstacle, this is the better
-abbrev pub IsBetter : Option Near → Near → Near → Type 0
+abbrev pub IsBetter : Option Found → Found → Found → Type 0
 IsBetter None next better = better ≡ next
 IsBetter (Some best) next better = ((better ≡ best) × IsAhead best next) ⊎ ((better ≡ next) × (IsAhead best next → ⊥))

@@ -1,7 +1,8 @@
 -- The least distance of a rectangle's cells to the obstacles, and how far the search for it has come: this project's own rule.
-use Rattle.std.specs.Prelude.{◌≡◌, ℕ, ◌+◌, ◌-◌, ◌<◌, ◌≤◌, List}
+use Rattle.std.specs.Prelude.{◌≡◌, ℕ, ℤ, ◌+◌, ◌-◌, ◌<◌, ◌≤◌, List}
 use Rattle.metric.specs.declared.rect.Rect.{Rect}
 use Rattle.metric.specs.Distance.{distance_between}
+use Rattle.metric.specs.Nearest.{spot_distance}
 use Rattle.bits.specs.Cells.{Cells, IsBitmap}
 use Rattle.clearance.specs.Rows.{IsMarked, IsFar}
 
@@ -19,7 +20,27 @@ pub record IsRectIn (cells : Cells) (rect : Rect) : Type 0 where
   pub rows : rect.y1 ≤ cells.height
 
 -- a cell that passes a test has an obstacle at distance d
-pub record IsReachedFrom (distance : ℕ → ℕ → ℕ) (Obstacle IsCell : ℕ → ℕ → Type 0) (d : ℕ) : Type 0 where
+pub record IsReachedFrom (distance : ℕ → ℕ → ℕ) (Obstacle : ℤ → ℤ → Type 0) (IsCell : ℕ → ℕ → Type 0) (d : ℕ) : Type 0 where
+  pub x : ℕ
+  pub y : ℕ
+  pub cell : IsCell x y
+  pub a : ℤ
+  pub b : ℤ
+  pub obstacle : Obstacle a b
+  pub distance_is : spot_distance distance x y a b ≡ d
+
+-- no cell that passes a test has an obstacle at a distance below the limit
+abbrev pub AreFar : (ℕ → ℕ → ℕ) → (ℤ → ℤ → Type 0) → (ℕ → ℕ → Type 0) → ℕ → Type 0
+AreFar distance Obstacle IsCell limit = (x y : ℕ) (a b : ℤ) → IsCell x y → Obstacle a b → IsFar (spot_distance distance x y a b) limit
+
+-- the least of the limit and of the distances of the rectangle's cells to the obstacles
+pub record IsLeastBelow (distance : ℕ → ℕ → ℕ) (Obstacle : ℤ → ℤ → Type 0) (rect : Rect) (limit least : ℕ) : Type 0 where
+  pub within : least ≤ limit
+  pub far : AreFar distance Obstacle (IsInRect rect) least
+  pub reached : least < limit → IsReachedFrom distance Obstacle (IsInRect rect) least
+
+-- the same of obstacles that are cells: a cell that passes a test has one at distance d
+pub record IsReachedCell (distance : ℕ → ℕ → ℕ) (Obstacle IsCell : ℕ → ℕ → Type 0) (d : ℕ) : Type 0 where
   pub x : ℕ
   pub y : ℕ
   pub cell : IsCell x y
@@ -29,14 +50,14 @@ pub record IsReachedFrom (distance : ℕ → ℕ → ℕ) (Obstacle IsCell : ℕ
   pub distance_is : distance_between distance x y a b ≡ d
 
 -- no cell that passes a test has an obstacle at a distance below the limit
-abbrev pub AreFar : (ℕ → ℕ → ℕ) → (ℕ → ℕ → Type 0) → (ℕ → ℕ → Type 0) → ℕ → Type 0
-AreFar distance Obstacle IsCell limit = (x y a b : ℕ) → IsCell x y → Obstacle a b → IsFar (distance_between distance x y a b) limit
+abbrev pub AreFarCells : (ℕ → ℕ → ℕ) → (ℕ → ℕ → Type 0) → (ℕ → ℕ → Type 0) → ℕ → Type 0
+AreFarCells distance Obstacle IsCell limit = (x y a b : ℕ) → IsCell x y → Obstacle a b → IsFar (distance_between distance x y a b) limit
 
 -- the least of the limit and of the distances of the rectangle's cells to the obstacles
-pub record IsLeastBelow (distance : ℕ → ℕ → ℕ) (Obstacle : ℕ → ℕ → Type 0) (rect : Rect) (limit least : ℕ) : Type 0 where
+pub record IsLeastInBits (distance : ℕ → ℕ → ℕ) (Obstacle : ℕ → ℕ → Type 0) (rect : Rect) (limit least : ℕ) : Type 0 where
   pub within : least ≤ limit
-  pub far : AreFar distance Obstacle (IsInRect rect) least
-  pub reached : least < limit → IsReachedFrom distance Obstacle (IsInRect rect) least
+  pub far : AreFarCells distance Obstacle (IsInRect rect) least
+  pub reached : least < limit → IsReachedCell distance Obstacle (IsInRect rect) least
 
 -- how many columns the column a lies outside of the rectangle
 abbrev pub column_gap : Rect → ℕ → ℕ

@@ -1,6 +1,6 @@
 -- The lines of a strip, counted from 0, and which of them have an obstacle near: this project's own rule.
-use Rattle.std.specs.Prelude.{◌≡◌, ℕ, ◌+◌, ◌≤◌, ◌<◌, max}
-use Rattle.metric.specs.Distance.{distance_between}
+use Rattle.std.specs.Prelude.{◌≡◌, ℕ, ℤ, ◌+◌, ◌≤◌, ◌<◌, max}
+use Rattle.metric.specs.Nearest.{spot_distance}
 use Rattle.bits.specs.Cells.{Cells, IsBitmap}
 use Rattle.clearance.specs.Paths.{towards}
 use Rattle.clearance.specs.declared.strip.Strip.{Strip}
@@ -18,25 +18,25 @@ pub record IsOnLine (strip : Strip) (k x y : ℕ) : Type 0 where
   pub row : y ≡ towards strip.from.y strip.to.y k
 
 -- some cell of the line number k has an obstacle at a distance below the limit
-pub record IsLineNear (distance : ℕ → ℕ → ℕ) (Obstacle : ℕ → ℕ → Type 0) (strip : Strip) (limit k : ℕ) : Type 0 where
+pub record IsLineNear (distance : ℕ → ℕ → ℕ) (Obstacle : ℤ → ℤ → Type 0) (strip : Strip) (limit k : ℕ) : Type 0 where
   pub x : ℕ
   pub y : ℕ
   pub on_line : IsOnLine strip k x y
-  pub a : ℕ
-  pub b : ℕ
+  pub a : ℤ
+  pub b : ℤ
   pub obstacle : Obstacle a b
-  pub nearer : distance_between distance x y a b < limit
+  pub nearer : spot_distance distance x y a b < limit
 
 -- no cell of the line number k has an obstacle at a distance below the limit
-abbrev pub IsLineFar : (ℕ → ℕ → ℕ) → (ℕ → ℕ → Type 0) → Strip → ℕ → ℕ → Type 0
-IsLineFar distance Obstacle strip limit k = (x y a b : ℕ) → IsOnLine strip k x y → Obstacle a b → limit ≤ distance_between distance x y a b
+abbrev pub IsLineFar : (ℕ → ℕ → ℕ) → (ℤ → ℤ → Type 0) → Strip → ℕ → ℕ → Type 0
+IsLineFar distance Obstacle strip limit k = (x y : ℕ) (a b : ℤ) → IsOnLine strip k x y → Obstacle a b → limit ≤ spot_distance distance x y a b
 
 -- of the lines from one to another, some have an obstacle near
-abbrev pub IsSomeNear : (ℕ → ℕ → ℕ) → (ℕ → ℕ → Type 0) → Strip → ℕ → ℕ → ℕ → Type 0
+abbrev pub IsSomeNear : (ℕ → ℕ → ℕ) → (ℤ → ℤ → Type 0) → Strip → ℕ → ℕ → ℕ → Type 0
 IsSomeNear distance Obstacle strip limit first last = (k : ℕ) × (first ≤ k) × (k ≤ last) × IsLineNear distance Obstacle strip limit k
 
 -- of the lines from one to another, this is the first that has an obstacle near
-pub record IsFirstNear (distance : ℕ → ℕ → ℕ) (Obstacle : ℕ → ℕ → Type 0) (strip : Strip) (limit first last line : ℕ) : Type 0 where
+pub record IsFirstNear (distance : ℕ → ℕ → ℕ) (Obstacle : ℤ → ℤ → Type 0) (strip : Strip) (limit first last line : ℕ) : Type 0 where
   pub from : first ≤ line
   pub within : line ≤ last
   pub near : IsLineNear distance Obstacle strip limit line

@@ -1,47 +1,57 @@
 //! The first cell of a rectangle that has the least distance, found by halves.
 
 ghost use Rattle.std.specs.Prelude.{◌≡◌};
-ghost use Rattle.bits.specs.Cells.{IsInside, IsObstacle};
+ghost use Rattle.bits.specs.Cells.{IsInside};
+ghost use Rattle.bits.specs.Edges.{IsBlocked};
 ghost use Rattle.clearance.specs.Answers.{IsLeastOf, cells_of_rect};
 ghost use Rattle.clearance.specs.Firsts.{IsCellWithNear, IsFirstColumn, IsFirstOrNone, IsFirstRow, IsRectNear};
 ghost use Rattle.clearance.specs.Search.{IsRectIn};
 
-use crate::nearest::nearest;
+use crate::border::{least_below, nearest_spot};
 use crate::rows::Rows;
-use crate::search::{NO_LIMIT, least_below};
+use crate::search::NO_LIMIT;
 use crate::strip::Strip;
-use metric::{Cell, Metric, Near, Rect};
+use metric::{Cell, Edge, Metric, Near, Rect};
 
-/// The first cell of the least distance in a rectangle of the bitmap, with its nearest obstacle; `None` where the bitmap has no obstacle.
-pub fn least_of_rect<M: Metric, R: Rows>(rows: &mut R, rect: Rect) -> Option<(Cell, Near)>
+/// The first cell of the least distance in a rectangle of the bitmap, with its nearest obstacle; `None` where there is no obstacle.
+pub fn least_of_rect<M: Metric, R: Rows>(
+    rows: &mut R,
+    edge: Edge,
+    rect: Rect,
+) -> Option<(Cell, Near)>
     requires { IsRectIn (R.cells rows.old) rect }
-    ensures found { IsLeastOf M.distance (IsObstacle (R.cells rows.old)) (cells_of_rect rect.x0 rect.y0 rect.x1 rect.y1) result }
+    ensures found { IsLeastOf M.distance (IsBlocked (R.cells rows.old) edge) (cells_of_rect rect.x0 rect.y0 rect.x1 rect.y1) result }
     ensures rows { rows.new ≡ rows.old }
 {
-    let least = least_below::<M, R>(rows, rect, NO_LIMIT);
+    let least = least_below::<M, R>(rows, edge, rect, NO_LIMIT);
     if least >= NO_LIMIT {
         return None;
     }
-    first_of_rect::<M, R>(rows, rect, least + 1)
+    first_of_rect::<M, R>(rows, edge, rect, least + 1)
 }
 
 /// The first cell of the rectangle that has an obstacle at a distance below the limit. There is one.
-fn first_of_rect<M: Metric, R: Rows>(rows: &mut R, rect: Rect, limit: u64) -> Option<(Cell, Near)>
+fn first_of_rect<M: Metric, R: Rows>(
+    rows: &mut R,
+    edge: Edge,
+    rect: Rect,
+    limit: u64,
+) -> Option<(Cell, Near)>
     requires rect { IsRectIn (R.cells rows.old) rect }
-    requires some { IsRectNear M.distance (IsObstacle (R.cells rows.old)) rect limit }
-    ensures found { IsFirstOrNone M.distance (IsObstacle (R.cells rows.old)) (cells_of_rect rect.x0 rect.y0 rect.x1 rect.y1) limit result }
+    requires some { IsRectNear M.distance (IsBlocked (R.cells rows.old) edge) rect limit }
+    ensures found { IsFirstOrNone M.distance (IsBlocked (R.cells rows.old) edge) (cells_of_rect rect.x0 rect.y0 rect.x1 rect.y1) limit result }
     ensures rows { rows.new ≡ rows.old }
 {
-    let y = first_row::<M, R>(rows, rect, limit);
-    let x = first_column::<M, R>(rows, rect, y, limit);
-    with_nearest::<M, R>(rows, Cell { x, y })
+    let y = first_row::<M, R>(rows, edge, rect, limit);
+    let x = first_column::<M, R>(rows, edge, rect, y, limit);
+    with_nearest::<M, R>(rows, edge, Cell { x, y })
 }
 
 /// The first row of the rectangle in which a cell has an obstacle at a distance below the limit. There is one.
-fn first_row<M: Metric, R: Rows>(rows: &mut R, rect: Rect, limit: u64) -> u16
+fn first_row<M: Metric, R: Rows>(rows: &mut R, edge: Edge, rect: Rect, limit: u64) -> u16
     requires rect { IsRectIn (R.cells rows.old) rect }
-    requires some { IsRectNear M.distance (IsObstacle (R.cells rows.old)) rect limit }
-    ensures found { IsFirstRow M.distance (IsObstacle (R.cells rows.old)) rect limit result }
+    requires some { IsRectNear M.distance (IsBlocked (R.cells rows.old) edge) rect limit }
+    ensures found { IsFirstRow M.distance (IsBlocked (R.cells rows.old) edge) rect limit result }
     ensures rows { rows.new ≡ rows.old }
 {
     let (x, top, bottom) = (rect.x0, rect.y0, rect.y1 - 1);
@@ -50,14 +60,14 @@ fn first_row<M: Metric, R: Rows>(rows: &mut R, rect: Rect, limit: u64) -> u16
         to: Cell { x, y: bottom },
         across: rect.x1 - x,
     };
-    top + lines.first_near::<M, R>(rows, 0, bottom - top, limit)
+    top + lines.first_near::<M, R>(rows, edge, 0, bottom - top, limit)
 }
 
 /// The first column of the rectangle in which the cell of the row `y` has an obstacle at a distance below the limit. There is one.
-fn first_column<M: Metric, R: Rows>(rows: &mut R, rect: Rect, y: u16, limit: u64) -> u16
+fn first_column<M: Metric, R: Rows>(rows: &mut R, edge: Edge, rect: Rect, y: u16, limit: u64) -> u16
     requires rect { IsRectIn (R.cells rows.old) rect }
-    requires some { IsFirstRow M.distance (IsObstacle (R.cells rows.old)) rect limit y }
-    ensures found { IsFirstColumn M.distance (IsObstacle (R.cells rows.old)) rect limit y result }
+    requires some { IsFirstRow M.distance (IsBlocked (R.cells rows.old) edge) rect limit y }
+    ensures found { IsFirstColumn M.distance (IsBlocked (R.cells rows.old) edge) rect limit y result }
     ensures rows { rows.new ≡ rows.old }
 {
     let (left, right) = (rect.x0, rect.x1 - 1);
@@ -66,16 +76,20 @@ fn first_column<M: Metric, R: Rows>(rows: &mut R, rect: Rect, y: u16, limit: u64
         to: Cell { x: right, y },
         across: 1,
     };
-    left + columns.first_near::<M, R>(rows, 0, right - left, limit)
+    left + columns.first_near::<M, R>(rows, edge, 0, right - left, limit)
 }
 
-/// The cell with its nearest obstacle; `None` where the bitmap has no obstacle.
-pub fn with_nearest<M: Metric, R: Rows>(rows: &mut R, cell: Cell) -> Option<(Cell, Near)>
+/// The cell with its nearest obstacle; `None` where there is no obstacle.
+pub fn with_nearest<M: Metric, R: Rows>(
+    rows: &mut R,
+    edge: Edge,
+    cell: Cell,
+) -> Option<(Cell, Near)>
     requires { IsInside (R.cells rows.old) cell.x cell.y }
-    ensures found { IsCellWithNear M.distance (IsObstacle (R.cells rows.old)) cell result }
+    ensures found { IsCellWithNear M.distance (IsBlocked (R.cells rows.old) edge) cell result }
     ensures rows { rows.new ≡ rows.old }
 {
-    match nearest::<M, R>(rows, cell) {
+    match nearest_spot::<M, R>(rows, edge, cell) {
         Some(near) => Some((cell, near)),
         None => None,
     }

@@ -1,10 +1,13 @@
 //! Queries over the cells of a bitmap: the nearest obstacle of one cell, and the least distance over a rectangle or a path.
 //!
-//! Each is a search in the bitmap's words, outwards from the cells that are asked for. None takes memory.
+//! Each is a search in the bitmap's words, outwards from the cells that are asked for; the frame round a map, which counts where its border is a wall, is looked at by arithmetic. None takes memory.
 #![tactic(auto)]
 
 mod area;
 mod bit;
+mod border;
+mod found;
+mod frame;
 mod nearest;
 mod path;
 mod queries;

@@ -2,21 +2,21 @@
 
 ghost use Rattle.std.specs.Prelude.{◌≡◌, ◌+◌, ◌<◌, ◌≤◌, ◌↔◌, IsTrue};
 ghost use Rattle.std.specs.Int.{abs_diff};
-ghost use Rattle.metric.specs.Nearest.{IsNear};
 ghost use Rattle.bits.specs.Cells.{IsInside, IsObstacle};
-ghost use Rattle.clearance.specs.Nearest.{IsAhead, IsBetter, IsRowBefore, IsRowUpTo, IsSeenInRow, IsSought, IsWithin, IsWithinOrAbove, limit_of};
+ghost use Rattle.clearance.specs.Nearest.{IsAhead, IsBetter, IsNearCell, IsRowBefore, IsRowUpTo, IsSeenInRow, IsSought, IsWithin, IsWithinOrAbove, limit_of};
 
+use crate::found::Found;
 use crate::rows::Rows;
 use crate::search::{NO_LIMIT, is_passed};
 use crate::words::{last_nearer, next_nearer};
-use metric::{Cell, Metric, Near};
+use metric::{Cell, Metric};
 
 /// The nearest obstacle of the cell; `None` where the map has no obstacle.
 ///
 /// The rows are looked at from the cell outwards, the upper one of two first, and in each row the words, as long as an obstacle there can be as near as the best so far.
-pub fn nearest<M: Metric, R: Rows>(rows: &mut R, cell: Cell) -> Option<Near>
+pub fn nearest<M: Metric, R: Rows>(rows: &mut R, cell: Cell) -> Option<Found>
     requires { IsInside (R.cells rows.old) cell.x cell.y }
-    ensures near { IsNear M.distance (IsObstacle (R.cells rows.old)) cell.x cell.y result }
+    ensures near { IsNearCell M.distance (IsObstacle (R.cells rows.old)) cell.x cell.y result }
     ensures rows { rows.new ≡ rows.old }
 {
     let mut best = None;
@@ -31,7 +31,7 @@ pub fn nearest<M: Metric, R: Rows>(rows: &mut R, cell: Cell) -> Option<Near>
 }
 
 /// A limit above the distance of the best so far: an obstacle as near as that may be better.
-fn limit_of(best: Option<Near>) -> u64
+fn limit_of(best: Option<Found>) -> u64
     ensures { result ≡ limit_of best }
 {
     match best {
@@ -45,8 +45,8 @@ fn with_row_above<M: Metric, R: Rows>(
     rows: &mut R,
     cell: Cell,
     gap: u16,
-    best: Option<Near>,
-) -> Option<Near>
+    best: Option<Found>,
+) -> Option<Found>
     requires gap { gap ≤ 4095 }
     requires sought { IsSought M.distance (R.cells rows.old) cell (IsWithin cell.y gap) best }
     ensures sought { IsSought M.distance (R.cells rows.new) cell (IsWithinOrAbove cell.y gap) result }
@@ -64,8 +64,8 @@ fn with_row_below<M: Metric, R: Rows>(
     rows: &mut R,
     cell: Cell,
     gap: u16,
-    best: Option<Near>,
-) -> Option<Near>
+    best: Option<Found>,
+) -> Option<Found>
     requires gap { gap ≤ 4095 }
     requires sought { IsSought M.distance (R.cells rows.old) cell (IsWithinOrAbove cell.y gap) best }
     ensures sought { IsSought M.distance (R.cells rows.new) cell (IsWithin cell.y (gap + 1)) result }
@@ -84,8 +84,8 @@ fn with_row<M: Metric, R: Rows>(
     cell: Cell,
     row: u16,
     gap: u16,
-    best: Option<Near>,
-) -> Option<Near>
+    best: Option<Found>,
+) -> Option<Found>
     requires row { row < (R.cells rows.old).height }
     requires gap { gap ≡ abs_diff cell.y row }
     requires sought { IsSought M.distance (R.cells rows.old) cell (λ a b. IsRowBefore cell.y row b) best }
@@ -106,8 +106,8 @@ fn with_right<M: Metric, R: Rows>(
     cell: Cell,
     row: u16,
     gap: u16,
-    best: Option<Near>,
-) -> Option<Near>
+    best: Option<Found>,
+) -> Option<Found>
     requires row { row < (R.cells rows.old).height }
     requires gap { gap ≡ abs_diff cell.y row }
     requires sought { IsSought M.distance (R.cells rows.old) cell (λ a b. IsRowBefore cell.y row b) best }
@@ -117,7 +117,7 @@ fn with_right<M: Metric, R: Rows>(
     match next_nearer::<M, R>(rows, row, cell.x, cell.x, gap, limit_of(best)) {
         Some(x) => {
             let dist = M::of(x - cell.x, gap);
-            let next = Near {
+            let next = Found {
                 dist,
                 cell: Cell { x, y: row },
             };
@@ -134,8 +134,8 @@ fn with_left<M: Metric, R: Rows>(
     cell: Cell,
     row: u16,
     gap: u16,
-    right: Option<Near>,
-) -> Option<Near>
+    right: Option<Found>,
+) -> Option<Found>
     requires row { row < (R.cells rows.old).height }
     requires gap { gap ≡ abs_diff cell.y row }
     requires sought { IsSought M.distance (R.cells rows.old) cell (IsSeenInRow cell.y row (λ a. cell.x ≤ a)) right }
@@ -145,7 +145,7 @@ fn with_left<M: Metric, R: Rows>(
     let (mut best, mut end) = (right, cell.x);
     'left: while let Some(x) = last_nearer::<M, R>(rows, row, end, cell.x, gap, limit_of(best)) {
         let dist = M::of(cell.x - x, gap);
-        let next = Near {
+        let next = Found {
             dist,
             cell: Cell { x, y: row },
         };
@@ -156,7 +156,7 @@ fn with_left<M: Metric, R: Rows>(
 }
 
 /// The better of the best so far, if there is one, and an obstacle of a row that isn't before its own.
-fn better(best: Option<Near>, next: Near) -> Near
+fn better(best: Option<Found>, next: Found) -> Found
     ensures { IsBetter best next result }
 {
     match best {
@@ -166,7 +166,7 @@ fn better(best: Option<Near>, next: Near) -> Near
 }
 
 /// Whether the one obstacle is ahead of the other.
-fn is_ahead(one: Near, other: Near) -> bool
+fn is_ahead(one: Found, other: Found) -> bool
     ensures { IsTrue result ↔ IsAhead one other }
 {
     (one.dist, one.cell.x) <= (other.dist, other.cell.x)

@@ -3,7 +3,7 @@
 ghost use Rattle.std.specs.Prelude.{◌≡◌, ◌+◌, ◌-◌, ◌<◌, ◌≤◌, true};
 ghost use Rattle.bits.specs.Cells.{IsObstacle};
 ghost use Rattle.clearance.specs.Rows.{IsBlankRow, words_of_row};
-ghost use Rattle.clearance.specs.Search.{IsLeastBelow, IsLeastWithin, IsLoweredBy, IsLoweredLeft, IsLoweredRight, IsRectIn};
+ghost use Rattle.clearance.specs.Search.{IsLeastInBits, IsLeastWithin, IsLoweredBy, IsLoweredLeft, IsLoweredRight, IsRectIn};
 
 use crate::rows::Rows;
 use crate::words::{last_nearer, next_nearer};
@@ -15,12 +15,12 @@ pub const NO_LIMIT: u64 = 1 << 32;
 /// From so many rows away on, a row is looked at as a whole first: obstacles are rare there.
 const SPARSE_GAP: u16 = 128;
 
-/// The least of `limit` and of the distances of the rectangle's cells to the obstacles.
+/// The least of `limit` and of the distances of the rectangle's cells to the bitmap's obstacles.
 ///
 /// The rows are looked at from the rectangle outwards, and in each row the words, no further than a distance below the least so far can be.
-pub fn least_below<M: Metric, R: Rows>(rows: &mut R, rect: Rect, limit: u64) -> u64
+pub fn least_in_bits<M: Metric, R: Rows>(rows: &mut R, rect: Rect, limit: u64) -> u64
     requires { IsRectIn (R.cells rows.old) rect }
-    ensures least { IsLeastBelow M.distance (IsObstacle (R.cells rows.old)) rect limit result }
+    ensures least { IsLeastInBits M.distance (IsObstacle (R.cells rows.old)) rect limit result }
     ensures rows { rows.new ≡ rows.old }
 {
     let mut least = least_inside::<M, R>(rows, rect, limit);
@@ -53,7 +53,7 @@ fn least_inside<M: Metric, R: Rows>(rows: &mut R, rect: Rect, limit: u64) -> u64
 /// The least so far, or a lesser distance to an obstacle so many rows above the rectangle, if there is such a row.
 fn lowered_above<M: Metric, R: Rows>(rows: &mut R, rect: Rect, gap: u16, least: u64) -> u64
     requires rect { IsRectIn (R.cells rows.old) rect }
-    requires gap { gap ≤ 4095 }
+    requires gap { gap ≤ 4097 }
     ensures row { gap ≤ rect.y0 → IsLoweredBy M.distance (IsObstacle (R.cells rows.old)) rect (rect.y0 - gap) gap least result }
     ensures none { rect.y0 < gap → result ≡ least }
     ensures rows { rows.new ≡ rows.old }
@@ -68,7 +68,7 @@ fn lowered_above<M: Metric, R: Rows>(rows: &mut R, rect: Rect, gap: u16, least: 
 /// The same below the rectangle.
 fn lowered_below<M: Metric, R: Rows>(rows: &mut R, rect: Rect, gap: u16, least: u64) -> u64
     requires rect { IsRectIn (R.cells rows.old) rect }
-    requires gap { gap ≤ 4095 }
+    requires gap { gap ≤ 4097 }
     ensures row { rect.y1 - 1 + gap < (R.cells rows.old).height → IsLoweredBy M.distance (IsObstacle (R.cells rows.old)) rect (rect.y1 - 1 + gap) gap least result }
     ensures none { (R.cells rows.old).height ≤ rect.y1 - 1 + gap → result ≡ least }
     ensures rows { rows.new ≡ rows.old }
@@ -85,7 +85,7 @@ fn lowered_below<M: Metric, R: Rows>(rows: &mut R, rect: Rect, gap: u16, least: 
 fn lowered<M: Metric, R: Rows>(rows: &mut R, rect: Rect, y: u16, gap: u16, least: u64) -> u64
     requires rect { IsRectIn (R.cells rows.old) rect }
     requires row { y < (R.cells rows.old).height }
-    requires gap { gap ≤ 4095 }
+    requires gap { gap ≤ 4097 }
     ensures least { IsLoweredBy M.distance (IsObstacle (R.cells rows.old)) rect y gap least result }
     ensures rows { rows.new ≡ rows.old }
 {
@@ -111,7 +111,7 @@ pub fn is_passed<R: Rows>(rows: &mut R, y: u16, gap: u16) -> bool
 fn lowered_right<M: Metric, R: Rows>(rows: &mut R, rect: Rect, y: u16, gap: u16, least: u64) -> u64
     requires rect { IsRectIn (R.cells rows.old) rect }
     requires row { y < (R.cells rows.old).height }
-    requires gap { gap ≤ 4095 }
+    requires gap { gap ≤ 4097 }
     ensures least { IsLoweredRight M.distance (words_of_row (R.cells rows.old) y) rect gap least result }
     ensures rows { rows.new ≡ rows.old }
 {
@@ -127,7 +127,7 @@ fn lowered_right<M: Metric, R: Rows>(rows: &mut R, rect: Rect, y: u16, gap: u16,
 fn lowered_left<M: Metric, R: Rows>(rows: &mut R, rect: Rect, y: u16, gap: u16, least: u64) -> u64
     requires rect { IsRectIn (R.cells rows.old) rect }
     requires row { y < (R.cells rows.old).height }
-    requires gap { gap ≤ 4095 }
+    requires gap { gap ≤ 4097 }
     ensures least { IsLoweredLeft M.distance (words_of_row (R.cells rows.old) y) rect gap least result }
     ensures rows { rows.new ≡ rows.old }
 {

@@ -2,10 +2,10 @@
 
 ghost use Rattle.clearance.specs.Segments.{IsStrip};
 
+use crate::border::least_below;
 use crate::rows::Rows;
-use crate::search::least_below;
 use crate::segment::step_towards;
-use metric::{Cell, Metric, Rect};
+use metric::{Cell, Edge, Metric, Rect};
 
 /// Lines of `across` cells each, counted from 0: line 0 begins at `from`, and each further one is a step on towards `to`, which none passes.
 #[derive(Clone, Copy, Debug, PartialEq, Eq)]
@@ -18,7 +18,7 @@ pub struct Strip {
 
 impl Strip {
     ghost use Rattle.std.specs.Prelude.{◌≡◌, ℕ, ◌+◌, ◌<◌, ◌≤◌, max};
-    ghost use Rattle.bits.specs.Cells.{IsObstacle};
+    ghost use Rattle.bits.specs.Edges.{IsBlocked};
     ghost use Rattle.clearance.specs.Paths.{towards};
     ghost use Rattle.clearance.specs.Search.{IsInRect};
     ghost use Rattle.clearance.specs.Strips.{IsFirstNear, IsOnLine, IsSomeNear, IsStripIn};
@@ -56,19 +56,20 @@ impl Strip {
     pub fn first_near<M: Metric, R: Rows>(
         self,
         rows: &mut R,
+        edge: Edge,
         first: u16,
         last: u16,
         limit: u64,
     ) -> u16
         requires strip { IsStripIn (R.cells rows.old) self }
-        requires some { IsSomeNear M.distance (IsObstacle (R.cells rows.old)) self limit first last }
-        ensures found { IsFirstNear M.distance (IsObstacle (R.cells rows.old)) self limit first last result }
+        requires some { IsSomeNear M.distance (IsBlocked (R.cells rows.old) edge) self limit first last }
+        ensures found { IsFirstNear M.distance (IsBlocked (R.cells rows.old) edge) self limit first last result }
         ensures rows { rows.new ≡ rows.old }
     {
         let (mut low, mut high) = (first, last);
         'halves: while low < high {
             let middle = low + (high - low) / 2;
-            if least_below::<M, R>(rows, self.rect(low, middle), limit) < limit {
+            if least_below::<M, R>(rows, edge, self.rect(low, middle), limit) < limit {
                 high = middle;
             } else {
                 low = middle + 1;

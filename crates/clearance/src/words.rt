@@ -26,7 +26,7 @@ pub fn next_nearer<M: Metric, R: Rows>(
     requires bitmap { IsBitmap (R.cells rows.old) }
     requires row { y < (R.cells rows.old).height }
     requires start { start < (R.cells rows.old).width }
-    requires gap { gap ≤ 4095 }
+    requires gap { gap ≤ 4097 }
     ensures next { IsNextNearer M.distance (words_of_row (R.cells rows.old) y) start edge gap limit result }
     ensures rows { rows.new ≡ rows.old }
 {
@@ -52,7 +52,7 @@ pub fn next_nearer<M: Metric, R: Rows>(
 #[inline(always)]
 fn right_nearer<M: Metric>(column: u16, edge: u16, gap: u16, limit: u64) -> Option<u16>
     requires column { column ≤ 4095 }
-    requires gap { gap ≤ 4095 }
+    requires gap { gap ≤ 4097 }
     ensures { IsWhereNearer (M.distance (column - edge) gap) limit column result }
 {
     if u64::from(M::of(column.saturating_sub(edge), gap)) < limit {
@@ -78,7 +78,7 @@ pub fn last_nearer<M: Metric, R: Rows>(
     requires end { end < (R.cells rows.old).width }
     requires edge { end ≤ edge }
     requires within { edge ≤ 4095 }
-    requires gap { gap ≤ 4095 }
+    requires gap { gap ≤ 4097 }
     ensures last { IsLastNearer M.distance (words_of_row (R.cells rows.old) y) end edge gap limit result }
     ensures rows { rows.new ≡ rows.old }
 {
@@ -105,7 +105,7 @@ pub fn last_nearer<M: Metric, R: Rows>(
 fn left_nearer<M: Metric>(column: u16, edge: u16, gap: u16, limit: u64) -> Option<u16>
     requires column { column ≤ edge }
     requires edge { edge ≤ 4095 }
-    requires gap { gap ≤ 4095 }
+    requires gap { gap ≤ 4097 }
     ensures { IsWhereNearer (M.distance (edge - column) gap) limit column result }
 {
     if u64::from(M::of(edge - column, gap)) < limit {

@@ -3,8 +3,8 @@ use Rattle.std.proofs.Common.{◌≡◌, ℕ, ◌+◌, ◌<◌, ◌≤◌, ◌�
 use Rattle.std.proofs.Math.ListN.{replicate}
 use Rattle.std.proofs.lemmas.Bool.{cases_eq, cases_lt}
 use Rattle.std.proofs.lemmas.List.{get_or-replicate}
-use Rattle.bits.specs.Cells.{Cells, IsBitmap, IsObstacle, has}
-use Rattle.bits.proofs.CellsLemmas.{has-outside}
+use Rattle.bits.specs.Cells.{Cells, IsObstacle, has}
+use Rattle.bits.specs.Edges.{IsMap}
 use Rattle.column.specs.Columns.{row_of}
 use Rattle.column.specs.Lines.{IsLineFrom, IsRowBefore, IsRowFrom}
 use Rattle.column.specs.Sweeps.{AreMissing, first_marked}
@@ -29,10 +29,10 @@ pub record IsSought (cells : Cells) (Is : ℕ → Option ℕ → Type 0) (masks 
   pub each : (x : ℕ) → x < cells.width → Is x (row_of (get_or line x 0))
 
 -- before any row has been looked at
-pub IsSought-none : (cells : Cells) (Is : ℕ → Option ℕ → Type 0) (masks line : List ℕ) → IsBitmap cells → length masks ≡ 64 → masks ≡ replicate 64 18446744073709551615 → line ≡ replicate cells.width 65535
+pub IsSought-none : (cells : Cells) (Is : ℕ → Option ℕ → Type 0) (masks line : List ℕ) → cells.width ≤ 4096 → length masks ≡ 64 → masks ≡ replicate 64 18446744073709551615 → line ≡ replicate cells.width 65535
     → ((x : ℕ) → Is x None) → IsSought cells Is masks line
-IsSought-none cells Is masks line bitmap room all empty none =
-    let unseen = IsSeen-none cells 0 masks line bitmap all empty in
+IsSought-none cells Is masks line few room all empty none =
+    let unseen = IsSeen-none cells 0 masks line few all empty in
     record {
       as_many = unseen.as_many;
       room = room;
@@ -62,12 +62,12 @@ next_entry cells Is Next x y entry small met free kept was black is =
         rw (row_of-none (first_marked (has cells x y) y entry) still) (free is was)
 
 -- the line, once a row more has been looked at
-pub IsSought-next : (cells : Cells) (Is Next : ℕ → Option ℕ → Type 0) (y : ℕ) (masks new_masks old new : List ℕ) → IsBitmap cells → y < cells.height
+pub IsSought-next : (cells : Cells) (Is Next : ℕ → Option ℕ → Type 0) (y : ℕ) (masks new_masks old new : List ℕ) → IsMap cells → y < cells.height
     → ((x : ℕ) → has cells x y ≡ true → Is x None → Next x (Some y)) → ((x : ℕ) → has cells x y ≡ false → Is x None → Next x None) → ((x row : ℕ) → Is x (Some row) → Next x (Some row))
     → IsSought cells Is masks old → length new ≡ length old → length new_masks ≡ length masks → AreMissing new_masks new
     → ((x : ℕ) → x < cells.width → get_or new x 0 ≡ first_marked (has cells x y) y (get_or old x 0)) → IsSought cells Next new_masks new
-IsSought-next cells Is Next y masks new_masks old new bitmap within met free kept was len masks_len missing marks =
-    let few = bitmap.height_is.few in
+IsSought-next cells Is Next y masks new_masks old new map within met free kept was len masks_len missing marks =
+    let few = map.height_few in
     record {
       as_many = len ∙ was.as_many;
       room = masks_len ∙ was.room;
@@ -76,30 +76,30 @@ IsSought-next cells Is Next y masks new_masks old new bitmap within met free kep
     }
 
 -- one row further down
-pub IsSought-down : (cells : Cells) (from y : ℕ) (masks new_masks old new : List ℕ) → IsBitmap cells → from ≤ y → y < cells.height
+pub IsSought-down : (cells : Cells) (from y : ℕ) (masks new_masks old new : List ℕ) → IsMap cells → from ≤ y → y < cells.height
     → IsSought cells (IsRowFromTo cells from y) masks old → length new ≡ length old → length new_masks ≡ length masks → AreMissing new_masks new
     → ((x : ℕ) → x < cells.width → get_or new x 0 ≡ first_marked (has cells x y) y (get_or old x 0)) → IsSought cells (IsRowFromTo cells from (y + 1)) new_masks new
-IsSought-down cells from y masks new_masks old new bitmap order within was len masks_len missing marks =
-    IsSought-next cells (IsRowFromTo cells from y) (IsRowFromTo cells from (y + 1)) y masks new_masks old new bitmap within
+IsSought-down cells from y masks new_masks old new map order within was len masks_len missing marks =
+    IsSought-next cells (IsRowFromTo cells from y) (IsRowFromTo cells from (y + 1)) y masks new_masks old new map within
     (λ x is none. (is, order, λ b low black. elim (cases_lt b y) [ inl above ↦ absurd (none b low above black) | inr behind ↦ behind ]))
     (λ x is none b low high black. elim (cases_eq b y) [ inl here ↦ absurd (cc) | inr apart ↦ none b low (omega arith) black ])
     (λ x row kept. kept) was len masks_len missing marks
 
 -- one row further up
-pub IsSought-up : (cells : Cells) (y to : ℕ) (masks new_masks old new : List ℕ) → IsBitmap cells → y < to → to ≤ cells.height
+pub IsSought-up : (cells : Cells) (y to : ℕ) (masks new_masks old new : List ℕ) → IsMap cells → y < to → to ≤ cells.height
     → IsSought cells (IsRowToBefore cells (y + 1) to) masks old → length new ≡ length old → length new_masks ≡ length masks → AreMissing new_masks new
     → ((x : ℕ) → x < cells.width → get_or new x 0 ≡ first_marked (has cells x y) y (get_or old x 0)) → IsSought cells (IsRowToBefore cells y to) new_masks new
-IsSought-up cells y to masks new_masks old new bitmap order within was len masks_len missing marks =
-    IsSought-next cells (IsRowToBefore cells (y + 1) to) (IsRowToBefore cells y to) y masks new_masks old new bitmap (omega (arith, order, within))
+IsSought-up cells y to masks new_masks old new map order within was len masks_len missing marks =
+    IsSought-next cells (IsRowToBefore cells (y + 1) to) (IsRowToBefore cells y to) y masks new_masks old new map (omega (arith, order, within))
     (λ x is none. (is, order, λ b low black. elim (cases_lt y b) [ inl below ↦ absurd (none b (omega (arith, below)) low black) | inr above ↦ above ]))
     (λ x is none b low high black. elim (cases_eq b y) [ inl here ↦ absurd (cc) | inr apart ↦ none b (omega arith) high black ])
     (λ x row kept. kept) was len masks_len missing marks
 
 -- what is known of a column is all, where all rows from one on have been looked at
-all_from : (cells : Cells) (from to x : ℕ) (row : Option ℕ) → IsBitmap cells → cells.height ≤ to → IsRowFromTo cells from to x row → IsRowFrom cells x from row
-all_from cells from to x None bitmap all none = λ b low black. let inside = has-outside cells bitmap x b black in let row = inside.row in none b low (omega (arith, row, all)) black
-all_from cells from to x (Some row) bitmap all found = found
+all_from : (cells : Cells) (from to x : ℕ) (row : Option ℕ) → IsMap cells → cells.height ≤ to → IsRowFromTo cells from to x row → IsRowFrom cells x from row
+all_from cells from to x None map all none = λ b low black. let inside = map.inside x b black in let row = inside.row in none b low (omega (arith, row, all)) black
+all_from cells from to x (Some row) map all found = found
 
 -- the line from a row on, once all rows have been looked at
-pub IsLineFrom-all : (cells : Cells) (from to : ℕ) (masks line : List ℕ) → IsBitmap cells → cells.height ≤ to → IsSought cells (IsRowFromTo cells from to) masks line → IsLineFrom cells from line
-IsLineFrom-all cells from to masks line bitmap all sought = record { as_many = sought.as_many; each = λ x column. all_from cells from to x (row_of (get_or line x 0)) bitmap all (sought.each x column) }
+pub IsLineFrom-all : (cells : Cells) (from to : ℕ) (masks line : List ℕ) → IsMap cells → cells.height ≤ to → IsSought cells (IsRowFromTo cells from to) masks line → IsLineFrom cells from line
+IsLineFrom-all cells from to masks line map all sought = record { as_many = sought.as_many; each = λ x column. all_from cells from to x (row_of (get_or line x 0)) map all (sought.each x column) }

@@ -1,3 +1,4 @@
+pub mod Caps
 pub mod EdgeLemmas
 pub mod Marking
 pub mod Nearest
@@ -5,3 +6,4 @@ pub mod Seeking
 pub mod Sweeping
 pub mod Tables
 pub mod LineLemmas
+pub mod SpotRows

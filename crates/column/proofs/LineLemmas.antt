@@ -3,7 +3,8 @@ use Rattle.std.proofs.Common.{◌≡◌, ℕ, ◌+◌, ◌-◌, ◌*◌, ◌<◌
 use Rattle.std.specs.Int.{abs_diff}
 use Rattle.std.proofs.Math.Nat.{mul-le-mul_right}
 use Rattle.std.proofs.lemmas.Bool.{cases_lt, cases_eq}
-use Rattle.bits.specs.Cells.{Cells, has, IsBitmap}
+use Rattle.bits.specs.Cells.{Cells, has}
+use Rattle.bits.specs.Edges.{IsMap}
 use Rattle.column.specs.Columns.{IsNearestRow, IsRowOfTable, row_of}
 use Rattle.column.specs.Lines.{AreEdges, AreLinesBehind, IsLineBefore, IsLineFrom, IsRowBefore, IsRowFrom}
 use Rattle.column.specs.Sweeps.{marked, nearer}
@@ -34,23 +35,23 @@ from_marked cells x y entry small behind true is = let row : row_of y ≡ Some y
 from_marked cells x y entry small behind false is = from_free cells x y (row_of entry) is behind
 
 -- the rows of a map are no mark
-row_small : (cells : Cells) (y : ℕ) → IsBitmap cells → y < cells.height → y < 65535
-row_small cells y bitmap within = let few = bitmap.height_is.few in omega (arith, few)
+row_small : (cells : Cells) (y : ℕ) → IsMap cells → y < cells.height → y < 65535
+row_small cells y map within = let few = map.height_few in omega (arith, few)
 
 -- the line before, one row further down
-pub IsLineBefore-next : (cells : Cells) (y : ℕ) (old new : List ℕ) → IsBitmap cells → y < cells.height → length new ≡ length old
+pub IsLineBefore-next : (cells : Cells) (y : ℕ) (old new : List ℕ) → IsMap cells → y < cells.height → length new ≡ length old
     → ((x : ℕ) → x < cells.width → get_or new x 0 ≡ marked (has cells x y) y (get_or old x 0)) → IsLineBefore cells y old → IsLineBefore cells (y + 1) new
-IsLineBefore-next cells y old new bitmap within len marks line = record {
+IsLineBefore-next cells y old new map within len marks line = record {
   as_many = len ∙ line.as_many;
-  each = λ x column. rw (marks x column) (before_marked cells x y (get_or old x 0) (row_small cells y bitmap within) (line.each x column) (has cells x y) refl);
+  each = λ x column. rw (marks x column) (before_marked cells x y (get_or old x 0) (row_small cells y map within) (line.each x column) (has cells x y) refl);
 }
 
 -- the line behind, one row further up
-pub IsLineFrom-next : (cells : Cells) (y : ℕ) (old new : List ℕ) → IsBitmap cells → y < cells.height → length new ≡ length old
+pub IsLineFrom-next : (cells : Cells) (y : ℕ) (old new : List ℕ) → IsMap cells → y < cells.height → length new ≡ length old
     → ((x : ℕ) → x < cells.width → get_or new x 0 ≡ marked (has cells x y) y (get_or old x 0)) → IsLineFrom cells (y + 1) old → IsLineFrom cells y new
-IsLineFrom-next cells y old new bitmap within len marks line = record {
+IsLineFrom-next cells y old new map within len marks line = record {
   as_many = len ∙ line.as_many;
-  each = λ x column. rw (marks x column) (from_marked cells x y (get_or old x 0) (row_small cells y bitmap within) (line.each x column) (has cells x y) refl);
+  each = λ x column. rw (marks x column) (from_marked cells x y (get_or old x 0) (row_small cells y map within) (line.each x column) (has cells x y) refl);
 }
 
 -- where there is none behind, the nearest is the one before

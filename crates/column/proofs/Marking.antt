@@ -14,7 +14,7 @@ use Rattle.std.proofs.lemmas.Simd.{get_or-zip2}
 use Rattle.column.specs.Sweeps.{marked, first_marked}
 
 -- one bit: a column is missing where it was, and the word has no obstacle there
-bit_missing : (b m entry y : ℕ) → b < 2 → m < 2 → y < 4096 → (m == 1) ≡ (entry == 65535) → (min m (1 - b) == 1) ≡ (marked (min b m == 1) y entry == 65535)
+bit_missing : (b m entry y : ℕ) → b < 2 → m < 2 → y < 4098 → (m == 1) ≡ (entry == 65535) → (min m (1 - b) == 1) ≡ (marked (min b m == 1) y entry == 65535)
 bit_missing b m entry y hb hm small was = grind (arith, nat_tests)
 
 -- one bit: an obstacle is written where the column was missing
@@ -22,7 +22,7 @@ bit_marked : (b m entry y : ℕ) → b < 2 → m < 2 → (m == 1) ≡ (entry == 
 bit_marked b m entry y hb hm was = grind (arith, nat_tests)
 
 -- a column is missing where it was, and the word has no obstacle there
-pub new_missing : (word missing i old new y : ℕ) → word < 2 ^ 64 → i < 64 → y < 4096 → (bit_at missing i == 1) ≡ (old == 65535) → new ≡ marked (bit_at (bit_and word missing) i == 1) y old
+pub new_missing : (word missing i old new y : ℕ) → word < 2 ^ 64 → i < 64 → y < 4098 → (bit_at missing i == 1) ≡ (old == 65535) → new ≡ marked (bit_at (bit_and word missing) i == 1) y old
     → (bit_at (bit_and missing (18446744073709551615 - word)) i == 1) ≡ (new == 65535)
 new_missing word missing i old new y fits place small was is =
     let without : bit_at (bit_and missing (18446744073709551615 - word)) i ≡ min (bit_at missing i) (1 - bit_at word i) =

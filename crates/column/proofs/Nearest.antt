@@ -3,8 +3,8 @@ use Rattle.std.proofs.Common.{◌≡◌, ◌≢◌, ℕ, ◌+◌, ◌<◌, ◌�
 use Rattle.std.specs.Int.{abs_diff}
 use Rattle.std.proofs.lemmas.Bool.{cases_lt, cases_eq}
 use Rattle.std.proofs.lemmas.Bool.Decides.{nat_tests}
-use Rattle.bits.specs.Cells.{Cells, has, IsBitmap}
-use Rattle.bits.proofs.CellsLemmas.{has-outside}
+use Rattle.bits.specs.Cells.{Cells, has}
+use Rattle.bits.specs.Edges.{IsMap}
 use Rattle.column.specs.Columns.{IsRowAtMost, IsNearestRow, row_of}
 use Rattle.column.specs.Sweeps.{IsRowAbove, nearer}
 
@@ -51,12 +51,12 @@ IsRowAbove-free cells x y z (Some row) next free above =
     )
 
 -- in the last row the lowest obstacle at or above a cell is the nearest
-pub IsNearestRow-last : (cells : Cells) (x y : ℕ) (row : Option ℕ) → IsBitmap cells → cells.height ≤ y + 1 → IsRowAbove cells x y row → IsNearestRow cells x y row
-IsNearestRow-last cells x y None bitmap last above = λ b black. let inside = has-outside cells bitmap x b black in let within = inside.row in above b (omega arith) black
-IsNearestRow-last cells x y (Some row) bitmap last above = (
+pub IsNearestRow-last : (cells : Cells) (x y : ℕ) (row : Option ℕ) → IsMap cells → cells.height ≤ y + 1 → IsRowAbove cells x y row → IsNearestRow cells x y row
+IsNearestRow-last cells x y None map last above = λ b black. let inside = map.inside x b black in let within = inside.row in above b (omega arith) black
+IsNearestRow-last cells x y (Some row) map last above = (
   above.0,
   λ b black.
-      let inside = has-outside cells bitmap x b black in
+      let inside = map.inside x b black in
       let within = inside.row in
       let lower = above.1 in
       let lowest = above.2 b (omega arith) black in

@@ -3,7 +3,8 @@ use Rattle.std.proofs.Common.{◌≡◌, ℕ, ◌+◌, ◌-◌, ◌*◌, ◌<◌
 use Rattle.std.specs.Prelude.{◌⊎◌}
 use Rattle.std.proofs.Math.Nat.{mul-le-mul_left}
 use Rattle.std.proofs.lemmas.Bool.{cases_lt, cases_eq}
-use Rattle.bits.specs.Cells.{Cells, has, IsBitmap}
+use Rattle.bits.specs.Cells.{Cells, has}
+use Rattle.bits.specs.Edges.{IsMap}
 use Rattle.column.specs.Columns.{row_of}
 use Rattle.column.specs.Sweeps.{IsRowAbove, IsSweptDown, IsSweptUp, marked, nearer}
 use Rattle.column.proofs.Nearest.{row_of-none, row_of-some, IsRowAbove-here, IsRowAbove-top, IsRowAbove-free, IsNearestRow-last, IsNearestRow-nearer}
@@ -16,6 +17,10 @@ place_above b y width x above column = let rows : width * (b + 1) ≤ width * y 
 place_below : (b y width x : ℕ) → y < b → y * width + width ≤ b * width + x
 place_below b y width x below = let rows : width * (y + 1) ≤ width * b = mul-le-mul_left width (omega arith) in omega (arith, rows)
 
+-- a row's places end where all end, or before
+pub row_ends : (y height width : ℕ) → y < height → y * width + width ≤ height * width
+row_ends y height width below = let rows : width * (y + 1) ≤ width * height = mul-le-mul_left width (omega arith) in omega (arith, rows)
+
 -- the entries of one row were written, and no other
 pub record IsRowWritten (width y : ℕ) (old new : List ℕ) : Type 0 where
   pub len : length new ≡ length old
@@ -27,13 +32,13 @@ above_marked cells x y entry small above true is = let row : row_of y ≡ Some y
 above_marked cells x y entry small above false is = above is
 
 -- the downward sweep, one row further
-pub IsSweptDown-next : (cells : Cells) (y : ℕ) (old begun new : List ℕ) → IsBitmap cells → y < cells.height → IsSweptDown cells y old
+pub IsSweptDown-next : (cells : Cells) (y : ℕ) (old begun new : List ℕ) → IsMap cells → y < cells.height → IsSweptDown cells y old
     → IsRowWritten cells.width y old begun → IsRowWritten cells.width y begun new
     → (0 < y → (x : ℕ) → x < cells.width → get_or begun (y * cells.width + x) 0 ≡ get_or old ((y - 1) * cells.width + x) 0)
     → (y ≡ 0 → begun ≡ old)
     → ((x : ℕ) → x < cells.width → get_or new (y * cells.width + x) 0 ≡ marked (has cells x y) y (get_or begun (y * cells.width + x) 0))
     → IsSweptDown cells (y + 1) new
-IsSweptDown-next cells y old begun new bitmap within swept first second copied top marks = record {
+IsSweptDown-next cells y old begun new map within swept first second copied top marks = record {
   as_many = second.len ∙ (first.len ∙ swept.as_many);
   above = λ x b column before. elim (cases_lt b y) [
     | inl earlier ↦
@@ -41,8 +46,7 @@ IsSweptDown-next cells y old begun new bitmap within swept first second copied t
         rw (second.others (b * cells.width + x) (inl place), first.others (b * cells.width + x) (inl place)) (swept.above x b column earlier)
     | inr later ↦
         let same : b ≡ y = omega arith in
-        let side = bitmap.height_is in
-        let few = side.few in
+        let few = map.height_few in
         rw (same, marks x column)
         (above_marked cells x y (get_or begun (y * cells.width + x) 0) (omega arith)
         (λ free. elim (cases_eq y 0) [
@@ -62,11 +66,11 @@ IsSweptDown-next cells y old begun new bitmap within swept first second copied t
 }
 
 -- once the downward sweep is at its end, the last row knows its nearest obstacles
-pub IsSweptUp-last : (cells : Cells) (entries : List ℕ) → IsBitmap cells → IsSweptDown cells cells.height entries → IsSweptUp cells (cells.height - 1) entries
-IsSweptUp-last cells entries bitmap swept = record {
+pub IsSweptUp-last : (cells : Cells) (entries : List ℕ) → IsMap cells → IsSweptDown cells cells.height entries → IsSweptUp cells (cells.height - 1) entries
+IsSweptUp-last cells entries map swept = record {
   as_many = swept.as_many;
   above = λ x y column before. swept.above x y column (omega arith);
-  nearest = λ x y column from within. IsNearestRow-last cells x y (row_of (get_or entries (y * cells.width + x) 0)) bitmap (omega arith) (swept.above x y column within);
+  nearest = λ x y column from within. IsNearestRow-last cells x y (row_of (get_or entries (y * cells.width + x) 0)) map (omega arith) (swept.above x y column within);
 }
 
 -- the upward sweep, one row further

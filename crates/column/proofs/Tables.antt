@@ -1,14 +1,20 @@
 -- A table of nearest rows, and the bitmap that it was made of.
-use Rattle.std.proofs.Common.{◌≡◌, ◌≢◌, ℕ, ◌+◌, ◌*◌, ◌<◌, ◌==◌, ◌∙◌, Bool, true, false, List, ◌++◌, Option, Some, None, length, get_or, take, drop, arith, refl, sym, ap}
+use Rattle.std.proofs.Common.{◌≡◌, ◌≢◌, ℕ, ◌+◌, ◌*◌, ◌<◌, ◌≤◌, ◌==◌, ◌∙◌, Bool, true, false, List, ◌++◌, Option, Some, None, length, get_or, take, drop, arith, sym, ap}
 use Rattle.std.proofs.lemmas.Bool.{cases_eq}
 use Rattle.std.proofs.lemmas.Bool.Decides.{nat_tests}
 use Rattle.std.proofs.Math.Seq.{take-append_seam}
+use Rattle.std.proofs.Math.Nat.{mul-le-mul}
 use mathlib.Core.Logic.{inl, inr}
+use Rattle.metric.specs.Edge.{shift}
+use Rattle.metric.specs.declared.edge.Edge.{Edge}
 use Rattle.bits.specs.Cells.{Cells, has, IsBitmap}
+use Rattle.bits.specs.Edges.{framed}
 use Rattle.bits.proofs.CellsLemmas.{cells_where-same, cells_where-has, IsBitmap-cells_where}
-use Rattle.column.specs.Columns.{IsNearestRow, row_of}
+use Rattle.bits.proofs.Framing.{framed_size, has-framed, shift_few}
+use Rattle.column.specs.Columns.{IsNearestRow, IsRowOfTable, row_of}
 use Rattle.column.specs.Sweeps.{IsSweptUp}
-use Rattle.column.specs.Tabled.{cells_tabled, IsTabled}
+use Rattle.column.specs.Tabled.{Bordered, cells_tabled, place_in, IsTabled}
+use Rattle.column.proofs.Sweeping.{row_ends}
 use Rattle.column.proofs.Nearest.{row_of-none, row_of-some}
 
 -- an obstacle's nearest row is its own
@@ -51,33 +57,73 @@ entry_tells cells x y entry small nearest false is = elim (cases_eq entry y) [
 ]
 
 -- after both sweeps the table stands for the bitmap
-pub cells_tabled-swept : (cells : Cells) (width height : ℕ) (entries : List ℕ) → IsBitmap cells → width ≡ cells.width → height ≡ cells.height → IsSweptUp cells 0 entries
-    → cells_tabled width height entries ≡ cells
-cells_tabled-swept cells width height entries bitmap width_is height_is swept =
+pub cells_tabled-swept : (cells : Cells) (width height : ℕ) (edge : Edge) (entries : List ℕ) → IsBitmap cells → width ≡ cells.width → height ≡ cells.height → IsSweptUp (framed edge cells) 0 entries
+    → cells_tabled width height edge entries ≡ cells
+cells_tabled-swept cells width height edge entries bitmap width_is height_is swept =
+    let size = framed_size edge cells in
+    let wide = size.0 in
+    let high = size.1 in
+    let few = bitmap.height_is.few in
+    let least = shift_few edge in
     rw (width_is, height_is)
-    (cells_where-same cells.width cells.height (λ x y. get_or entries (y * cells.width + x) 0 == y) (has cells)
+    (cells_where-same cells.width cells.height (λ x y. get_or entries (place_in cells.width edge x y) 0 == y + shift edge) (has cells)
     (λ x y column row.
-    let side = bitmap.height_is in
-    let few = side.few in
-    entry_tells cells x y (get_or entries (y * cells.width + x) 0) (omega arith) (swept.nearest x y column (omega arith) row) (has cells x y) refl)
+    let nearest = rw wide at (swept.nearest (x + shift edge) (y + shift edge) (omega (arith, wide, column)) (omega arith) (omega (arith, high, row))) in
+    entry_tells (framed edge cells) (x + shift edge) (y + shift edge) (get_or entries (place_in cells.width edge x y) 0) (omega (arith, row, few, least)) nearest (has cells x y) (has-framed edge cells x y column row))
     ∙ sym (cells_where-has cells bitmap))
 
 -- and is one
-pub IsTabled-swept : (cells : Cells) (width height : ℕ) (entries : List ℕ) → IsBitmap cells → width ≡ cells.width → height ≡ cells.height → IsSweptUp cells 0 entries
-    → IsTabled width height entries
-IsTabled-swept cells width height entries bitmap width_is height_is swept =
-    let tabled = cells_tabled-swept cells width height entries bitmap width_is height_is swept in
+pub IsTabled-swept : (cells : Cells) (width height : ℕ) (edge : Edge) (entries : List ℕ) → IsBitmap cells → width ≡ cells.width → height ≡ cells.height → IsSweptUp (framed edge cells) 0 entries
+    → IsTabled width height edge entries
+IsTabled-swept cells width height edge entries bitmap width_is height_is swept =
+    let tabled = cells_tabled-swept cells width height edge entries bitmap width_is height_is swept in
+    let size = framed_size edge cells in
+    let wide = size.0 in
+    let high = size.1 in
     record {
       width_is = rw width_is bitmap.width_is;
       height_is = rw height_is bitmap.height_is;
-      as_many = rw (width_is, height_is) swept.as_many;
-      each = λ x y column row. rw (tabled, width_is) (swept.nearest x y (omega arith) (omega arith) (omega arith));
+      as_many = rw (width_is, height_is) (rw (wide, high) at swept.as_many);
+      each = λ x y column row.
+          let nearest = rw wide at (swept.nearest x y (omega (arith, wide, column, width_is)) (omega arith) (omega (arith, high, row, height_is))) in
+          rw (tabled, width_is) nearest;
     }
 
 -- what a table stands for is a bitmap
-pub IsBitmap-cells_tabled : (width height : ℕ) (entries : List ℕ) → IsTabled width height entries → IsBitmap (cells_tabled width height entries)
-IsBitmap-cells_tabled width height entries tabled = IsBitmap-cells_where width height (λ x y. get_or entries (y * width + x) 0 == y) tabled.width_is tabled.height_is
+pub IsBitmap-cells_tabled : (width height : ℕ) (edge : Edge) (entries : List ℕ) → IsTabled width height edge entries → IsBitmap (cells_tabled width height edge entries)
+IsBitmap-cells_tabled width height edge entries tabled = IsBitmap-cells_where width height (λ x y. get_or entries (place_in width edge x y) 0 == y + shift edge) tabled.width_is tabled.height_is
 
 -- a list that is written over another of its length
 pub written_over : (n : ℕ) (new old : List ℕ) → n ≡ length new → take n (new ++ drop (length new) old) ≡ new
 written_over n new old as_many = rw as_many (take-append_seam new (drop (length new) old))
+
+-- a bitmap with its border
+abbrev pub bordered : Cells → Edge → Bordered
+bordered cells edge = record { cells = cells; edge = edge }
+
+-- the entries of a row of a table are its row
+pub IsRowOfTable-tabled : (width height : ℕ) (edge : Edge) (entries line : List ℕ) (y : ℕ) → IsTabled width height edge entries → y < height → length line ≡ width + 2 * shift edge
+    → ((x : ℕ) → x < width + 2 * shift edge → get_or line x 0 ≡ get_or entries ((y + shift edge) * (width + 2 * shift edge) + x) 0) → IsRowOfTable (framed edge (cells_tabled width height edge entries)) (y + shift edge) line
+IsRowOfTable-tabled width height edge entries line y tabled row len read =
+    let size = framed_size edge (cells_tabled width height edge entries) in
+    let wide = size.0 in
+    record {
+      as_many = len ∙ sym wide;
+      each = λ x column.
+          let inside : x < width + 2 * shift edge = omega (arith, column, wide) in
+          rw (read x inside) (tabled.each x (y + shift edge) inside (omega (arith, row)));
+    }
+
+-- a row of a table lies within it, and in fewer entries than a number of 32 bits counts
+pub line_within : (width height : ℕ) (edge : Edge) (entries : List ℕ) (y : ℕ) → IsTabled width height edge entries → y < height
+    → ((y + shift edge) * (width + 2 * shift edge) + (width + 2 * shift edge) ≤ length entries) × ((y + shift edge) * (width + 2 * shift edge) + (width + 2 * shift edge) < 4294967296)
+line_within width height edge entries y tabled row =
+    let within = row_ends (y + shift edge) (height + 2 * shift edge) (width + 2 * shift edge) (omega (arith, row)) in
+    let many = tabled.as_many in
+    let few = tabled.width_is.few in
+    let few_rows = tabled.height_is.few in
+    let least = shift_few edge in
+    let high : height + 2 * shift edge ≤ 4098 = omega (arith, few_rows, least) in
+    let wide : width + 2 * shift edge ≤ 4098 = omega (arith, few, least) in
+    let all : (height + 2 * shift edge) * (width + 2 * shift edge) ≤ 4098 * 4098 = mul-le-mul high wide in
+    (omega (arith, within, many), omega (arith, within, all))

@@ -1,15 +1,27 @@
--- How a bitmap lies in a table of nearest rows: this project's own rule. The rows of entries lie one after another; a cell is an obstacle where its entry is its own row.
+-- How a bitmap lies in a table of nearest rows: this project's own rule. The rows of entries lie one after another, those of the frame with them where the border is a wall; a cell is an obstacle where its entry is its own row.
 use Rattle.std.specs.Prelude.{◌≡◌, ℕ, ◌+◌, ◌*◌, ◌<◌, ◌==◌, List, length, slice_index}
+use Rattle.metric.specs.declared.edge.Edge.{Edge}
+use Rattle.metric.specs.Edge.{shift}
 use Rattle.bits.specs.Cells.{Cells, cells_where, IsSide}
+use Rattle.bits.specs.Edges.{framed}
 use Rattle.column.specs.Columns.{IsNearestRow, row_of}
 
--- the bitmap that such a table was made of
-abbrev pub cells_tabled : ℕ → ℕ → List ℕ → Cells
-cells_tabled width height entries = cells_where width height (λ x y. slice_index entries (y * width + x) == y)
+-- a bitmap, and what its border is
+pub record Bordered : Type 0 where
+  pub cells : Cells
+  pub edge : Edge
 
--- each entry is the nearest row of the bitmap that the table was made of
-pub record IsTabled (width height : ℕ) (entries : List ℕ) : Type 0 where
+-- the place of a cell's entry, where the cell's column and row are counted without the frame
+abbrev pub place_in : ℕ → Edge → ℕ → ℕ → ℕ
+place_in width edge x y = (y + shift edge) * (width + 2 * shift edge) + (x + shift edge)
+
+-- the bitmap that such a table was made of
+abbrev pub cells_tabled : ℕ → ℕ → Edge → List ℕ → Cells
+cells_tabled width height edge entries = cells_where width height (λ x y. slice_index entries (place_in width edge x y) == y + shift edge)
+
+-- each entry is the nearest row of the bitmap that the table was made of, with its border
+pub record IsTabled (width height : ℕ) (edge : Edge) (entries : List ℕ) : Type 0 where
   pub width_is : IsSide width
   pub height_is : IsSide height
-  pub as_many : length entries ≡ height * width
-  pub each : (x y : ℕ) → x < width → y < height → IsNearestRow (cells_tabled width height entries) x y (row_of (slice_index entries (y * width + x)))
+  pub as_many : length entries ≡ (height + 2 * shift edge) * (width + 2 * shift edge)
+  pub each : (x y : ℕ) → x < width + 2 * shift edge → y < height + 2 * shift edge → IsNearestRow (framed edge (cells_tabled width height edge entries)) x y (row_of (slice_index entries (y * (width + 2 * shift edge) + x)))

@@ -1,46 +1,49 @@
-//! The nearest obstacles of all columns before a row, or from a row on, sought from that row.
+//! The nearest obstacles of all columns before a row, or from a row on, sought from that row. Where the border is a wall, rows are counted with the frame.
 
-ghost use Rattle.std.specs.Prelude.{◌≡◌, ◌≤◌, length};
+ghost use Rattle.std.specs.Prelude.{◌≡◌, ◌+◌, ◌*◌, ◌≤◌, length};
+ghost use Rattle.metric.specs.Edge.{shift};
 ghost use Rattle.bits.specs.Cells.{IsBitmap};
+ghost use Rattle.column.specs.Capped.{capped};
 ghost use Rattle.column.specs.Lines.{IsLineBefore, IsLineFrom};
 
 use crate::NONE;
 use crate::seek::{MOST_WORDS, look_at};
 use bits::Bitmap;
+use metric::Edge;
 
 /// Fills the line with the nearest obstacles before row `y`. No memory is taken.
 ///
 /// The rows are looked at from row `y` upwards, mostly until each column has an entry.
-pub fn seek_before(bitmap: &Bitmap, y: u16, line: &mut [u16])
+pub fn seek_before(bitmap: &Bitmap, edge: Edge, y: u16, line: &mut [u16])
     requires bitmap { IsBitmap bitmap.now }
-    requires row { y ≤ bitmap.now.height }
+    requires row { y ≤ bitmap.now.height + 2 * shift edge }
     requires width { length line.old ≡ bitmap.now.width }
-    ensures { IsLineBefore bitmap.now y line.new }
+    ensures { IsLineBefore (capped edge bitmap.now) y line.new }
 {
     let mut missing = [0u64; MOST_WORDS];
-    look_up(bitmap, y, &mut missing, line);
+    look_up(bitmap, edge, y, &mut missing, line);
 }
 
 /// Fills the line with the nearest obstacles from row `y` on. No memory is taken.
 ///
 /// The rows are looked at from row `y` downwards, mostly until each column has an entry.
-pub fn seek_from(bitmap: &Bitmap, y: u16, line: &mut [u16])
+pub fn seek_from(bitmap: &Bitmap, edge: Edge, y: u16, line: &mut [u16])
     requires bitmap { IsBitmap bitmap.now }
-    requires row { y ≤ bitmap.now.height }
+    requires row { y ≤ bitmap.now.height + 2 * shift edge }
     requires width { length line.old ≡ bitmap.now.width }
-    ensures { IsLineFrom bitmap.now y line.new }
+    ensures { IsLineFrom (capped edge bitmap.now) y line.new }
 {
     let mut missing = [0u64; MOST_WORDS];
-    look_down(bitmap, y, &mut missing, line);
+    look_down(bitmap, edge, y, &mut missing, line);
 }
 
 /// Looks at the rows before row `from`, the last of them first; `missing` is room for a mask of each word's columns that have no entry yet.
-fn look_up(bitmap: &Bitmap, from: u16, missing: &mut [u64], line: &mut [u16])
+fn look_up(bitmap: &Bitmap, edge: Edge, from: u16, missing: &mut [u64], line: &mut [u16])
     requires bitmap { IsBitmap bitmap.now }
-    requires row { from ≤ bitmap.now.height }
+    requires row { from ≤ bitmap.now.height + 2 * shift edge }
     requires width { length line.old ≡ bitmap.now.width }
     requires room { length missing.old ≡ 64 }
-    ensures { IsLineBefore bitmap.now from line.new }
+    ensures { IsLineBefore (capped edge bitmap.now) from line.new }
 {
     missing.fill(u64::MAX);
     line.fill(NONE);
@@ -48,24 +51,24 @@ fn look_up(bitmap: &Bitmap, from: u16, missing: &mut [u64], line: &mut [u16])
         if (from - y).is_power_of_two() && !line.contains(&NONE) {
             return;
         }
-        look_at(bitmap, y, missing, line);
+        look_at(bitmap, edge, y, missing, line);
     }
 }
 
 /// The same from row `from` on downwards.
-fn look_down(bitmap: &Bitmap, from: u16, missing: &mut [u64], line: &mut [u16])
+fn look_down(bitmap: &Bitmap, edge: Edge, from: u16, missing: &mut [u64], line: &mut [u16])
     requires bitmap { IsBitmap bitmap.now }
-    requires row { from ≤ bitmap.now.height }
+    requires row { from ≤ bitmap.now.height + 2 * shift edge }
     requires width { length line.old ≡ bitmap.now.width }
     requires room { length missing.old ≡ 64 }
-    ensures { IsLineFrom bitmap.now from line.new }
+    ensures { IsLineFrom (capped edge bitmap.now) from line.new }
 {
     missing.fill(u64::MAX);
     line.fill(NONE);
-    'rows: for y in from..bitmap.height() {
+    'rows: for y in from..bitmap.height() + 2 * edge.shift() {
         if (y - from).is_power_of_two() && !line.contains(&NONE) {
             return;
         }
-        look_at(bitmap, y, missing, line);
+        look_at(bitmap, edge, y, missing, line);
     }
 }

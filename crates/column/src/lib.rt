@@ -1,6 +1,7 @@
 //! The column phase: for each cell, the nearest obstacle of its column.
 #![tactic(auto)]
 
+mod cap;
 mod edge;
 mod lines;
 mod row;

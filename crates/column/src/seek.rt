@@ -1,102 +1,148 @@
-//! The nearest obstacles of all columns seen from one row, without a table.
+//! The nearest obstacles of all columns seen from one row, without a table. Where the border is a wall, rows are counted with the frame.
 
 ghost use Rattle.std.specs.Prelude.{◌≡◌, ℕ, ◌+◌, ◌-◌, ◌*◌, ◌<◌, ◌≤◌, ◌==◌, ◌⊎◌, false, length, slice_index, bit_and};
 ghost use Rattle.std.specs.Int.{bit_at};
+ghost use Rattle.metric.specs.Edge.{shift};
 ghost use Rattle.bits.specs.Cells.{IsBitmap, has};
+ghost use Rattle.bits.specs.Edges.{framed};
+ghost use Rattle.column.specs.Capped.{capped};
 ghost use Rattle.column.specs.Columns.{IsRowOfTable};
 ghost use Rattle.column.specs.Sweeps.{AreMissing, first_marked, is_marked};
 
 use crate::NONE;
+use crate::cap::{is_cap, mark_all, mark_sides};
 use crate::row::{WORD_BITS, mark_word};
 use bits::Bitmap;
+use metric::Edge;
 
 /// How many words the widest row takes.
 pub const MOST_WORDS: usize = 64;
 
-/// Fills `entries` as the table of the bitmap has them in row `y`. No memory is taken.
+/// Fills `entries` as the table of the bitmap has them in row `y`, which is counted with the frame where the border is a wall. No memory is taken.
 ///
 /// The rows are looked at from row `y` outwards, so a few rows are found sooner than a table of the whole bitmap.
-pub fn nearest_rows(bitmap: &Bitmap, y: u16, entries: &mut [u16])
-    requires row { y < bitmap.now.height }
-    requires width { length entries.old ≡ bitmap.now.width }
-    ensures { IsRowOfTable bitmap.now y entries.new }
+pub fn nearest_rows(bitmap: &Bitmap, edge: Edge, y: u16, entries: &mut [u16])
+    requires row { y < bitmap.now.height + 2 * shift edge }
+    requires width { length entries.old ≡ bitmap.now.width + 2 * shift edge }
+    ensures { IsRowOfTable (framed edge bitmap.now) y entries.new }
 {
     let mut missing = [0u64; MOST_WORDS];
-    look_around(bitmap, y, &mut missing, entries);
+    let first = usize::from(edge.shift());
+    let width = usize::from(bitmap.width());
+    look_around(
+        bitmap,
+        edge,
+        y,
+        &mut missing,
+        &mut entries[first..first + width],
+    );
+    mark_sides(edge, y, entries);
 }
 
 /// Looks at the rows from row `y` outwards, mostly until each column has an entry; `missing` is room for a mask of each word's columns that have none yet.
-fn look_around(bitmap: &Bitmap, y: u16, missing: &mut [u64], entries: &mut [u16])
-    requires row { y < bitmap.now.height }
+fn look_around(bitmap: &Bitmap, edge: Edge, y: u16, missing: &mut [u64], entries: &mut [u16])
+    requires row { y < bitmap.now.height + 2 * shift edge }
     requires width { length entries.old ≡ bitmap.now.width }
     requires room { length missing.old ≡ 64 }
-    ensures { IsRowOfTable bitmap.now y entries.new }
+    ensures { IsRowOfTable (capped edge bitmap.now) y entries.new }
 {
     missing.fill(u64::MAX);
     entries.fill(NONE);
-    'away: for away in 0..bitmap.height() {
-        if away.is_power_of_two() && !entries.contains(&NONE) {
+    let rows = bitmap.height() + 2 * edge.shift();
+    let walled = past_frame(edge, rows, y);
+    'away: for away in 0..rows {
+        if (away.is_power_of_two() || away == walled) && !entries.contains(&NONE) {
             return;
         }
-        look_above(bitmap, y, away, missing, entries);
-        look_below(bitmap, y, away, missing, entries);
+        look_above(bitmap, edge, y, away, missing, entries);
+        look_below(bitmap, edge, y, away, missing, entries);
+    }
+}
+
+/// How many rows away from row `y` the first rows lie past one of the frame, so that all columns have entries; 0 where the border is open.
+fn past_frame(edge: Edge, rows: u16, y: u16) -> u16
+    requires row { y < rows }
+    requires few { rows ≤ 4098 }
+{
+    match edge {
+        Edge::Open => 0,
+        Edge::Wall => y.min(rows - 1 - y) + 1,
     }
 }
 
 /// Looks at the row so many rows above row `y`, if there is one.
-fn look_above(bitmap: &Bitmap, y: u16, away: u16, missing: &mut [u64], entries: &mut [u16])
+fn look_above(
+    bitmap: &Bitmap,
+    edge: Edge,
+    y: u16,
+    away: u16,
+    missing: &mut [u64],
+    entries: &mut [u16],
+)
     requires bitmap { IsBitmap bitmap.now }
-    requires row { y < bitmap.now.height }
+    requires row { y < bitmap.now.height + 2 * shift edge }
     requires width { length entries.old ≡ bitmap.now.width }
     requires room { length missing.old ≡ 64 }
     requires missing { AreMissing missing.old entries.old }
     ensures len { length entries.new ≡ length entries.old }
     ensures room { length missing.new ≡ length missing.old }
     ensures missing { AreMissing missing.new entries.new }
-    ensures seen { away ≤ y → (x : ℕ) → x < bitmap.now.width → slice_index entries.new x ≡ first_marked (has bitmap.now x (y - away)) (y - away) (slice_index entries.old x) }
+    ensures seen { away ≤ y → (x : ℕ) → x < bitmap.now.width → slice_index entries.new x ≡ first_marked (has (capped edge bitmap.now) x (y - away)) (y - away) (slice_index entries.old x) }
     ensures none { y < away → entries.new ≡ entries.old }
 {
     if away <= y {
-        look_at(bitmap, y - away, missing, entries);
+        look_at(bitmap, edge, y - away, missing, entries);
     }
 }
 
 /// Looks at the row so many rows below row `y`, if there is one.
-fn look_below(bitmap: &Bitmap, y: u16, away: u16, missing: &mut [u64], entries: &mut [u16])
+fn look_below(
+    bitmap: &Bitmap,
+    edge: Edge,
+    y: u16,
+    away: u16,
+    missing: &mut [u64],
+    entries: &mut [u16],
+)
     requires bitmap { IsBitmap bitmap.now }
-    requires row { y < bitmap.now.height }
+    requires row { y < bitmap.now.height + 2 * shift edge }
     requires width { length entries.old ≡ bitmap.now.width }
     requires room { length missing.old ≡ 64 }
     requires missing { AreMissing missing.old entries.old }
     ensures len { length entries.new ≡ length entries.old }
     ensures room { length missing.new ≡ length missing.old }
     ensures missing { AreMissing missing.new entries.new }
-    ensures seen { y + away < bitmap.now.height → (x : ℕ) → x < bitmap.now.width → slice_index entries.new x ≡ first_marked (has bitmap.now x (y + away)) (y + away) (slice_index entries.old x) }
-    ensures none { bitmap.now.height ≤ y + away → entries.new ≡ entries.old }
+    ensures seen { y + away < bitmap.now.height + 2 * shift edge → (x : ℕ) → x < bitmap.now.width → slice_index entries.new x ≡ first_marked (has (capped edge bitmap.now) x (y + away)) (y + away) (slice_index entries.old x) }
+    ensures none { bitmap.now.height + 2 * shift edge ≤ y + away → entries.new ≡ entries.old }
 {
-    if away < bitmap.height() - y {
-        look_at(bitmap, y + away, missing, entries);
+    if away < bitmap.height() + 2 * edge.shift() - y {
+        look_at(bitmap, edge, y + away, missing, entries);
     }
 }
 
 /// Looks at row `y`: it becomes the entry of each column of an obstacle that had none.
-pub fn look_at(bitmap: &Bitmap, y: u16, missing: &mut [u64], entries: &mut [u16])
+pub fn look_at(bitmap: &Bitmap, edge: Edge, y: u16, missing: &mut [u64], entries: &mut [u16])
     requires bitmap { IsBitmap bitmap.now }
-    requires row { y < bitmap.now.height }
+    requires row { y < bitmap.now.height + 2 * shift edge }
     requires width { length entries.old ≡ bitmap.now.width }
     requires room { length missing.old ≡ 64 }
     requires missing { AreMissing missing.old entries.old }
     ensures len { length entries.new ≡ length entries.old }
     ensures room { length missing.new ≡ length missing.old }
     ensures missing { AreMissing missing.new entries.new }
-    ensures seen { (x : ℕ) → x < bitmap.now.width → slice_index entries.new x ≡ first_marked (has bitmap.now x y) y (slice_index entries.old x) }
+    ensures seen { (x : ℕ) → x < bitmap.now.width → slice_index entries.new x ≡ first_marked (has (capped edge bitmap.now) x y) y (slice_index entries.old x) }
 {
-    mark_missing(bitmap.row_words(y), y, missing, entries);
+    if is_cap(edge, bitmap.height(), y) {
+        mark_all(y, missing, entries);
+        return;
+    }
+    let words = bitmap.row_words(y - edge.shift());
+    mark_missing(words, y, missing, entries);
 }
 
 /// Writes the row `y` into the entries of those of its obstacles whose columns are missing.
 fn mark_missing(words: &[u64], y: u16, missing: &mut [u64], entries: &mut [u16])
-    requires row { y < 4096 }
+    requires row { y < 4098 }
     requires few { length words.now ≤ 64 }
     requires all { length entries.old ≤ 64 * length words.now }
     requires no_more { 64 * length words.now < length entries.old + 64 }
@@ -129,7 +175,7 @@ fn has_new(words: &[u64], missing: &[u64]) -> bool
 
 /// Writes the row `y` into the entries of those of a word's obstacles whose columns are missing. Which columns are missing then.
 fn mark_new(word: u64, y: u16, first: usize, missing: u64, entries: &mut [u16]) -> u64
-    requires row { y < 4096 }
+    requires row { y < 4098 }
     requires first { first ≤ length entries.old }
     requires missing { (i : ℕ) → i < 64 → first + i < length entries.old → (bit_at missing i == 1) ≡ (slice_index entries.old (first + i) == 65535) }
     ensures len { length entries.new ≡ length entries.old }

@@ -1,95 +1,143 @@
 //! A table of the nearest obstacles in all columns.
 
-ghost use Rattle.std.specs.Prelude.{◌≡◌, ◌<◌, IfOk, IfErr};
-ghost use Rattle.bits.specs.Cells.{IsBitmap, IsInside};
-ghost use Rattle.column.specs.Columns.{IsNearestRow, IsRowOfTable};
+ghost use Rattle.std.specs.Prelude.{◌≡◌, ◌≢◌, ℕ, pos, ◌+◌, ◌*◌, ◌^◌, ◌<◌, ◌≤◌, ◌<ℤ◌, ◌≤ℤ◌, ◌+ℤ◌, length, slice_index, IfOk, IfErr};
+ghost use Rattle.std.specs.Option.{option_map};
+ghost use Rattle.metric.specs.Edge.{shift, spot_of};
+ghost use Rattle.bits.specs.Cells.{IsBitmap};
+ghost use Rattle.bits.specs.Edges.{framed};
+ghost use Rattle.column.specs.Columns.{IsRowOfTable, row_of};
+ghost use Rattle.column.specs.Spots.{IsNearestSpotRow};
 ghost use Rattle.metric.specs.declared.refusal.Refusal.TheVariants.{Memory};
 
 use crate::sweep::sweep;
 use bits::Bitmap;
-use metric::Refusal;
+use metric::{Edge, Refusal};
 use std::alloc::Global;
 use std::marker::Model;
 
 /// The entry of a column without an obstacle.
 pub const NONE: u16 = u16::MAX;
 
-/// For each cell of a bitmap the nearest obstacle of its column. Contracts see it as the bitmap that it was made of.
+/// For each cell of a bitmap the nearest obstacle of its column. Contracts see it as the bitmap that it was made of, and what its border is.
 ///
-/// The entry of a cell is the row of that obstacle, or `NONE`. The rows of entries lie one after another.
+/// Where the border is a wall, the frame's cells are obstacles, and have entries too. The entry of a cell is the row of its column's nearest obstacle, counted with the frame, or `NONE`. The rows of entries lie one after another.
 #[derive(Debug, Drop)]
 pub struct ColumnTable {
     width: u16,
     height: u16,
+    edge: Edge,
     entries: Vec<u16>,
 }
 
 impl Model for ColumnTable {
-    ghost use Rattle.bits.specs.Cells.{Cells};
+    ghost use Rattle.column.specs.Tabled.{Bordered, cells_tabled, IsTabled};
 
-    ghost Value = { Cells };
+    ghost Value = { Bordered };
 
-    ghost use Rattle.column.specs.Tabled.{cells_tabled, IsTabled};
+    ghost view = { λ t. record { cells = cells_tabled t.width t.height t.edge t.entries.items; edge = t.edge } };
 
-    ghost view = { λ t. cells_tabled t.width t.height t.entries.items };
-
-    ghost invariant = { λ t. IsTabled t.width t.height t.entries.items };
+    ghost invariant = { λ t. IsTabled t.width t.height t.edge t.entries.items };
 }
 
 impl ColumnTable {
-    /// The table of this bitmap. Refused for want of memory alone.
-    pub fn of(alloc: Global, bitmap: &Bitmap) -> Result<Self, Refusal>
-        ensures table { IfOk result (λ table. table ≡ bitmap.now) }
+    /// The table of this bitmap, whose border is as the edge says. Refused for want of memory alone.
+    pub fn of(alloc: Global, bitmap: &Bitmap, edge: Edge) -> Result<Self, Refusal>
+        ensures table { IfOk result (λ table. table ≡ record { cells = bitmap.now; edge = edge }) }
         ensures memory { IfErr result (λ refusal. refusal ≡ Memory) }
     {
         let (width, height) = (bitmap.width(), bitmap.height());
-        let cells = usize::from(height) * usize::from(width);
+        let (columns, rows) = (width + 2 * edge.shift(), height + 2 * edge.shift());
+        let cells = usize::from(rows) * usize::from(columns);
         let Ok(mut entries) = vec![in alloc; NONE; cells] else {
             return Err(Refusal::Memory);
         };
-        sweep(bitmap, entries.as_mut_slice());
+        sweep(bitmap, edge, entries.as_mut_slice());
         Ok(ColumnTable {
             width,
             height,
+            edge,
             entries,
         })
     }
 
-    /// How many columns there are.
+    /// How many columns the bitmap has.
     pub fn width(&self) -> u16
-        ensures width { result ≡ self.now.width }
-        ensures bitmap { IsBitmap self.now }
+        ensures width { result ≡ self.now.cells.width }
+        ensures bitmap { IsBitmap self.now.cells }
     {
         self.width
     }
 
-    /// How many rows there are.
+    /// How many rows the bitmap has.
     pub fn height(&self) -> u16
-        ensures height { result ≡ self.now.height }
-        ensures bitmap { IsBitmap self.now }
+        ensures height { result ≡ self.now.cells.height }
+        ensures bitmap { IsBitmap self.now.cells }
     {
         self.height
     }
 
-    /// The row of the obstacle of column `x` that is nearest to row `y`; `None` where the column has none.
-    ///
-    /// Of two obstacles as far from row `y` it is the upper one.
-    pub fn nearest_row(&self, x: u16, y: u16) -> Option<u16>
-        requires { IsInside self.now x y }
-        ensures { IsNearestRow self.now x y result }
+    /// What the border of the bitmap is.
+    pub fn edge(&self) -> Edge
+        ensures { result ≡ self.now.edge }
     {
-        let entry = self.entries[usize::from(y) * usize::from(self.width) + usize::from(x)];
-        if entry == NONE { None } else { Some(entry) }
+        self.edge
     }
 
-    /// The entries of row `y`: for each column, from the left, the nearest row as `nearest_row` has it, or `NONE`.
-    pub fn row(&self, y: u16) -> &[u16]
-        requires { y < self.now.height }
-        ensures row { IsRowOfTable self.now y result.now }
-        ensures bitmap { IsBitmap self.now }
+    /// The row of the obstacle of column `x` that is nearest to row `y` of the bitmap; `None` where the column has none.
+    ///
+    /// Where the border is a wall, `x` may be -1 or the bitmap's width, and the row that is answered -1 or the bitmap's height. Of two obstacles as far from row `y` it is the upper one.
+    pub fn nearest_row(&self, x: i16, y: u16) -> Option<i16>
+        requires left { pos 0 ≤ℤ (x +ℤ pos (shift self.now.edge)) }
+        requires right { (x +ℤ pos (shift self.now.edge)) <ℤ pos (self.now.cells.width + 2 * shift self.now.edge) }
+        requires row { y < self.now.cells.height }
+        ensures { IsNearestSpotRow self.now.cells self.now.edge x y result }
     {
-        let width = usize::from(self.width);
-        let start = usize::from(y) * width;
-        &self.entries[start..start + width]
+        let column = column_of(self.edge, x);
+        let entry = self.row(y)[usize::from(column)];
+        spot_row(self.edge, column, entry)
     }
+
+    /// The entries of row `y` of the bitmap, from the left, those of the frame's columns with them: the nearest rows of all columns, counted with the frame, or `NONE`.
+    pub fn row(&self, y: u16) -> &[u16]
+        requires { y < self.now.cells.height }
+        ensures row { IsRowOfTable (framed self.now.edge self.now.cells) (y + shift self.now.edge) result.now }
+        ensures bitmap { IsBitmap self.now.cells }
+    {
+        let before = self.edge.shift();
+        let width = usize::from(self.width + 2 * before);
+        line_of(&self.entries, usize::from(y + before), width)
+    }
+}
+
+/// One of several lines of entries that lie one after another.
+fn line_of(entries: &[u16], line: usize, width: usize) -> &[u16]
+    requires within { line * width + width ≤ length entries.now }
+    requires small { line * width + width < 2 ^ 32 }
+    ensures len { length result.now ≡ width }
+    ensures entries { (x : ℕ) → x < width → slice_index result.now x ≡ slice_index entries.now (line * width + x) }
+{
+    let start = line * width;
+    &entries[start..start + width]
+}
+
+/// The column of a map with its border, counted with the frame.
+fn column_of(edge: Edge, x: i16) -> u16
+    requires left { pos 0 ≤ℤ (x +ℤ pos (shift edge)) }
+    requires right { x ≤ℤ pos 4096 }
+    ensures { pos result ≡ (x +ℤ pos (shift edge)) }
+{
+    (x + edge.shift() as i16) as u16
+}
+
+/// The row of an entry in a column, both counted with the frame, as it is counted without it.
+fn spot_row(edge: Edge, column: u16, entry: u16) -> Option<i16>
+    requires column { column ≤ 4097 }
+    requires entry { entry ≢ 65535 → entry ≤ 4097 }
+    ensures { result ≡ option_map (λ r. (spot_of edge column r).y) (row_of entry) }
+{
+    if entry == NONE {
+        return None;
+    }
+    let spot = edge.spot(column, entry);
+    Some(spot.y)
 }

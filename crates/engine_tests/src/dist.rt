@@ -3,13 +3,14 @@
 use crate::compare::same;
 use engines::arguments::DistOptions;
 use engines::dist_run;
-use metric::{MemorySink, MemorySource, MetricKind, Sink, Source};
+use metric::{Edge, MemorySink, MemorySource, MetricKind, Sink, Source};
 use std::process::Abort;
 use std::thread::Threads;
 
 /// What `dist` does where no flag is given.
 const DEFAULT: DistOptions = DistOptions {
     metric: MetricKind::Euclid2,
+    edge: Edge::Open,
     nearest: false,
     query: None,
     workers: 1,
@@ -109,6 +110,55 @@ static QUERIES: [(&[u8], &str, &str, u8); 18] = [
     ),
 ];
 
+/// Images whose border is a wall, with flags, and what is written for them.
+static WALLED: [(&[u8], MetricKind, bool, &str); 7] = [
+    (
+        FIELD,
+        MetricKind::Euclid2,
+        false,
+        "1 1 1 1 1\n1 4 4 4 1\n1 1 1 1 1\n",
+    ),
+    (
+        FIELD,
+        MetricKind::Euclid2,
+        true,
+        "1/-1/0 1/1/-1 1/2/-1 1/3/-1 1/4/-1\n1/-1/1 4/-1/1 4/2/-1 4/3/-1 1/5/1\n1/-1/2 1/1/3 1/2/3 1/3/3 1/4/3\n",
+    ),
+    (
+        FIELD,
+        MetricKind::Chess,
+        true,
+        "1/-1/0 1/0/-1 1/1/-1 1/2/-1 1/3/-1\n1/-1/1 2/-1/1 2/0/-1 2/1/-1 1/5/1\n1/-1/2 1/0/3 1/1/3 1/2/3 1/3/3\n",
+    ),
+    (b"P1\n1 1\n0", MetricKind::City, true, "1/-1/0\n"),
+    (b"P1\n1 1\n1", MetricKind::City, true, "0/0/0\n"),
+    (
+        b"P1\n5 1\n00100",
+        MetricKind::Euclid2,
+        true,
+        "1/-1/0 1/1/-1 0/2/0 1/2/0 1/4/-1\n",
+    ),
+    (
+        b"P1\n5 3\n000000000100000",
+        MetricKind::City,
+        false,
+        "1 1 1 1 1\n1 2 2 1 0\n1 1 1 1 1\n",
+    ),
+];
+
+/// Query lines on an image without an obstacle, whose border is a wall, and what is written for them.
+static SEEN_FROM_WITHIN: [(&str, &str); 6] = [
+    ("AT chess 2 1", "OK 2 0 -1\n"),
+    ("AT euclid2 4 2", "OK 1 4 3\n"),
+    ("AT city 0 0", "OK 1 -1 0\n"),
+    ("RECT city 1 1 4 2", "OK 2 1 1 -1 1\n"),
+    ("CLEAROF euclid2 4 1 1 3 1", "OK CLEAR\n"),
+    ("CLEAROF euclid2 5 3 1 1 1", "OK 4 3 1 3 -1\n"),
+];
+
+/// A map of five columns and three rows without an obstacle.
+const FIELD: &[u8] = b"P1\n5 3\n000000000000000";
+
 /// The worked map of six columns and four rows.
 const POST: &[u8] = b"P1\n6 4\n000000\n001000\n000000\n000000\n";
 
@@ -144,8 +194,8 @@ fn flags_are_heeded_by_each_number_of_workers(rt: HostRuntime) {
             let options = DistOptions {
                 metric: *metric,
                 nearest: *nearest,
-                query: None,
                 workers,
+                ..DEFAULT
             };
             answers(&rt, &options, image, want, 0);
         }
@@ -160,6 +210,34 @@ fn queries_are_answered(rt: HostRuntime) {
             ..DEFAULT
         };
         answers(&rt, &options, image, want, *status);
+    }
+}
+
+#[test]
+fn a_wall_round_the_image_is_answered(rt: HostRuntime) {
+    for (image, metric, nearest, want) in &WALLED {
+        for workers in [1, 2, 16] {
+            let options = DistOptions {
+                metric: *metric,
+                edge: Edge::Wall,
+                nearest: *nearest,
+                workers,
+                ..DEFAULT
+            };
+            answers(&rt, &options, image, want, 0);
+        }
+    }
+}
+
+#[test]
+fn queries_see_the_wall(rt: HostRuntime) {
+    for (line, want) in &SEEN_FROM_WITHIN {
+        let options = DistOptions {
+            edge: Edge::Wall,
+            query: Some(*line),
+            ..DEFAULT
+        };
+        answers(&rt, &options, FIELD, want, 0);
     }
 }
 

@@ -5,7 +5,7 @@ ghost use Rattle.std.specs.Prelude.{◌<◌};
 use crate::compare::same;
 use engines::arguments::DistOptions;
 use engines::dist_run;
-use metric::{MemorySink, MemorySource, MetricKind};
+use metric::{Edge, MemorySink, MemorySource, MetricKind};
 use std::alloc::Global;
 use std::process::Abort;
 use std::test::Fail;
@@ -55,6 +55,7 @@ fn images_of_many_rows(rt: HostRuntime) -> Result<(), Fail> {
         ] {
             let options = DistOptions {
                 metric,
+                edge: Edge::Open,
                 nearest: true,
                 query: None,
                 workers,
@@ -79,6 +80,7 @@ fn images_without_an_obstacle(rt: HostRuntime) -> Result<(), Fail> {
     for metric in [MetricKind::Euclid2, MetricKind::City, MetricKind::Chess] {
         let options = DistOptions {
             metric,
+            edge: Edge::Open,
             nearest: false,
             query: None,
             workers: 1,
@@ -104,6 +106,7 @@ fn the_last_cell_of_the_largest_map(rt: HostRuntime) -> Result<(), Fail> {
     let image = largest_image(rt.alloc())?;
     let options = DistOptions {
         metric: MetricKind::City,
+        edge: Edge::Open,
         nearest: false,
         query: Some("AT euclid2 4095 4095"),
         workers: 1,
@@ -128,6 +131,7 @@ fn a_path_of_a_thousand_points(rt: HostRuntime) -> Result<(), Fail> {
         line.push_str(more)?;
         let options = DistOptions {
             metric: MetricKind::City,
+            edge: Edge::Open,
             nearest: false,
             query: Some(line.as_str()),
             workers: 1,

@@ -6,7 +6,7 @@ use crossbeam_channel::{Receiver, Sender, bounded};
 use engines::arguments::{AskOptions, ServeOptions};
 use engines::net::ask;
 use engines::{Socket, ask_run, serve_run};
-use metric::{MemorySink, MemorySource};
+use metric::{Edge, MemorySink, MemorySource};
 use std::alloc::Global;
 use std::io::Write;
 use std::net::{Ipv4Addr, Net, SocketAddr, SocketAddrV4, TcpListener, TcpStream};
@@ -28,6 +28,7 @@ fn two_workers(connections: u32) -> ServeOptions {
         versions: 8,
         log: 100000,
         workers: 2,
+        edge: Edge::Open,
     }
 }
 

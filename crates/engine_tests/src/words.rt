@@ -3,7 +3,7 @@
 use crate::compare::{holds, same};
 use engines::arguments::{AskOptions, DistOptions, Fault, Options, ServeOptions};
 use engines::options;
-use metric::MetricKind;
+use metric::{Edge, MetricKind};
 use std::process::Abort;
 
 /// Words of `dist`, and what they say: the metric, whether obstacles are told, and the number of workers.
@@ -49,16 +49,23 @@ const SERVED: ServeOptions = ServeOptions {
     versions: 8,
     log: 100000,
     workers: 4,
+    edge: Edge::Open,
 };
 
 /// Words that are refused, or ask to be told something, and what `clap` would have the program end with.
-static TOLD: [(&[&str], i32); 14] = [
+static TOLD: [(&[&str], i32); 17] = [
     (&["clearmap"], 2),
     (&["clearmap", "dits"], 2),
     (&["clearmap", "dist", "map.pbm"], 2),
     (&["clearmap", "dist", "--fast"], 2),
     (&["clearmap", "dist", "--metric", "taxi"], 2),
     (&["clearmap", "dist", "--metric"], 2),
+    (&["clearmap", "dist", "--edge", "fence"], 2),
+    (&["clearmap", "dist", "--edge", ""], 2),
+    (
+        &["clearmap", "serve", "--connections", "1", "--edge", "Wall"],
+        2,
+    ),
     (&["clearmap", "dist", "--workers", "0"], 2),
     (&["clearmap", "dist", "--workers", "17"], 2),
     (&["clearmap", "dist", "--workers", "4294967296"], 2),
@@ -83,6 +90,7 @@ fn words_of_dist_are_read(rt: HostRuntime) {
     for (words, metric, nearest, workers) in &DISTS {
         let want = DistOptions {
             metric: *metric,
+            edge: Edge::Open,
             nearest: *nearest,
             query: None,
             workers: *workers,
@@ -95,6 +103,7 @@ fn words_of_dist_are_read(rt: HostRuntime) {
 fn the_line_and_steps_are_taken(rt: HostRuntime) {
     let want = DistOptions {
         metric: MetricKind::Euclid2,
+        edge: Edge::Open,
         nearest: false,
         query: Some("AT city 3 4"),
         workers: 1,
@@ -130,6 +139,7 @@ fn words_of_the_network_are_read(rt: HostRuntime) {
         versions: 4294967295,
         log: 7,
         workers: 16,
+        edge: Edge::Open,
     };
     says(&rt, &full, &Options::Serve(want));
     let ask = AskOptions { port: 7400 };
@@ -140,11 +150,37 @@ fn words_of_the_network_are_read(rt: HostRuntime) {
     );
 }
 
+#[test]
+fn the_border_is_read(rt: HostRuntime) {
+    for (name, edge) in [("open", Edge::Open), ("wall", Edge::Wall)] {
+        let want = DistOptions {
+            metric: MetricKind::City,
+            edge,
+            nearest: false,
+            query: None,
+            workers: 1,
+        };
+        let words = ["clearmap", "dist", "--edge", name, "--metric", "city"];
+        says(&rt, &words, &Options::Dist(want));
+        let want = ServeOptions { edge, ..SERVED };
+        let words = [
+            "clearmap",
+            "serve",
+            "--edge",
+            name,
+            "--connections",
+            "1000000",
+        ];
+        says(&rt, &words, &Options::Serve(want));
+    }
+}
+
 /// Whether the words are refused, and what `clap` would have the program end with.
 fn status_of<R: AllocGlobal>(rt: &R, words: &[&str]) -> Option<i32> {
     match options(rt.alloc(), words) {
         Err(Fault::Words(error)) => Some(error.exit_code()),
-        Err(Fault::UnknownMetric { .. } | Fault::BadNumber { .. }) => Some(2),
+        Err(Fault::UnknownMetric { .. } | Fault::UnknownEdge { .. } | Fault::BadNumber { .. }) =>
+            Some(2),
         _ => None,
     }
 }

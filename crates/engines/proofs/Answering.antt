@@ -51,7 +51,7 @@ pub answer_of_fault : (options : DistOptions) (bytes : List ℕ) (fault : PbmFau
 answer_of_fault options bytes fault status true_of memory one = inr (record { fault = fault; true_of = true_of; memory = memory; text_is = refl; status_is = one })
 
 -- the lines of a table are what is asked where no line is
-pub asked_of_table : (options : DistOptions) (bytes : List ℕ) (table : Table) → options.query ≡ None → IsTableOf options.metric bytes table
+pub asked_of_table : (options : DistOptions) (bytes : List ℕ) (table : Table) → options.query ≡ None → IsTableOf options.metric options.edge bytes table
     → IsImageAnswer options bytes (table_text options.nearest table.width table.height (nears_of table)) 0
 asked_of_table options bytes table no_line of = inl (rw no_line (record {
   taken = of.taken;
@@ -64,7 +64,7 @@ asked_of_table options bytes table no_line of = inl (rw no_line (record {
 }))
 
 -- a reply is what is asked where a line is
-pub asked_of_reply : (options : DistOptions) (bytes : List ℕ) (line : Bor (List ℕ)) (text : List ℕ) (status : ℕ) → options.query ≡ Some line → IsReply line.now bytes text status → IsImageAnswer options bytes text status
+pub asked_of_reply : (options : DistOptions) (bytes : List ℕ) (line : Bor (List ℕ)) (text : List ℕ) (status : ℕ) → options.query ≡ Some line → IsReply options.edge line.now bytes text status → IsImageAnswer options bytes text status
 asked_of_reply options bytes line text status given reply = inl (rw given reply)
 
 -- the line of want of memory, written whole, is an answer to all bytes of any reader

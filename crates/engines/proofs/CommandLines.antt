@@ -10,7 +10,10 @@ use Rattle.clap.specs.declared.parser.matches.Found.{Found}
 use Rattle.clap.proofs.OnLiterals.{clap_on_literals}
 use Rattle.clap.proofs.WalkLemmas.{first_value-rows}
 use Rattle.metric.specs.Digits.{value_from}
+use Rattle.metric.specs.Edge.{edge_named}
 use Rattle.metric.specs.Kind.{metric_named}
+use Rattle.metric.specs.declared.edge.Edge.{Edge}
+use Rattle.metric.specs.declared.edge.Edge.TheVariants.{Open}
 use Rattle.metric.specs.declared.kind.MetricKind.{MetricKind}
 use Rattle.metric.specs.declared.kind.MetricKind.TheVariants.{Euclid2}
 use Rattle.engines.specs.declared.arguments.DistOptions.{DistOptions}
@@ -27,8 +30,8 @@ use Rattle.engines.specs.declared.arguments.Options.TheVariants.{Ask, Dist, Serv
 use Rattle.clearance.proofs.Refusals.{map_none}
 
 -- what the words say of the subcommand and its flags
-abbrev pub read_of : Option (Text × List Row) → Option (Text × Option Text × Option Text × Option Text × Option Text)
-read_of found = option_map (λ p. (p.0, first_of (codes "metric") p.1, one_of (codes "nearest") p.1, first_of (codes "query") p.1, first_of (codes "workers") p.1)) found
+abbrev pub read_of : Option (Text × List Row) → Option (Text × Option Text × Option Text × Option Text × Option Text × Option Text)
+read_of found = option_map (λ p. (p.0, first_of (codes "metric") p.1, one_of (codes "nearest") p.1, first_of (codes "query") p.1, first_of (codes "workers") p.1, first_of (codes "edge") p.1)) found
 
 -- the words are taken, whatever the program is called
 pub takes_dist : (name : List ℕ) → takes program_app (name ∷ codes "dist" ∷ []) ≡ true
@@ -36,7 +39,7 @@ unfolding clap_on_literals
 takes_dist name = refl
 
 -- they name the subcommand `dist`, and its flags have their defaults
-pub read_of_dist : (name : List ℕ) → read_of (subcommand_of program_app (name ∷ codes "dist" ∷ [])) ≡ Some (codes "dist", Some (codes "euclid2"), Some (codes "false"), None, Some (codes "1"))
+pub read_of_dist : (name : List ℕ) → read_of (subcommand_of program_app (name ∷ codes "dist" ∷ [])) ≡ Some (codes "dist", Some (codes "euclid2"), Some (codes "false"), None, Some (codes "1"), Some (codes "open"))
 unfolding clap_on_literals
 read_of_dist name = refl
 
@@ -51,28 +54,29 @@ first_of_pair f g None = refl
 first_of_pair f g (Some x) = refl
 
 -- the first part of what is read is the subcommand's name
-name_of_read : (found : Option (Text × List Row)) (name : Text) (metric nearest query workers : Option Text) → read_of found ≡ Some (name, metric, nearest, query, workers) → option_map (λ (p : Text × List Row). p.0) found ≡ Some name
-name_of_read None name metric nearest query workers e = absurd (cc)
-name_of_read (Some p) name metric nearest query workers e = let same : read_of (Some p) ≡ Some (name, metric, nearest, query, workers) = e in ap (option_map (λ (t : Text × Option Text × Option Text × Option Text × Option Text). t.0)) same
+name_of_read : (found : Option (Text × List Row)) (name : Text) (metric nearest query workers edge : Option Text) → read_of found ≡ Some (name, metric, nearest, query, workers, edge) → option_map (λ (p : Text × List Row). p.0) found ≡ Some name
+name_of_read None name metric nearest query workers edge e = absurd (cc)
+name_of_read (Some p) name metric nearest query workers edge e = let same : read_of (Some p) ≡ Some (name, metric, nearest, query, workers, edge) = e in ap (option_map (λ (t : Text × Option Text × Option Text × Option Text × Option Text × Option Text). t.0)) same
 
 -- a parse whose words name the subcommand `dist` has met it
 pub named_dist : (name : List ℕ) (texts : List (List ℕ)) (matches : ArgMatches) → texts ≡ name ∷ codes "dist" ∷ [] → HasMatchesOf program_app texts matches → subcommand_name_of matches ≡ Some (codes "dist")
 named_dist name texts matches words found =
     let met : subcommand_rows_of matches ≡ subcommand_of program_app (name ∷ codes "dist" ∷ []) = (found program_is_simple).1 ∙ ap (subcommand_of program_app) words in
     first_of_pair _ _ _ ∙ (ap (option_map (λ (p : Text × List Row). p.0)) met
-    ∙ name_of_read (subcommand_of program_app (name ∷ codes "dist" ∷ [])) (codes "dist") (Some (codes "euclid2")) (Some (codes "false")) None (Some (codes "1")) (read_of_dist name))
+    ∙ name_of_read (subcommand_of program_app (name ∷ codes "dist" ∷ [])) (codes "dist") (Some (codes "euclid2")) (Some (codes "false")) None (Some (codes "1")) (Some (codes "open")) (read_of_dist name))
 
 -- the flags that were read are those of the subcommand's rows
-read_rows : (found : Option (Text × List Row)) (rows : List Row) (name : Text) (metric nearest query workers : Option Text) → option_map (λ (p : Text × List Row). p.1) found ≡ Some rows
-    → read_of found ≡ Some (name, metric, nearest, query, workers) → (first_of (codes "metric") rows ≡ metric) × (one_of (codes "nearest") rows ≡ nearest) × (first_of (codes "query") rows ≡ query) × (first_of (codes "workers") rows ≡ workers)
-read_rows None rows name metric nearest query workers these read = absurd (cc)
-read_rows (Some p) rows name metric nearest query workers these read =
+read_rows : (found : Option (Text × List Row)) (rows : List Row) (name : Text) (metric nearest query workers edge : Option Text) → option_map (λ (p : Text × List Row). p.1) found ≡ Some rows
+    → read_of found ≡ Some (name, metric, nearest, query, workers, edge) → (first_of (codes "metric") rows ≡ metric) × (one_of (codes "nearest") rows ≡ nearest) × (first_of (codes "query") rows ≡ query) × (first_of (codes "workers") rows ≡ workers) × (first_of (codes "edge") rows ≡ edge)
+read_rows None rows name metric nearest query workers edge these read = absurd (cc)
+read_rows (Some p) rows name metric nearest query workers edge these read =
     let same : p.1 ≡ rows = cc in
-    let first : Some (first_of (codes "metric") p.1) ≡ Some metric = ap (option_map (λ (t : Text × Option Text × Option Text × Option Text × Option Text). t.1)) read in
-    let second : Some (one_of (codes "nearest") p.1) ≡ Some nearest = ap (option_map (λ (t : Text × Option Text × Option Text × Option Text × Option Text). t.2)) read in
-    let third : Some (first_of (codes "query") p.1) ≡ Some query = ap (option_map (λ (t : Text × Option Text × Option Text × Option Text × Option Text). t.3)) read in
-    let fourth : Some (first_of (codes "workers") p.1) ≡ Some workers = ap (option_map (λ (t : Text × Option Text × Option Text × Option Text × Option Text). t.4)) read in
-    (rw (← same) (cc), rw (← same) (cc), rw (← same) (cc), rw (← same) (cc))
+    let first : Some (first_of (codes "metric") p.1) ≡ Some metric = ap (option_map (λ (t : Text × Option Text × Option Text × Option Text × Option Text × Option Text). t.1)) read in
+    let second : Some (one_of (codes "nearest") p.1) ≡ Some nearest = ap (option_map (λ (t : Text × Option Text × Option Text × Option Text × Option Text × Option Text). t.2)) read in
+    let third : Some (first_of (codes "query") p.1) ≡ Some query = ap (option_map (λ (t : Text × Option Text × Option Text × Option Text × Option Text × Option Text). t.3)) read in
+    let fourth : Some (first_of (codes "workers") p.1) ≡ Some workers = ap (option_map (λ (t : Text × Option Text × Option Text × Option Text × Option Text × Option Text). t.4)) read in
+    let fifth : Some (first_of (codes "edge") p.1) ≡ Some edge = ap (option_map (λ (t : Text × Option Text × Option Text × Option Text × Option Text × Option Text). t.5)) read in
+    (rw (← same) (cc), rw (← same) (cc), rw (← same) (cc), rw (← same) (cc), rw (← same) (cc))
 
 -- the words `steps` alone are taken, whatever the program is called
 pub takes_steps : (name : List ℕ) → takes program_app (name ∷ codes "steps" ∷ []) ≡ true
@@ -107,10 +111,10 @@ one_name name dist steps = let same : Some (codes "dist") ≡ Some (codes "steps
 -- where the words are `dist` alone its flags have their defaults
 pub dist_defaults : (name : List ℕ) (texts : List (List ℕ)) (matches : ArgMatches) (rows : List Row) → texts ≡ name ∷ codes "dist" ∷ [] → HasMatchesOf program_app texts matches
     → option_map (λ (p : Text × List Row). p.1) (subcommand_rows_of matches) ≡ Some rows
-    → (first_of (codes "metric") rows ≡ Some (codes "euclid2")) × (one_of (codes "nearest") rows ≡ Some (codes "false")) × (first_of (codes "query") rows ≡ None) × (first_of (codes "workers") rows ≡ Some (codes "1"))
+    → (first_of (codes "metric") rows ≡ Some (codes "euclid2")) × (one_of (codes "nearest") rows ≡ Some (codes "false")) × (first_of (codes "query") rows ≡ None) × (first_of (codes "workers") rows ≡ Some (codes "1")) × (first_of (codes "edge") rows ≡ Some (codes "open"))
 dist_defaults name texts matches rows words found these =
     let met : subcommand_rows_of matches ≡ subcommand_of program_app (name ∷ codes "dist" ∷ []) = (found program_is_simple).1 ∙ ap (subcommand_of program_app) words in
-    read_rows (subcommand_of program_app (name ∷ codes "dist" ∷ [])) rows (codes "dist") (Some (codes "euclid2")) (Some (codes "false")) None (Some (codes "1"))
+    read_rows (subcommand_of program_app (name ∷ codes "dist" ∷ [])) rows (codes "dist") (Some (codes "euclid2")) (Some (codes "false")) None (Some (codes "1")) (Some (codes "open"))
     (rw (← met) these) (read_of_dist name)
 
 -- the default number of workers is one
@@ -120,32 +124,40 @@ one_worker = refl
 
 -- flags with their defaults are the default options
 pub default_options-read : (rows : List Row) (options : DistOptions) → AreDistOptions rows options → first_of (codes "metric") rows ≡ Some (codes "euclid2") → one_of (codes "nearest") rows ≡ Some (codes "false")
-    → first_of (codes "query") rows ≡ None → first_of (codes "workers") rows ≡ Some (codes "1") → options ≡ default_options
-default_options-read rows options are metric nearest query workers =
+    → first_of (codes "query") rows ≡ None → first_of (codes "workers") rows ≡ Some (codes "1") → first_of (codes "edge") rows ≡ Some (codes "open") → options ≡ default_options
+default_options-read rows options are metric nearest query workers edge =
     let named : Some Euclid2 ≡ Some options.metric = ap (option_and_then metric_named) (sym metric) ∙ are.metric in
     let euclid : options.metric ≡ Euclid2 = cc in
     let plain : options.nearest ≡ false = are.unset nearest in
     let unasked : options.query ≡ None = map_none _ options.query (are.query ∙ query) in
     let counted : Some 1 ≡ Some options.workers = sym one_worker ∙ (ap (in_range 1 16) (sym workers) ∙ are.workers) in
     let one : options.workers ≡ 1 = cc in
-    ap₂ (λ (m : MetricKind) (n : Bool). record { metric = m; nearest = n; query = options.query; workers = options.workers }) euclid plain
-    ∙ ap₂ (λ (q : Option (Bor (List ℕ))) (w : ℕ). record { metric = Euclid2; nearest = false; query = q; workers = w }) unasked one
+    let bordered : Some Open ≡ Some options.edge = ap (option_and_then edge_named) (sym edge) ∙ are.edge in
+    let open_is : options.edge ≡ Open = cc in
+    ap₂ (λ (m : MetricKind) (n : Bool). record { metric = m; edge = options.edge; nearest = n; query = options.query; workers = options.workers }) euclid plain
+    ∙ (ap₂ (λ (q : Option (Bor (List ℕ))) (w : ℕ). record { metric = Euclid2; edge = options.edge; nearest = false; query = q; workers = w }) unasked one
+    ∙ ap (λ (e : Edge). record { metric = Euclid2; edge = e; nearest = false; query = None; workers = 1 }) open_is)
 
 -- flags with their defaults are no mistake
-pub defaults_are_known : (rows : List Row) → first_of (codes "metric") rows ≡ Some (codes "euclid2") → first_of (codes "workers") rows ≡ Some (codes "1") → AreNoDistOptions rows → ⊥
-defaults_are_known rows metric workers (inl unknown) = let named : Some Euclid2 ≡ None = ap (option_and_then metric_named) (sym metric) ∙ unknown in cc
-defaults_are_known rows metric workers (inr unknown) =
+pub defaults_are_known : (rows : List Row) → first_of (codes "metric") rows ≡ Some (codes "euclid2") → first_of (codes "workers") rows ≡ Some (codes "1") → first_of (codes "edge") rows ≡ Some (codes "open") → AreNoDistOptions rows → ⊥
+defaults_are_known rows metric workers edge (inl unknown) = let named : Some Euclid2 ≡ None = ap (option_and_then metric_named) (sym metric) ∙ unknown in cc
+defaults_are_known rows metric workers edge (inr (inl unknown)) = let named : Some Open ≡ None = ap (option_and_then edge_named) (sym edge) ∙ unknown in cc
+defaults_are_known rows metric workers edge (inr (inr unknown)) =
     let counted = sym one_worker ∙ (ap (in_range 1 16) (sym workers) ∙ unknown) in
     false≢true (sym (ap is_some counted))
 
--- where the words are to be taken the metric and the number of workers are known
+-- where the words are to be taken the metric, the border and the number of workers are known
 pub flags_are_known : (rows : List Row) (texts : List (List ℕ)) (matches : ArgMatches) → AreTaken texts → HasMatchesOf program_app texts matches → subcommand_name_of matches ≡ Some (codes "dist")
     → option_map (λ (p : Text × List Row). p.1) (subcommand_rows_of matches) ≡ Some rows → AreNoDistOptions rows → ⊥
 flags_are_known rows texts matches (takes, inl dist) found met these (inl unknown) =
     let same = rows_so (codes "dist") dist.rows rows texts matches found dist.named these in
     let known = subst (λ (r : List Row). IsSome (option_and_then metric_named (first_of (codes "metric") r))) same dist.metric in
     false≢true (sym (ap is_some unknown) ∙ known)
-flags_are_known rows texts matches (takes, inl dist) found met these (inr unknown) =
+flags_are_known rows texts matches (takes, inl dist) found met these (inr (inl unknown)) =
+    let same = rows_so (codes "dist") dist.rows rows texts matches found dist.named these in
+    let known = subst (λ (r : List Row). IsSome (option_and_then edge_named (first_of (codes "edge") r))) same dist.edge in
+    false≢true (sym (ap is_some unknown) ∙ known)
+flags_are_known rows texts matches (takes, inl dist) found met these (inr (inr unknown)) =
     let same = rows_so (codes "dist") dist.rows rows texts matches found dist.named these in
     let known = subst (λ (r : List Row). IsSome (in_range 1 16 (first_of (codes "workers") r))) same dist.workers in
     false≢true (sym (ap is_some unknown) ∙ known)
@@ -172,6 +184,10 @@ said_so words (Err fault) are refused = refused
 -- a value that is no number in its range isn't one by the rows either
 pub none_given : (least most n : ℕ) (found : Found) (name : List ℕ) → in_range least most (first_value found name) ≡ None → in_range least most (first_of name (rows_of found)) ≡ Some n → ⊥
 none_given least most n found name none some = let same : None ≡ Some n = sym none ∙ (ap (in_range least most) (first_value-rows found name) ∙ some) in cc
+
+-- a value that names no border names none by the rows either
+pub no_edge_given : (edge : Edge) (found : Found) → option_and_then edge_named (first_value found (codes "edge")) ≡ None → option_and_then edge_named (first_of (codes "edge") (rows_of found)) ≡ Some edge → ⊥
+no_edge_given edge found none some = let same : None ≡ Some edge = sym none ∙ (ap (option_and_then edge_named) (first_value-rows found (codes "edge")) ∙ some) in cc
 
 -- where `serve` was matched with flags that say no options, no options are matched
 pub no_match_serve : (matches : ArgMatches) (rows : List Row) → subcommand_name_of matches ≡ Some (codes "serve") → option_map (λ (p : Text × List Row). p.1) (subcommand_rows_of matches) ≡ Some rows

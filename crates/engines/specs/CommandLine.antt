@@ -6,7 +6,9 @@ use Rattle.clap.specs.Simple.{on_top}
 use Rattle.clap.specs.declared.builder.ArgAction.TheVariants.{SetTrue}
 use Rattle.clap.specs.declared.error.Error.{Error}
 use Rattle.clap.specs.declared.error.kind.ErrorKind.TheVariants.{OutOfMemory}
+use Rattle.metric.specs.Edge.{edge_named}
 use Rattle.metric.specs.Kind.{metric_named}
+use Rattle.metric.specs.declared.edge.Edge.TheVariants.{Open}
 use Rattle.metric.specs.declared.kind.MetricKind.TheVariants.{Euclid2}
 use Rattle.engines.specs.declared.arguments.AskOptions.{AskOptions}
 use Rattle.engines.specs.declared.arguments.DistOptions.{DistOptions}
@@ -35,7 +37,7 @@ query_rule = record (new_rule (codes "query")) { long = Some (codes "query"); va
 
 -- the subcommand `dist` and its flags
 abbrev pub dist_app : App
-dist_app = with_rule (with_rule (with_rule (with_rule (new_app (codes "dist")) metric_rule) nearest_rule) query_rule) (default_rule (codes "workers") (codes "1"))
+dist_app = with_rule (with_rule (with_rule (with_rule (with_rule (new_app (codes "dist")) metric_rule) nearest_rule) query_rule) (default_rule (codes "workers") (codes "1"))) (default_rule (codes "edge") (codes "open"))
 
 -- the subcommand `steps`, which has no flags
 abbrev pub steps_app : App
@@ -53,14 +55,17 @@ pub record AreDistOptions (rows : List Row) (options : DistOptions) : Type 0 whe
   pub unset : one_of (codes "nearest") rows ≡ Some (codes "false") → options.nearest ≡ false
   pub query : option_map (λ line. line.now) options.query ≡ first_of (codes "query") rows
   pub workers : in_range 1 16 (first_of (codes "workers") rows) ≡ Some options.workers
+  pub edge : option_and_then edge_named (first_of (codes "edge") rows) ≡ Some options.edge
 
--- the flags of `dist` name no metric that there is, or no number of workers
+-- the flags of `dist` name no metric that there is, no border that there is, or no number of workers
 abbrev pub AreNoDistOptions : List Row → Type 0
-AreNoDistOptions rows = (option_and_then metric_named (first_of (codes "metric") rows) ≡ None) ⊎ (in_range 1 16 (first_of (codes "workers") rows) ≡ None)
+AreNoDistOptions rows =
+    (option_and_then metric_named (first_of (codes "metric") rows) ≡ None)
+    ⊎ ((option_and_then edge_named (first_of (codes "edge") rows) ≡ None) ⊎ (in_range 1 16 (first_of (codes "workers") rows) ≡ None))
 
 -- what `dist` does where no flag is given
 abbrev pub default_options : DistOptions
-default_options = record { metric = Euclid2; nearest = false; query = None; workers = 1 }
+default_options = record { metric = Euclid2; edge = Open; nearest = false; query = None; workers = 1 }
 
 -- the options are those of the subcommand that the words name
 abbrev pub AreOptions : List (List ℕ) → Options → Type 0
@@ -69,11 +74,12 @@ AreOptions words Steps = (rows : List Row) × (subcommand_of program_app words �
 AreOptions words (Serve options) = (rows : List Row) × (subcommand_of program_app words ≡ Some (codes "serve", rows)) × AreServeOptions rows options
 AreOptions words (Ask options) = (rows : List Row) × (subcommand_of program_app words ≡ Some (codes "ask", rows)) × AreAskOptions rows options
 
--- the words name `dist`, a metric that there is and a number of workers
+-- the words name `dist`, a metric and a border that there are, and a number of workers
 pub record NameDist (words : List (List ℕ)) : Type 0 where
   pub rows : List Row
   pub named : subcommand_of program_app words ≡ Some (codes "dist", rows)
   pub metric : IsSome (option_and_then metric_named (first_of (codes "metric") rows))
+  pub edge : IsSome (option_and_then edge_named (first_of (codes "edge") rows))
   pub workers : IsSome (in_range 1 16 (first_of (codes "workers") rows))
 
 -- the words name `steps`

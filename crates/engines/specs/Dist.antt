@@ -3,6 +3,7 @@ use Rattle.std.specs.Prelude.{◌≡◌, ◌≢◌, ℕ, List, [], ◌∷◌, �
 use Rattle.metric.specs.declared.fault.PbmFault.{PbmFault}
 use Rattle.metric.specs.declared.fault.PbmFault.TheVariants as faults
 use Rattle.metric.specs.Kind.{distance_of}
+use Rattle.metric.specs.declared.edge.Edge.{Edge}
 use Rattle.metric.specs.declared.near.Near.{Near}
 use Rattle.metric.specs.Refusal.{image_text}
 use Rattle.metric.specs.Stream.{AreAll, Appends, AppendsFront}
@@ -16,29 +17,29 @@ use Rattle.engines.specs.Query.{IsReplyTo, asked_in, status_of}
 use Rattle.engines.specs.declared.arguments.DistOptions.{DistOptions}
 use Rattle.engines.specs.Table.{table_text}
 
--- the bytes read as an image, and the text is the lines of its rows: of each cell the nearest obstacle, by the metric that was asked for
+-- the bytes read as an image, and the text is the lines of its rows: of each cell the nearest obstacle, by the metric and with the border that were asked for
 pub record IsTable (options : DistOptions) (bytes text : List ℕ) (status : ℕ) : Type 0 where
   pub taken : ℕ
   pub cells : Cells
   pub nears : List (Option Near)
   pub reads : Reads bytes taken cells
-  pub rows : AreNears (distance_of options.metric) cells 0 cells.height nears
+  pub rows : AreNears (distance_of options.metric) cells options.edge 0 cells.height nears
   pub text_is : text ≡ table_text options.nearest cells.width cells.height nears
   pub status_is : status ≡ 0
 
 -- the bytes read as an image, and the text is the reply to the line
-pub record IsReply (line bytes text : List ℕ) (status : ℕ) : Type 0 where
+pub record IsReply (edge : Edge) (line bytes text : List ℕ) (status : ℕ) : Type 0 where
   pub taken : ℕ
   pub cells : Cells
   pub answer : Answer
   pub reads : Reads bytes taken cells
-  pub replies : IsReplyTo cells (asked_in line) answer
+  pub replies : IsReplyTo cells edge (asked_in line) answer
   pub text_is : text ≡ reply_line answer
   pub status_is : status ≡ status_of answer
 
 -- the bytes read as an image, and the text is what the options ask of it: the table, or the reply to a line
 abbrev pub IsAsked : DistOptions → List ℕ → List ℕ → ℕ → Type 0
-IsAsked options bytes text status = MatchOption options.query (IsTable options bytes text status) (λ line. IsReply line.now bytes text status)
+IsAsked options bytes text status = MatchOption options.query (IsTable options bytes text status) (λ line. IsReply options.edge line.now bytes text status)
 
 -- the bytes don't read as an image, and this is their first fault
 pub record IsRefused (bytes : List ℕ) (fault : PbmFault) : Type 0 where

@@ -2,6 +2,7 @@
 use Rattle.std.specs.Prelude.{ℕ, Bool, ◌&&◌, nat_le, false, List, [], ◌∷◌, Option, Some, None, Result, Ok, Err, bytes_eq, codes, option_map, if◌then◌else◌}
 use Rattle.bits.specs.Cells.{cells_where}
 use Rattle.bits.specs.Tiles.{tile_count}
+use Rattle.metric.specs.declared.edge.Edge.TheVariants.{Open}
 use Rattle.metric.specs.declared.refusal.Refusal.{Refusal}
 use Rattle.metric.specs.declared.refusal.Refusal.TheVariants as refusals
 use Rattle.map_core.specs.declared.setting.Setting.{Setting}
@@ -13,9 +14,9 @@ use Rattle.engines.specs.declared.steps.opening.Opening.{Opening}
 use Rattle.engines.specs.declared.steps.opening.NotOpened.{NotOpened}
 use Rattle.engines.specs.declared.steps.opening.NotOpened.TheVariants as stops
 
--- the setting of four numbers
+-- the setting of four numbers, of a map whose border is open
 abbrev pub setting_of : List ℕ → Option Setting
-setting_of (blocks ∷ versions ∷ sessions ∷ log ∷ []) = Some record { blocks = blocks; versions = versions; sessions = sessions; log = log }
+setting_of (blocks ∷ versions ∷ sessions ∷ log ∷ []) = Some record { blocks = blocks; versions = versions; sessions = sessions; log = log; edge = Open }
 setting_of other = None
 
 -- a side of a map is 1 to 4096 cells long

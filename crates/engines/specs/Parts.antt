@@ -9,7 +9,7 @@ use Rattle.engines.specs.Tabled.{nears_of}
 -- where a worker puts rows of this width: there is room for sixteen
 pub record IsPart (width : ℕ) (part : Part) : Type 0 where
   pub row : vec_len part.nears ≡ width
-  pub room : 16 * (23 * width + 1) + 3 ≤ vec_len part.text
+  pub room : 16 * (25 * width + 1) + 3 ≤ vec_len part.text
 
 -- a set of places, one for each of 1 to 16 workers
 pub record AreParts (width : ℕ) (parts : List Part) : Type 0 where

@@ -1,6 +1,7 @@
 -- The reply to a query line on a bitmap: this project's own rule.
 use Rattle.std.specs.Prelude.{◌≡◌, ℕ, ◌⊎◌, List, Option, Some, Result, Ok, Err}
 use Rattle.metric.specs.Kind.{distance_of}
+use Rattle.metric.specs.declared.edge.Edge.{Edge}
 use Rattle.metric.specs.declared.refusal.Refusal.{Refusal}
 use Rattle.metric.specs.declared.refusal.Refusal.TheVariants.{Memory, UnknownCommand}
 use Rattle.bits.specs.Cells.{Cells}
@@ -23,9 +24,9 @@ abbrev pub asked_in : List ℕ → Result Asked Refusal
 asked_in line = query_said (verb_in line) (said line)
 
 -- an answer to a line that asks this, or is refused: by its own metric; or want of memory, for its points where it has some
-abbrev pub IsReplyTo : Cells → Result Asked Refusal → Answer → Type 0
-IsReplyTo cells (Ok query) answer = IsAnswerBy (distance_of (metric_asked query)) cells query answer ⊎ (HasPoints query × (answer ≡ Refused Memory))
-IsReplyTo cells (Err refusal) answer = answer ≡ Refused refusal
+abbrev pub IsReplyTo : Cells → Edge → Result Asked Refusal → Answer → Type 0
+IsReplyTo cells edge (Ok query) answer = IsAnswerBy (distance_of (metric_asked query)) cells edge query answer ⊎ (HasPoints query × (answer ≡ Refused Memory))
+IsReplyTo cells edge (Err refusal) answer = answer ≡ Refused refusal
 
 -- the status of an answer: a refusal has 1
 abbrev pub status_of : Answer → ℕ

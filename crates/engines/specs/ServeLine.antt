@@ -2,6 +2,7 @@
 use Rattle.std.specs.Prelude.{◌≡◌, ℕ, ◌&&◌, nat_le, List, [], ◌∷◌, Option, Some, None, codes, option_and_then, true, if◌then◌else◌}
 use Rattle.clap.specs.Words.{App, Row, Rule, first_of, new_app, new_rule, subcommand_rows_of, with_rule}
 use Rattle.clap.specs.declared.parser.matches.ArgMatches.{ArgMatches}
+use Rattle.metric.specs.Edge.{edge_named}
 use Rattle.proto.specs.Numbers.{number}
 use Rattle.engines.specs.declared.arguments.AskOptions.{AskOptions}
 use Rattle.engines.specs.declared.arguments.ServeOptions.{ServeOptions}
@@ -19,8 +20,8 @@ default_rule name value = record (new_rule name) { long = Some name; value_names
 -- the subcommand `serve` and its flags
 abbrev pub serve_app : App
 serve_app =
-    with_rule (with_rule (with_rule (with_rule (with_rule (with_rule (new_app (codes "serve")) (required_rule (codes "connections"))) (default_rule (codes "port") (codes "0")))
-    (default_rule (codes "blocks") (codes "16384"))) (default_rule (codes "versions") (codes "8"))) (default_rule (codes "log") (codes "100000"))) (default_rule (codes "workers") (codes "4"))
+    with_rule (with_rule (with_rule (with_rule (with_rule (with_rule (with_rule (new_app (codes "serve")) (required_rule (codes "connections"))) (default_rule (codes "port") (codes "0")))
+    (default_rule (codes "blocks") (codes "16384"))) (default_rule (codes "versions") (codes "8"))) (default_rule (codes "log") (codes "100000"))) (default_rule (codes "workers") (codes "4"))) (default_rule (codes "edge") (codes "open"))
 
 -- the subcommand `ask` and its flag
 abbrev pub ask_app : App
@@ -42,6 +43,7 @@ pub record AreServeOptions (rows : List Row) (options : ServeOptions) : Type 0 w
   pub versions : in_range 0 4294967295 (first_of (codes "versions") rows) ≡ Some options.versions
   pub log : in_range 0 4294967295 (first_of (codes "log") rows) ≡ Some options.log
   pub workers : in_range 1 16 (first_of (codes "workers") rows) ≡ Some options.workers
+  pub edge : option_and_then edge_named (first_of (codes "edge") rows) ≡ Some options.edge
 
 -- the flag of `ask` as the words give it
 pub record AreAskOptions (rows : List Row) (options : AskOptions) : Type 0 where

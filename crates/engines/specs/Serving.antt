@@ -10,7 +10,7 @@ use Rattle.engines.specs.declared.arguments.ServeOptions.{ServeOptions}
 
 -- the setting of the store that the options ask for: a session for each worker
 abbrev pub setting_of : ServeOptions → Setting
-setting_of options = record { blocks = options.blocks; versions = options.versions; sessions = options.workers; log = options.log }
+setting_of options = record { blocks = options.blocks; versions = options.versions; sessions = options.workers; log = options.log; edge = options.edge }
 
 -- the line that tells the port
 abbrev pub listening_text : ℕ → List ℕ

@@ -1,6 +1,7 @@
 -- What a table in memory is of an image: this project's own rule.
 use Rattle.std.specs.Prelude.{◌≡◌, ℕ, List, Option}
 use Rattle.metric.specs.Kind.{distance_of}
+use Rattle.metric.specs.declared.edge.Edge.{Edge}
 use Rattle.metric.specs.declared.kind.MetricKind.{MetricKind}
 use Rattle.metric.specs.declared.near.Near.{Near}
 use Rattle.bits.specs.Cells.{Cells}
@@ -13,11 +14,11 @@ use Rattle.engines.specs.declared.table.Table.{Table}
 abbrev pub nears_of : Table → List (Option Near)
 nears_of table = nears_told (distance_of table.metric) table.obstacles
 
--- the bytes read as an image of the table's size, and these are its nearest obstacles by the metric
-pub record IsTableOf (metric : MetricKind) (bytes : List ℕ) (table : Table) : Type 0 where
+-- the bytes read as an image of the table's size, and these are its nearest obstacles by the metric, with this border
+pub record IsTableOf (metric : MetricKind) (edge : Edge) (bytes : List ℕ) (table : Table) : Type 0 where
   pub taken : ℕ
   pub cells : Cells
   pub reads : Reads bytes taken cells
   pub width_is : table.width ≡ cells.width
   pub height_is : table.height ≡ cells.height
-  pub rows : AreNears (distance_of metric) cells 0 cells.height (nears_of table)
+  pub rows : AreNears (distance_of metric) cells edge 0 cells.height (nears_of table)

@@ -2,7 +2,7 @@
 
 use clap::Error as ClapError;
 use clap::error::ErrorKind;
-use metric::MetricKind;
+use metric::{Edge, MetricKind};
 use std::alloc::AllocError;
 use std::io;
 use thiserror::Error;
@@ -25,6 +25,8 @@ pub enum Options<'a> {
 pub struct DistOptions<'a> {
     /// The distance.
     pub metric: MetricKind,
+    /// What the border of the image is.
+    pub edge: Edge,
     /// Whether each entry tells its nearest obstacle.
     pub nearest: bool,
     /// The line to answer in place of the whole table.
@@ -48,6 +50,8 @@ pub struct ServeOptions {
     pub log: u32,
     /// How many connections are served at once, 1 to 16.
     pub workers: u32,
+    /// What the border of the map is.
+    pub edge: Edge,
 }
 
 /// How `ask` is to run.
@@ -66,6 +70,11 @@ pub enum Fault<'a> {
     /// `--metric` names no metric.
     #[error("--metric is one of euclid2, city and chess, not '{name}'")]
     UnknownMetric {
+        name: &'a str,
+    },
+    /// `--edge` names no border.
+    #[error("--edge is one of open and wall, not '{name}'")]
+    UnknownEdge {
         name: &'a str,
     },
     /// The value of a flag isn't a number in its range.

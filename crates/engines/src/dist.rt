@@ -64,11 +64,18 @@ fn write_answer<W: Sink, T: Threads + Sync>(
     ensures counts { Counts (W.failed_writes writer.old) result (W.failed_writes writer.new) }
 {
     match options.query {
-        Some(line) => match Reply::of(alloc, bytes, line.as_bytes()) {
+        Some(line) => match Reply::of(alloc, bytes, options.edge, line.as_bytes()) {
             Ok(reply) => write_text(writer, reply.text.as_bytes(), reply.status),
             Err(fault) => write_fault(writer, fault),
         },
-        None => match Print::of(rt, alloc, bytes, options.metric, options.workers) {
+        None => match Print::of(
+            rt,
+            alloc,
+            bytes,
+            options.metric,
+            options.edge,
+            options.workers,
+        ) {
             Ok(print) => write_rows(rt, writer, print, options.nearest),
             Err(fault) => write_fault(writer, fault),
         },

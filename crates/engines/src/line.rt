@@ -1,17 +1,17 @@
 //! The lines of rows of distances.
 
 ghost use Rattle.std.specs.Prelude.{◌≡◌, ◌+◌, ◌*◌, ◌≤◌, ◌++◌, ◌∷◌, length};
-ghost use Rattle.std.specs.Fmt.{decimal};
+ghost use Rattle.std.specs.Fmt.{signed_decimal};
 ghost use Rattle.std.specs.List.{flat_map};
 ghost use Rattle.engines.specs.Putting.{Puts};
-ghost use Rattle.engines.specs.Table.{entry_text, row_line};
+ghost use Rattle.engines.specs.Table.{entry_text, place_text, row_line};
 
 use crate::decimals::Decimals;
 use crate::put::put_byte;
-use metric::Near;
+use metric::{Near, Spot};
 
-/// The most bytes that an entry and what follows it take: ten digits, two coordinates of five, two slashes, and a blank or LF.
-pub const ENTRY_ROOM: usize = 23;
+/// The most bytes that an entry and what follows it take: ten digits, two slashes, two coordinates of a `-` and five digits, and a blank or LF.
+pub const ENTRY_ROOM: usize = 25;
 
 /// What has to be left behind a row's entries, so that a number's digits can be put four at a time.
 pub const SPARE_ROOM: usize = 3;
@@ -24,9 +24,9 @@ pub fn put_row(
     nears: &[Option<Near>],
     nearest: bool,
 ) -> usize
-    requires { at + (23 * length nears.now + 3) ≤ length text.old }
+    requires { at + (25 * length nears.now + 3) ≤ length text.old }
     ensures line { Puts text.old at (row_line nearest nears.now) text.new result }
-    ensures end { result ≤ at + (23 * length nears.now + 1) }
+    ensures end { result ≤ at + (25 * length nears.now + 1) }
 {
     match nears.split_first() {
         Some((first, others)) => {
@@ -47,9 +47,9 @@ fn put_others(
     nears: &[Option<Near>],
     nearest: bool,
 ) -> usize
-    requires { at + (23 * length nears.now + 3) ≤ length text.old }
+    requires { at + (25 * length nears.now + 3) ≤ length text.old }
     ensures text { Puts text.old at (flat_map (λ near. 32 ∷ entry_text nearest near) nears.now) text.new result }
-    ensures end { result ≤ at + 23 * length nears.now }
+    ensures end { result ≤ at + 25 * length nears.now }
 {
     let mut end = at;
     'entries: for near in nears {
@@ -68,9 +68,9 @@ fn put_entry(
     near: Option<Near>,
     nearest: bool,
 ) -> usize
-    requires { at + 25 ≤ length text.old }
+    requires { at + 27 ≤ length text.old }
     ensures text { Puts text.old at (entry_text nearest near) text.new result }
-    ensures end { result ≤ at + 22 }
+    ensures end { result ≤ at + 24 }
 {
     let Some(near) = near else {
         return put_byte(text, at, b'-');
@@ -79,17 +79,42 @@ fn put_entry(
     if !nearest {
         return next;
     }
-    let next = put_coordinate(decimals, text, next, near.cell.x);
-    put_coordinate(decimals, text, next, near.cell.y)
+    put_place(decimals, text, next, near.cell)
+}
+
+/// Puts where an obstacle is.
+#[inline(always)]
+fn put_place(decimals: &Decimals, text: &mut [u8], at: usize, spot: Spot) -> usize
+    requires { at + 17 ≤ length text.old }
+    ensures text { Puts text.old at (place_text spot) text.new result }
+    ensures end { result ≤ at + 14 }
+{
+    let next = put_coordinate(decimals, text, at, spot.x);
+    put_coordinate(decimals, text, next, spot.y)
 }
 
 /// Puts a slash and a coordinate.
 #[inline(always)]
-fn put_coordinate(decimals: &Decimals, text: &mut [u8], at: usize, coordinate: u16) -> usize
-    requires { at + 9 ≤ length text.old }
-    ensures text { Puts text.old at (47 ∷ decimal coordinate) text.new result }
-    ensures end { result ≤ at + 6 }
+fn put_coordinate(decimals: &Decimals, text: &mut [u8], at: usize, coordinate: i16) -> usize
+    requires { at + 10 ≤ length text.old }
+    ensures text { Puts text.old at (47 ∷ signed_decimal coordinate) text.new result }
+    ensures end { result ≤ at + 7 }
 {
     let next = put_byte(text, at, b'/');
-    decimals.put_eight(text, next, u32::from(coordinate))
+    put_signed(decimals, text, next, coordinate)
+}
+
+/// Puts a whole number, behind a `-` where it is negative.
+#[inline(always)]
+fn put_signed(decimals: &Decimals, text: &mut [u8], at: usize, number: i16) -> usize
+    requires { at + 9 ≤ length text.old }
+    ensures text { Puts text.old at (signed_decimal number) text.new result }
+    ensures end { result ≤ at + 6 }
+{
+    let digits = u32::from(number.unsigned_abs());
+    if number < 0 {
+        let next = put_byte(text, at, b'-');
+        return decimals.put_eight(text, next, digits);
+    }
+    decimals.put_eight(text, at, digits)
 }

@@ -40,9 +40,9 @@ fn put_rows(
     requires few { to ≤ from + 16 }
     requires within { to ≤ table.now.height }
     requires width { length nears.old ≡ table.now.width }
-    requires room { 16 * (23 * table.now.width + 1) + 3 ≤ length text.old }
+    requires room { 16 * (25 * table.now.width + 1) + 3 ≤ length text.old }
     ensures text { Puts text.old 0 (rows_text nearest table.now.width from (to - from) (nears_of table.now)) text.new result }
-    ensures end { result ≤ 16 * (23 * table.now.width + 1) }
+    ensures end { result ≤ 16 * (25 * table.now.width + 1) }
 {
     let mut end = 0;
     'rows: for y in from..to {

@@ -13,7 +13,7 @@ use crate::decimals::Decimals;
 use crate::parts::{Part, ROWS};
 use crate::table::Table;
 use field::Workers;
-use metric::{MetricKind, PbmFault, Sink, WriteFault};
+use metric::{Edge, MetricKind, PbmFault, Sink, WriteFault};
 use std::alloc::Global;
 use std::thread::{Threads, for_each_mut, join_mut};
 
@@ -29,15 +29,16 @@ pub struct Print {
 }
 
 impl Print {
-    /// The table of the image at the front of the bytes, by this metric, with a part in each set for each of so many workers; a number that is no number of workers is one. Everything that takes memory is done here.
+    /// The table of the image at the front of the bytes, by this metric and with this border, with a part in each set for each of so many workers; a number that is no number of workers is one. Everything that takes memory is done here.
     pub fn of<T: Threads + Sync>(
         rt: &T,
         alloc: Global,
         bytes: &[u8],
         metric: MetricKind,
+        edge: Edge,
         workers: u32,
     ) -> Result<Self, PbmFault>
-        ensures table { IfOk result (λ print. IsTableOf metric bytes.now print.table) }
+        ensures table { IfOk result (λ print. IsTableOf metric edge bytes.now print.table) }
         ensures workers { (1 ≤ workers) × (workers ≤ 16) → IfOk result (λ print. (vec_len print.even ≡ workers) × (vec_len print.odd ≡ workers)) }
         ensures fault { IfErr result (λ fault. fault ≢ PbmFault.Memory → IsRefused bytes.now fault) }
         ensures memory { result ≡ Err PbmFault.Memory → IsOk (header bytes.now) }
@@ -45,7 +46,7 @@ impl Print {
         let (bitmap, _) = pbm::read_image(alloc, bytes)?;
         let workers = workers_of(workers);
         let (Ok(table), Ok(decimals), Ok(even), Ok(odd)) = (
-            Table::of(rt, alloc, &bitmap, metric, workers),
+            Table::of(rt, alloc, &bitmap, edge, metric, workers),
             Decimals::new(alloc),
             Part::several(rt, alloc, bitmap.width(), workers.count),
             Part::several(rt, alloc, bitmap.width(), workers.count),

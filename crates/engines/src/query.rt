@@ -6,16 +6,16 @@ ghost use Rattle.proto.specs.Asked.{asked_by, HasPoints};
 ghost use Rattle.engines.specs.Query.{IsReplyTo, asked_in, status_of};
 
 use bits::Bitmap;
-use metric::Refusal;
+use metric::{Edge, Refusal};
 use proto::{Answer, Line, Query, Verb, answer_query, parse_line, verb_of};
 use std::alloc::Global;
 
 /// The answer to a line, a refusal of the line or of its query included.
-pub fn answer_line(alloc: Global, bitmap: &Bitmap, line: &[u8]) -> Answer
-    ensures { IsReplyTo bitmap.now (asked_in line.now) result }
+pub fn answer_line(alloc: Global, bitmap: &Bitmap, edge: Edge, line: &[u8]) -> Answer
+    ensures { IsReplyTo bitmap.now edge (asked_in line.now) result }
 {
     match query_in(alloc, line) {
-        Ok(query) => answer_query(alloc, bitmap, &query),
+        Ok(query) => answer_query(alloc, bitmap, edge, &query),
         Err(refusal) => Answer::Refused(refusal),
     }
 }

@@ -20,6 +20,7 @@ fn status_of(fault: &Fault<'_>) -> u8
         Fault::Memory => REFUSED,
         Fault::Words(error) => { if error.use_stderr() { MISTAKEN } else { DONE } }
         Fault::UnknownMetric { .. }
+        | Fault::UnknownEdge { .. }
         | Fault::BadNumber { .. }
         | Fault::NoCommand
         | Fault::Unreadable(_) => MISTAKEN,

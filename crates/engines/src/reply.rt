@@ -5,7 +5,7 @@ ghost use Rattle.pbm.specs.Faults.{header};
 ghost use Rattle.engines.specs.Dist.{IsRefused};
 
 use crate::query::{answer_line, status};
-use metric::PbmFault;
+use metric::{Edge, PbmFault};
 use proto::{Text, reply_text};
 use std::alloc::Global;
 
@@ -19,14 +19,14 @@ pub struct Reply {
 impl Reply {
     ghost use Rattle.engines.specs.Replied.{IsReplyOf};
 
-    /// The reply to the line on the image at the front of the bytes. Everything that takes memory is done here.
-    pub fn of(alloc: Global, bytes: &[u8], line: &[u8]) -> Result<Self, PbmFault>
-        ensures reply { IfOk result (IsReplyOf line.now bytes.now) }
+    /// The reply to the line on the image at the front of the bytes, whose border is this. Everything that takes memory is done here.
+    pub fn of(alloc: Global, bytes: &[u8], edge: Edge, line: &[u8]) -> Result<Self, PbmFault>
+        ensures reply { IfOk result (IsReplyOf edge line.now bytes.now) }
         ensures fault { IfErr result (λ fault. fault ≢ PbmFault.Memory → IsRefused bytes.now fault) }
         ensures memory { result ≡ Err PbmFault.Memory → IsOk (header bytes.now) }
     {
         let (bitmap, _) = pbm::read_image(alloc, bytes)?;
-        let answer = answer_line(alloc, &bitmap, line);
+        let answer = answer_line(alloc, &bitmap, edge, line);
         let Ok(mut text) = Text::new(alloc) else {
             return Err(PbmFault::Memory);
         };

@@ -48,6 +48,7 @@ impl ServeOptions {
             versions: self.versions,
             sessions: self.workers,
             log: self.log,
+            edge: self.edge,
         }
     }
 }

@@ -5,6 +5,7 @@ ghost use Rattle.clap.specs.Words.{app_of, first_value, found_of, kind_of, rows_
 ghost use Rattle.clap.specs.Matches.{subcommand_name_of};
 ghost use Rattle.clap.specs.declared.builder.command.Command.TheViews.{out-Command};
 ghost use Rattle.clap.specs.declared.error.kind.ErrorKind.TheVariants.{OutOfMemory};
+ghost use Rattle.metric.specs.Edge.{edge_named};
 ghost use Rattle.proto.specs.Numbers.{number};
 ghost use Rattle.engines.specs.declared.arguments.AskOptions.{AskOptions as TheAskOptions};
 ghost use Rattle.engines.specs.declared.arguments.ServeOptions.{ServeOptions as TheServeOptions};
@@ -12,6 +13,7 @@ ghost use Rattle.engines.specs.ServeLine.{AreAskOptions, AreMatched, AreNoMatch,
 
 use crate::arguments::{AskOptions, Fault, Options, ServeOptions};
 use clap::{Arg, ArgMatches, Command, Error};
+use metric::Edge;
 use proto::read_number;
 use std::alloc::Global;
 
@@ -30,7 +32,7 @@ pub fn serve_or_ask<'a>(matches: &ArgMatches<'a>) -> Result<Options<'a>, Fault<'
 }
 
 /// The flags of `serve`.
-fn serve_options(flags: &ArgMatches<'_>) -> Result<ServeOptions, Fault<'static>>
+fn serve_options<'a>(flags: &ArgMatches<'a>) -> Result<ServeOptions, Fault<'a>>
     ensures options { IfOk result (AreServeOptions (rows_of (found_of flags.now))) }
     ensures refused { OnErr result ((options : TheServeOptions) → AreServeOptions (rows_of (found_of flags.now)) options → ⊥) }
 {
@@ -41,7 +43,30 @@ fn serve_options(flags: &ArgMatches<'_>) -> Result<ServeOptions, Fault<'static>>
         versions: number_given(flags, "versions", 0, u32::MAX)?,
         log: number_given(flags, "log", 0, u32::MAX)?,
         workers: number_given(flags, "workers", 1, 16)?,
+        edge: edge_given(flags)?,
     })
+}
+
+/// The border that `--edge` names.
+pub fn edge_given<'a>(flags: &ArgMatches<'a>) -> Result<Edge, Fault<'a>>
+    ensures { MatchResult result (λ edge. option_and_then edge_named (first_value (found_of flags.now) (codes "edge")) ≡ Some edge) (λ _. option_and_then edge_named (first_value (found_of flags.now) (codes "edge")) ≡ None) }
+{
+    match edge_of(flags) {
+        Some(edge) => Ok(edge),
+        None => Err(Fault::UnknownEdge {
+            name: flags.get_str("edge").unwrap_or(""),
+        }),
+    }
+}
+
+/// The border of this name, where there is one.
+fn edge_of(flags: &ArgMatches<'_>) -> Option<Edge>
+    ensures { result ≡ option_and_then edge_named (first_value (found_of flags.now) (codes "edge")) }
+{
+    match flags.get_str("edge") {
+        Some(name) => Edge::named(name.as_bytes()),
+        None => None,
+    }
 }
 
 /// The flag of `ask`.
@@ -104,7 +129,8 @@ pub fn serve_command<'a>(alloc: Global) -> Result<Command<'a>, Error>
             .arg(blocks_flag(alloc))?
             .arg(versions_flag(alloc))?
             .arg(log_flag(alloc))?
-            .arg(workers_flag(alloc))?,
+            .arg(workers_flag(alloc))?
+            .arg(edge_flag(alloc))?,
     )
 }
 
@@ -196,6 +222,18 @@ fn workers_flag<'a>(alloc: Global) -> Arg<'a>
     ensures local { result.global ≡ false }
 {
     default_flag(alloc, "workers", "4").help("How many connections are served at once, 1 to 16")
+}
+
+/// The flag `--edge`.
+pub fn edge_flag<'a>(alloc: Global) -> Arg<'a>
+    ensures rule { rule_of result ≡ default_rule (codes "edge") (codes "open") }
+    ensures local { result.global ≡ false }
+{
+    Arg::new(alloc, "edge")
+        .long("edge")
+        .value_name("EDGE")
+        .default_value("open")
+        .help("What the border is: open, or a wall, of obstacles one cell outside")
 }
 
 /// The flag `--port` of `ask`.

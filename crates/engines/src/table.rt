@@ -7,7 +7,7 @@ ghost use Rattle.field.specs.Rows.{AreNears};
 
 use bits::Bitmap;
 use field::{ObstacleTable, Workers};
-use metric::{Chess, City, Euclid2, Gate, MetricKind, Near, Refusal};
+use metric::{Chess, City, Edge, Euclid2, Gate, MetricKind, Near, Refusal};
 use std::alloc::Global;
 use std::thread::Threads;
 
@@ -26,19 +26,20 @@ pub struct Table {
 impl Table {
     ghost use Rattle.engines.specs.Tabled.{nears_of};
 
-    /// The nearest obstacles of this bitmap's cells, found by so many workers.
+    /// The nearest obstacles of the cells of this bitmap, whose border is this, found by so many workers.
     pub fn of<T: Threads + Sync>(
         rt: &T,
         alloc: Global,
         bitmap: &Bitmap,
+        edge: Edge,
         metric: MetricKind,
         workers: Workers,
     ) -> Result<Self, Refusal>
         ensures width { IfOk result (λ table. table.width ≡ bitmap.now.width) }
         ensures height { IfOk result (λ table. table.height ≡ bitmap.now.height) }
-        ensures rows { IfOk result (λ table. AreNears (distance_of metric) bitmap.now 0 bitmap.now.height (nears_of table)) }
+        ensures rows { IfOk result (λ table. AreNears (distance_of metric) bitmap.now edge 0 bitmap.now.height (nears_of table)) }
     {
-        let obstacles = obstacles_of(rt, alloc, bitmap, metric, workers)?;
+        let obstacles = obstacles_of(rt, alloc, bitmap, edge, metric, workers)?;
         Ok(Table {
             width: bitmap.width(),
             height: bitmap.height(),
@@ -61,36 +62,43 @@ impl Table {
     }
 }
 
-/// The obstacles by the metric of this name.
+/// The obstacles by the metric of this name, with this border.
 fn obstacles_of<T: Threads + Sync>(
     rt: &T,
     alloc: Global,
     bitmap: &Bitmap,
+    edge: Edge,
     metric: MetricKind,
     workers: Workers,
 ) -> Result<ObstacleTable, Refusal>
     ensures width { IfOk result (λ table. table.width ≡ bitmap.now.width) }
     ensures from { IfOk result (λ table. table.y0 ≡ 0) }
     ensures to { IfOk result (λ table. table.y1 ≡ bitmap.now.height) }
-    ensures rows { IfOk result (λ table. AreNears (distance_of metric) bitmap.now 0 bitmap.now.height (nears_told (distance_of metric) table)) }
+    ensures rows { IfOk result (λ table. AreNears (distance_of metric) bitmap.now edge 0 bitmap.now.height (nears_told (distance_of metric) table)) }
 {
     let height = bitmap.height();
     match metric {
         MetricKind::Euclid2 => {
-            ObstacleTable::of::<Euclid2, Open, T>(rt, alloc, bitmap, 0, height, workers, &Open)
+            ObstacleTable::of::<Euclid2, Passing, T>(
+                rt, alloc, bitmap, edge, 0, height, workers, &Passing,
+            )
         }
         MetricKind::City => {
-            ObstacleTable::of::<City, Open, T>(rt, alloc, bitmap, 0, height, workers, &Open)
+            ObstacleTable::of::<City, Passing, T>(
+                rt, alloc, bitmap, edge, 0, height, workers, &Passing,
+            )
         }
         MetricKind::Chess => {
-            ObstacleTable::of::<Chess, Open, T>(rt, alloc, bitmap, 0, height, workers, &Open)
+            ObstacleTable::of::<Chess, Passing, T>(
+                rt, alloc, bitmap, edge, 0, height, workers, &Passing,
+            )
         }
     }
 }
 
 /// A gate that each worker passes at once.
-struct Open;
+struct Passing;
 
-impl Gate for Open {
+impl Gate for Passing {
     fn enter(&self, _band: u8) {}
 }

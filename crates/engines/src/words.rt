@@ -11,7 +11,9 @@ ghost use Rattle.engines.specs.CommandLine.{AreDistOptions, AreNoDistOptions, Ar
 ghost use Rattle.engines.specs.ServeLine.{default_rule};
 
 use crate::arguments::{DistOptions, Fault, Options};
-use crate::serve_words::{ask_command, default_flag, number_given, serve_command, serve_or_ask};
+use crate::serve_words::{
+    ask_command, default_flag, edge_flag, edge_given, number_given, serve_command, serve_or_ask,
+};
 use clap::{Arg, ArgAction, ArgMatches, Command, Error};
 use metric::MetricKind;
 use std::alloc::Global;
@@ -47,9 +49,11 @@ fn dist_options<'a>(flags: &ArgMatches<'a>) -> Result<DistOptions<'a>, Fault<'a>
             name: flags.get_str("metric").unwrap_or(""),
         });
     };
+    let edge = edge_given(flags)?;
     let workers = number_given(flags, "workers", 1, 16)?;
     Ok(DistOptions {
         metric,
+        edge,
         nearest: flags.get_flag("nearest"),
         query: flags.get_str("query"),
         workers,
@@ -106,12 +110,13 @@ fn dist_command<'a>(alloc: Global) -> Result<Command<'a>, Error>
                 "Print each cell's distance to the nearest obstacle of the image on standard input",
             )
             .after_help(
-                "Standard input is an image, PBM plain (P1) or raw (P4), 1 to 4096 pixels a side; a black pixel is an\nobstacle. Each line of the answer is a row of distances, and '-' stands where there is no obstacle.\nStatus 1: a fault of the image or the line is one line in its place, as 'ERR 15 BadImage BadMagic', or a\nstandard stream failed. Status 2: the command line was refused.\n\nExamples:\n  clearmap dist --metric chess < map.pbm\n  clearmap dist --query 'AT euclid2 3 4' < map.pbm\n  clearmap dist --workers 4 < map.pbm",
+                "Standard input is an image, PBM plain (P1) or raw (P4), 1 to 4096 pixels a side; a black pixel is an\nobstacle. Each line of the answer is a row of distances, and '-' stands where there is no obstacle.\nStatus 1: a fault of the image or the line is one line in its place, as 'ERR 15 BadImage BadMagic', or a\nstandard stream failed. Status 2: the command line was refused.\n\nExamples:\n  clearmap dist --metric chess < map.pbm\n  clearmap dist --query 'AT euclid2 3 4' < map.pbm\n  clearmap dist --edge wall --nearest < map.pbm\n  clearmap dist --workers 4 < map.pbm",
             )
             .arg(metric_flag(alloc))?
             .arg(nearest_flag(alloc))?
             .arg(query_flag(alloc))?
-            .arg(workers_flag(alloc))?,
+            .arg(workers_flag(alloc))?
+            .arg(edge_flag(alloc))?,
     )
 }
 

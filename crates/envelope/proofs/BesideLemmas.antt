@@ -3,6 +3,7 @@ use Rattle.std.proofs.Common.{◌≡◌, ℕ, ◌+◌, ◌-◌, ◌<◌, ◌≤�
 use Rattle.std.specs.Int.{abs_diff}
 use Rattle.std.proofs.lemmas.Bool.{cases_lt, ne_eqb}
 use Rattle.std.proofs.lemmas.Bool.Decides.{nat_tests}
+use Rattle.metric.specs.declared.edge.Edge.{Edge}
 use Rattle.metric.specs.Distance.{Grows}
 use Rattle.metric.specs.Crossing.{StaysNearer}
 use Rattle.metric.specs.Lanes.{IsSmall}
@@ -131,15 +132,15 @@ best_wider d joined parts place k b a l r b1 a1 b2 a2 some few inside l_is r_is 
 
 module _ (d joined : ℕ → ℕ → ℕ) (part : ℕ → ℕ) (small : IsSmall d part joined) where
   -- a distance in 16 bits is the distance itself, where it is small
-  told_same : (dx g best : ℕ) → dx ≤ 97 → g ≤ 4095 → best < 32400 → joined (part g) (d dx 0) ≡ best → d dx g ≡ best
+  told_same : (dx g best : ℕ) → dx ≤ 97 → g ≤ 4097 → best < 32400 → joined (part g) (d dx 0) ≡ best → d dx g ≡ best
   told_same dx g best near row few is = let same = small.told dx g near row in omega (arith, same, is, few)
 
   -- where a distance in 16 bits isn't less than a small one, the distance itself isn't
-  told_least : (dx g best : ℕ) → dx ≤ 97 → g ≤ 4095 → best < 32400 → best ≤ joined (part g) (d dx 0) → best ≤ d dx g
+  told_least : (dx g best : ℕ) → dx ≤ 97 → g ≤ 4097 → best < 32400 → best ≤ joined (part g) (d dx 0) → best ≤ d dx g
   told_least dx g best near row few least = let same = small.told dx g near row in omega (arith, same, least, few)
 
   -- where a distance in 16 bits is greater than a small one, the distance itself is
-  told_more : (dx g best : ℕ) → dx ≤ 97 → g ≤ 4095 → best < 32400 → best < joined (part g) (d dx 0) → best < d dx g
+  told_more : (dx g best : ℕ) → dx ≤ 97 → g ≤ 4097 → best < 32400 → best < joined (part g) (d dx 0) → best < d dx g
   told_more dx g best near row few more = let same = small.told dx g near row in omega (arith, same, more, few)
 
 -- a place with a small part is that of a column
@@ -157,18 +158,18 @@ column_some d joined part entries y parts column small row laid inside few = rec
   left = inside;
   some = λ none.
       let seen = row.seen_from in
-      let gap : 61440 ≤ abs_diff y (slice_index entries column) = rw none (omega (arith, seen)) in
+      let gap : 61438 ≤ abs_diff y (slice_index entries column) = rw none (omega (arith, seen)) in
       let most = small.far (abs_diff y (slice_index entries column)) gap in
       let is = laid.each column inside in
       absurd (omega (arith, most, is, few));
 }
 
 -- an obstacle lies fewer rows away than the largest map has
-small_gap : (entries : List ℕ) (y column : ℕ) → AreEntries entries y → IsAmong entries (length entries) column → gap_of entries y column ≤ 4095
+small_gap : (entries : List ℕ) (y column : ℕ) → AreEntries entries y → IsAmong entries (length entries) column → gap_of entries y column ≤ 4097
 small_gap entries y column row among = let entry = row.each column among.left among.some in let seen = row.seen_from in omega (arith, entry, seen)
 
 module _ (d joined : ℕ → ℕ → ℕ) (part : ℕ → ℕ) (small : IsSmall d part joined) (grows : Grows d) (stays : StaysNearer d)
-    (entries parts : List ℕ) (y x place best away k : ℕ) (row : AreEntries entries y) (laid : AreParts part entries y parts) (inside : x < length entries) (place_is : place ≡ x + 128)
+    (entries parts : List ℕ) (edge : Edge) (y x place best away k : ℕ) (row : AreEntries entries y) (laid : AreParts part entries y parts) (inside : x < length entries) (place_is : place ≡ x + 128)
     (few : k ≤ 97) (less : best < d k 0) (found : IsBestIn (small_distance d joined parts place) place (place + 1 - k) (place + k) best away) where
   -- no distance that was found is large
   best_small : best < 32400
@@ -207,7 +208,7 @@ module _ (d joined : ℕ → ℕ → ℕ) (part : ℕ → ℕ) (small : IsSmall 
   ]
 
   -- the obstacle of the column that was found is the nearest column's
-  found_told : IsTold d entries y x best away
+  found_told : IsTold d entries y edge x best away
   found_told =
       let low = found.low in
       let high = found.high in
@@ -240,11 +241,11 @@ module _ (d joined : ℕ → ℕ → ℕ) (part : ℕ → ℕ) (small : IsSmall 
       }
 
 -- eight cells with their nearest tell the nearest columns
-pub are_told : (d joined : ℕ → ℕ → ℕ) (part : ℕ → ℕ) (entries parts : List ℕ) (y at start : ℕ) (best away : List ℕ) → IsSmall d part joined → Grows d → StaysNearer d → AreEntries entries y → AreParts part entries y parts
-    → at ≡ start + 128 → AreDecided d joined parts at best away → AreTold d entries y start best away
-are_told d joined part entries parts y at start best away small grows stays row laid at_is decided i within inside =
+pub are_told : (d joined : ℕ → ℕ → ℕ) (part : ℕ → ℕ) (entries parts : List ℕ) (edge : Edge) (y at start : ℕ) (best away : List ℕ) → IsSmall d part joined → Grows d → StaysNearer d → AreEntries entries y → AreParts part entries y parts
+    → at ≡ start + 128 → AreDecided d joined parts at best away → AreTold d entries y edge start best away
+are_told d joined part entries parts edge y at start best away small grows stays row laid at_is decided i within inside =
     let it = decided i within in
-    found_told d joined part small grows stays entries parts y (start + i) (at + i) (slice_index best i) (slice_index away i) it.k row laid inside (omega (arith, at_is)) it.few it.less it.found
+    found_told d joined part small grows stays entries parts edge y (start + i) (at + i) (slice_index best i) (slice_index away i) it.k row laid inside (omega (arith, at_is)) it.few it.less it.found
 
 -- eight cells whose best are below a reach have their nearest
 pub are_decided : (d joined : ℕ → ℕ → ℕ) (parts : List ℕ) (at k reach : ℕ) (best away : List ℕ) → k ≤ 97 → reach ≡ d k 0

@@ -7,7 +7,7 @@ use Rattle.metric.specs.Crossing.{AreColumns, IsLastNotWorse, StaysNearer, at_co
 use Rattle.envelope.specs.Columns.{IsCrossing}
 
 -- up to the last cell at which the left column isn't worse, it isn't worse
-not_worse_before : (d : ℕ → ℕ → ℕ) (i gi u gu last x : ℕ) → StaysNearer d → AreColumns i gi u gu → last ≤ 4095 → at_column d i gi last ≤ at_column d u gu last → x ≤ last → at_column d i gi x ≤ at_column d u gu x
+not_worse_before : (d : ℕ → ℕ → ℕ) (i gi u gu last x : ℕ) → StaysNearer d → AreColumns i gi u gu → last ≤ 4097 → at_column d i gi last ≤ at_column d u gu last → x ≤ last → at_column d i gi x ≤ at_column d u gu x
 not_worse_before d i gi u gu last x stays columns few here order = elim (cases_lt (at_column d u gu x) (at_column d i gi x)) [
   | inl nearer ↦ let there = (stays i gi u gu x last columns order few (record { less = nearer })).less in absurd (omega (arith, there, here))
   | inr fine ↦ fine

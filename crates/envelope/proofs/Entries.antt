@@ -8,7 +8,7 @@ use Rattle.envelope.specs.Envelope.{IsCut, span_at}
 use Rattle.envelope.proofs.Envelopes.{IsMore, cut_top}
 
 -- an obstacle lies fewer rows away than the largest map has
-gap_small : (entries : List ℕ) (y column : ℕ) → AreEntries entries y → IsAmong entries (length entries) column → gap_of entries y column ≤ 4095
+gap_small : (entries : List ℕ) (y column : ℕ) → AreEntries entries y → IsAmong entries (length entries) column → gap_of entries y column ≤ 4097
 gap_small entries y column row among = let entry = row.each column among.left among.some in let seen = row.seen_from in omega (arith, entry, seen)
 
 -- each column before another one is left of it
@@ -32,11 +32,11 @@ pairs_from entries y first u row right column left = pairs_left entries y u row 
 
 -- the numbers of a span are those of a map, and its gap is its column's
 pub record IsKnown (entries : List ℕ) (y u : ℕ) (span : Span) : Type 0 where
-  pub start : span.start ≤ 4095
+  pub start : span.start ≤ 4097
   pub among : IsAmong entries u span.column
-  pub column : span.column ≤ 4095
+  pub column : span.column ≤ 4097
   pub gap_is : span.gap ≡ gap_of entries y span.column
-  pub gap : span.gap ≤ 4095
+  pub gap : span.gap ≤ 4097
   pub pair : AreColumns span.column span.gap u (gap_of entries y u)
 
 -- what is known of the last span that is kept for one more column

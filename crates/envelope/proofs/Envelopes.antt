@@ -83,7 +83,7 @@ cut_top d gaps P u spans width (suc count) some cut =
     }
 
 -- a span at whose first cell one more column is strictly nearer is taken off
-cut_drop_last : (d : ℕ → ℕ → ℕ) (gaps : ℕ → ℕ) (P : ℕ → Type 0) (u : ℕ) (spans : List Span) (width count : ℕ) → StaysNearer d → width ≤ 4096
+cut_drop_last : (d : ℕ → ℕ → ℕ) (gaps : ℕ → ℕ) (P : ℕ → Type 0) (u : ℕ) (spans : List Span) (width count : ℕ) → StaysNearer d → width ≤ 4098
     → ((column : ℕ) → P column → AreColumns column (gaps column) u (gaps u))
     → IsCut d gaps P spans (suc count) width u
     → distance_from d gaps u (span_at spans count).start < distance_from d gaps (span_at spans count).column (span_at spans count).start
@@ -109,7 +109,7 @@ cut_drop_last d gaps P u spans width count stays few pairs cut beaten =
     }
 
 -- a span at whose first cell one more column is strictly nearer is taken off, for any count
-pub cut_drop : (d : ℕ → ℕ → ℕ) (gaps : ℕ → ℕ) (P : ℕ → Type 0) (u : ℕ) (spans : List Span) (width count : ℕ) → 0 < count → StaysNearer d → width ≤ 4096
+pub cut_drop : (d : ℕ → ℕ → ℕ) (gaps : ℕ → ℕ) (P : ℕ → Type 0) (u : ℕ) (spans : List Span) (width count : ℕ) → 0 < count → StaysNearer d → width ≤ 4098
     → ((column : ℕ) → P column → AreColumns column (gaps column) u (gaps u))
     → IsCut d gaps P spans count width u
     → (let span = span_at spans (count - 1) in distance_from d gaps u span.start < distance_from d gaps span.column span.start)

@@ -1,16 +1,21 @@
 -- From the columns of a row of the table to the obstacles of the bitmap.
-use Rattle.std.proofs.Common.{◌≡◌, ◌≢◌, ℕ, ◌<◌, ◌≤◌, inl, inr, List, length, slice_index, slice_index_or, Option, Some, None, refl, sym, subst, arith}
+use Rattle.std.proofs.Common.{◌≡◌, ◌≢◌, ℕ, ◌+◌, ◌-◌, ◌<◌, ◌≤◌, inl, inr, List, length, slice_index, slice_index_or, slice_set, get_or-set_same, Option, Some, None, refl, sym, subst, arith}
 use Rattle.std.specs.Int.{abs_diff}
 use Rattle.std.proofs.lemmas.Bool.{cases_eq, cases_lt, ne_eqb}
 use Rattle.metric.specs.Distance.{Grows, distance_between}
-use Rattle.metric.specs.Nearest.{IsAtMost, IsNear, IsNearest, key_of}
+use Rattle.metric.specs.Cellwise.{IsAtMost, IsNearestCell, key_of}
+use Rattle.metric.specs.Edge.{shift, spot_of}
+use Rattle.metric.specs.Nearest.{IsNear, IsNearest, spot_distance}
+use Rattle.metric.specs.declared.edge.Edge.{Edge}
 use Rattle.metric.specs.declared.near.Near.{Near}
 use Rattle.bits.specs.Cells.{Cells, IsBitmap, IsObstacle}
-use Rattle.bits.proofs.CellsLemmas.{has-outside}
+use Rattle.bits.specs.Edges.{IsBlocked, IsMap, framed}
+use Rattle.bits.proofs.Framing.{edge_nearest, edge_none, framed_map, framed_size, spot_seen}
 use Rattle.column.specs.Columns.{IsNearestRow, IsRowAtMost, IsRowOfTable}
 use Rattle.envelope.specs.Rows.{AreRowAnswers, AreRowNears}
-use Rattle.envelope.specs.Columns.{AreEntries, AreNearColumns, IsAmong, IsBest, IsNearColumn, gap_of, near_from}
+use Rattle.envelope.specs.Columns.{AreEntries, AreNearColumns, IsAmong, IsBest, IsNearColumn, distance_from, gap_of, near_from}
 use Rattle.envelope.specs.Answer.{Reading}
+use Rattle.envelope.specs.Beside.{IsTold}
 
 -- a column with an obstacle has an entry
 entry_some : (cells : Cells) (y : ℕ) (entries : List ℕ) (a b : ℕ) → IsRowOfTable cells y entries → a < cells.width → IsObstacle cells a b → slice_index entries a ≢ 65535
@@ -22,10 +27,10 @@ entry_row : (cells : Cells) (y : ℕ) (entries : List ℕ) (a : ℕ) → IsRowOf
 entry_row cells y entries a row inside some = rw (ne_eqb (slice_index entries a) 65535 some) at (row.each a inside)
 
 -- the entries of a row of the table are rows of a map
-pub entries_of_row : (cells : Cells) (y : ℕ) (entries : List ℕ) → IsBitmap cells → y < cells.height → IsRowOfTable cells y entries → AreEntries entries y
+pub entries_of_row : (cells : Cells) (y : ℕ) (entries : List ℕ) → IsMap cells → y < cells.height → IsRowOfTable cells y entries → AreEntries entries y
 entries_of_row cells y entries bitmap within row =
-    let width = bitmap.width_is.few in
-    let height = bitmap.height_is.few in
+    let width = bitmap.width_few in
+    let height = bitmap.height_few in
     let many = row.as_many in
     record {
       few = omega (arith, width, many);
@@ -33,7 +38,7 @@ entries_of_row cells y entries bitmap within row =
       each = λ column left some.
           let inside : column < cells.width = omega (arith, left, many) in
           let obstacle = (entry_row cells y entries column row inside some).0 in
-          let below = (has-outside cells bitmap column (slice_index entries column) obstacle).row in
+          let below = (bitmap.inside column (slice_index entries column) obstacle).row in
           omega (arith, below, height);
     }
 
@@ -48,7 +53,7 @@ column_at_most d x y a row b not_farther at_most = elim (cases_lt (distance_betw
 ]
 
 -- a column's nearest row isn't farther than its other obstacles
-row_not_farther : (d : ℕ → ℕ → ℕ) (x y a row b : ℕ) → Grows d → abs_diff x a ≤ 4095 → abs_diff y b ≤ 4095 → IsRowAtMost y row b
+row_not_farther : (d : ℕ → ℕ → ℕ) (x y a row b : ℕ) → Grows d → abs_diff x a ≤ 4097 → abs_diff y b ≤ 4097 → IsRowAtMost y row b
     → distance_between d x y a row ≤ distance_between d x y a b
 row_not_farther d x y a row b grows columns rows at_most =
     let nearer : abs_diff y row ≤ abs_diff y b = elim at_most.order [ inl less ↦ omega (arith, less) | inr same ↦ let e = same.0 in omega (arith, e) ] in
@@ -67,27 +72,27 @@ other_at_most d x y a c row other b least first not_farther differs = elim (case
 ]
 
 -- the obstacle of the best column is the nearest of the bitmap
-nearest_of_best : (d : ℕ → ℕ → ℕ) (cells : Cells) (x y column : ℕ) (entries : List ℕ) → Grows d → IsBitmap cells → x < cells.width → y < cells.height → IsRowOfTable cells y entries
-    → IsBest d (gap_of entries y) (IsAmong entries (length entries)) x column → IsNearest d (IsObstacle cells) x y (near_from d entries y column x)
+nearest_of_best : (d : ℕ → ℕ → ℕ) (cells : Cells) (x y column : ℕ) (entries : List ℕ) → Grows d → IsMap cells → x < cells.width → y < cells.height → IsRowOfTable cells y entries
+    → IsBest d (gap_of entries y) (IsAmong entries (length entries)) x column → IsNearestCell d (IsObstacle cells) x y (distance_from d (gap_of entries y) column x) column (slice_index entries column)
 nearest_of_best d cells x y column entries grows bitmap inside within row best =
     let many = row.as_many in
-    let width = bitmap.width_is.few in
-    let height = bitmap.height_is.few in
+    let width = bitmap.width_few in
+    let height = bitmap.height_few in
     let left = best.among.left in
     let own = entry_row cells y entries column row (omega (arith, left, many)) best.among.some in
     record {
       obstacle = own.0;
       distance_is = refl;
       least = λ a b obstacle.
-          let place = has-outside cells bitmap a b obstacle in
+          let place = bitmap.inside a b obstacle in
           let of_column = place.column in
           let of_row = place.row in
-          let columns : abs_diff x a ≤ 4095 = omega (arith, of_column, inside, width) in
-          let rows : abs_diff y b ≤ 4095 = omega (arith, of_row, within, height) in
+          let columns : abs_diff x a ≤ 4097 = omega (arith, of_column, inside, width) in
+          let rows : abs_diff y b ≤ 4097 = omega (arith, of_row, within, height) in
           elim (cases_eq a column) [
             | inl same ↦
                 let at_most = own.1 b (rw same at obstacle) in
-                let here : abs_diff x column ≤ 4095 = omega (arith, left, many, inside, width) in
+                let here : abs_diff x column ≤ 4097 = omega (arith, left, many, inside, width) in
                 rw same (column_at_most d x y column (slice_index entries column) b (row_not_farther d x y column (slice_index entries column) b grows here rows at_most) at_most)
             | inr differs ↦
                 let some = entry_some cells y entries a b row of_column obstacle in
@@ -97,30 +102,63 @@ nearest_of_best d cells x y column entries grows bitmap inside within row best =
           ];
     }
 
--- the obstacle of the nearest column is the nearest of the bitmap; none where there is no column
-pub near_of_column : (d : ℕ → ℕ → ℕ) (cells : Cells) (x y : ℕ) (entries : List ℕ) (answer : Option Near) → Grows d → IsBitmap cells → x < cells.width → y < cells.height → IsRowOfTable cells y entries
-    → IsNearColumn d entries y x answer → IsNear d (IsObstacle cells) x y answer
-near_of_column d cells x y entries None grows bitmap inside within row none = λ a b obstacle.
-    let of_column = (has-outside cells bitmap a b obstacle).column in
+-- the obstacle of the nearest column is the nearest spot of the map with its border; none where there is no column
+pub near_of_column : (d : ℕ → ℕ → ℕ) (cells : Cells) (edge : Edge) (x y : ℕ) (entries : List ℕ) (answer : Option Near) → Grows d → IsBitmap cells → x + shift edge < (framed edge cells).width → y + shift edge < (framed edge cells).height
+    → IsRowOfTable (framed edge cells) (y + shift edge) entries → IsNearColumn d entries (y + shift edge) edge (x + shift edge) answer → IsNear d (IsBlocked cells edge) x y answer
+near_of_column d cells edge x y entries None grows bitmap inside within row none = edge_none edge cells bitmap (λ a b obstacle.
+    let map = framed_map edge cells bitmap in
+    let of_column = (map.inside a b obstacle).column in
     let many = row.as_many in
-    none a (record { left = omega (arith, of_column, many); some = entry_some cells y entries a b row of_column obstacle })
-near_of_column d cells x y entries (Some near) grows bitmap inside within row found =
+    none a (record { left = omega (arith, of_column, many); some = entry_some (framed edge cells) (y + shift edge) entries a b row of_column obstacle }))
+near_of_column d cells edge x y entries (Some near) grows bitmap inside within row found =
     let (column, best, same) = found in
-    subst (λ (n : Near). IsNearest d (IsObstacle cells) x y n) (sym same) (nearest_of_best d cells x y column entries grows bitmap inside within row best)
+    subst (λ (n : Near). IsNearest d (IsBlocked cells edge) x y n) (sym same)
+    (edge_nearest d edge cells x y (distance_from d (gap_of entries (y + shift edge)) column (x + shift edge)) column (slice_index entries column) bitmap
+    (nearest_of_best d (framed edge cells) (x + shift edge) (y + shift edge) column entries grows (framed_map edge cells bitmap) inside within row best))
 
 -- answers that tell the obstacles of the nearest columns tell the nearest of all, in the whole row
-pub AreRowAnswers-columns : {T : Type 0} (told : Reading T) (nothing : T) (d : ℕ → ℕ → ℕ) (cells : Cells) (y : ℕ) (entries : List ℕ) (answers : List T) → Grows d → IsBitmap cells → y < cells.height
-    → IsRowOfTable cells y entries → AreNearColumns told nothing d entries y answers → AreRowAnswers told nothing d cells y cells.width answers
-AreRowAnswers-columns told nothing d cells y entries answers grows bitmap within row found =
+pub AreRowAnswers-columns : {T : Type 0} (told : Reading T) (nothing : T) (d : ℕ → ℕ → ℕ) (cells : Cells) (edge : Edge) (y : ℕ) (entries : List ℕ) (answers : List T) → Grows d → IsBitmap cells → y < cells.height
+    → IsRowOfTable (framed edge cells) (y + shift edge) entries → AreNearColumns told nothing d entries (y + shift edge) edge answers → AreRowAnswers told nothing d cells edge y cells.width answers
+AreRowAnswers-columns told nothing d cells edge y entries answers grows bitmap within row found =
     let many = row.as_many in
     let filled = found.as_many in
+    let size = framed_size edge cells in
+    let wide = size.0 in
+    let high = size.1 in
+    let row_is : y + shift edge - shift edge ≡ y = omega arith in
     record {
-      as_many = omega (arith, many, filled);
+      as_many = omega (arith, many, filled, wide);
       each = λ x below.
-          let inside : x < length entries = omega (arith, below, many) in
-          near_of_column d cells x y entries (told d x y (slice_index_or answers x nothing)) grows bitmap below within row (found.each x inside);
+          let inside : x < length answers = omega (arith, below, many, filled, wide) in
+          near_of_column d cells edge x y entries (told d x y (slice_index_or answers x nothing)) grows bitmap (omega (arith, below, wide)) (omega (arith, within, high)) row (rw row_is at (found.each x inside));
     }
 
 -- where all is kept, the answers are the nearest obstacles
-pub AreRowNears-answers : (d : ℕ → ℕ → ℕ) (cells : Cells) (y count : ℕ) (nears : List (Option Near)) → AreRowAnswers (λ distance x y near. near) None d cells y count nears → AreRowNears d cells y count nears
-AreRowNears-answers d cells y count nears answers = record { as_many = answers.as_many; each = answers.each }
+pub AreRowNears-answers : (d : ℕ → ℕ → ℕ) (cells : Cells) (edge : Edge) (y count : ℕ) (nears : List (Option Near)) → AreRowAnswers (λ distance x y near. near) None d cells edge y count nears → AreRowNears d cells edge y count nears
+AreRowNears-answers d cells edge y count nears answers = record { as_many = answers.as_many; each = answers.each }
+
+-- what a column's obstacle is seen at, by its spot
+pub near_seen : (d : ℕ → ℕ → ℕ) (entries : List ℕ) (edge : Edge) (y column x : ℕ) → shift edge ≤ x → shift edge ≤ y
+    → (near_from d entries y edge column x).dist ≡ spot_distance d (x - shift edge) (y - shift edge) (spot_of edge column (slice_index entries column)).x (spot_of edge column (slice_index entries column)).y
+near_seen d entries edge y column x left top =
+    let across : x - shift edge + shift edge ≡ x = omega arith in
+    let down : y - shift edge + shift edge ≡ y = omega arith in
+    rw (across, down) at (spot_seen d edge (x - shift edge) (y - shift edge) column (slice_index entries column))
+
+-- the same of the obstacle of the nearest column
+pub near_column_seen : (d : ℕ → ℕ → ℕ) (entries : List ℕ) (edge : Edge) (y x : ℕ) (near : Near) → IsNearColumn d entries y edge x (Some near) → shift edge ≤ x → shift edge ≤ y
+    → near.dist ≡ spot_distance d (x - shift edge) (y - shift edge) near.cell.x near.cell.y
+near_column_seen d entries edge y x near (column, best, same) left top =
+    subst (λ (n : Near). n.dist ≡ spot_distance d (x - shift edge) (y - shift edge) n.cell.x n.cell.y) (sym same) (near_seen d entries edge y column x left top)
+
+-- an answer that keeps what was found tells the nearest column's obstacle
+pub told_kept : {T : Type 0} (told : Reading T) (nothing : T) (d : ℕ → ℕ → ℕ) (entries : List ℕ) (edge : Edge) (y x place best away : ℕ) (near : Near) (kept : T) (answers : List T) → IsTold d entries y edge place best away
+    → near ≡ record { dist = best; cell = spot_of edge (place + away - 128) (slice_index entries (place + away - 128)) } → place ≡ x + shift edge → shift edge ≤ y
+    → ((distance : ℕ → ℕ → ℕ) (a b : ℕ) → near.dist ≡ spot_distance distance a b near.cell.x near.cell.y → told distance a b kept ≡ Some near) → x < length answers
+    → IsNearColumn d entries y edge (x + shift edge) (told d x (y - shift edge) (slice_index_or (slice_set answers x kept) x nothing))
+told_kept told nothing d entries edge y x place best away near kept answers found near_is place_is top keeps inside =
+    let here : IsNearColumn d entries y edge place (Some near) = rw near_is found.near in
+    let there : IsNearColumn d entries y edge (x + shift edge) (Some near) = rw place_is at here in
+    let back : x + shift edge - shift edge ≡ x = omega arith in
+    let seen : near.dist ≡ spot_distance d x (y - shift edge) near.cell.x near.cell.y = rw back at (near_column_seen d entries edge y (x + shift edge) near there (omega arith) top) in
+    rw (get_or-set_same answers x kept nothing inside, keeps d x (y - shift edge) seen) there

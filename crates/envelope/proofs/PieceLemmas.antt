@@ -1,13 +1,12 @@
 -- The columns that are enough for a piece of a row: those between the nearest ones to the cells beside it.
-use Rattle.std.proofs.Common.{◌≡◌, ℕ, ◌+◌, ◌-◌, ◌<◌, ◌≤◌, inl, inr, List, length, slice_index, ap, refl, subst, arith}
-use Rattle.std.specs.Int.{abs_diff}
+use Rattle.std.proofs.Common.{◌≡◌, ℕ, ◌+◌, ◌-◌, ◌<◌, ◌≤◌, inl, inr, List, length, slice_index, ap, unsigned_abs, arith}
 use Rattle.std.proofs.lemmas.Bool.{cases_lt}
 use Rattle.metric.specs.Crossing.{AreColumns, IsRightNearer, StaysNearer}
+use Rattle.metric.specs.declared.edge.Edge.TheVariants.{Open}
 use Rattle.metric.specs.declared.near.Near.{Near}
 use Rattle.envelope.specs.Beside.{AreTold}
-use Rattle.envelope.specs.Columns.{AreEntries, IsAmong, IsBest, IsFrom, distance_from, gap_of, near_from}
+use Rattle.envelope.specs.Columns.{AreEntries, IsAmong, IsBest, IsFrom, distance_from, gap_of}
 use Rattle.envelope.specs.Pieces.{IsBeaten, IsBestOfAll, IsEnough, IsLeftBound, IsPiece, IsRightBound}
-use Rattle.envelope.specs.declared.piece.Piece.{Piece}
 use Rattle.envelope.proofs.Entries.{pairs_left}
 
 -- the best of a set is the best of a larger one, each column of which is beaten by one of the set
@@ -37,14 +36,14 @@ module _ (d : ℕ → ℕ → ℕ) (entries : List ℕ) (y : ℕ) (stays : Stays
   pair left right one other before = pairs_left entries y right row other left (record { left = before; some = one.some })
 
   -- the nearest column to a cell is nearer than those left of it to each cell further right
-  left_nearer : (cell first x other : ℕ) → IsBestOfAll d entries y cell first → cell ≤ x → x ≤ 4095 → IsAmong entries (length entries) other → other < first
+  left_nearer : (cell first x other : ℕ) → IsBestOfAll d entries y cell first → cell ≤ x → x ≤ 4097 → IsAmong entries (length entries) other → other < first
       → distance_from d (gap_of entries y) first x < distance_from d (gap_of entries y) other x
   left_nearer cell first x other best before within among left =
       let nearer : IsRightNearer d other (gap_of entries y other) first (gap_of entries y first) cell = record { less = best.first other among left } in
       (stays other (gap_of entries y other) first (gap_of entries y first) cell x (pair other first among best.among left) before within nearer).less
 
   -- the nearest column to a cell is no farther than those right of it from each cell further left
-  right_not_farther : (cell top x other : ℕ) → IsBestOfAll d entries y cell top → x ≤ cell → cell ≤ 4095 → IsAmong entries (length entries) other → top < other
+  right_not_farther : (cell top x other : ℕ) → IsBestOfAll d entries y cell top → x ≤ cell → cell ≤ 4097 → IsAmong entries (length entries) other → top < other
       → distance_from d (gap_of entries y) top x ≤ distance_from d (gap_of entries y) other x
   right_not_farther cell top x other best before within among right = elim (cases_lt (distance_from d (gap_of entries y) other x) (distance_from d (gap_of entries y) top x)) [
     | inl less ↦
@@ -56,7 +55,7 @@ module _ (d : ℕ → ℕ → ℕ) (entries : List ℕ) (y : ℕ) (stays : Stays
   ]
 
   -- the nearest column to a cell isn't left of the nearest one to a cell further left
-  in_order : (cell first end top : ℕ) → IsBestOfAll d entries y cell first → IsBestOfAll d entries y end top → cell ≤ end → end ≤ 4095 → first ≤ top
+  in_order : (cell first end top : ℕ) → IsBestOfAll d entries y cell first → IsBestOfAll d entries y end top → cell ≤ end → end ≤ 4097 → first ≤ top
   in_order cell first end top left right before within = elim (cases_lt top first) [
     | inl less ↦
         let nearer = left_nearer cell first end top left before within right.among less in
@@ -67,7 +66,7 @@ module _ (d : ℕ → ℕ → ℕ) (entries : List ℕ) (y : ℕ) (stays : Stays
 
   module _ (start end first last : ℕ) (left : IsLeftBound d entries y start first) (right : IsRightBound d entries y end last) (some : start < end) where
     -- the cells at both ends are those of a map
-    end_within : end < length entries → end ≤ 4095
+    end_within : end < length entries → end ≤ 4097
     end_within inside = let few = row.few in omega (arith, few, inside)
 
     -- a column before which the columns end is one of the row's, or the row's end
@@ -158,11 +157,11 @@ module _ (d : ℕ → ℕ → ℕ) (entries : List ℕ) (y : ℕ) (stays : Stays
     ]
 
 -- the nearest column that one of eight cells knows
-pub told_best : (d : ℕ → ℕ → ℕ) (entries : List ℕ) (y start i : ℕ) (best away : List ℕ) → AreTold d entries y start best away → i < 8 → start + i < length entries
+pub told_best : (d : ℕ → ℕ → ℕ) (entries : List ℕ) (y start i : ℕ) (best away : List ℕ) → AreTold d entries y Open start best away → i < 8 → start + i < length entries
     → IsBestOfAll d entries y (start + i) (start + i + slice_index away i - 128)
 told_best d entries y start i best away told few inside =
     let (column, is_best, same) = (told i few inside).near in
-    let column_is : start + i + slice_index away i - 128 ≡ column = ap (λ (n : Near). n.cell.x) same in
+    let column_is : start + i + slice_index away i - 128 ≡ column = ap (λ (n : Near). unsigned_abs n.cell.x) same in
     rw column_is is_best
 
 -- the nearest column to a cell bounds those of the cells further right
@@ -174,7 +173,7 @@ right_of : (d : ℕ → ℕ → ℕ) (entries : List ℕ) (y end last : ℕ) →
 right_of d entries y end last inside some best = record { within = omega (arith, inside); whole = λ same. absurd (omega (arith, same, inside)); best = λ more. (some, best) }
 
 -- the nearest column that the first of eight cells knows ends the columns of a piece before it
-pub told_right : (d : ℕ → ℕ → ℕ) (entries : List ℕ) (y at last : ℕ) (best away : List ℕ) → at < length entries → last ≡ at + slice_index away 0 - 128 + 1 → AreTold d entries y at best away → IsRightBound d entries y at last
+pub told_right : (d : ℕ → ℕ → ℕ) (entries : List ℕ) (y at last : ℕ) (best away : List ℕ) → at < length entries → last ≡ at + slice_index away 0 - 128 + 1 → AreTold d entries y Open at best away → IsRightBound d entries y at last
 told_right d entries y at last best away inside last_is told =
     let zero : at + 0 ≡ at = omega arith in
     let own : IsBestOfAll d entries y at (at + slice_index away 0 - 128) = rw zero at (told_best d entries y at 0 best away told (omega arith) (omega (arith, inside))) in
@@ -182,7 +181,7 @@ told_right d entries y at last best away inside last_is told =
     right_of d entries y at last inside (omega (arith, last_is)) (rw before own)
 
 -- the nearest column that the last of eight cells knows bounds those of the cells further right
-pub told_left : (d : ℕ → ℕ → ℕ) (entries : List ℕ) (y at next first : ℕ) (best away : List ℕ) → next ≡ at + 8 → next < length entries → first ≡ at + 7 + slice_index away 7 - 128 → AreTold d entries y at best away
+pub told_left : (d : ℕ → ℕ → ℕ) (entries : List ℕ) (y at next first : ℕ) (best away : List ℕ) → next ≡ at + 8 → next < length entries → first ≡ at + 7 + slice_index away 7 - 128 → AreTold d entries y Open at best away
     → IsLeftBound d entries y next first
 told_left d entries y at next first best away next_is inside first_is told =
     bound_of d entries y (at + 7) next first (omega (arith, next_is)) (rw first_is (told_best d entries y at 7 best away told (omega arith) (omega (arith, inside, next_is))))

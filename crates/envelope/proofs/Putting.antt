@@ -8,7 +8,7 @@ use Rattle.envelope.proofs.Envelopes.{IsMore, best_new, envelope_same, envelope_
 
 -- one more column, the column of the last span, and the cell from which on the one is strictly nearer than the other
 record IsMeeting (d : ℕ → ℕ → ℕ) (gaps : ℕ → ℕ) (P : ℕ → Type 0) (u : ℕ) (spans : List Span) (width count start : ℕ) : Type 0 where
-  pub few : width ≤ 4096
+  pub few : width ≤ 4098
   pub cut : IsCut d gaps P spans (suc count) width u
   pub kept : distance_from d gaps (span_at spans count).column (span_at spans count).start ≤ distance_from d gaps u (span_at spans count).start
   pub crossing : IsCrossing d (span_at spans count).column (gaps (span_at spans count).column) u (gaps u) start
@@ -96,7 +96,7 @@ covered_first d gaps P Q u spans others width more cut some here =
     rw here (record { some = some; best = λ x from below. best_new d gaps P Q u x more (λ other p. cut.beyond x (omega (arith, none)) below other p); gap_is = refl }, refl)
 
 -- what is known where spans were kept
-meeting_of : (d : ℕ → ℕ → ℕ) (gaps : ℕ → ℕ) (P : ℕ → Type 0) (u : ℕ) (spans : List Span) (width total count start : ℕ) → width ≤ 4096
+meeting_of : (d : ℕ → ℕ → ℕ) (gaps : ℕ → ℕ) (P : ℕ → Type 0) (u : ℕ) (spans : List Span) (width total count start : ℕ) → width ≤ 4098
     → IsKept d gaps P spans total (suc count) width u → IsStart d gaps spans (suc count) u start → IsMeeting d gaps P u spans width count start
 meeting_of d gaps P u spans width total count start few kept meets =
     let before : suc count - 1 ≡ count = omega arith in
@@ -105,7 +105,7 @@ meeting_of d gaps P u spans width total count start few kept meets =
     record { few = few; cut = kept.cut; kept = rw before at (kept.top (omega arith)); crossing = rw gap at crossing }
 
 -- the spans of the whole row once a column has been put on whose first cell lies in the row
-pub covered_with : (d : ℕ → ℕ → ℕ) (gaps : ℕ → ℕ) (P Q : ℕ → Type 0) (u : ℕ) (spans others : List Span) (width total count start : ℕ) → width ≤ 4096 → IsMore gaps P Q u
+pub covered_with : (d : ℕ → ℕ → ℕ) (gaps : ℕ → ℕ) (P Q : ℕ → Type 0) (u : ℕ) (spans others : List Span) (width total count start : ℕ) → width ≤ 4098 → IsMore gaps P Q u
     → IsKept d gaps P spans total count width u → IsStart d gaps spans count u start → start < width
     → span_at others count ≡ record { start = start; column = u; gap = gaps u }
     → ((place : ℕ) → place < count → span_at others place ≡ span_at spans place)
@@ -122,7 +122,7 @@ covered_with d gaps P Q u spans others width total (suc count) start few more ke
 }
 
 -- the spans of the whole row stay where the column's first cell doesn't lie in it
-pub covered_without : (d : ℕ → ℕ → ℕ) (gaps : ℕ → ℕ) (P Q : ℕ → Type 0) (u : ℕ) (spans : List Span) (width total count start : ℕ) → 0 < width → width ≤ 4096 → IsMore gaps P Q u
+pub covered_without : (d : ℕ → ℕ → ℕ) (gaps : ℕ → ℕ) (P Q : ℕ → Type 0) (u : ℕ) (spans : List Span) (width total count start : ℕ) → 0 < width → width ≤ 4098 → IsMore gaps P Q u
     → IsKept d gaps P spans total count width u → IsStart d gaps spans count u start → width ≤ start
     → IsCovered d gaps Q spans count width
 covered_without d gaps P Q u spans width total zero start wide few more kept meets outside = let first = meets.none refl in absurd (omega (arith, first))

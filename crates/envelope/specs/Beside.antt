@@ -1,6 +1,8 @@
 -- What is known of cells whose columns are looked at side by side, from the nearest outwards: this project's own rule. Each column has a place, 128 behind its number, so that there are places on both sides of all columns.
 use Rattle.std.specs.Prelude.{◌≡◌, ℕ, ◌+◌, ◌-◌, ◌<◌, ◌≤◌, List, length, slice_index, Some}
 use Rattle.std.specs.Int.{abs_diff}
+use Rattle.metric.specs.Edge.{spot_of}
+use Rattle.metric.specs.declared.edge.Edge.{Edge}
 use Rattle.envelope.specs.Columns.{IsNearColumn}
 
 -- no part is larger than that which stands for no obstacle
@@ -46,11 +48,11 @@ abbrev pub AreDecided : (ℕ → ℕ → ℕ) → (ℕ → ℕ → ℕ) → List
 AreDecided distance joined parts at best away = (i : ℕ) → i < 8 → IsDecided distance joined parts (at + i) (slice_index best i) (slice_index away i)
 
 -- what a cell's best and how far right of 128 columns to its left it lies tell: the obstacle of the column that is the nearest to it
-pub record IsTold (distance : ℕ → ℕ → ℕ) (entries : List ℕ) (y x best away : ℕ) : Type 0 where
+pub record IsTold (distance : ℕ → ℕ → ℕ) (entries : List ℕ) (y : ℕ) (edge : Edge) (x best away : ℕ) : Type 0 where
   pub right : 128 ≤ x + away
   pub inside : x + away - 128 < length entries
-  pub near : IsNearColumn distance entries y x (Some (record { dist = best; cell = record { x = x + away - 128; y = slice_index entries (x + away - 128) } }))
+  pub near : IsNearColumn distance entries y edge x (Some (record { dist = best; cell = spot_of edge (x + away - 128) (slice_index entries (x + away - 128)) }))
 
 -- the same of eight cells, as far as the row has them
-abbrev pub AreTold : (ℕ → ℕ → ℕ) → List ℕ → ℕ → ℕ → List ℕ → List ℕ → Type 0
-AreTold distance entries y start best away = (i : ℕ) → i < 8 → start + i < length entries → IsTold distance entries y (start + i) (slice_index best i) (slice_index away i)
+abbrev pub AreTold : (ℕ → ℕ → ℕ) → List ℕ → ℕ → Edge → ℕ → List ℕ → List ℕ → Type 0
+AreTold distance entries y edge start best away = (i : ℕ) → i < 8 → start + i < length entries → IsTold distance entries y edge (start + i) (slice_index best i) (slice_index away i)

@@ -1,5 +1,5 @@
 -- A piece of a row: some cells, and the columns that are enough for them. This project's own rule.
-use Rattle.std.specs.Prelude.{◌≡◌, ℕ, ◌+◌, ◌-◌, ◌<◌, ◌≤◌, List, length}
+use Rattle.std.specs.Prelude.{◌≡◌, ℕ, ◌-◌, ◌<◌, ◌≤◌, List, length}
 use Rattle.envelope.specs.Columns.{IsAmong, IsBest, IsFrom, distance_from, gap_of}
 use Rattle.envelope.specs.declared.piece.Piece.{Piece}
 

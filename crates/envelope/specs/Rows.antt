@@ -3,15 +3,17 @@
 use Rattle.std.specs.Prelude.{◌≡◌, ℕ, ◌<◌, List, Option, None, length, slice_index_or}
 use Rattle.metric.specs.declared.near.Near.{Near}
 use Rattle.metric.specs.Nearest.{IsNear}
-use Rattle.bits.specs.Cells.{Cells, IsObstacle}
+use Rattle.metric.specs.declared.edge.Edge.{Edge}
+use Rattle.bits.specs.Cells.{Cells}
+use Rattle.bits.specs.Edges.{IsBlocked}
 use Rattle.envelope.specs.Answer.{Reading}
 
 -- the nearest obstacles of the first cells of the row y, from the left, or none
-pub record AreRowNears (distance : ℕ → ℕ → ℕ) (cells : Cells) (y count : ℕ) (nears : List (Option Near)) : Type 0 where
+pub record AreRowNears (distance : ℕ → ℕ → ℕ) (cells : Cells) (edge : Edge) (y count : ℕ) (nears : List (Option Near)) : Type 0 where
   pub as_many : length nears ≡ count
-  pub each : (x : ℕ) → x < count → IsNear distance (IsObstacle cells) x y (slice_index_or nears x None)
+  pub each : (x : ℕ) → x < count → IsNear distance (IsBlocked cells edge) x y (slice_index_or nears x None)
 
 -- the answers tell the nearest obstacles of the first cells of the row y, from the left, or none
-pub record AreRowAnswers {T : Type 0} (told : Reading T) (nothing : T) (distance : ℕ → ℕ → ℕ) (cells : Cells) (y count : ℕ) (answers : List T) : Type 0 where
+pub record AreRowAnswers {T : Type 0} (told : Reading T) (nothing : T) (distance : ℕ → ℕ → ℕ) (cells : Cells) (edge : Edge) (y count : ℕ) (answers : List T) : Type 0 where
   pub as_many : length answers ≡ count
-  pub each : (x : ℕ) → x < count → IsNear distance (IsObstacle cells) x y (told distance x y (slice_index_or answers x nothing))
+  pub each : (x : ℕ) → x < count → IsNear distance (IsBlocked cells edge) x y (told distance x y (slice_index_or answers x nothing))

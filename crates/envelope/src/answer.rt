@@ -1,7 +1,7 @@
 //! What is written for a cell of a row: all that is known of its nearest obstacle, or a part from which that follows.
 
-ghost use Rattle.std.specs.Prelude.{◌≡◌, ℕ, ◌≤◌, Option, Some, None};
-ghost use Rattle.metric.specs.Distance.{distance_between};
+ghost use Rattle.std.specs.Prelude.{◌≡◌, ℕ, negsuc, pos, ◌≤ℤ◌, Option, Some, None};
+ghost use Rattle.metric.specs.Nearest.{spot_distance};
 ghost use Rattle.metric.specs.declared.near.Near.{Near};
 
 use metric::Near;
@@ -20,9 +20,11 @@ pub trait Answer: Copy {
 
     /// What is kept of an obstacle in a map.
     fn some(near: Near) -> Self
-        requires column { near.cell.x ≤ 4095 }
-        requires row { near.cell.y ≤ 4095 }
-        ensures { (distance : ℕ → ℕ → ℕ) (x y : ℕ) → near.dist ≡ distance_between distance x y near.cell.x near.cell.y → told distance x y result ≡ Some near };
+        requires left { negsuc 0 ≤ℤ near.cell.x }
+        requires column { near.cell.x ≤ℤ pos 4097 }
+        requires top { negsuc 0 ≤ℤ near.cell.y }
+        requires row { near.cell.y ≤ℤ pos 4097 }
+        ensures { (distance : ℕ → ℕ → ℕ) (x y : ℕ) → near.dist ≡ spot_distance distance x y near.cell.x near.cell.y → told distance x y result ≡ Some near };
 
     /// Where there is none, none is told.
     ghost tells_nothing: { (distance : ℕ → ℕ → ℕ) (x y : ℕ) → told distance x y nothing ≡ None };

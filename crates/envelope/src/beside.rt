@@ -2,8 +2,9 @@
 //!
 //! Each column has a place, 128 behind its number, and a part at this place: what its gap has in a distance of 16 bits. The places before the first column and behind the last one, and those of columns without an obstacle, have the part that stands for no obstacle. A column is named by how far right it lies of 128 columns to the left of the cell.
 
-ghost use Rattle.std.specs.Prelude.{◌≡◌, ℕ, ◌+◌, ◌-◌, ◌<◌, ◌≤◌, ◌⊎◌, length, slice_index, slice_index_or, Some, IfSome};
-ghost use Rattle.metric.specs.declared.near.Near.{Near};
+ghost use Rattle.std.specs.Prelude.{◌≡◌, ℕ, negsuc, pos, ◌+◌, ◌-◌, ◌*◌, ◌≤ℤ◌, ◌<◌, ◌≤◌, ◌⊎◌, length, slice_index, slice_index_or, Some, IfSome};
+ghost use Rattle.metric.specs.Edge.{shift, spot_of};
+ghost use Rattle.metric.specs.declared.edge.Edge.TheVariants.{Open, Wall};
 ghost use Rattle.envelope.specs.Beside.{AreBestNear, AreDecided, AreParts, AreSmall, AreTold};
 ghost use Rattle.envelope.specs.Columns.{AreEntries, AreNearColumns, IsNearColumn};
 ghost use Rattle.envelope.specs.Pieces.{IsLeftBound, IsRightBound};
@@ -13,7 +14,7 @@ use crate::cover::Span;
 use crate::lanes::{all_of, are_below, chosen, least, load};
 use crate::piece::{Piece, fill_piece};
 use column::NONE;
-use metric::{Cell, Metric, Near};
+use metric::{Edge, Metric, Near};
 use std::simd::prelude::*;
 
 /// The place of the first column.
@@ -47,9 +48,32 @@ struct Eight {
 }
 
 /// Fills the row with the obstacle of the column that is the nearest to each cell. Answers whether most cells were found near by. `parts` has room for a place for each column and 272 more, and `spans` for each column.
+pub fn fill_beside<M: Metric, A: Answer>(
+    entries: &[u16],
+    y: u16,
+    edge: Edge,
+    parts: &mut [u16],
+    spans: &mut [Span],
+    answers: &mut [A],
+) -> bool
+    requires laned { 0 < M.reach_of 1 }
+    requires entries { AreEntries entries.now y }
+    requires row { shift edge ≤ y }
+    requires room { length entries.now + 272 ≤ length parts.old }
+    requires spans { length entries.now ≤ length spans.old }
+    requires width { length answers.old + 2 * shift edge ≡ length entries.now }
+    ensures { AreNearColumns A.told A.nothing M.distance entries.now y edge answers.new }
+{
+    match edge {
+        Edge::Open => fill_open::<M, A>(entries, y, parts, spans, answers),
+        Edge::Wall => fill_walled::<M, A>(entries, y, parts, spans, answers),
+    }
+}
+
+/// The same where the border is open.
 // Not inlined: the two phases would compete for registers.
 #[inline(never)]
-pub fn fill_beside<M: Metric, A: Answer>(
+fn fill_open<M: Metric, A: Answer>(
     entries: &[u16],
     y: u16,
     parts: &mut [u16],
@@ -60,31 +84,74 @@ pub fn fill_beside<M: Metric, A: Answer>(
     requires entries { AreEntries entries.now y }
     requires room { length entries.now + 272 ≤ length parts.old }
     requires spans { length entries.now ≤ length spans.old }
-    requires width { length answers.old ≡ length entries.now }
-    ensures { AreNearColumns A.told A.nothing M.distance entries.now y answers.new }
+    requires width { length answers.old + 2 * shift Open ≡ length entries.now }
+    ensures { AreNearColumns A.told A.nothing M.distance entries.now y Open answers.new }
+{
+    fill_within::<M, A>(entries, y, Edge::Open, parts, spans, answers)
+}
+
+/// The same where the border is a wall.
+#[inline(never)]
+fn fill_walled<M: Metric, A: Answer>(
+    entries: &[u16],
+    y: u16,
+    parts: &mut [u16],
+    spans: &mut [Span],
+    answers: &mut [A],
+) -> bool
+    requires laned { 0 < M.reach_of 1 }
+    requires entries { AreEntries entries.now y }
+    requires row { shift Wall ≤ y }
+    requires room { length entries.now + 272 ≤ length parts.old }
+    requires spans { length entries.now ≤ length spans.old }
+    requires width { length answers.old + 2 * shift Wall ≡ length entries.now }
+    ensures { AreNearColumns A.told A.nothing M.distance entries.now y Wall answers.new }
+{
+    fill_within::<M, A>(entries, y, Edge::Wall, parts, spans, answers)
+}
+
+/// The same by an edge that is known where this is inlined, so that no cell asks for it.
+#[inline(always)]
+fn fill_within<M: Metric, A: Answer>(
+    entries: &[u16],
+    y: u16,
+    edge: Edge,
+    parts: &mut [u16],
+    spans: &mut [Span],
+    answers: &mut [A],
+) -> bool
+    requires laned { 0 < M.reach_of 1 }
+    requires entries { AreEntries entries.now y }
+    requires row { shift edge ≤ y }
+    requires room { length entries.now + 272 ≤ length parts.old }
+    requires spans { length entries.now ≤ length spans.old }
+    requires width { length answers.old + 2 * shift edge ≡ length entries.now }
+    ensures { AreNearColumns A.told A.nothing M.distance entries.now y edge answers.new }
 {
     let parts = &mut parts[..entries.len() + SPARE];
     set_parts::<M>(entries, y, parts);
     let mut left = steps_for(entries);
+    let before = usize::from(edge.shift());
     let mut start = 0;
-    'cells: while start < entries.len() {
-        if let Some((low, high, steps)) = search::<M>(parts, start + FIRST, left) {
-            fill_eight::<M, A>(entries, y, start, low, answers);
-            fill_eight::<M, A>(entries, y, start + 8, high, answers);
+    'cells: while start < answers.len() {
+        let at = start + before;
+        if let Some((low, high, steps)) = search::<M>(parts, at + FIRST, left) {
+            fill_eight::<M, A>(entries, y, edge, start, low, answers);
+            fill_eight::<M, A>(entries, y, edge, start + 8, high, answers);
             left = left.saturating_sub(steps);
             start += 16;
         } else {
-            let first = first_column::<M>(entries, y, parts, start);
-            let (end, last, steps) = next_found::<M>(entries, y, parts, start, left);
+            let first = first_column::<M>(entries, y, parts, at);
+            let (end, last, steps) = next_found::<M>(entries, y, parts, at, left);
             let piece = Piece {
-                from: start,
+                from: at,
                 end,
                 first,
                 last,
             };
-            fill_piece::<M, A>(entries, y, piece, spans, answers);
+            fill_piece::<M, A>(entries, y, edge, piece, spans, answers);
             left = left.saturating_sub(steps);
-            start = end;
+            start = end - before;
         }
     }
     left > 0
@@ -143,7 +210,7 @@ fn next_found<M: Metric>(
 /// The column so far right of 128 columns to the left of the cell in column `x`, at one of eight places.
 #[inline(always)]
 fn column_of(x: usize, away: u16x8, place: usize) -> usize
-    requires cell { x ≤ 4111 }
+    requires cell { x ≤ 4113 }
     requires place { place < 8 }
     ensures { result ≡ x + slice_index away place - 128 }
 {
@@ -264,39 +331,46 @@ fn look_aside<M: Metric>(parts: &[u16], at: usize, k: u16, best: u16x8, away: u1
 fn fill_eight<M: Metric, A: Answer>(
     entries: &[u16],
     y: u16,
+    edge: Edge,
     start: usize,
     eight: Eight,
     answers: &mut [A],
 )
     requires entries { AreEntries entries.now y }
-    requires width { length answers.old ≡ length entries.now }
-    requires start { start ≤ 4111 }
-    requires told { AreTold M.distance entries.now y start eight.best eight.away }
-    ensures filled { (x : ℕ) → start ≤ x → x < start + 8 → x < length entries.now → IsNearColumn M.distance entries.now y x (A.told M.distance x y (slice_index_or answers.new x A.nothing)) }
+    requires row { shift edge ≤ y }
+    requires width { length answers.old + 2 * shift edge ≡ length entries.now }
+    requires start { start ≤ 4113 }
+    requires told { AreTold M.distance entries.now y edge (start + shift edge) eight.best eight.away }
+    ensures len { length answers.new ≡ length answers.old }
+    ensures filled { (x : ℕ) → start ≤ x → x < start + 8 → x < length answers.old → IsNearColumn M.distance entries.now y edge (x + shift edge) (A.told M.distance x (y - shift edge) (slice_index_or answers.new x A.nothing)) }
     ensures others { (x : ℕ) → (x < start) ⊎ (start + 8 ≤ x) → slice_index_or answers.new x A.nothing ≡ slice_index_or answers.old x A.nothing }
 {
     let (best, away) = (eight.best.to_array(), eight.away.to_array());
-    let count = (entries.len().max(start) - start).min(8);
+    let first = usize::from(edge.shift());
+    let count = (answers.len().max(start) - start).min(8);
     'cells: for lane in 0..count {
-        answers[start + lane] = A::some(near(entries, start + lane, best[lane], away[lane]));
+        let x = start + lane + first;
+        answers[start + lane] = A::some(near(entries, edge, x, best[lane], away[lane]));
     }
 }
 
 /// The obstacle of the column so far right of 128 columns to the left of the cell in column `x`.
 #[inline(always)]
-fn near(entries: &[u16], x: usize, best: u16, away: u16) -> Near
-    requires few { length entries.now ≤ 4096 }
+fn near(entries: &[u16], edge: Edge, x: usize, best: u16, away: u16) -> Near
+    requires few { length entries.now ≤ 4098 }
     requires right { 128 ≤ x + away }
-    requires cell { x ≤ 4095 }
+    requires cell { x ≤ 4097 }
     requires inside { x + away - 128 < length entries.now }
-    ensures { result ≡ record { dist = best; cell = record { x = x + away - 128; y = slice_index entries.now (x + away - 128) } } }
+    requires row { slice_index entries.now (x + away - 128) ≤ 4097 }
+    ensures near { result ≡ record { dist = best; cell = spot_of edge (x + away - 128) (slice_index entries.now (x + away - 128)) } }
+    ensures left { negsuc 0 ≤ℤ result.cell.x }
+    ensures column { result.cell.x ≤ℤ pos 4097 }
+    ensures top { negsuc 0 ≤ℤ result.cell.y }
+    ensures below { result.cell.y ≤ℤ pos 4097 }
 {
     let column = x + usize::from(away) - 128;
     Near {
         dist: u32::from(best),
-        cell: Cell {
-            x: column as u16,
-            y: entries[column],
-        },
+        cell: edge.spot(column as u16, entries[column]),
     }
 }

@@ -13,22 +13,22 @@ pub fn gap(entries: &[u16], y: u16, column: u16) -> u16
     requires entries { AreEntries entries.now y }
     requires column { IsAmong entries.now (length entries.now) column }
     ensures gap { result ≡ gap_of entries.now y column }
-    ensures small { result ≤ 4095 }
+    ensures small { result ≤ 4097 }
 {
     y.abs_diff(entries[usize::from(column)])
 }
 
 /// The distance from the cell in column `x` to the obstacle of a column with this gap.
 pub fn distance<M: Metric>(column: u16, gap: u16, x: u16) -> u32
-    requires column { column ≤ 4095 }
-    requires gap { gap ≤ 4095 }
-    requires cell { x ≤ 4095 }
+    requires column { column ≤ 4097 }
+    requires gap { gap ≤ 4097 }
+    requires cell { x ≤ 4097 }
     ensures { result ≡ at_column M.distance column gap x }
 {
     M::of(x.abs_diff(column), gap)
 }
 
-/// The first cell from which on the right one of two columns is strictly nearer, at most 4096.
+/// The first cell from which on the right one of two columns is strictly nearer, at most 4098.
 pub fn crossing<M: Metric>(left: u16, left_gap: u16, right: u16, right_gap: u16) -> u16
     requires { AreColumns left left_gap right right_gap }
     ensures { IsCrossing M.distance left left_gap right right_gap result }

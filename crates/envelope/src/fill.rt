@@ -1,6 +1,9 @@
 //! The spans of a piece of a row read back: each cell with its nearest obstacle.
 
-ghost use Rattle.std.specs.Prelude.{◌≡◌, ℕ, ◌<◌, ◌≤◌, ◌⊎◌, length, slice_index_or, Some};
+ghost use Rattle.std.specs.Prelude.{◌≡◌, ℕ, negsuc, pos, ◌+◌, ◌-◌, ◌*◌, ◌<◌, ◌≤◌, ◌≤ℤ◌, ◌⊎◌, length, slice_index_or, Some};
+ghost use Rattle.metric.specs.Edge.{shift};
+ghost use Rattle.metric.specs.declared.edge.Edge.TheVariants.{Open, Wall};
+ghost use Rattle.metric.specs.Nearest.{spot_distance};
 ghost use Rattle.envelope.specs.Columns.{AreEntries, IsAmong, IsFrom, IsNearColumn, gap_of, near_from};
 ghost use Rattle.envelope.specs.Envelope.{IsCovered};
 ghost use Rattle.envelope.specs.Pieces.{IsEnough, IsPiece};
@@ -9,12 +12,36 @@ use crate::answer::Answer;
 use crate::columns::{distance, gap};
 use crate::cover::Span;
 use crate::piece::Piece;
-use metric::{Cell, Metric, Near};
+use metric::{Edge, Metric, Near};
 
-/// Fills the cells of the piece with the obstacle of the column that is the nearest to each, or with none where there is no span.
+/// Fills the cells of the piece with the obstacle of the column that is the nearest to each, or with none where there is no span. Cells of the frame have no place in the row.
+pub fn fill<M: Metric, A: Answer>(
+    entries: &[u16],
+    y: u16,
+    edge: Edge,
+    piece: Piece,
+    spans: &[Span],
+    answers: &mut [A],
+)
+    requires entries { AreEntries entries.now y }
+    requires row { shift edge ≤ y }
+    requires piece { IsPiece entries.now piece }
+    requires enough { IsEnough M.distance entries.now y piece }
+    requires width { length answers.old + 2 * shift edge ≡ length entries.now }
+    requires covered { IsCovered M.distance (gap_of entries.now y) (IsFrom entries.now piece.first piece.last) spans.now (length spans.now) piece.end }
+    ensures filled { (x : ℕ) → piece.from ≤ x + shift edge → x + shift edge < piece.end → x < length answers.old → IsNearColumn M.distance entries.now y edge (x + shift edge) (A.told M.distance x (y - shift edge) (slice_index_or answers.new x A.nothing)) }
+    ensures others { (x : ℕ) → (x + shift edge < piece.from) ⊎ (piece.end ≤ x + shift edge) → slice_index_or answers.new x A.nothing ≡ slice_index_or answers.old x A.nothing }
+{
+    match edge {
+        Edge::Open => fill_open::<M, A>(entries, y, piece, spans, answers),
+        Edge::Wall => fill_walled::<M, A>(entries, y, piece, spans, answers),
+    }
+}
+
+/// The same where the border is open.
 // Not inlined: the two phases would compete for registers.
 #[inline(never)]
-pub fn fill<M: Metric, A: Answer>(
+fn fill_open<M: Metric, A: Answer>(
     entries: &[u16],
     y: u16,
     piece: Piece,
@@ -22,15 +49,61 @@ pub fn fill<M: Metric, A: Answer>(
     answers: &mut [A],
 )
     requires entries { AreEntries entries.now y }
+    requires row { shift Open ≤ y }
     requires piece { IsPiece entries.now piece }
     requires enough { IsEnough M.distance entries.now y piece }
-    requires width { length answers.old ≡ length entries.now }
+    requires width { length answers.old + 2 * shift Open ≡ length entries.now }
     requires covered { IsCovered M.distance (gap_of entries.now y) (IsFrom entries.now piece.first piece.last) spans.now (length spans.now) piece.end }
-    ensures filled { (x : ℕ) → piece.from ≤ x → x < piece.end → IsNearColumn M.distance entries.now y x (A.told M.distance x y (slice_index_or answers.new x A.nothing)) }
-    ensures others { (x : ℕ) → (x < piece.from) ⊎ (piece.end ≤ x) → slice_index_or answers.new x A.nothing ≡ slice_index_or answers.old x A.nothing }
+    ensures filled { (x : ℕ) → piece.from ≤ x + shift Open → x + shift Open < piece.end → x < length answers.old → IsNearColumn M.distance entries.now y Open (x + shift Open) (A.told M.distance x (y - shift Open) (slice_index_or answers.new x A.nothing)) }
+    ensures others { (x : ℕ) → (x + shift Open < piece.from) ⊎ (piece.end ≤ x + shift Open) → slice_index_or answers.new x A.nothing ≡ slice_index_or answers.old x A.nothing }
+{
+    fill_within::<M, A>(entries, y, Edge::Open, piece, spans, answers);
+}
+
+/// The same where the border is a wall.
+#[inline(never)]
+fn fill_walled<M: Metric, A: Answer>(
+    entries: &[u16],
+    y: u16,
+    piece: Piece,
+    spans: &[Span],
+    answers: &mut [A],
+)
+    requires entries { AreEntries entries.now y }
+    requires row { shift Wall ≤ y }
+    requires piece { IsPiece entries.now piece }
+    requires enough { IsEnough M.distance entries.now y piece }
+    requires width { length answers.old + 2 * shift Wall ≡ length entries.now }
+    requires covered { IsCovered M.distance (gap_of entries.now y) (IsFrom entries.now piece.first piece.last) spans.now (length spans.now) piece.end }
+    ensures filled { (x : ℕ) → piece.from ≤ x + shift Wall → x + shift Wall < piece.end → x < length answers.old → IsNearColumn M.distance entries.now y Wall (x + shift Wall) (A.told M.distance x (y - shift Wall) (slice_index_or answers.new x A.nothing)) }
+    ensures others { (x : ℕ) → (x + shift Wall < piece.from) ⊎ (piece.end ≤ x + shift Wall) → slice_index_or answers.new x A.nothing ≡ slice_index_or answers.old x A.nothing }
+{
+    fill_within::<M, A>(entries, y, Edge::Wall, piece, spans, answers);
+}
+
+/// The same by an edge that is known where this is inlined, so that no cell asks for it.
+#[inline(always)]
+fn fill_within<M: Metric, A: Answer>(
+    entries: &[u16],
+    y: u16,
+    edge: Edge,
+    piece: Piece,
+    spans: &[Span],
+    answers: &mut [A],
+)
+    requires entries { AreEntries entries.now y }
+    requires row { shift edge ≤ y }
+    requires piece { IsPiece entries.now piece }
+    requires enough { IsEnough M.distance entries.now y piece }
+    requires width { length answers.old + 2 * shift edge ≡ length entries.now }
+    requires covered { IsCovered M.distance (gap_of entries.now y) (IsFrom entries.now piece.first piece.last) spans.now (length spans.now) piece.end }
+    ensures filled { (x : ℕ) → piece.from ≤ x + shift edge → x + shift edge < piece.end → x < length answers.old → IsNearColumn M.distance entries.now y edge (x + shift edge) (A.told M.distance x (y - shift edge) (slice_index_or answers.new x A.nothing)) }
+    ensures others { (x : ℕ) → (x + shift edge < piece.from) ⊎ (piece.end ≤ x + shift edge) → slice_index_or answers.new x A.nothing ≡ slice_index_or answers.old x A.nothing }
 {
     if spans.is_empty() {
-        fill_none(piece.from, piece.end, answers);
+        let before = usize::from(edge.shift());
+        let end = piece.end.saturating_sub(before).min(answers.len());
+        fill_none(piece.from.saturating_sub(before), end, answers);
         return;
     }
     let mut end = piece.end;
@@ -38,7 +111,7 @@ pub fn fill<M: Metric, A: Answer>(
     'spans: while count > 0 {
         count -= 1;
         let span = spans[count];
-        fill_span::<M, A>(entries, y, span, piece.from, end, answers);
+        fill_span::<M, A>(entries, y, edge, span, piece.from, end, answers);
         end = usize::from(span.start);
     }
 }
@@ -55,9 +128,11 @@ fn fill_none<A: Answer>(from: usize, end: usize, answers: &mut [A])
 }
 
 /// Fills the cells of one span, from one of them on and up to the end.
+#[inline(always)]
 fn fill_span<M: Metric, A: Answer>(
     entries: &[u16],
     y: u16,
+    edge: Edge,
     span: Span,
     from: usize,
     end: usize,
@@ -65,28 +140,35 @@ fn fill_span<M: Metric, A: Answer>(
 )
     requires entries { AreEntries entries.now y }
     requires column { IsAmong entries.now (length entries.now) span.column }
-    requires width { length answers.old ≡ length entries.now }
+    requires row { shift edge ≤ y }
+    requires width { length answers.old + 2 * shift edge ≡ length entries.now }
     requires within { end ≤ length entries.now }
-    ensures filled { (x : ℕ) → span.start ≤ x → from ≤ x → x < end → A.told M.distance x y (slice_index_or answers.new x A.nothing) ≡ Some (near_from M.distance entries.now y span.column x) }
-    ensures others { (x : ℕ) → (x < from) ⊎ (end ≤ x) → slice_index_or answers.new x A.nothing ≡ slice_index_or answers.old x A.nothing }
+    ensures filled { (x : ℕ) → span.start ≤ x + shift edge → from ≤ x + shift edge → x + shift edge < end → x < length answers.old → A.told M.distance x (y - shift edge) (slice_index_or answers.new x A.nothing) ≡ Some (near_from M.distance entries.now y edge span.column (x + shift edge)) }
+    ensures others { (x : ℕ) → (x + shift edge < from) ⊎ (end ≤ x + shift edge) → slice_index_or answers.new x A.nothing ≡ slice_index_or answers.old x A.nothing }
 {
-    for x in usize::from(span.start).max(from)..end {
-        answers[x] = A::some(near::<M>(entries, y, span.column, x as u16));
+    let before = usize::from(edge.shift());
+    let low = usize::from(span.start).max(from).saturating_sub(before);
+    let high = end.saturating_sub(before).min(answers.len());
+    for x in low..high {
+        answers[x] = A::some(near::<M>(entries, y, edge, span.column, (x + before) as u16));
     }
 }
 
 /// The column's obstacle, as the cell in column `x` sees it.
-fn near<M: Metric>(entries: &[u16], y: u16, column: u16, x: u16) -> Near
+#[inline(always)]
+fn near<M: Metric>(entries: &[u16], y: u16, edge: Edge, column: u16, x: u16) -> Near
     requires entries { AreEntries entries.now y }
     requires column { IsAmong entries.now (length entries.now) column }
-    requires cell { x ≤ 4095 }
-    ensures { result ≡ near_from M.distance entries.now y column x }
+    requires cell { x ≤ 4097 }
+    ensures near { result ≡ near_from M.distance entries.now y edge column x }
+    ensures seen { shift edge ≤ x → shift edge ≤ y → result.dist ≡ spot_distance M.distance (x - shift edge) (y - shift edge) result.cell.x result.cell.y }
+    ensures left { negsuc 0 ≤ℤ result.cell.x }
+    ensures column { result.cell.x ≤ℤ pos 4097 }
+    ensures top { negsuc 0 ≤ℤ result.cell.y }
+    ensures row { result.cell.y ≤ℤ pos 4097 }
 {
     Near {
         dist: distance::<M>(column, gap(entries, y, column), x),
-        cell: Cell {
-            x: column,
-            y: entries[usize::from(column)],
-        },
+        cell: edge.spot(column, entries[usize::from(column)]),
     }
 }

@@ -1,15 +1,16 @@
 //! A piece of a row that is worked by the stack, and the columns that are enough for it.
 
-ghost use Rattle.std.specs.Prelude.{ℕ, ◌<◌, ◌≤◌, ◌≡◌, ◌⊎◌, length, slice_index_or};
+ghost use Rattle.std.specs.Prelude.{ℕ, ◌+◌, ◌-◌, ◌*◌, ◌<◌, ◌≤◌, ◌≡◌, ◌⊎◌, length, slice_index_or};
+ghost use Rattle.metric.specs.Edge.{shift};
 ghost use Rattle.envelope.specs.Columns.{AreEntries, IsNearColumn};
 ghost use Rattle.envelope.specs.Pieces.{IsEnough, IsPiece};
 
 use crate::answer::Answer;
 use crate::cover::{Span, cover};
 use crate::fill::fill;
-use metric::Metric;
+use metric::{Edge, Metric};
 
-/// The cells from one to before another, and the columns from one to before another.
+/// The cells from one to before another, and the columns from one to before another. Both are counted with the frame, where there is one.
 #[derive(Clone, Copy, Debug)]
 pub struct Piece {
     pub from: usize,
@@ -22,18 +23,20 @@ pub struct Piece {
 pub fn fill_piece<M: Metric, A: Answer>(
     entries: &[u16],
     y: u16,
+    edge: Edge,
     piece: Piece,
     spans: &mut [Span],
     answers: &mut [A],
 )
     requires entries { AreEntries entries.now y }
+    requires row { shift edge ≤ y }
     requires piece { IsPiece entries.now piece }
     requires enough { IsEnough M.distance entries.now y piece }
     requires room { length entries.now ≤ length spans.old }
-    requires width { length answers.old ≡ length entries.now }
-    ensures filled { (x : ℕ) → piece.from ≤ x → x < piece.end → IsNearColumn M.distance entries.now y x (A.told M.distance x y (slice_index_or answers.new x A.nothing)) }
-    ensures others { (x : ℕ) → (x < piece.from) ⊎ (piece.end ≤ x) → slice_index_or answers.new x A.nothing ≡ slice_index_or answers.old x A.nothing }
+    requires width { length answers.old + 2 * shift edge ≡ length entries.now }
+    ensures filled { (x : ℕ) → piece.from ≤ x + shift edge → x + shift edge < piece.end → x < length answers.old → IsNearColumn M.distance entries.now y edge (x + shift edge) (A.told M.distance x (y - shift edge) (slice_index_or answers.new x A.nothing)) }
+    ensures others { (x : ℕ) → (x + shift edge < piece.from) ⊎ (piece.end ≤ x + shift edge) → slice_index_or answers.new x A.nothing ≡ slice_index_or answers.old x A.nothing }
 {
     let count = cover::<M>(entries, y, piece, spans);
-    fill::<M, A>(entries, y, piece, &spans[..count], answers);
+    fill::<M, A>(entries, y, edge, piece, &spans[..count], answers);
 }

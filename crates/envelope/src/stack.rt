@@ -1,10 +1,12 @@
 //! The room in which a row's spans are stacked, and the row phase.
 
-ghost use Rattle.std.specs.Prelude.{◌≡◌, ℕ, ◌<◌, ◌≤◌, length, IfOk, IfErr};
+ghost use Rattle.std.specs.Prelude.{◌≡◌, ℕ, ◌+◌, ◌*◌, ◌<◌, ◌≤◌, length, IfOk, IfErr};
 ghost use Rattle.bits.specs.Cells.{Cells, IsBitmap};
 ghost use Rattle.column.specs.Columns.{IsRowOfTable};
 ghost use Rattle.envelope.specs.Columns.{AreEntries, AreNearColumns};
 ghost use Rattle.envelope.specs.Rows.{AreRowAnswers, AreRowNears};
+ghost use Rattle.bits.specs.Edges.{framed};
+ghost use Rattle.metric.specs.Edge.{shift};
 ghost use Rattle.metric.specs.declared.refusal.Refusal.TheVariants.{Memory};
 
 use crate::answer::Answer;
@@ -13,7 +15,7 @@ use crate::cover::Span;
 use crate::piece::{Piece, fill_piece};
 use bits::Bitmap;
 use column::{ColumnTable, nearest_rows};
-use metric::{Metric, Near, Refusal};
+use metric::{Edge, Metric, Near, Refusal};
 use std::alloc::Global;
 use std::marker::Model;
 
@@ -66,24 +68,26 @@ impl Stack {
     }
 }
 
-/// Fills a row with the nearest obstacle of each cell of row `y`, from the left, or `None` where the map has no obstacle.
+/// Fills a row with the nearest obstacle of each cell of row `y`, from the left, or `None` where there is no obstacle.
 ///
-/// Of the obstacles at the least distance it is the one of the least column; of those the one in the fewest rows away, and of two such the upper. The row in hand and the map have one width, and so has the stack, or a greater one. No memory is taken.
+/// Of the obstacles at the least distance it is the one of the least column; of those the one in the fewest rows away, and of two such the upper. The row in hand and the map have one width, and the stack is for rows of so many cells or more, two more where the border is a wall. No memory is taken.
 pub fn row<M: Metric>(table: &ColumnTable, y: u16, stack: &mut Stack, nears: &mut [Option<Near>])
-    requires row { y < table.now.height }
-    requires stack { table.now.width ≤ stack.old }
-    requires width { length nears.old ≡ table.now.width }
-    ensures nears { AreRowNears M.distance table.now y table.now.width nears.new }
+    requires row { y < table.now.cells.height }
+    requires stack { table.now.cells.width + 2 * shift table.now.edge ≤ stack.old }
+    requires width { length nears.old ≡ table.now.cells.width }
+    ensures nears { AreRowNears M.distance table.now.cells table.now.edge y table.now.cells.width nears.new }
     ensures stack { stack.new ≡ stack.old }
 {
-    row_from::<M, Option<Near>>(table.row(y), y, stack, nears);
+    let edge = table.edge();
+    row_from::<M, Option<Near>>(table.row(y), y + edge.shift(), edge, stack, nears);
 }
 
-/// The same without a table: the nearest obstacles of the columns, seen from this row alone, are put into `entries`.
+/// The same without a table: the nearest obstacles of the columns, seen from this row alone, are put into `entries`, two more than the map has columns where the border is a wall.
 ///
 /// For some dozens of rows this is faster than a table of the whole map. No memory is taken.
 pub fn row_alone<M: Metric>(
     bitmap: &Bitmap,
+    edge: Edge,
     y: u16,
     entries: &mut [u16],
     stack: &mut Stack,
@@ -91,54 +95,76 @@ pub fn row_alone<M: Metric>(
 )
     requires row { y < bitmap.now.height }
     requires bitmap { IsBitmap bitmap.now }
-    requires entries { length entries.old ≡ bitmap.now.width }
-    requires stack { bitmap.now.width ≤ stack.old }
+    requires entries { length entries.old ≡ bitmap.now.width + 2 * shift edge }
+    requires stack { bitmap.now.width + 2 * shift edge ≤ stack.old }
     requires width { length nears.old ≡ bitmap.now.width }
-    ensures nears { AreRowNears M.distance bitmap.now y bitmap.now.width nears.new }
+    ensures nears { AreRowNears M.distance bitmap.now edge y bitmap.now.width nears.new }
     ensures stack { stack.new ≡ stack.old }
 {
-    nearest_rows(bitmap, y, entries);
-    row_from::<M, Option<Near>>(entries, y, stack, nears);
+    let framed = y + edge.shift();
+    nearest_rows(bitmap, edge, framed, entries);
+    row_from::<M, Option<Near>>(entries, framed, edge, stack, nears);
 }
 
-/// Fills a row with what is kept of the nearest obstacle of each cell of row `y`, from the left. `entries` are the row of a table of the map: the nearest obstacles of the columns.
+/// Fills a row with what is kept of the nearest obstacle of each cell of row `y`, from the left. `entries` are the row of a table of the map: the nearest obstacles of the columns. Where the border is a wall, `y` and the entries are counted with the frame.
 ///
-/// The row in hand has as many cells as there are entries, and the stack is for so many or more. No memory is taken.
-pub fn row_from<M: Metric, A: Answer>(entries: &[u16], y: u16, stack: &mut Stack, answers: &mut [A])
+/// The row in hand has as many cells as there are entries, but for those of the frame, and the stack is for so many entries or more. No memory is taken.
+pub fn row_from<M: Metric, A: Answer>(
+    entries: &[u16],
+    y: u16,
+    edge: Edge,
+    stack: &mut Stack,
+    answers: &mut [A],
+)
     requires entries { AreEntries entries.now y }
+    requires row { shift edge ≤ y }
     requires stack { length entries.now ≤ stack.old }
-    requires width { length answers.old ≡ length entries.now }
-    ensures answers { (cells : Cells) → IsBitmap cells → y < cells.height → IsRowOfTable cells y entries.now → AreRowAnswers A.told A.nothing M.distance cells y cells.width answers.new }
+    requires width { length answers.old + 2 * shift edge ≡ length entries.now }
+    ensures answers { (cells : Cells) (row : ℕ) → IsBitmap cells → row < cells.height → y ≡ row + shift edge → IsRowOfTable (framed edge cells) y entries.now → AreRowAnswers A.told A.nothing M.distance cells edge row cells.width answers.new }
     ensures stack { stack.new ≡ stack.old }
 {
-    fill_row::<M, A>(entries, y, stack, answers);
+    fill_row::<M, A>(entries, y, edge, stack, answers);
 }
 
 /// Fills a row with the obstacle of the column that is the nearest to each cell: by looking around each cell where the nearest are near by, and otherwise by the stack, as for each metric without a reach.
-fn fill_row<M: Metric, A: Answer>(entries: &[u16], y: u16, stack: &mut Stack, answers: &mut [A])
+fn fill_row<M: Metric, A: Answer>(
+    entries: &[u16],
+    y: u16,
+    edge: Edge,
+    stack: &mut Stack,
+    answers: &mut [A],
+)
     requires entries { AreEntries entries.now y }
+    requires row { shift edge ≤ y }
     requires stack { length entries.now ≤ stack.old }
-    requires width { length answers.old ≡ length entries.now }
-    ensures answers { AreNearColumns A.told A.nothing M.distance entries.now y answers.new }
+    requires width { length answers.old + 2 * shift edge ≡ length entries.now }
+    ensures answers { AreNearColumns A.told A.nothing M.distance entries.now y edge answers.new }
     ensures stack { stack.new ≡ stack.old }
 {
     if stack.far_rows > 0 || M::reach(1) == 0 {
         stack.far_rows = stack.far_rows.saturating_sub(1);
-        fill_far::<M, A>(entries, y, stack.spans.as_mut_slice(), answers);
+        fill_far::<M, A>(entries, y, edge, stack.spans.as_mut_slice(), answers);
         return;
     }
     let (parts, spans) = (stack.parts.as_mut_slice(), stack.spans.as_mut_slice());
-    if !fill_beside::<M, A>(entries, y, parts, spans, answers) {
+    if !fill_beside::<M, A>(entries, y, edge, parts, spans, answers) {
         stack.far_rows = FAR_ROWS;
     }
 }
 
 /// Fills a row by the stack alone.
-fn fill_far<M: Metric, A: Answer>(entries: &[u16], y: u16, spans: &mut [Span], answers: &mut [A])
+fn fill_far<M: Metric, A: Answer>(
+    entries: &[u16],
+    y: u16,
+    edge: Edge,
+    spans: &mut [Span],
+    answers: &mut [A],
+)
     requires entries { AreEntries entries.now y }
+    requires row { shift edge ≤ y }
     requires spans { length entries.now ≤ length spans.old }
-    requires width { length answers.old ≡ length entries.now }
-    ensures answers { AreNearColumns A.told A.nothing M.distance entries.now y answers.new }
+    requires width { length answers.old + 2 * shift edge ≡ length entries.now }
+    ensures answers { AreNearColumns A.told A.nothing M.distance entries.now y edge answers.new }
 {
     if entries.is_empty() {
         return;
@@ -149,5 +175,5 @@ fn fill_far<M: Metric, A: Answer>(entries: &[u16], y: u16, spans: &mut [Span], a
         first: 0,
         last: entries.len(),
     };
-    fill_piece::<M, A>(entries, y, piece, spans, answers);
+    fill_piece::<M, A>(entries, y, edge, piece, spans, answers);
 }

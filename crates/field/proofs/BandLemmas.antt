@@ -1,24 +1,26 @@
 -- The nearest obstacles of rows that are filled one after another, and of bands that stand one behind another.
-use Rattle.std.proofs.Common.{◌≡◌, ℕ, ◌+◌, ◌-◌, ◌*◌, ◌/◌, ◌<◌, ◌≤◌, ◌⊎◌, inl, inr, List, ◌++◌, take, drop, Option, None, Result, Ok, Err, OnOk, length, slice_index_or, arith, length-append}
+use Rattle.std.proofs.Common.{◌≡◌, ℕ, ◌+◌, ◌-◌, ◌*◌, ◌/◌, ◌<◌, ◌≤◌, ◌⊎◌, ◌∙◌, inl, inr, List, ◌++◌, take, drop, Option, None, Result, Ok, Err, OnOk, length, slice_index_or, arith, length-append}
 use Rattle.std.proofs.Math.Nat.{div-le_self, div-mul-le_self, mul-div_cancel_left, mul-le-mul_right}
 use Rattle.std.proofs.lemmas.Bool.{cases_lt}
 use Rattle.std.proofs.lemmas.Nat.{le-div}
-use Rattle.std.proofs.lemmas.List.{get_or_append_left, get_or-append-add, take_at}
+use Rattle.std.proofs.lemmas.List.{get_or_append_left, get_or-append-add, length-take-le, take_at}
+use Rattle.metric.specs.declared.edge.Edge.{Edge}
 use Rattle.metric.specs.declared.near.Near.{Near}
 use Rattle.metric.specs.Nearest.{IsNear}
-use Rattle.bits.specs.Cells.{Cells, IsObstacle}
+use Rattle.bits.specs.Cells.{Cells}
+use Rattle.bits.specs.Edges.{IsBlocked}
 use Rattle.envelope.specs.Answer.{Reading}
 use Rattle.field.specs.Bands.{AreAnswers, AreFilled, HasRoom, row_behind}
 use Rattle.field.specs.Rows.{AreNears}
 use Rattle.column.proofs.Sweeping.{place_above}
 
 -- one row more
-pub AreFilled-more : {T : Type 0} (told : Reading T) (nothing : T) (distance : ℕ → ℕ → ℕ) (cells : Cells) (from y : ℕ) (before after : List T) → from ≤ y
-    → AreFilled told nothing distance cells from y before
-    → ((x : ℕ) → x < cells.width → IsNear distance (IsObstacle cells) x y (told distance x y (slice_index_or after ((y - from) * cells.width + x) nothing)))
+pub AreFilled-more : {T : Type 0} (told : Reading T) (nothing : T) (distance : ℕ → ℕ → ℕ) (cells : Cells) (edge : Edge) (from y : ℕ) (before after : List T) → from ≤ y
+    → AreFilled told nothing distance cells edge from y before
+    → ((x : ℕ) → x < cells.width → IsNear distance (IsBlocked cells edge) x y (told distance x y (slice_index_or after ((y - from) * cells.width + x) nothing)))
     → ((k : ℕ) → (k < (y - from) * cells.width) ⊎ ((y - from) * cells.width + cells.width ≤ k) → slice_index_or after k nothing ≡ slice_index_or before k nothing)
-    → AreFilled told nothing distance cells from (y + 1) after
-AreFilled-more told nothing distance cells from y before after ordered filled here others = record {
+    → AreFilled told nothing distance cells edge from (y + 1) after
+AreFilled-more told nothing distance cells edge from y before after ordered filled here others = record {
   each = λ x b column low high. elim (cases_lt b y) [
     | inl above ↦
         let place : (b - from) * cells.width + x < (y - from) * cells.width = place_above (b - from) (y - from) cells.width x (omega arith) column in
@@ -30,9 +32,9 @@ AreFilled-more told nothing distance cells from y before after ordered filled he
 }
 
 -- the rows of a band, and those of the bands behind it
-pub AreAnswers-join : {T : Type 0} (told : Reading T) (nothing : T) (distance : ℕ → ℕ → ℕ) (cells : Cells) (from to end : ℕ) (own others : List T) → from ≤ to → to ≤ end
-    → AreAnswers told nothing distance cells from to own → AreAnswers told nothing distance cells to end others → AreAnswers told nothing distance cells from end (own ++ others)
-AreAnswers-join told nothing distance cells from to end own others ordered within above behind = record {
+pub AreAnswers-join : {T : Type 0} (told : Reading T) (nothing : T) (distance : ℕ → ℕ → ℕ) (cells : Cells) (edge : Edge) (from to end : ℕ) (own others : List T) → from ≤ to → to ≤ end
+    → AreAnswers told nothing distance cells edge from to own → AreAnswers told nothing distance cells edge to end others → AreAnswers told nothing distance cells edge from end (own ++ others)
+AreAnswers-join told nothing distance cells edge from to end own others ordered within above behind = record {
   as_many =
       let both : end - from ≡ (to - from) + (end - to) = omega arith in
       rw (length-append own others, above.as_many, behind.as_many, both) (omega arith);
@@ -50,17 +52,17 @@ AreAnswers-join told nothing distance cells from to end own others ordered withi
 }
 
 -- where all is kept, the answers are the nearest obstacles
-pub AreNears-answers : (distance : ℕ → ℕ → ℕ) (cells : Cells) (y0 y1 : ℕ) (nears : List (Option Near)) → AreAnswers (λ d x y near. near) None distance cells y0 y1 nears → AreNears distance cells y0 y1 nears
-AreNears-answers distance cells y0 y1 nears answers = record { as_many = answers.as_many; each = answers.filled.each }
+pub AreNears-answers : (distance : ℕ → ℕ → ℕ) (cells : Cells) (edge : Edge) (y0 y1 : ℕ) (nears : List (Option Near)) → AreAnswers (λ d x y near. near) None distance cells edge y0 y1 nears → AreNears distance cells edge y0 y1 nears
+AreNears-answers distance cells edge y0 y1 nears answers = record { as_many = answers.as_many; each = answers.filled.each }
 
 -- the nearest obstacles of the rows of a band, and those of the bands behind it
-pub AreNears-join : (distance : ℕ → ℕ → ℕ) (cells : Cells) (from to end : ℕ) (own others : List (Option Near)) → from ≤ to → to ≤ end
-    → AreNears distance cells from to own → AreNears distance cells to end others → AreNears distance cells from end (own ++ others)
-AreNears-join distance cells from to end own others ordered within above behind =
-    AreNears-answers distance cells from end (own ++ others)
-    (AreAnswers-join (λ d x y near. near) None distance cells from to end own others ordered within (answers_of above) (answers_of behind))
+pub AreNears-join : (distance : ℕ → ℕ → ℕ) (cells : Cells) (edge : Edge) (from to end : ℕ) (own others : List (Option Near)) → from ≤ to → to ≤ end
+    → AreNears distance cells edge from to own → AreNears distance cells edge to end others → AreNears distance cells edge from end (own ++ others)
+AreNears-join distance cells edge from to end own others ordered within above behind =
+    AreNears-answers distance cells edge from end (own ++ others)
+    (AreAnswers-join (λ d x y near. near) None distance cells edge from to end own others ordered within (answers_of above) (answers_of behind))
   where
-    answers_of : {y0 y1 : ℕ} {nears : List (Option Near)} → AreNears distance cells y0 y1 nears → AreAnswers (λ d x y near. near) None distance cells y0 y1 nears
+    answers_of : {y0 y1 : ℕ} {nears : List (Option Near)} → AreNears distance cells edge y0 y1 nears → AreAnswers (λ d x y near. near) None distance cells edge y0 y1 nears
     answers_of found = record { as_many = found.as_many; filled = record { each = found.each } }
 
 -- more bands end at no earlier row
@@ -88,9 +90,9 @@ pub HasRoom-all : {T : Type 0} (cells : Cells) (y0 y1 count : ℕ) (answers : Li
 HasRoom-all cells y0 y1 count answers some order within as_many = rw (row_behind-none y0 y1 count, row_behind-all y0 y1 count some order) (record { order = order; within = within; as_many = as_many })
 
 -- the nearest obstacles of all bands are those of all rows
-pub AreNears-all : (distance : ℕ → ℕ → ℕ) (cells : Cells) (y0 y1 count : ℕ) (nears : List (Option Near)) → 1 ≤ count → y0 ≤ y1
-    → AreNears distance cells (row_behind y0 y1 count 0) (row_behind y0 y1 count count) nears → AreNears distance cells y0 y1 nears
-AreNears-all distance cells y0 y1 count nears some order found = rw (row_behind-none y0 y1 count, row_behind-all y0 y1 count some order) at found
+pub AreNears-all : (distance : ℕ → ℕ → ℕ) (cells : Cells) (edge : Edge) (y0 y1 count : ℕ) (nears : List (Option Near)) → 1 ≤ count → y0 ≤ y1
+    → AreNears distance cells edge (row_behind y0 y1 count 0) (row_behind y0 y1 count count) nears → AreNears distance cells edge y0 y1 nears
+AreNears-all distance cells edge y0 y1 count nears some order found = rw (row_behind-none y0 y1 count, row_behind-all y0 y1 count some order) at found
 
 -- the upper rows lie within the room of all
 pub room_above : {T : Type 0} (cells : Cells) (from middle to : ℕ) (answers : List T) → from ≤ middle → middle ≤ to → HasRoom cells from to answers → (middle - from) * cells.width ≤ length answers
@@ -116,3 +118,9 @@ on_ok_both (Err error) both first second = first
 -- a list that was written over as a whole
 pub written_over : {T : Type 0} (n : ℕ) (new old : List T) → length new ≡ n → take n (new ++ drop (length new) old) ≡ new
 written_over n new old as_many = take_at new (drop (length new) old) n as_many
+
+-- what stands in a line that was put among others
+pub get_or-put : {T : Type 0} (all line rest : List T) (start x : ℕ) (other : T) → start ≤ length all → x < length line → slice_index_or (take start all ++ (line ++ rest)) (start + x) other ≡ slice_index_or line x other
+get_or-put all line rest start x other within inside =
+    let front = length-take-le start all within in
+    rw front at (get_or-append-add (take start all) (line ++ rest) x other ∙ get_or_append_left line rest other x inside)

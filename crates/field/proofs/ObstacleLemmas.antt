@@ -5,8 +5,9 @@ use Rattle.std.proofs.Math.Nat.{mul-le-mul_right}
 use Rattle.std.proofs.lemmas.Nat.{div-mul-add, mod-mul-add}
 use Rattle.std.proofs.lemmas.List.{ext_get_or, get_or-drop, get_or-take, length-drop, length-take-le}
 use Rattle.std.proofs.lemmas.List.FromFn.{get_or-map-range_with_len, length-map-range_with_len}
-use Rattle.metric.specs.declared.cell.Cell.{Cell}
+use Rattle.metric.specs.declared.edge.Edge.{Edge}
 use Rattle.metric.specs.declared.near.Near.{Near}
+use Rattle.metric.specs.declared.spot.Spot.{Spot}
 use Rattle.bits.specs.Cells.{Cells}
 use Rattle.column.proofs.Sweeping.{place_above}
 use Rattle.field.specs.Bands.{AreAnswers}
@@ -39,9 +40,9 @@ told_here distance table x y rows inside from to =
     told_at distance table x (y - table.y0) inside (place_within table x y rows inside from to) ∙ rw sum refl
 
 -- where what is kept of some rows tells their nearest obstacles, so does the table
-pub AreNears-told : (distance : ℕ → ℕ → ℕ) (cells : Cells) (table : Obstacles) → AreRows table → table.width ≡ cells.width
-    → AreAnswers seen_from None distance cells table.y0 table.y1 table.cells → AreNears distance cells table.y0 table.y1 (nears_told distance table)
-AreNears-told distance cells table rows across answers = record {
+pub AreNears-told : (distance : ℕ → ℕ → ℕ) (cells : Cells) (edge : Edge) (table : Obstacles) → AreRows table → table.width ≡ cells.width
+    → AreAnswers seen_from None distance cells edge table.y0 table.y1 table.cells → AreNears distance cells edge table.y0 table.y1 (nears_told distance table)
+AreNears-told distance cells edge table rows across answers = record {
   as_many = length-nears_told distance table ∙ answers.as_many;
   each = λ x y inside from to.
       let column : x < table.width = rw across inside in
@@ -68,7 +69,7 @@ line_at all start width x other inside =
     rw across (get_or-take width (drop start all) x other inside ∙ get_or-drop start all x other)
 
 -- the line of a row is its part of what is told
-pub line_told : (distance : ℕ → ℕ → ℕ) (table : Obstacles) (y : ℕ) (kept : List (Option Cell)) (line : List (Option Near)) → AreRows table → table.y0 ≤ y → y < table.y1
+pub line_told : (distance : ℕ → ℕ → ℕ) (table : Obstacles) (y : ℕ) (kept : List (Option Spot)) (line : List (Option Near)) → AreRows table → table.y0 ≤ y → y < table.y1
     → length line ≡ table.width → kept ≡ slice_range table.cells ((y - table.y0) * table.width) ((y - table.y0) * table.width + table.width)
     → ((x : ℕ) → x < table.width → slice_index_or line x None ≡ seen_from distance x y (slice_index_or kept x None))
     → line ≡ slice_range (nears_told distance table) ((y - table.y0) * table.width) ((y - table.y0) * table.width + table.width)

@@ -1,14 +1,18 @@
 -- The answers of one row are those of rows.
 use Rattle.std.proofs.Common.{◌≡◌, ℕ, ◌+◌, ◌-◌, ◌*◌, ◌≤◌, List, ◌++◌, arith}
+use Rattle.metric.specs.Edge.{shift}
+use Rattle.metric.specs.declared.edge.Edge.{Edge}
 use Rattle.bits.specs.Cells.{Cells}
 use Rattle.envelope.specs.Answer.{Reading}
 use Rattle.envelope.specs.Rows.{AreRowAnswers}
 use Rattle.field.specs.Bands.{AreAnswers}
+use Rattle.field.specs.Columns.{IsReady}
+use Rattle.field.specs.declared.columns.Columns.{Columns}
 use Rattle.field.proofs.BandLemmas.{AreAnswers-join}
 
 -- one row by itself
-AreAnswers-row : {T : Type 0} (told : Reading T) (nothing : T) (distance : ℕ → ℕ → ℕ) (cells : Cells) (y : ℕ) (row : List T) → AreRowAnswers told nothing distance cells y cells.width row → AreAnswers told nothing distance cells y (y + 1) row
-AreAnswers-row told nothing distance cells y row here = record {
+AreAnswers-row : {T : Type 0} (told : Reading T) (nothing : T) (distance : ℕ → ℕ → ℕ) (cells : Cells) (edge : Edge) (y : ℕ) (row : List T) → AreRowAnswers told nothing distance cells edge y cells.width row → AreAnswers told nothing distance cells edge y (y + 1) row
+AreAnswers-row told nothing distance cells edge y row here = record {
   as_many =
       let one : y + 1 - y ≡ 1 = omega arith in
       rw (one, here.as_many) (omega arith);
@@ -21,7 +25,13 @@ AreAnswers-row told nothing distance cells y row here = record {
 }
 
 -- one row more
-pub AreAnswers-more : {T : Type 0} (told : Reading T) (nothing : T) (distance : ℕ → ℕ → ℕ) (cells : Cells) (y0 y : ℕ) (rows row : List T) → y0 ≤ y
-    → AreAnswers told nothing distance cells y0 y rows → AreRowAnswers told nothing distance cells y cells.width row → AreAnswers told nothing distance cells y0 (y + 1) (rows ++ row)
-AreAnswers-more told nothing distance cells y0 y rows row ordered before here =
-    AreAnswers-join told nothing distance cells y0 y (y + 1) rows row ordered (omega arith) before (AreAnswers-row told nothing distance cells y row here)
+pub AreAnswers-more : {T : Type 0} (told : Reading T) (nothing : T) (distance : ℕ → ℕ → ℕ) (cells : Cells) (edge : Edge) (y0 y : ℕ) (rows row : List T) → y0 ≤ y
+    → AreAnswers told nothing distance cells edge y0 y rows → AreRowAnswers told nothing distance cells edge y cells.width row → AreAnswers told nothing distance cells edge y0 (y + 1) (rows ++ row)
+AreAnswers-more told nothing distance cells edge y0 y rows row ordered before here =
+    AreAnswers-join told nothing distance cells edge y0 y (y + 1) rows row ordered (omega arith) before (AreAnswers-row told nothing distance cells edge y row here)
+
+-- behind a row that is counted with the frame comes the next one
+pub IsReady-next : (cells : Cells) (edge : Edge) (columns : Columns) (row y : ℕ) → row ≡ y + shift edge → IsReady cells edge columns (row + 1) → IsReady cells edge columns (y + 1 + shift edge)
+IsReady-next cells edge columns row y same ready =
+    let next : row + 1 ≡ y + 1 + shift edge = omega (arith, same) in
+    rw next at ready

@@ -5,7 +5,8 @@ use Rattle.std.proofs.Math.Nat.{div-add-mod, div-lt_iff_lt-mul, mod-lt, mul-le-m
 use Rattle.std.proofs.lemmas.Nat.{div-mul-add, mod-mul-add}
 use Rattle.std.proofs.lemmas.List.{ext_get_or, get_or-map, length-map}
 use Rattle.std.proofs.lemmas.List.FromFn.{get_or-map-range_with_len, length-map-range_with_len}
-use Rattle.metric.specs.declared.cell.Cell.{Cell}
+use Rattle.metric.specs.declared.edge.Edge.{Edge}
+use Rattle.metric.specs.declared.spot.Spot.{Spot}
 use Rattle.bits.specs.Cells.{Cells}
 use Rattle.column.proofs.Sweeping.{place_above}
 use Rattle.field.specs.Bands.{AreAnswers}
@@ -13,7 +14,7 @@ use Rattle.field.specs.Obstacles.{AreRows, AreStripAnswers, AreStrips, HaveRows,
 use Rattle.field.proofs.ObstacleLemmas.{length-line, line_at}
 
 -- what holds of each success among those found holds of the strips, which are all of them
-pub strips_told : {V E : Type 0} (items : V → List (Option Cell)) (Holds : ℕ → List (Option Cell) → Type 0) (found : List (Result V E)) (strips : List V) → found ≡ map Ok strips
+pub strips_told : {V E : Type 0} (items : V → List (Option Spot)) (Holds : ℕ → List (Option Spot) → Type 0) (found : List (Result V E)) (strips : List V) → found ≡ map Ok strips
     → ((k : ℕ) (other : Result V E) → k < length found → IfOk (slice_index_or found k other) (λ strip. Holds k (items strip)))
     → (k : ℕ) → k < length (map items strips) → Holds k (slice_index_or (map items strips) k [])
 strips_told items Holds found [] same each k inside = elim inside [ ]
@@ -32,7 +33,7 @@ row_in_strip : (height row : ℕ) → row ≡ row / height * height + row % heig
 row_in_strip height row = let parts = div-add-mod row height in omega (arith, parts)
 
 -- a cell of a row stands in the row's strip
-cell_here : (width height : ℕ) (strips : List (List (Option Cell))) (row x : ℕ) → 1 ≤ height → x < width
+cell_here : (width height : ℕ) (strips : List (List (Option Spot))) (row x : ℕ) → 1 ≤ height → x < width
     → cell_in width height strips (row * width + x) ≡ slice_index_or (slice_index_or strips (row / height) []) (row % height * width + x) None
 cell_here width height strips row x some inside =
     let rest : row % height * width + x < height * width = place_above (row % height) height width x (mod-lt row some) inside in
@@ -43,18 +44,18 @@ cell_here width height strips row x some inside =
     rw (place, div-mul-add (row / height) (height * width) (row % height * width + x) rest, mod-mul-add (row / height) (height * width) (row % height * width + x) rest) refl
 
 -- the cell in this column of a row
-cell_at : (width height rows : ℕ) (strips : List (List (Option Cell))) (row x : ℕ) → 1 ≤ height → row < rows → x < width
+cell_at : (width height rows : ℕ) (strips : List (List (Option Spot))) (row x : ℕ) → 1 ≤ height → row < rows → x < width
     → slice_index_or (cells_in width height rows strips) (row * width + x) None ≡ slice_index_or (slice_index_or strips (row / height) []) (row % height * width + x) None
 cell_at width height rows strips row x some below inside =
     get_or-map-range_with_len (cell_in width height strips) 0 (rows * width) (row * width + x) (row * width + x) None (place_above row rows width x below inside) (omega arith)
     ∙ cell_here width height strips row x some inside
 
 -- as many cells stand in strips as their rows have
-length-cells_in : (width height rows : ℕ) (strips : List (List (Option Cell))) → length (cells_in width height rows strips) ≡ rows * width
+length-cells_in : (width height rows : ℕ) (strips : List (List (Option Spot))) → length (cells_in width height rows strips) ≡ rows * width
 length-cells_in width height rows strips = length-map-range_with_len (cell_in width height strips) 0 (rows * width)
 
 -- rows in strips are rows
-pub AreRows-strips : (width y0 y1 height : ℕ) (strips : List (List (Option Cell))) → HaveRows width y0 y1 height strips → AreRows (in_strips width y0 y1 height strips)
+pub AreRows-strips : (width y0 y1 height : ℕ) (strips : List (List (Option Spot))) → HaveRows width y0 y1 height strips → AreRows (in_strips width y0 y1 height strips)
 AreRows-strips width y0 y1 height strips have = record { across = have.across; order = have.order; within = have.within; as_many = length-cells_in width height (y1 - y0) strips }
 
 -- the rows before the strip of a row, and how far the row lies behind them
@@ -66,7 +67,7 @@ strip_starts height rows row some below =
     (omega (arith, parts, below), rw next (omega (arith, parts, below, rest)))
 
 -- a row's line ends in its strip
-line_within : (width height rows : ℕ) (strips : List (List (Option Cell))) (row : ℕ) → AreStrips width height rows strips → row < rows
+line_within : (width height rows : ℕ) (strips : List (List (Option Spot))) (row : ℕ) → AreStrips width height rows strips → row < rows
     → row % height * width + width ≤ length (slice_index_or strips (row / height) [])
 line_within width height rows strips row are below =
     let long = are.each (row / height) (strip_below height rows (length strips) row are.some are.enough below) in
@@ -76,12 +77,12 @@ line_within width height rows strips row are below =
     omega (arith, long, through)
 
 -- a row's line in its strip is its part of all cells
-line_in_strips : (width y0 y1 height : ℕ) (strips : List (List (Option Cell))) (row : ℕ) → HaveRows width y0 y1 height strips → row < y1 - y0
+line_in_strips : (width y0 y1 height : ℕ) (strips : List (List (Option Spot))) (row : ℕ) → HaveRows width y0 y1 height strips → row < y1 - y0
     → slice_range (slice_index_or strips (row / height) []) (row % height * width) (row % height * width + width) ≡ slice_range (cells_in width height (y1 - y0) strips) (row * width) (row * width + width)
 line_in_strips width y0 y1 height strips row have below =
     let are = have.placed in
-    let strip : List (Option Cell) = slice_index_or strips (row / height) [] in
-    let all : List (Option Cell) = cells_in width height (y1 - y0) strips in
+    let strip : List (Option Spot) = slice_index_or strips (row / height) [] in
+    let all : List (Option Spot) = cells_in width height (y1 - y0) strips in
     let many = length-cells_in width height (y1 - y0) strips in
     let through : (row + 1) * width ≤ (y1 - y0) * width = mul-le-mul_right width (omega (arith, below)) in
     let own = length-line strip (row % height * width) width (line_within width height (y1 - y0) strips row are below) in
@@ -92,9 +93,9 @@ line_in_strips width y0 y1 height strips row have below =
     rw (line_at strip (row % height * width) width x None column, line_at all (row * width) width x None column) (sym (cell_at width height (y1 - y0) strips row x are.some below column)))
 
 -- where each strip tells the nearest obstacles of its rows, all cells tell those of all rows
-pub AreAnswers-strips : (distance : ℕ → ℕ → ℕ) (cells : Cells) (y0 y1 height : ℕ) (strips : List (List (Option Cell))) → 1 ≤ height → y0 ≤ y1 → y1 - y0 ≤ length strips * height
-    → AreStripAnswers distance cells y0 y1 height strips → AreAnswers seen_from None distance cells y0 y1 (cells_in cells.width height (y1 - y0) strips)
-AreAnswers-strips distance cells y0 y1 height strips some order enough found = record {
+pub AreAnswers-strips : (distance : ℕ → ℕ → ℕ) (cells : Cells) (edge : Edge) (y0 y1 height : ℕ) (strips : List (List (Option Spot))) → 1 ≤ height → y0 ≤ y1 → y1 - y0 ≤ length strips * height
+    → AreStripAnswers distance cells edge y0 y1 height strips → AreAnswers seen_from None distance cells edge y0 y1 (cells_in cells.width height (y1 - y0) strips)
+AreAnswers-strips distance cells edge y0 y1 height strips some order enough found = record {
   as_many = length-cells_in cells.width height (y1 - y0) strips;
   filled = record {
     each = λ x y column from to.
@@ -110,9 +111,9 @@ AreAnswers-strips distance cells y0 y1 height strips some order enough found = r
 }
 
 -- strips that tell the nearest obstacles of their rows have these rows
-pub AreStrips-answers : (distance : ℕ → ℕ → ℕ) (cells : Cells) (y0 y1 height : ℕ) (strips : List (List (Option Cell))) → 1 ≤ height → y1 - y0 ≤ length strips * height
-    → AreStripAnswers distance cells y0 y1 height strips → AreStrips cells.width height (y1 - y0) strips
-AreStrips-answers distance cells y0 y1 height strips some enough found = record {
+pub AreStrips-answers : (distance : ℕ → ℕ → ℕ) (cells : Cells) (edge : Edge) (y0 y1 height : ℕ) (strips : List (List (Option Spot))) → 1 ≤ height → y1 - y0 ≤ length strips * height
+    → AreStripAnswers distance cells edge y0 y1 height strips → AreStrips cells.width height (y1 - y0) strips
+AreStrips-answers distance cells edge y0 y1 height strips some enough found = record {
   some = some;
   enough = enough;
   each = λ strip below.
@@ -121,7 +122,7 @@ AreStrips-answers distance cells y0 y1 height strips some enough found = record 
 }
 
 -- a row's strip, as it stands among all
-strip_here : {V : Type 0} (items : V → List (Option Cell)) (all : List V) (width height rows row place : ℕ) (strip : V) → AreStrips width height rows (map items all) → row < rows
+strip_here : {V : Type 0} (items : V → List (Option Spot)) (all : List V) (width height rows row place : ℕ) (strip : V) → AreStrips width height rows (map items all) → row < rows
     → place ≡ row / height → strip ≡ slice_index_or all place strip → items strip ≡ slice_index_or (map items all) (row / height) []
 strip_here items all width height rows row place strip are below here same =
     let inside : row / height < length all = strip_below height rows (length all) row are.some (rw (length-map all items) at are.enough) below in
@@ -129,12 +130,12 @@ strip_here items all width height rows row place strip are below here same =
     ap items read ∙ sym (get_or-map items all (row / height) strip [] inside)
 
 -- a line of this width from a place on ends in a strip, and is the row's part of all cells
-pub record IsLineOf (width y0 y1 height row start : ℕ) (strips : List (List (Option Cell))) (strip : List (Option Cell)) : Type 0 where
+pub record IsLineOf (width y0 y1 height row start : ℕ) (strips : List (List (Option Spot))) (strip : List (Option Spot)) : Type 0 where
   pub within : start + width ≤ length strip
   pub line : slice_range strip start (start + width) ≡ slice_range (cells_in width height (y1 - y0) strips) (row * width) (row * width + width)
 
 -- the line of a row, read from its strip
-pub IsLineOf-row : {V : Type 0} (items : V → List (Option Cell)) (all : List V) (width y0 y1 height row place : ℕ) (strip : V) → HaveRows width y0 y1 height (map items all) → row < y1 - y0
+pub IsLineOf-row : {V : Type 0} (items : V → List (Option Spot)) (all : List V) (width y0 y1 height row place : ℕ) (strip : V) → HaveRows width y0 y1 height (map items all) → row < y1 - y0
     → place ≡ row / height → strip ≡ slice_index_or all place strip → IsLineOf width y0 y1 height row (row % height * width) (map items all) (items strip)
 IsLineOf-row items all width y0 y1 height row place strip have below here same =
     rw (strip_here items all width height (y1 - y0) row place strip have.placed below here same)

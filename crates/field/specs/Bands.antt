@@ -1,7 +1,9 @@
 -- How workers share rows in bands: this project's own rule.
 use Rattle.std.specs.Prelude.{◌≡◌, ℕ, ◌+◌, ◌-◌, ◌*◌, ◌/◌, ◌<◌, ◌≤◌, List, length, slice_index_or}
 use Rattle.metric.specs.Nearest.{IsNear}
-use Rattle.bits.specs.Cells.{Cells, IsObstacle}
+use Rattle.metric.specs.declared.edge.Edge.{Edge}
+use Rattle.bits.specs.Cells.{Cells}
+use Rattle.bits.specs.Edges.{IsBlocked}
 use Rattle.envelope.specs.Answer.{Reading}
 
 -- so many workers as may share a computation
@@ -25,10 +27,10 @@ pub record HasRoom {T : Type 0} (cells : Cells) (from to : ℕ) (answers : List 
   pub as_many : length answers ≡ (to - from) * cells.width
 
 -- the answers at the front tell the nearest obstacles of the cells of the rows from one to before another, row by row
-pub record AreFilled {T : Type 0} (told : Reading T) (nothing : T) (distance : ℕ → ℕ → ℕ) (cells : Cells) (from to : ℕ) (answers : List T) : Type 0 where
-  pub each : (x y : ℕ) → x < cells.width → from ≤ y → y < to → IsNear distance (IsObstacle cells) x y (told distance x y (slice_index_or answers ((y - from) * cells.width + x) nothing))
+pub record AreFilled {T : Type 0} (told : Reading T) (nothing : T) (distance : ℕ → ℕ → ℕ) (cells : Cells) (edge : Edge) (from to : ℕ) (answers : List T) : Type 0 where
+  pub each : (x y : ℕ) → x < cells.width → from ≤ y → y < to → IsNear distance (IsBlocked cells edge) x y (told distance x y (slice_index_or answers ((y - from) * cells.width + x) nothing))
 
 -- the answers are those of all cells of the rows from one to before another, and tell their nearest obstacles
-pub record AreAnswers {T : Type 0} (told : Reading T) (nothing : T) (distance : ℕ → ℕ → ℕ) (cells : Cells) (from to : ℕ) (answers : List T) : Type 0 where
+pub record AreAnswers {T : Type 0} (told : Reading T) (nothing : T) (distance : ℕ → ℕ → ℕ) (cells : Cells) (edge : Edge) (from to : ℕ) (answers : List T) : Type 0 where
   pub as_many : length answers ≡ (to - from) * cells.width
-  pub filled : AreFilled told nothing distance cells from to answers
+  pub filled : AreFilled told nothing distance cells edge from to answers

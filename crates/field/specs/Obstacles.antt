@@ -1,32 +1,33 @@
 -- A table that keeps of each cell's nearest obstacle only where it is: this project's own rule. How far away it is follows.
-use Rattle.std.specs.Prelude.{◌≡◌, ◌≢◌, ℕ, ◌+◌, ◌-◌, ◌*◌, ◌/◌, ◌%◌, ◌<◌, ◌≤◌, ◌==◌, [], List, length, map, min, slice_index_or, Option, Some, None, if◌then◌else◌}
+use Rattle.std.specs.Prelude.{◌≡◌, ℕ, ℤ, pos, negsuc, ◌<ℤ◌, ◌≤ℤ◌, int_lt, ◌+◌, ◌-◌, ◌*◌, ◌/◌, ◌%◌, ◌<◌, ◌≤◌, [], List, length, map, min, slice_index_or, Option, Some, None, if◌then◌else◌}
 use Rattle.std.specs.List.{range_with_len}
-use Rattle.metric.specs.declared.cell.Cell.{Cell}
+use Rattle.metric.specs.declared.edge.Edge.{Edge}
+use Rattle.metric.specs.declared.spot.Spot.{Spot}
 use Rattle.metric.specs.declared.near.Near.{Near}
-use Rattle.metric.specs.Distance.{distance_between}
+use Rattle.metric.specs.Nearest.{spot_distance}
 use Rattle.bits.specs.Cells.{Cells}
 use Rattle.field.specs.Bands.{AreAnswers}
 
--- the cell of this column and row, or none where the column is the mark that stands for none
-abbrev pub cell_kept : ℕ → ℕ → Option Cell
-cell_kept x y = if x == 65535 then None else Some (record { x = x; y = y })
+-- the spot of this column and row, or none where the column is the mark that stands for none
+abbrev pub spot_kept : ℤ → ℤ → Option Spot
+spot_kept x y = if int_lt x (negsuc 0) then None else Some (record { x = x; y = y })
 
--- a cell of a map, or the mark of none twice
-pub record IsKept (x y : ℕ) : Type 0 where
-  pub none : x ≡ 65535 → y ≡ 65535
-  pub some : x ≢ 65535 → (x ≤ 4095) × (y ≤ 4095)
+-- a spot of a map with its frame, or the mark of none twice
+pub record IsKept (x y : ℤ) : Type 0 where
+  pub none : x <ℤ negsuc 0 → (x ≡ negsuc 1) × (y ≡ negsuc 1)
+  pub some : negsuc 0 ≤ℤ x → (x ≤ℤ pos 4097) × (negsuc 0 ≤ℤ y) × (y ≤ℤ pos 4097)
 
 -- an obstacle as the cell (x, y) sees it, or none
-abbrev pub seen_from : (ℕ → ℕ → ℕ) → ℕ → ℕ → Option Cell → Option Near
+abbrev pub seen_from : (ℕ → ℕ → ℕ) → ℕ → ℕ → Option Spot → Option Near
 seen_from distance x y None = None
-seen_from distance x y (Some cell) = Some (record { dist = distance_between distance x y cell.x cell.y; cell = cell })
+seen_from distance x y (Some spot) = Some (record { dist = spot_distance distance x y spot.x spot.y; cell = spot })
 
 -- the obstacles of the rows y0 to y1 - 1, row by row, each row of so many cells
 pub record Obstacles : Type 0 where
   pub width : ℕ
   pub y0 : ℕ
   pub y1 : ℕ
-  pub cells : List (Option Cell)
+  pub cells : List (Option Spot)
 
 -- the rows are those of a map, and each has its cells
 pub record AreRows (table : Obstacles) : Type 0 where
@@ -40,33 +41,33 @@ abbrev pub rows_before : ℕ → ℕ → ℕ → ℕ
 rows_before rows height strip = min rows (strip * height)
 
 -- the cell so many places behind the first one, row by row, of rows of this width in strips of this height
-abbrev pub cell_in : ℕ → ℕ → List (List (Option Cell)) → ℕ → Option Cell
+abbrev pub cell_in : ℕ → ℕ → List (List (Option Spot)) → ℕ → Option Spot
 cell_in width height strips place = slice_index_or (slice_index_or strips (place / (height * width)) []) (place % (height * width)) None
 
 -- the cells of so many rows in strips, row by row
-abbrev pub cells_in : ℕ → ℕ → ℕ → List (List (Option Cell)) → List (Option Cell)
+abbrev pub cells_in : ℕ → ℕ → ℕ → List (List (Option Spot)) → List (Option Spot)
 cells_in width height rows strips = map (cell_in width height strips) (range_with_len 0 (rows * width))
 
 -- so many rows of this width stand in strips of this height
-pub record AreStrips (width height rows : ℕ) (strips : List (List (Option Cell))) : Type 0 where
+pub record AreStrips (width height rows : ℕ) (strips : List (List (Option Spot))) : Type 0 where
   pub some : 1 ≤ height
   pub enough : rows ≤ length strips * height
   pub each : (strip : ℕ) → strip < length strips → length (slice_index_or strips strip []) ≡ (rows_before rows height (strip + 1) - rows_before rows height strip) * width
 
 -- the rows y0 to y1 - 1 as they stand in strips of this height
-abbrev pub in_strips : ℕ → ℕ → ℕ → ℕ → List (List (Option Cell)) → Obstacles
+abbrev pub in_strips : ℕ → ℕ → ℕ → ℕ → List (List (Option Spot)) → Obstacles
 in_strips width y0 y1 height strips = record { width = width; y0 = y0; y1 = y1; cells = cells_in width height (y1 - y0) strips }
 
 -- the strips have the rows y0 to y1 - 1 of a map
-pub record HaveRows (width y0 y1 height : ℕ) (strips : List (List (Option Cell))) : Type 0 where
+pub record HaveRows (width y0 y1 height : ℕ) (strips : List (List (Option Spot))) : Type 0 where
   pub across : width ≤ 4096
   pub order : y0 ≤ y1
   pub within : y1 ≤ 4096
   pub placed : AreStrips width height (y1 - y0) strips
 
 -- each strip tells the nearest obstacles of its rows, of the rows y0 to y1 - 1
-pub record AreStripAnswers (distance : ℕ → ℕ → ℕ) (cells : Cells) (y0 y1 height : ℕ) (strips : List (List (Option Cell))) : Type 0 where
-  pub each : (strip : ℕ) → strip < length strips → AreAnswers seen_from None distance cells (y0 + rows_before (y1 - y0) height strip) (y0 + rows_before (y1 - y0) height (strip + 1)) (slice_index_or strips strip [])
+pub record AreStripAnswers (distance : ℕ → ℕ → ℕ) (cells : Cells) (edge : Edge) (y0 y1 height : ℕ) (strips : List (List (Option Spot))) : Type 0 where
+  pub each : (strip : ℕ) → strip < length strips → AreAnswers seen_from None distance cells edge (y0 + rows_before (y1 - y0) height strip) (y0 + rows_before (y1 - y0) height (strip + 1)) (slice_index_or strips strip [])
 
 -- the nearest obstacles that a table tells, row by row, by this distance
 abbrev pub nears_told : (ℕ → ℕ → ℕ) → Obstacles → List (Option Near)

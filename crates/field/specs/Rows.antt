@@ -3,10 +3,12 @@
 use Rattle.std.specs.Prelude.{◌≡◌, ℕ, ◌+◌, ◌-◌, ◌*◌, ◌<◌, ◌≤◌, List, Option, None, length, slice_index_or}
 use Rattle.metric.specs.declared.near.Near.{Near}
 use Rattle.metric.specs.Nearest.{IsNear}
-use Rattle.bits.specs.Cells.{Cells, IsObstacle}
+use Rattle.metric.specs.declared.edge.Edge.{Edge}
+use Rattle.bits.specs.Cells.{Cells}
+use Rattle.bits.specs.Edges.{IsBlocked}
 pub use Rattle.envelope.specs.Rows.{AreRowNears}
 
 -- the nearest obstacles of all cells of the rows y0 to y1 - 1, row by row, or none
-pub record AreNears (distance : ℕ → ℕ → ℕ) (cells : Cells) (y0 y1 : ℕ) (nears : List (Option Near)) : Type 0 where
+pub record AreNears (distance : ℕ → ℕ → ℕ) (cells : Cells) (edge : Edge) (y0 y1 : ℕ) (nears : List (Option Near)) : Type 0 where
   pub as_many : length nears ≡ (y1 - y0) * cells.width
-  pub each : (x y : ℕ) → x < cells.width → y0 ≤ y → y < y1 → IsNear distance (IsObstacle cells) x y (slice_index_or nears ((y - y0) * cells.width + x) None)
+  pub each : (x y : ℕ) → x < cells.width → y0 ≤ y → y < y1 → IsNear distance (IsBlocked cells edge) x y (slice_index_or nears ((y - y0) * cells.width + x) None)

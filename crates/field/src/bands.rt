@@ -1,8 +1,10 @@
 //! The nearest obstacles of all cells of some rows, worked in bands by threads.
 
-ghost use Rattle.std.specs.Prelude.{◌≡◌, ◌<◌, ◌≤◌, ◌+◌, ◌-◌, ◌⊎◌, ℕ, IfErr, IfOk, None, OnOk, length, slice_index_or};
+ghost use Rattle.std.specs.Prelude.{◌≡◌, ◌<◌, ◌≤◌, ◌+◌, ◌-◌, ◌*◌, ◌⊎◌, ℕ, IfErr, IfOk, None, OnOk, length, slice_index_or};
 ghost use Rattle.std.specs.Thread.{IsSync};
-ghost use Rattle.bits.specs.Cells.{IsBitmap, IsObstacle};
+ghost use Rattle.metric.specs.Edge.{shift};
+ghost use Rattle.bits.specs.Cells.{IsBitmap};
+ghost use Rattle.bits.specs.Edges.{IsBlocked};
 ghost use Rattle.metric.specs.Nearest.{IsNear};
 ghost use Rattle.metric.specs.declared.refusal.Refusal.TheVariants.{Memory};
 ghost use Rattle.field.specs.Bands.{AreBands, HasRoom, row_behind};
@@ -13,7 +15,7 @@ use crate::columns::Columns;
 use crate::workers::Workers;
 use bits::Bitmap;
 use envelope::{Stack, row_from};
-use metric::{Gate, Metric, Near, Refusal};
+use metric::{Edge, Gate, Metric, Near, Refusal};
 use std::alloc::Global;
 use std::thread::{Threads, join_mut};
 
@@ -21,6 +23,7 @@ use std::thread::{Threads, join_mut};
 #[derive(Drop)]
 struct Shared<'a> {
     bitmap: &'a Bitmap,
+    edge: Edge,
     y0: u16,
     y1: u16,
     workers: Workers,
@@ -35,6 +38,7 @@ pub fn rows_with<M: Metric + Sync, G: Gate + Sync, R: Threads + Sync>(
     rt: &R,
     alloc: Global,
     bitmap: &Bitmap,
+    edge: Edge,
     y0: u16,
     y1: u16,
     workers: Workers,
@@ -42,7 +46,7 @@ pub fn rows_with<M: Metric + Sync, G: Gate + Sync, R: Threads + Sync>(
 ) -> Result<Vec<Option<Near>>, Refusal>
     requires order { y0 ≤ y1 }
     requires within { y1 ≤ bitmap.now.height }
-    ensures rows { IfOk result (λ nears. AreNears M.distance bitmap.now y0 y1 nears.items) }
+    ensures rows { IfOk result (λ nears. AreNears M.distance bitmap.now edge y0 y1 nears.items) }
     ensures memory { IfErr result (λ refusal. refusal ≡ Memory) }
 {
     let cells = usize::from(y1 - y0) * usize::from(bitmap.width());
@@ -51,6 +55,7 @@ pub fn rows_with<M: Metric + Sync, G: Gate + Sync, R: Threads + Sync>(
     };
     let shared = Shared {
         bitmap,
+        edge,
         y0,
         y1,
         workers,
@@ -73,7 +78,7 @@ fn work_bands<M: Metric + Sync, G: Gate + Sync, R: Threads + Sync>(
 ) -> Result<(), Refusal>
     requires bands { AreBands shared.now.workers.count above below }
     requires room { HasRoom shared.now.bitmap.now (row_behind shared.now.y0 shared.now.y1 shared.now.workers.count above) (row_behind shared.now.y0 shared.now.y1 shared.now.workers.count below) nears.old }
-    ensures rows { OnOk result (AreNears M.distance shared.now.bitmap.now (row_behind shared.now.y0 shared.now.y1 shared.now.workers.count above) (row_behind shared.now.y0 shared.now.y1 shared.now.workers.count below) nears.new) }
+    ensures rows { OnOk result (AreNears M.distance shared.now.bitmap.now shared.now.edge (row_behind shared.now.y0 shared.now.y1 shared.now.workers.count above) (row_behind shared.now.y0 shared.now.y1 shared.now.workers.count below) nears.new) }
     ensures memory { IfErr result (λ refusal. refusal ≡ Memory) }
 {
     if below - above == 1 {
@@ -105,18 +110,18 @@ fn work_beside<M: Metric + Sync, G: Gate + Sync, R: Threads + Sync>(
     requires lower_bands { AreBands shared.now.workers.count middle below }
     requires upper { HasRoom shared.now.bitmap.now (row_behind shared.now.y0 shared.now.y1 shared.now.workers.count above) (row_behind shared.now.y0 shared.now.y1 shared.now.workers.count middle) upper.old }
     requires lower { HasRoom shared.now.bitmap.now (row_behind shared.now.y0 shared.now.y1 shared.now.workers.count middle) (row_behind shared.now.y0 shared.now.y1 shared.now.workers.count below) lower.old }
-    ensures upper { OnOk result (AreNears M.distance shared.now.bitmap.now (row_behind shared.now.y0 shared.now.y1 shared.now.workers.count above) (row_behind shared.now.y0 shared.now.y1 shared.now.workers.count middle) upper.new) }
-    ensures lower { OnOk result (AreNears M.distance shared.now.bitmap.now (row_behind shared.now.y0 shared.now.y1 shared.now.workers.count middle) (row_behind shared.now.y0 shared.now.y1 shared.now.workers.count below) lower.new) }
+    ensures upper { OnOk result (AreNears M.distance shared.now.bitmap.now shared.now.edge (row_behind shared.now.y0 shared.now.y1 shared.now.workers.count above) (row_behind shared.now.y0 shared.now.y1 shared.now.workers.count middle) upper.new) }
+    ensures lower { OnOk result (AreNears M.distance shared.now.bitmap.now shared.now.edge (row_behind shared.now.y0 shared.now.y1 shared.now.workers.count middle) (row_behind shared.now.y0 shared.now.y1 shared.now.workers.count below) lower.new) }
     ensures memory { IfErr result (λ refusal. refusal ≡ Memory) }
 {
     let mut first = move || -> Result<(), Refusal>
         requires { IsSync R.row × IsSync G.row × IsSync M.row × AreBands shared.now.workers.count above middle × HasRoom shared.now.bitmap.now (row_behind shared.now.y0 shared.now.y1 shared.now.workers.count above) (row_behind shared.now.y0 shared.now.y1 shared.now.workers.count middle) upper.now }
-        ensures rows { OnOk result (AreNears M.distance shared.entry.now.bitmap.now (row_behind shared.entry.now.y0 shared.entry.now.y1 shared.entry.now.workers.count above) (row_behind shared.entry.now.y0 shared.entry.now.y1 shared.entry.now.workers.count middle) upper.exit.now) }
+        ensures rows { OnOk result (AreNears M.distance shared.entry.now.bitmap.now shared.entry.now.edge (row_behind shared.entry.now.y0 shared.entry.now.y1 shared.entry.now.workers.count above) (row_behind shared.entry.now.y0 shared.entry.now.y1 shared.entry.now.workers.count middle) upper.exit.now) }
         ensures memory { IfErr result (λ refusal. refusal ≡ Memory) }
     { work_bands::<M, G, R>(rt, alloc, shared, gate, above, middle, upper) };
     let mut second = move || -> Result<(), Refusal>
         requires { IsSync R.row × IsSync G.row × IsSync M.row × AreBands shared.now.workers.count middle below × HasRoom shared.now.bitmap.now (row_behind shared.now.y0 shared.now.y1 shared.now.workers.count middle) (row_behind shared.now.y0 shared.now.y1 shared.now.workers.count below) lower.now }
-        ensures rows { OnOk result (AreNears M.distance shared.entry.now.bitmap.now (row_behind shared.entry.now.y0 shared.entry.now.y1 shared.entry.now.workers.count middle) (row_behind shared.entry.now.y0 shared.entry.now.y1 shared.entry.now.workers.count below) lower.exit.now) }
+        ensures rows { OnOk result (AreNears M.distance shared.entry.now.bitmap.now shared.entry.now.edge (row_behind shared.entry.now.y0 shared.entry.now.y1 shared.entry.now.workers.count middle) (row_behind shared.entry.now.y0 shared.entry.now.y1 shared.entry.now.workers.count below) lower.exit.now) }
         ensures memory { IfErr result (λ refusal. refusal ≡ Memory) }
     { work_bands::<M, G, R>(rt, alloc, shared, gate, middle, below, lower) };
     let (above_worked, below_worked) = join_mut(rt, &mut first, &mut second);
@@ -135,20 +140,24 @@ fn work_band<M: Metric, G: Gate>(
     requires first { 1 ≤ band }
     requires last { band ≤ shared.now.workers.count }
     requires room { HasRoom shared.now.bitmap.now (row_behind shared.now.y0 shared.now.y1 shared.now.workers.count (band - 1)) (row_behind shared.now.y0 shared.now.y1 shared.now.workers.count band) nears.old }
-    ensures rows { OnOk result (AreNears M.distance shared.now.bitmap.now (row_behind shared.now.y0 shared.now.y1 shared.now.workers.count (band - 1)) (row_behind shared.now.y0 shared.now.y1 shared.now.workers.count band) nears.new) }
+    ensures rows { OnOk result (AreNears M.distance shared.now.bitmap.now shared.now.edge (row_behind shared.now.y0 shared.now.y1 shared.now.workers.count (band - 1)) (row_behind shared.now.y0 shared.now.y1 shared.now.workers.count band) nears.new) }
     ensures memory { IfErr result (λ refusal. refusal ≡ Memory) }
 {
     gate.enter(band);
     let (from, to) = shared.workers.band_rows(shared.y0, shared.y1, band);
-    let mut columns = Columns::of(alloc, shared.bitmap, from, to)?;
-    let mut stack = Stack::new(alloc, shared.bitmap.width())?;
-    fill_rows::<M>(shared.bitmap, from, to, &mut columns, &mut stack, nears);
+    let (bitmap, edge) = (shared.bitmap, shared.edge);
+    let before = edge.shift();
+    let width = bitmap.width() + 2 * before;
+    let mut columns = Columns::of(alloc, bitmap, edge, from + before, to + before)?;
+    let mut stack = Stack::new(alloc, width)?;
+    fill_rows::<M>(bitmap, edge, from, to, &mut columns, &mut stack, nears);
     Ok(())
 }
 
 /// Fills the rows `from` to `to - 1`, those of the columns. The stack has room for a row.
 fn fill_rows<M: Metric>(
     bitmap: &Bitmap,
+    edge: Edge,
     from: u16,
     to: u16,
     columns: &mut Columns,
@@ -157,21 +166,22 @@ fn fill_rows<M: Metric>(
 )
     requires bitmap { IsBitmap bitmap.now }
     requires room { HasRoom bitmap.now from to nears.old }
-    requires columns { IsReady bitmap.now columns.old from }
-    requires to { columns.old.to ≡ to }
-    requires stack { bitmap.now.width ≤ stack.old }
-    ensures { AreNears M.distance bitmap.now from to nears.new }
+    requires columns { IsReady bitmap.now edge columns.old (from + shift edge) }
+    requires to { columns.old.to ≡ to + shift edge }
+    requires stack { bitmap.now.width + 2 * shift edge ≤ stack.old }
+    ensures { AreNears M.distance bitmap.now edge from to nears.new }
 {
     let width = usize::from(bitmap.width());
     'rows: for y in from..to {
         let start = usize::from(y - from) * width;
-        fill_row_at::<M>(bitmap, y, start, columns, stack, nears);
+        fill_row_at::<M>(bitmap, edge, y, start, columns, stack, nears);
     }
 }
 
 /// Fills row `y`, which comes next, and whose first cell lies at `start`.
 fn fill_row_at<M: Metric>(
     bitmap: &Bitmap,
+    edge: Edge,
     y: u16,
     start: usize,
     columns: &mut Columns,
@@ -179,17 +189,19 @@ fn fill_row_at<M: Metric>(
     nears: &mut [Option<Near>],
 )
     requires bitmap { IsBitmap bitmap.now }
-    requires columns { IsReady bitmap.now columns.old y }
-    requires row { y < columns.old.to }
+    requires columns { IsReady bitmap.now edge columns.old (y + shift edge) }
+    requires row { y + shift edge < columns.old.to }
     requires room { start + bitmap.now.width ≤ length nears.old }
-    requires stack { bitmap.now.width ≤ stack.old }
-    ensures row { (x : ℕ) → x < bitmap.now.width → IsNear M.distance (IsObstacle bitmap.now) x y (slice_index_or nears.new (start + x) None) }
+    requires stack { bitmap.now.width + 2 * shift edge ≤ stack.old }
+    ensures row { (x : ℕ) → x < bitmap.now.width → IsNear M.distance (IsBlocked bitmap.now edge) x y (slice_index_or nears.new (start + x) None) }
     ensures others { (k : ℕ) → (k < start) ⊎ (start + bitmap.now.width ≤ k) → slice_index_or nears.new k None ≡ slice_index_or nears.old k None }
-    ensures columns { IsReady bitmap.now columns.new (y + 1) }
+    ensures columns { IsReady bitmap.now edge columns.new (y + 1 + shift edge) }
     ensures to { columns.new.to ≡ columns.old.to }
     ensures stack { stack.new ≡ stack.old }
 {
     let width = usize::from(bitmap.width());
-    columns.look(bitmap, y);
-    row_from::<M, Option<Near>>(&columns.entries, y, stack, &mut nears[start..start + width]);
+    let framed = y + edge.shift();
+    columns.look(bitmap, edge, framed);
+    let line = &mut nears[start..start + width];
+    row_from::<M, Option<Near>>(&columns.entries, framed, edge, stack, line);
 }

@@ -1,16 +1,18 @@
-//! What rows are worked from, one after another: the nearest obstacles of all columns.
+//! What rows are worked from, one after another: the nearest obstacles of all columns. Where the border is a wall, rows are counted with the frame.
 //!
 //! The rows are looked at in bands of 64. Carried from row to row is the line of the obstacles before a row; what lies behind a row is known for the rows of one band, and behind each band from one walk up the bitmap.
 
-ghost use Rattle.std.specs.Prelude.{◌≡◌, ◌+◌, ◌<◌, ◌≤◌, IfErr, IfOk, false, length, true, replicate};
+ghost use Rattle.std.specs.Prelude.{◌≡◌, ◌+◌, ◌*◌, ◌<◌, ◌≤◌, IfErr, IfOk, false, length, true, replicate};
+ghost use Rattle.metric.specs.Edge.{shift};
 ghost use Rattle.bits.specs.Cells.{IsBitmap};
+ghost use Rattle.bits.specs.Edges.{framed};
 ghost use Rattle.column.specs.Columns.{IsRowOfTable};
 ghost use Rattle.field.specs.Columns.{IsReady};
 ghost use Rattle.metric.specs.declared.refusal.Refusal.TheVariants.{Memory};
 
 use bits::Bitmap;
 use column::{BAND, NONE, carry_edges, fill_band, nearest_rows, next_row};
-use metric::Refusal;
+use metric::{Edge, Refusal};
 use std::alloc::Global;
 
 /// Up to so many rows are looked at from each one outwards; for more it is worth to walk through the bitmap once.
@@ -35,32 +37,51 @@ pub struct Columns {
     pub behind: Vec<u16>,
     /// For each band the obstacles behind it.
     pub edges: Vec<u16>,
-    /// The nearest obstacles of the row that was looked at last.
+    /// Room for a line.
+    pub line: Vec<u16>,
+    /// The nearest obstacles of the row that was looked at last, those of the frame with them where the border is a wall.
     pub entries: Vec<u16>,
 }
 
 impl Columns {
     /// The columns of these rows of the bitmap. Refused for want of memory alone.
-    pub fn of(alloc: Global, bitmap: &Bitmap, from: u16, to: u16) -> Result<Self, Refusal>
+    pub fn of(
+        alloc: Global,
+        bitmap: &Bitmap,
+        edge: Edge,
+        from: u16,
+        to: u16,
+    ) -> Result<Self, Refusal>
+        requires above { shift edge ≤ from }
         requires order { from ≤ to }
-        requires within { to ≤ bitmap.now.height }
-        ensures ready { IfOk result (λ columns. IsReady bitmap.now columns from) }
+        requires within { to ≤ bitmap.now.height + shift edge }
+        ensures ready { IfOk result (λ columns. IsReady bitmap.now edge columns from) }
         ensures to { IfOk result (λ columns. columns.to ≡ to) }
         ensures memory { IfErr result (λ refusal. refusal ≡ Memory) }
     {
-        let mut entries = no_obstacles(alloc, usize::from(bitmap.width()))?;
-        if to - from > FEW_ROWS || (from < to && is_far(bitmap, from, entries.as_mut_slice())) {
-            return Self::many(alloc, bitmap, from, to);
+        let mut entries = no_obstacles(alloc, usize::from(bitmap.width() + 2 * edge.shift()))?;
+        if to - from > FEW_ROWS
+            || (from < to && is_far(bitmap, edge, from, entries.as_mut_slice()))
+        {
+            return Self::many(alloc, bitmap, edge, from, to);
         }
-        Ok(Self::few(alloc, bitmap, from, to, entries))
+        Ok(Self::few(alloc, bitmap, edge, from, to, entries))
     }
 
     /// The columns of a few rows, each of which is looked at by itself.
-    fn few(alloc: Global, _bitmap: &Bitmap, from: u16, to: u16, entries: Vec<u16>) -> Self
+    fn few(
+        alloc: Global,
+        _bitmap: &Bitmap,
+        edge: Edge,
+        from: u16,
+        to: u16,
+        entries: Vec<u16>,
+    ) -> Self
+        requires above { shift edge ≤ from }
         requires order { from ≤ to }
-        requires within { to ≤ _bitmap.now.height }
-        requires width { length entries.items ≡ _bitmap.now.width }
-        ensures ready { IsReady _bitmap.now result from }
+        requires within { to ≤ _bitmap.now.height + shift edge }
+        requires width { length entries.items ≡ _bitmap.now.width + 2 * shift edge }
+        ensures ready { IsReady _bitmap.now edge result from }
         ensures to { result.to ≡ to }
     {
         Columns {
@@ -72,30 +93,34 @@ impl Columns {
             before: Vec::new(alloc),
             behind: Vec::new(alloc),
             edges: Vec::new(alloc),
+            line: Vec::new(alloc),
             entries,
         }
     }
 
     /// The columns of many rows, in bands.
-    fn many(alloc: Global, bitmap: &Bitmap, from: u16, to: u16) -> Result<Self, Refusal>
+    fn many(alloc: Global, bitmap: &Bitmap, edge: Edge, from: u16, to: u16) -> Result<Self, Refusal>
+        requires above { shift edge ≤ from }
         requires order { from ≤ to }
-        requires within { to ≤ bitmap.now.height }
-        ensures ready { IfOk result (λ columns. IsReady bitmap.now columns from) }
+        requires within { to ≤ bitmap.now.height + shift edge }
+        ensures ready { IfOk result (λ columns. IsReady bitmap.now edge columns from) }
         ensures to { IfOk result (λ columns. columns.to ≡ to) }
         ensures memory { IfErr result (λ refusal. refusal ≡ Memory) }
     {
         let width = usize::from(bitmap.width());
         let bands = usize::from((to - from).div_ceil(BAND));
         let mut before = no_obstacles(alloc, width)?;
-        let mut entries = no_obstacles(alloc, width)?;
+        let mut line = no_obstacles(alloc, width)?;
+        let entries = no_obstacles(alloc, width + 2 * usize::from(edge.shift()))?;
         let mut edges = no_obstacles(alloc, bands * width)?;
         let behind = no_obstacles(alloc, usize::from(BAND) * width)?;
         carry_edges(
             bitmap,
+            edge,
             from,
             to,
             before.as_mut_slice(),
-            entries.as_mut_slice(),
+            line.as_mut_slice(),
             edges.as_mut_slice(),
         );
         Ok(Columns {
@@ -107,76 +132,78 @@ impl Columns {
             before,
             behind,
             edges,
+            line,
             entries,
         })
     }
 
     /// Looks at row `y`, which comes next: its entries are the row of a table of the bitmap then.
-    pub fn look(&mut self, bitmap: &Bitmap, y: u16)
+    pub fn look(&mut self, bitmap: &Bitmap, edge: Edge, y: u16)
         requires bitmap { IsBitmap bitmap.now }
-        requires ready { IsReady bitmap.now self.old y }
+        requires ready { IsReady bitmap.now edge self.old y }
         requires row { y < self.old.to }
-        ensures ready { IsReady bitmap.now self.new (y + 1) }
+        ensures ready { IsReady bitmap.now edge self.new (y + 1) }
         ensures to { self.new.to ≡ self.old.to }
-        ensures entries { IsRowOfTable bitmap.now y self.new.entries.items }
+        ensures entries { IsRowOfTable (framed edge bitmap.now) y self.new.entries.items }
     {
         if self.seeks {
-            self.seek(bitmap, y);
+            self.seek(bitmap, edge, y);
         } else {
-            self.reach(bitmap, y);
-            self.pick(bitmap, y);
+            self.reach(bitmap, edge, y);
+            self.pick(bitmap, edge, y);
         }
     }
 
     /// Looks at row `y` by itself.
-    fn seek(&mut self, bitmap: &Bitmap, y: u16)
-        requires ready { IsReady bitmap.now self.old y }
+    fn seek(&mut self, bitmap: &Bitmap, edge: Edge, y: u16)
+        requires ready { IsReady bitmap.now edge self.old y }
         requires alone { self.old.seeks ≡ true }
         requires row { y < self.old.to }
-        ensures ready { IsReady bitmap.now self.new (y + 1) }
+        ensures ready { IsReady bitmap.now edge self.new (y + 1) }
         ensures to { self.new.to ≡ self.old.to }
-        ensures entries { IsRowOfTable bitmap.now y self.new.entries.items }
+        ensures entries { IsRowOfTable (framed edge bitmap.now) y self.new.entries.items }
     {
-        nearest_rows(bitmap, y, self.entries.as_mut_slice());
+        nearest_rows(bitmap, edge, y, self.entries.as_mut_slice());
     }
 
     /// Begins the next band where row `y` lies behind the one in hand.
-    fn reach(&mut self, bitmap: &Bitmap, y: u16)
+    fn reach(&mut self, bitmap: &Bitmap, edge: Edge, y: u16)
         requires bitmap { IsBitmap bitmap.now }
-        requires ready { IsReady bitmap.now self.old y }
+        requires ready { IsReady bitmap.now edge self.old y }
         requires carried { self.old.seeks ≡ false }
         requires row { y < self.old.to }
-        ensures ready { IsReady bitmap.now self.new y }
+        ensures ready { IsReady bitmap.now edge self.new y }
         ensures carried { self.new.seeks ≡ false }
         ensures to { self.new.to ≡ self.old.to }
         ensures inside { y < self.new.known }
     {
         if y == self.known {
-            self.begin(bitmap, y);
+            self.begin(bitmap, edge, y);
         }
     }
 
     /// Begins the band whose first row is `y`.
-    fn begin(&mut self, bitmap: &Bitmap, y: u16)
+    fn begin(&mut self, bitmap: &Bitmap, edge: Edge, y: u16)
         requires bitmap { IsBitmap bitmap.now }
-        requires ready { IsReady bitmap.now self.old y }
+        requires ready { IsReady bitmap.now edge self.old y }
         requires carried { self.old.seeks ≡ false }
         requires row { y < self.old.to }
         requires behind { y ≡ self.old.known }
-        ensures ready { IsReady bitmap.now self.new y }
+        ensures ready { IsReady bitmap.now edge self.new y }
         ensures carried { self.new.seeks ≡ false }
         ensures to { self.new.to ≡ self.old.to }
         ensures inside { y < self.new.known }
     {
         let width = usize::from(bitmap.width());
-        let edge = usize::from((y - self.from) / BAND) * width;
+        let start = usize::from((y - self.from) / BAND) * width;
         let end = self.to.min(y + BAND);
         fill_band(
             bitmap,
+            edge,
             y,
             end,
-            &self.edges[edge..edge + width],
-            self.entries.as_mut_slice(),
+            &self.edges[start..start + width],
+            self.line.as_mut_slice(),
             self.behind.as_mut_slice(),
         );
         self.first = y;
@@ -184,19 +211,20 @@ impl Columns {
     }
 
     /// Picks the nearest obstacles of row `y`, a row of the band in hand.
-    fn pick(&mut self, bitmap: &Bitmap, y: u16)
+    fn pick(&mut self, bitmap: &Bitmap, edge: Edge, y: u16)
         requires bitmap { IsBitmap bitmap.now }
-        requires ready { IsReady bitmap.now self.old y }
+        requires ready { IsReady bitmap.now edge self.old y }
         requires carried { self.old.seeks ≡ false }
         requires inside { y < self.old.known }
-        ensures ready { IsReady bitmap.now self.new (y + 1) }
+        ensures ready { IsReady bitmap.now edge self.new (y + 1) }
         ensures to { self.new.to ≡ self.old.to }
-        ensures entries { IsRowOfTable bitmap.now y self.new.entries.items }
+        ensures entries { IsRowOfTable (framed edge bitmap.now) y self.new.entries.items }
     {
         let width = usize::from(bitmap.width());
         let start = usize::from(y - self.first) * width;
         next_row(
             bitmap,
+            edge,
             y,
             self.before.as_mut_slice(),
             &self.behind[start..start + width],
@@ -206,12 +234,12 @@ impl Columns {
 }
 
 /// Whether a column's nearest obstacle is so far from row `y` that to look outwards from each row costs more than to carry lines. `entries` is room for a line.
-fn is_far(bitmap: &Bitmap, y: u16, entries: &mut [u16]) -> bool
-    requires row { y < bitmap.now.height }
-    requires width { length entries.old ≡ bitmap.now.width }
+fn is_far(bitmap: &Bitmap, edge: Edge, y: u16, entries: &mut [u16]) -> bool
+    requires row { y < bitmap.now.height + 2 * shift edge }
+    requires width { length entries.old ≡ bitmap.now.width + 2 * shift edge }
     ensures len { length entries.new ≡ length entries.old }
 {
-    nearest_rows(bitmap, y, entries);
+    nearest_rows(bitmap, edge, y, entries);
     let mut farthest = 0;
     'columns: for x in 0..entries.len() {
         farthest = farthest.max(y.abs_diff(entries[x]));

@@ -1,48 +1,50 @@
 //! Where an obstacle is, in four bytes.
 
-ghost use Rattle.std.specs.Prelude.{◌≡◌, ◌≤◌, IfSome, Option, None};
-ghost use Rattle.metric.specs.declared.cell.Cell.{Cell};
+ghost use Rattle.std.specs.Prelude.{◌≡◌, ◌≤ℤ◌, pos, negsuc, IfSome, Option, None};
+ghost use Rattle.metric.specs.declared.spot.Spot.{Spot};
 
 use envelope::Answer;
-use metric::{Cell, Near};
+use metric::{Near, Spot};
 use std::marker::Model;
 
-/// The column and the row that stand for no obstacle: no map has them.
-const NOWHERE: u16 = u16::MAX;
+/// The column and the row that stand for no obstacle: no map with its frame has them.
+const NOWHERE: i16 = -2;
 
-/// The cell of an obstacle, or none. Contracts see it as that.
+/// The spot of an obstacle, or none. Contracts see it as that.
 #[derive(Clone, Copy, Debug)]
 pub struct ObstacleCell {
-    x: u16,
-    y: u16,
+    x: i16,
+    y: i16,
 }
 
 impl Model for ObstacleCell {
-    ghost use Rattle.std.specs.Prelude.{Option, Some, None};
-    ghost use Rattle.metric.specs.declared.cell.Cell.{Cell};
+    ghost use Rattle.std.specs.Prelude.{Option, Some, None, negsuc};
+    ghost use Rattle.metric.specs.declared.spot.Spot.{Spot};
 
-    ghost Value = { Option Cell };
+    ghost Value = { Option Spot };
 
-    ghost use Rattle.field.specs.Obstacles.{cell_kept, IsKept};
+    ghost use Rattle.field.specs.Obstacles.{spot_kept, IsKept};
 
-    ghost view = { λ kept. cell_kept kept.x kept.y };
+    ghost view = { λ kept. spot_kept kept.x kept.y };
 
     ghost invariant = { λ kept. IsKept kept.x kept.y };
 
-    ghost inverse = { elim [ None ↦ record { x = 65535; y = 65535 } | Some cell ↦ record { x = cell.x; y = cell.y } ] };
+    ghost inverse = { elim [ None ↦ record { x = negsuc 1; y = negsuc 1 } | Some cell ↦ record { x = cell.x; y = cell.y } ] };
 }
 
 impl ObstacleCell {
-    /// The cell, or none. Of a cell both numbers are at most 4095.
-    pub fn cell(self) -> Option<Cell>
+    /// The spot, or none. Both numbers of a spot are from -1 to 4097.
+    pub fn cell(self) -> Option<Spot>
         ensures cell { result ≡ self }
-        ensures column { IfSome result (λ cell. cell.x ≤ 4095) }
-        ensures row { IfSome result (λ cell. cell.y ≤ 4095) }
+        ensures left { IfSome result (λ spot. negsuc 0 ≤ℤ spot.x) }
+        ensures column { IfSome result (λ spot. spot.x ≤ℤ pos 4097) }
+        ensures top { IfSome result (λ spot. negsuc 0 ≤ℤ spot.y) }
+        ensures row { IfSome result (λ spot. spot.y ≤ℤ pos 4097) }
     {
         if self.x == NOWHERE {
             None
         } else {
-            Some(Cell {
+            Some(Spot {
                 x: self.x,
                 y: self.y,
             })

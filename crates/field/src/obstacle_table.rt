@@ -9,7 +9,7 @@ use crate::obstacle_cell::ObstacleCell;
 use crate::strips::{Strips, work_strips};
 use crate::workers::Workers;
 use bits::Bitmap;
-use metric::{Gate, Metric, Near, Refusal};
+use metric::{Edge, Gate, Metric, Near, Refusal};
 use std::alloc::Global;
 use std::marker::Model;
 use std::thread::Threads;
@@ -44,6 +44,7 @@ impl ObstacleTable {
         rt: &R,
         alloc: Global,
         bitmap: &Bitmap,
+        edge: Edge,
         y0: u16,
         y1: u16,
         workers: Workers,
@@ -54,13 +55,14 @@ impl ObstacleTable {
         ensures width { IfOk result (λ table. table.width ≡ bitmap.now.width) }
         ensures from { IfOk result (λ table. table.y0 ≡ y0) }
         ensures to { IfOk result (λ table. table.y1 ≡ y1) }
-        ensures rows { IfOk result (λ table. AreNears M.distance bitmap.now y0 y1 (nears_told M.distance table)) }
+        ensures rows { IfOk result (λ table. AreNears M.distance bitmap.now edge y0 y1 (nears_told M.distance table)) }
         ensures memory { IfErr result (λ refusal. refusal ≡ Memory) }
     {
         let count = workers.count;
         let height = (y1 - y0).div_ceil(u16::from(count)).max(1);
         let shared = Strips {
             bitmap,
+            edge,
             y0,
             y1,
             height,
@@ -89,7 +91,7 @@ impl ObstacleTable {
         self.y0 <= y && y < self.y1
     }
 
-    /// The nearest obstacle of the cell in column `x` and row `y`, by the metric that the table was made by; `None` where the bitmap has no obstacle.
+    /// The nearest obstacle of the cell in column `x` and row `y`, by the metric that the table was made by; `None` where there is no obstacle.
     pub fn near<M: Metric>(&self, x: u16, y: u16) -> Option<Near>
         requires column { x < self.now.width }
         requires from { self.now.y0 ≤ y }
@@ -143,8 +145,9 @@ fn near_from<M: Metric>(x: u16, y: u16, kept: ObstacleCell) -> Option<Near>
     ensures { result ≡ seen_from M.distance x y kept }
 {
     let cell = kept.cell()?;
+    let (dx, dy) = ((x as i16).abs_diff(cell.x), (y as i16).abs_diff(cell.y));
     Some(Near {
-        dist: M::of(x.abs_diff(cell.x), y.abs_diff(cell.y)),
+        dist: M::of(dx, dy),
         cell,
     })
 }

@@ -8,7 +8,7 @@ ghost use Rattle.metric.specs.declared.refusal.Refusal.TheVariants.{Memory};
 use crate::obstacle_cell::ObstacleCell;
 use crate::table::answers;
 use bits::Bitmap;
-use metric::{Gate, Metric, Refusal};
+use metric::{Edge, Gate, Metric, Refusal};
 use std::alloc::Global;
 use std::thread::{Threads, map_indices};
 
@@ -16,6 +16,7 @@ use std::thread::{Threads, map_indices};
 #[derive(Drop)]
 pub struct Strips<'a> {
     pub bitmap: &'a Bitmap,
+    pub edge: Edge,
     pub y0: u16,
     pub y1: u16,
     pub height: u16,
@@ -34,12 +35,12 @@ pub fn work_strips<M: Metric + Sync, G: Gate + Sync, R: Threads + Sync>(
 ) -> Result<Vec<Vec<ObstacleCell>>, Refusal>
     requires count { IsWorkers count }
     ensures count { IfOk result (λ cells. vec_len cells ≡ count) }
-    ensures each { IfOk result (λ cells. AreStripAnswers M.distance strips.now.bitmap.now strips.now.y0 strips.now.y1 strips.now.height (map (λ strip. strip.items) cells.items)) }
+    ensures each { IfOk result (λ cells. AreStripAnswers M.distance strips.now.bitmap.now strips.now.edge strips.now.y0 strips.now.y1 strips.now.height (map (λ strip. strip.items) cells.items)) }
     ensures memory { IfErr result (λ refusal. refusal ≡ Memory) }
 {
     let work = |strip: usize| -> Result<Vec<ObstacleCell>, Refusal>
         requires { strip < 16 }
-        ensures rows { IfOk result (λ cells. AreAnswers seen_from None M.distance strips.entry.now.bitmap.now (strips.entry.now.y0 + rows_before (strips.entry.now.y1 - strips.entry.now.y0) strips.entry.now.height strip) (strips.entry.now.y0 + rows_before (strips.entry.now.y1 - strips.entry.now.y0) strips.entry.now.height (strip + 1)) cells.items) }
+        ensures rows { IfOk result (λ cells. AreAnswers seen_from None M.distance strips.entry.now.bitmap.now strips.entry.now.edge (strips.entry.now.y0 + rows_before (strips.entry.now.y1 - strips.entry.now.y0) strips.entry.now.height strip) (strips.entry.now.y0 + rows_before (strips.entry.now.y1 - strips.entry.now.y0) strips.entry.now.height (strip + 1)) cells.items) }
         ensures memory { IfErr result (λ refusal. refusal ≡ Memory) }
     { work_strip::<M, G>(alloc, strips, gate, strip as u8) };
     let Ok(found) = map_indices(rt, alloc, usize::from(count), &work) else {
@@ -56,13 +57,13 @@ fn work_strip<M: Metric, G: Gate>(
     strip: u8,
 ) -> Result<Vec<ObstacleCell>, Refusal>
     requires strip { strip < 16 }
-    ensures rows { IfOk result (λ cells. AreAnswers seen_from None M.distance strips.now.bitmap.now (strips.now.y0 + rows_before (strips.now.y1 - strips.now.y0) strips.now.height strip) (strips.now.y0 + rows_before (strips.now.y1 - strips.now.y0) strips.now.height (strip + 1)) cells.items) }
+    ensures rows { IfOk result (λ cells. AreAnswers seen_from None M.distance strips.now.bitmap.now strips.now.edge (strips.now.y0 + rows_before (strips.now.y1 - strips.now.y0) strips.now.height strip) (strips.now.y0 + rows_before (strips.now.y1 - strips.now.y0) strips.now.height (strip + 1)) cells.items) }
     ensures memory { IfErr result (λ refusal. refusal ≡ Memory) }
 {
     gate.enter(strip + 1);
     let from = strips.first_row(strip);
     let to = strips.first_row(strip + 1);
-    answers::<M, ObstacleCell>(alloc, strips.bitmap, from, to)
+    answers::<M, ObstacleCell>(alloc, strips.bitmap, strips.edge, from, to)
 }
 
 impl Strips<'_> {

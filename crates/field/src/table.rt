@@ -1,6 +1,7 @@
 //! The nearest obstacles of all cells of some rows, one row after another.
 
-ghost use Rattle.std.specs.Prelude.{◌≡◌, ◌≤◌, [], ◌++◌, length, IfOk, OnOk, IfErr};
+ghost use Rattle.std.specs.Prelude.{◌≡◌, ◌+◌, ◌*◌, ◌≤◌, [], ◌++◌, length, IfOk, OnOk, IfErr};
+ghost use Rattle.metric.specs.Edge.{shift};
 ghost use Rattle.bits.specs.Cells.{IsBitmap};
 ghost use Rattle.field.specs.Bands.{AreAnswers};
 ghost use Rattle.field.specs.Columns.{IsReady};
@@ -10,41 +11,43 @@ ghost use Rattle.metric.specs.declared.refusal.Refusal.TheVariants.{Memory};
 use crate::columns::Columns;
 use bits::Bitmap;
 use envelope::{Answer, Stack, row_from};
-use metric::{Metric, Near, Refusal};
+use metric::{Edge, Metric, Near, Refusal};
 use std::alloc::Global;
 
 /// The nearest obstacles of the cells of rows `y0` to `y1 - 1`, row by row, each row from the left.
 ///
-/// Of the obstacles at the least distance it is the one of the least column; of those the one in the fewest rows away, and of two such the upper. A cell has `None` where the bitmap has no obstacle. Refused for want of memory alone.
+/// Of the obstacles at the least distance it is the one of the least column; of those the one in the fewest rows away, and of two such the upper. Where the edge is a wall, the cells of the frame round the map are obstacles too. A cell has `None` where there is no obstacle. Refused for want of memory alone.
 pub fn rows<M: Metric>(
     alloc: Global,
     bitmap: &Bitmap,
+    edge: Edge,
     y0: u16,
     y1: u16,
 ) -> Result<Vec<Option<Near>>, Refusal>
     requires order { y0 ≤ y1 }
     requires within { y1 ≤ bitmap.now.height }
-    ensures rows { IfOk result (λ nears. AreNears M.distance bitmap.now y0 y1 nears.items) }
+    ensures rows { IfOk result (λ nears. AreNears M.distance bitmap.now edge y0 y1 nears.items) }
     ensures memory { IfErr result (λ refusal. refusal ≡ Memory) }
 {
-    answers::<M, Option<Near>>(alloc, bitmap, y0, y1)
+    answers::<M, Option<Near>>(alloc, bitmap, edge, y0, y1)
 }
 
 /// What is kept of the nearest obstacles of the cells of rows `y0` to `y1 - 1`. Refused for want of memory alone.
 pub fn answers<M: Metric, A: Answer>(
     alloc: Global,
     bitmap: &Bitmap,
+    edge: Edge,
     y0: u16,
     y1: u16,
 ) -> Result<Vec<A>, Refusal>
     requires order { y0 ≤ y1 }
     requires within { y1 ≤ bitmap.now.height }
-    ensures rows { IfOk result (λ answers. AreAnswers A.told A.nothing M.distance bitmap.now y0 y1 answers.items) }
+    ensures rows { IfOk result (λ answers. AreAnswers A.told A.nothing M.distance bitmap.now edge y0 y1 answers.items) }
     ensures memory { IfErr result (λ refusal. refusal ≡ Memory) }
 {
     let width = usize::from(bitmap.width());
-    let mut columns = Columns::of(alloc, bitmap, y0, y1)?;
-    let mut stack = Stack::new(alloc, bitmap.width())?;
+    let mut columns = Columns::of(alloc, bitmap, edge, y0 + edge.shift(), y1 + edge.shift())?;
+    let mut stack = Stack::new(alloc, bitmap.width() + 2 * edge.shift())?;
     let Ok(mut line) = vec![in alloc; A::none(); width] else {
         return Err(Refusal::Memory);
     };
@@ -53,6 +56,7 @@ pub fn answers<M: Metric, A: Answer>(
     };
     push_rows::<M, A>(
         bitmap,
+        edge,
         y0,
         y1,
         &mut columns,
@@ -66,6 +70,7 @@ pub fn answers<M: Metric, A: Answer>(
 /// Adds the rows `y0` to `y1 - 1`, those of the columns. The stack and `line` have room for a row; `answers` has room for all.
 fn push_rows<M: Metric, A: Answer>(
     bitmap: &Bitmap,
+    edge: Edge,
     y0: u16,
     y1: u16,
     columns: &mut Columns,
@@ -76,17 +81,18 @@ fn push_rows<M: Metric, A: Answer>(
     requires order { y0 ≤ y1 }
     requires bitmap { IsBitmap bitmap.now }
     requires within { y1 ≤ bitmap.now.height }
-    requires columns { IsReady bitmap.now columns.old y0 }
-    requires to { columns.old.to ≡ y1 }
-    requires stack { bitmap.now.width ≤ stack.old }
+    requires columns { IsReady bitmap.now edge columns.old (y0 + shift edge) }
+    requires to { columns.old.to ≡ y1 + shift edge }
+    requires stack { bitmap.now.width + 2 * shift edge ≤ stack.old }
     requires line { length line.old ≡ bitmap.now.width }
     requires empty { answers.old.items ≡ [] }
-    ensures rows { OnOk result (AreAnswers A.told A.nothing M.distance bitmap.now y0 y1 answers.new.items) }
+    ensures rows { OnOk result (AreAnswers A.told A.nothing M.distance bitmap.now edge y0 y1 answers.new.items) }
     ensures memory { IfErr result (λ refusal. refusal ≡ Memory) }
 {
     'rows: for y in y0..y1 {
-        columns.look(bitmap, y);
-        row_from::<M, A>(&columns.entries, y, stack, line);
+        let framed = y + edge.shift();
+        columns.look(bitmap, edge, framed);
+        row_from::<M, A>(&columns.entries, framed, edge, stack, line);
         push_line(line, answers)?;
     }
     Ok(())

@@ -5,6 +5,7 @@ use Rattle.std.specs.List.{range_with_len}
 use Rattle.bits.specs.Cells.{has, rows_where, cells_where}
 use Rattle.bits.specs.Changes.{changes}
 use Rattle.bits.specs.Tiles.{word_where, row_word}
+use Rattle.metric.specs.declared.edge.Edge.TheVariants.{Open}
 use Rattle.metric.specs.declared.refusal.Refusal.{Refusal}
 use Rattle.metric.specs.declared.refusal.Refusal.TheVariants.{OutOfRange, BlocksFull, VersionsFull, LogFull}
 use Rattle.map_core.specs.declared.command.Command.{Command}
@@ -85,7 +86,7 @@ no : Refusal → Option StepReply
 no refusal = Some (says.Refused refusal)
 
 -- the dangerous interleaving: a scan passes, the reader announces, the collect commits, and the reader's load decides
-a_scan_before_an_announcement : answers_of (blank_world 64 64 record { blocks = 3; versions = 2; sessions = 1; log = 10 })
+a_scan_before_an_announcement : answers_of (blank_world 64 64 record { blocks = 3; versions = 2; sessions = 1; log = 10; edge = Open })
     (whole (dot 0 (omega arith)) 1 ++ whole Publish 66
     ++ (Order Collect ∷ Keep ∷ Announce 0 ∷ Keep ∷ Announce 0 ∷ Load 0 ∷ LookMap 0 0 ∷ LookTile 0 1 0 ∷ LookTile 0 0 0 ∷ Leave 0 ∷ []))
     ≡ (Some (says.Ordered 1) ∷ done (Painted 1 1) ∷ Some (says.Ordered 66) ∷ [])
@@ -96,7 +97,7 @@ unfolding has rows_where changes word_where row_word drawn tile_differs touched 
 a_scan_before_an_announcement = refl
 
 -- two pins beside a painter: a collect that a pin holds back, versions that are full, and a collect after the pin has left
-pins_beside_a_painter : last_answers (blank_world 64 64 record { blocks = 3; versions = 2; sessions = 3; log = 10 })
+pins_beside_a_painter : last_answers (blank_world 64 64 record { blocks = 3; versions = 2; sessions = 3; log = 10; edge = Open })
     (pin 0 ∷ whole (dot 0 (omega arith)) 1 ∷ whole Publish 66 ∷ (LookMap 0 0 ∷ []) ∷ pin 2 ∷ (LookMap 2 0 ∷ []) ∷ (LookTile 2 1 0 ∷ [])
     ∷ whole Collect 4 ∷ (Order Publish ∷ []) ∷ (Leave 0 ∷ []) ∷ whole Collect 4 ∷ whole Publish 2 ∷ (LookMap 2 0 ∷ []) ∷ (LookTile 2 1 0 ∷ []) ∷ [])
     ≡ Some (says.Now 0 0) ∷ done (Painted 1 1) ∷ done (Published 2 1) ∷ Some (says.Block 0) ∷ Some (says.Now 2 1) ∷ Some (says.Block 1) ∷ Some (says.Word 1)
@@ -105,14 +106,14 @@ unfolding has rows_where changes word_where row_word drawn tile_differs touched 
 pins_beside_a_painter = refl
 
 -- a paint that finds no free block, until a collect
-a_collect_frees_a_block : last_answers (blank_world 64 64 record { blocks = 2; versions = 2; sessions = 4; log = 100000 })
+a_collect_frees_a_block : last_answers (blank_world 64 64 record { blocks = 2; versions = 2; sessions = 4; log = 100000; edge = Open })
     (whole (dot 0 (omega arith)) 1 ∷ whole Publish 66 ∷ (Order (dot 1 (omega arith)) ∷ []) ∷ whole Collect 5 ∷ whole (dot 1 (omega arith)) 1 ∷ [])
     ≡ done (Painted 1 1) ∷ done (Published 2 1) ∷ no (BlocksFull 1 0) ∷ done (Collected 3 1 1 (slots_of (0 ∷ 2 ∷ []))) ∷ done (Painted 4 1) ∷ []
 unfolding has rows_where changes word_where row_word drawn tile_differs touched opened kept_log newest bitmap_of kept inuse needed refused told opened_blocks directory_of is_mapped moved word_count pin_at map_at tile_at now_of pin_word slot_of next_slot story blocks does announce load look_map look_tile leave keep order confirm steps_before tile_write map_write kept_scanned seen_in reply_of answers_of blank_world last_of last_answers whole pin pin_exactly slots_of paint dot done no
 a_collect_frees_a_block = refl
 
 -- a clear that changes nothing needs no block; an area past the edge is refused
-a_clear_of_free_cells : last_answers (blank_world 64 64 record { blocks = 1; versions = 2; sessions = 1; log = 10 })
+a_clear_of_free_cells : last_answers (blank_world 64 64 record { blocks = 1; versions = 2; sessions = 1; log = 10; edge = Open })
     (whole (Paint record { x0 = 0; y0 = 0; x1 = 64; y1 = 64; has_cells = record { columns = omega arith; rows = omega arith; right = omega arith; bottom = omega arith } } false) 1
     ∷ (Order (paint 63 63 65 64 (omega arith) (omega arith) (omega arith) (omega arith)) ∷ []) ∷ [])
     ≡ done (Painted 1 0) ∷ no OutOfRange ∷ []
@@ -120,7 +121,7 @@ unfolding has rows_where changes word_where row_word drawn tile_differs touched 
 a_clear_of_free_cells = refl
 
 -- two tiles and one free block: what is needed is counted by position, and a revert gives the block back
-blocks_by_position : last_answers (blank_world 128 1 record { blocks = 3; versions = 2; sessions = 1; log = 10 })
+blocks_by_position : last_answers (blank_world 128 1 record { blocks = 3; versions = 2; sessions = 1; log = 10; edge = Open })
     ((Order (paint 0 0 128 1 (omega arith) (omega arith) (omega arith) (omega arith)) ∷ []) ∷ whole (dot 0 (omega arith)) 1
     ∷ whole (paint 0 0 2 1 (omega arith) (omega arith) (omega arith) (omega arith)) 1 ∷ (Order (dot 64 (omega arith)) ∷ []) ∷ whole Revert 1 ∷ whole (dot 64 (omega arith)) 1 ∷ [])
     ≡ no (BlocksFull 2 1) ∷ done (Painted 1 1) ∷ done (Painted 2 1) ∷ no (BlocksFull 1 0) ∷ done (Reverted 3) ∷ done (Painted 4 1) ∷ []
@@ -128,14 +129,14 @@ unfolding has rows_where changes word_where row_word drawn tile_differs touched 
 blocks_by_position = refl
 
 -- a log that is full refuses a paint whose area is good, and judges the area first
-a_full_log : last_answers (blank_world 64 64 record { blocks = 3; versions = 2; sessions = 2; log = 2 })
+a_full_log : last_answers (blank_world 64 64 record { blocks = 3; versions = 2; sessions = 2; log = 2; edge = Open })
     (whole (dot 0 (omega arith)) 1 ∷ whole Publish 66 ∷ (Order (dot 1 (omega arith)) ∷ []) ∷ (Order (dot 64 (omega arith)) ∷ []) ∷ pin 1 ∷ [])
     ≡ done (Painted 1 1) ∷ done (Published 2 1) ∷ no LogFull ∷ no OutOfRange ∷ Some (says.Now 2 1) ∷ []
 unfolding has rows_where changes word_where row_word drawn tile_differs touched opened kept_log newest bitmap_of kept inuse needed refused told opened_blocks directory_of is_mapped moved word_count pin_at map_at tile_at now_of pin_word slot_of next_slot story blocks does announce load look_map look_tile leave keep order confirm steps_before tile_write map_write kept_scanned seen_in reply_of answers_of blank_world last_of last_answers whole pin pin_exactly slots_of paint dot done no
 a_full_log = refl
 
 -- what is enabled and what isn't, on a world where nothing has changed
-what_is_enabled : answers_of (blank_world 64 64 record { blocks = 3; versions = 2; sessions = 1; log = 10 })
+what_is_enabled : answers_of (blank_world 64 64 record { blocks = 3; versions = 2; sessions = 1; log = 10; edge = Open })
     (Load 0 ∷ LookMap 0 0 ∷ Announce 0 ∷ Order (paint 0 0 65 1 (omega arith) (omega arith) (omega arith) (omega arith)) ∷ Order Collect ∷ Order Revert ∷ Keep ∷ Keep ∷ Keep
     ∷ Load 0 ∷ LookMap 0 0 ∷ LookMap 0 1 ∷ Load 1 ∷ LookTile 0 0 64 ∷ Leave 0 ∷ Leave 0 ∷ [])
     ≡ Some (says.Now 0 0) ∷ None ∷ Some (says.Announced 0) ∷ no OutOfRange ∷ Some (says.Ordered 2) ∷ None ∷ Some (says.Scanned 0 1) ∷ done (Collected 1 0 0 first_kept) ∷ None
@@ -144,14 +145,14 @@ unfolding has rows_where changes word_where row_word drawn tile_differs touched 
 what_is_enabled = refl
 
 -- an exact announcement, once for a hold, and what a scan sees of it
-an_exact_announcement : answers_of (blank_world 64 64 record { blocks = 3; versions = 3; sessions = 1; log = 10 })
+an_exact_announcement : answers_of (blank_world 64 64 record { blocks = 3; versions = 3; sessions = 1; log = 10; edge = Open })
     (Load 0 ∷ Announce 0 ∷ Load 0 ∷ Confirm 0 ∷ Confirm 0 ∷ Order Collect ∷ Keep ∷ Keep ∷ [])
     ≡ Some (says.Now 0 0) ∷ Some (says.Announced 0) ∷ Some (says.Now 0 0) ∷ Some (says.Confirmed 0) ∷ None ∷ Some (says.Ordered 2) ∷ Some (says.Scanned 0 2) ∷ done (Collected 1 0 0 first_kept) ∷ []
 unfolding has rows_where changes word_where row_word drawn tile_differs touched opened kept_log newest bitmap_of kept inuse needed refused told opened_blocks directory_of is_mapped moved word_count pin_at map_at tile_at now_of pin_word slot_of next_slot story blocks does announce load look_map look_tile leave keep order confirm steps_before tile_write map_write kept_scanned seen_in reply_of answers_of blank_world last_of last_answers whole pin pin_exactly slots_of paint dot done no
 an_exact_announcement = refl
 
 -- an old pin keeps its own version alone: the one after it goes, its block is taken anew, and its slot is the next version's
-an_old_pin : last_answers (blank_world 64 64 record { blocks = 3; versions = 3; sessions = 2; log = 10 })
+an_old_pin : last_answers (blank_world 64 64 record { blocks = 3; versions = 3; sessions = 2; log = 10; edge = Open })
     (pin_exactly 0 ∷ whole (dot 0 (omega arith)) 1 ∷ whole Publish 66 ∷ whole (dot 1 (omega arith)) 1 ∷ whole Publish 66
     ∷ (Order (dot 2 (omega arith)) ∷ []) ∷ (Order Publish ∷ []) ∷ whole Collect 3 ∷ whole (dot 2 (omega arith)) 1 ∷ whole Publish 66 ∷ (LookMap 0 0 ∷ []) ∷ (LookTile 0 0 0 ∷ []) ∷ pin 1 ∷ (LookMap 1 0 ∷ []) ∷ [])
     ≡ Some (says.Confirmed 0) ∷ done (Painted 1 1) ∷ done (Published 2 1) ∷ done (Painted 3 1) ∷ done (Published 4 2)

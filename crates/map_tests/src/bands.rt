@@ -5,7 +5,7 @@ use crate::draws::Draws;
 use crate::gates::{Counts, Meeting};
 use bits::Bitmap;
 use field::{Workers, rows, rows_with};
-use metric::{Chess, City, Euclid2, Metric};
+use metric::{Chess, City, Edge, Euclid2, Metric};
 use std::alloc::Global;
 use std::process::Abort;
 use std::test::Fail;
@@ -17,7 +17,16 @@ fn bands_meet(rt: HostRuntime) -> Result<(), Fail> {
     let workers = Workers::new(2).ok_or("no workers")?;
     let gate = Meeting::new();
     assert!(rt; bitmap.height() == 4);
-    let nears = rows_with::<City, _, _>(&rt, rt.alloc(), &bitmap, 0, 4, workers, &gate)?;
+    let nears = rows_with::<City, _, _>(
+        &rt,
+        rt.alloc(),
+        &bitmap,
+        Edge::Open,
+        0,
+        4,
+        workers,
+        &gate,
+    )?;
     same(&rt, nears.len(), 32, "answers");
     holds(&rt, !gate.was_alone(), "both bands enter");
     Ok(())
@@ -34,7 +43,16 @@ fn three_rows_over_four_workers(rt: HostRuntime) -> Result<(), Fail> {
     let bitmap = Bitmap::blank(rt.alloc(), 5, 3)?;
     assert!(rt; bitmap.height() == 3);
     let gate = Counts::new();
-    let nears = rows_with::<Chess, _, _>(&rt, rt.alloc(), &bitmap, 0, 3, workers, &gate)?;
+    let nears = rows_with::<Chess, _, _>(
+        &rt,
+        rt.alloc(),
+        &bitmap,
+        Edge::Open,
+        0,
+        3,
+        workers,
+        &gate,
+    )?;
     same(&rt, nears.len(), 15, "answers");
     for band in 0..17 {
         let once = u64::from(1 <= band && band <= 4);
@@ -54,11 +72,12 @@ fn so_many_workers(rt: HostRuntime) -> Result<(), Fail> {
     Ok(())
 }
 
-/// Compares the rows from one to before another, worked by so many workers, with those that one thread works.
-fn compare<M: Metric + Sync>(
+/// Compares the rows from one on, worked by so many workers, with those that one thread works.
+pub fn compare<M: Metric + Sync>(
     rt: &(impl Abort + Threads + Sync),
     alloc: Global,
     bitmap: &Bitmap,
+    edge: Edge,
     count: u8,
     y0: u16,
 ) -> Result<(), Fail> {
@@ -66,9 +85,9 @@ fn compare<M: Metric + Sync>(
     let gate = Counts::new();
     let y1 = bitmap.height();
     assert!(rt; y0 <= y1);
-    let many = rows_with::<M, _, _>(rt, alloc, bitmap, y0, y1, workers, &gate)?;
-    let one = rows::<M>(alloc, bitmap, y0, y1)?;
-    same(rt, many.as_slice(), one.as_slice(), (count, y0, y1));
+    let many = rows_with::<M, _, _>(rt, alloc, bitmap, edge, y0, y1, workers, &gate)?;
+    let one = rows::<M>(alloc, bitmap, edge, y0, y1)?;
+    same(rt, many.as_slice(), one.as_slice(), (edge, count, y0, y1));
     Ok(())
 }
 
@@ -80,9 +99,10 @@ fn as_one_thread(rt: HostRuntime) -> Result<(), Fail> {
             for rare in [2, 20, 200] {
                 let (width, height) = (draws.side(width), draws.side(height));
                 let bitmap = draws.map(rt.alloc(), width, height, rare)?;
-                compare::<Euclid2>(&rt, rt.alloc(), &bitmap, count, 0)?;
-                compare::<City>(&rt, rt.alloc(), &bitmap, count, height / 3)?;
-                compare::<Chess>(&rt, rt.alloc(), &bitmap, count, height / 2)?;
+                let edge = draws.edge();
+                compare::<Euclid2>(&rt, rt.alloc(), &bitmap, edge, count, 0)?;
+                compare::<City>(&rt, rt.alloc(), &bitmap, edge, count, height / 3)?;
+                compare::<Chess>(&rt, rt.alloc(), &bitmap, edge, count, height / 2)?;
             }
         }
     }

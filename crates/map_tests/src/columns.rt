@@ -3,7 +3,7 @@
 use crate::compare::{holds, same};
 use bits::Bitmap;
 use column::{ColumnTable, NONE, nearest_rows};
-use metric::{Cell, Refusal};
+use metric::{Cell, Edge, Refusal};
 use std::alloc::Global;
 use std::process::Abort;
 use std::test::Fail;
@@ -40,18 +40,27 @@ fn with_column(
     Ok(bitmap)
 }
 
+/// The row of the obstacle of a column of the table that is nearest to row `y`.
+fn nearest_row(rt: &impl Abort, table: &ColumnTable, x: i16, y: u16) -> Option<i16> {
+    let before = table.edge().shift() as i16;
+    assert!(rt; table.width() <= 4096);
+    assert!(rt; -before <= x && x < table.width() as i16 + before);
+    assert!(rt; y < table.height());
+    table.nearest_row(x, y)
+}
+
 #[test]
 fn worked_columns(rt: HostRuntime) -> Result<(), Fail> {
     for width in [1, 63, 64, 65, 130] {
         for (height, obstacles, want) in COLUMNS {
             let x = width - 1;
             let bitmap = with_column(&rt, rt.alloc(), width, height, x, obstacles)?;
-            let table = ColumnTable::of(rt.alloc(), &bitmap)?;
+            let table = ColumnTable::of(rt.alloc(), &bitmap, Edge::Open)?;
             assert!(rt; table.width() == width && table.height() == height);
             let mut entries = vec![in rt.alloc(); 0; usize::from(width)]?;
             for (y, want) in (0..height).zip(want) {
                 assert!(rt; y < bitmap.height());
-                nearest_rows(&bitmap, y, &mut entries);
+                nearest_rows(&bitmap, Edge::Open, y, &mut entries);
                 assert!(rt; x < table.width() && y < table.height());
                 let row = table.row(y);
                 same(
@@ -66,8 +75,13 @@ fn worked_columns(rt: HostRuntime) -> Result<(), Fail> {
                     Some(want),
                     ("row, height, width", y, height, width),
                 );
-                let nearest = if *want == NONE { None } else { Some(*want) };
-                same(&rt, table.nearest_row(x, y), nearest, "nearest row");
+                let nearest = i16::try_from(*want).ok();
+                same(
+                    &rt,
+                    nearest_row(&rt, &table, x as i16, y),
+                    nearest,
+                    "nearest row",
+                );
                 assert!(rt; row.iter().take(usize::from(x)).all(|entry| *entry == NONE));
             }
         }
@@ -78,15 +92,52 @@ fn worked_columns(rt: HostRuntime) -> Result<(), Fail> {
 #[test]
 fn the_largest_table(rt: HostRuntime) -> Result<(), Fail> {
     let bitmap = with_column(&rt, rt.alloc(), 4096, 4096, 4095, &[0, 4095])?;
-    let table = ColumnTable::of(rt.alloc(), &bitmap)?;
-    assert!(rt; table.width() == 4096 && table.height() == 4096);
-    same(&rt, table.nearest_row(4095, 2047), Some(0), "nearest row");
-    same(
-        &rt,
-        table.nearest_row(4095, 2048),
-        Some(4095),
-        "nearest row",
-    );
-    same(&rt, table.nearest_row(0, 2048), None, "nearest row");
+    let table = ColumnTable::of(rt.alloc(), &bitmap, Edge::Open)?;
+    for (x, y, want) in [
+        (4095, 2047, Some(0)),
+        (4095, 2048, Some(4095)),
+        (0, 2048, None),
+    ] {
+        same(
+            &rt,
+            nearest_row(&rt, &table, x, y),
+            want,
+            ("nearest row", x, y),
+        );
+    }
+    Ok(())
+}
+
+/// A column and a row of a map of 3 columns and 5 rows whose border is a wall and whose obstacles are (0, 3) and (2, 1), and the row of the column's nearest obstacle.
+const WALLED: [(i16, u16, i16); 12] = [
+    (-1, 0, 0),
+    (-1, 4, 4),
+    (3, 0, 0),
+    (3, 4, 4),
+    (0, 1, -1),
+    (0, 2, 3),
+    (1, 1, -1),
+    (1, 2, -1),
+    (1, 3, 5),
+    (2, 0, -1),
+    (2, 2, 1),
+    (2, 3, 1),
+];
+
+#[test]
+fn columns_with_the_frame(rt: HostRuntime) -> Result<(), Fail> {
+    let mut bitmap = with_column(&rt, rt.alloc(), 3, 5, 0, &[3])?;
+    let other = Cell { x: 2, y: 1 };
+    assert!(rt; bitmap.holds(other));
+    bitmap.set(other, true);
+    let table = ColumnTable::of(rt.alloc(), &bitmap, Edge::Wall)?;
+    for (x, y, want) in WALLED {
+        same(
+            &rt,
+            nearest_row(&rt, &table, x, y),
+            Some(want),
+            ("nearest row", x, y),
+        );
+    }
     Ok(())
 }

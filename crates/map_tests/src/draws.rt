@@ -4,7 +4,7 @@ ghost use Rattle.std.specs.Prelude.{◌<◌, ◌≤◌};
 ghost use Rattle.bits.specs.Cells.{IsSide};
 
 use bits::Bitmap;
-use metric::{Cell, Rect, Refusal};
+use metric::{Cell, Edge, Rect, Refusal};
 use std::alloc::{AllocError, Global};
 
 /// Numbers that look random, the same in each run.
@@ -47,6 +47,15 @@ impl Draws {
         }
         let place = self.below(numbers.len() as u64) as usize;
         numbers.get(place).copied().unwrap_or(1)
+    }
+
+    /// An open border or a wall.
+    pub fn edge(&mut self) -> Edge {
+        if self.below(2) == 0 {
+            Edge::Open
+        } else {
+            Edge::Wall
+        }
     }
 
     /// A map of this size whose cells are obstacles by one chance in `rare`.

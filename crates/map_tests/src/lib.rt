@@ -39,3 +39,9 @@ mod streams;
 mod tile_parts;
 #[cfg(test)]
 mod values;
+#[cfg(test)]
+mod wall_limits;
+#[cfg(test)]
+mod walls;
+#[cfg(test)]
+mod written_images;

@@ -5,7 +5,7 @@ use crate::draws::Draws;
 use crate::gates::{Counts, Meeting, Open};
 use bits::Bitmap;
 use field::{ObstacleTable, Workers, rows};
-use metric::{Chess, City, Euclid2, Metric, Near};
+use metric::{Chess, City, Edge, Euclid2, Metric, Near};
 use std::alloc::Global;
 use std::process::Abort;
 use std::test::Fail;
@@ -33,18 +33,19 @@ fn compare_row<M: Metric>(
 }
 
 /// Compares the table of the rows from one on, worked by so many workers, with what one thread answers.
-fn compare<M: Metric + Sync>(
+pub fn compare<M: Metric + Sync>(
     rt: &(impl Abort + Threads + Sync),
     alloc: Global,
     bitmap: &Bitmap,
+    edge: Edge,
     count: u8,
     y0: u16,
 ) -> Result<(), Fail> {
     let workers = Workers::new(count).ok_or("no workers")?;
     let (width, y1) = (usize::from(bitmap.width()), bitmap.height());
     assert!(rt; y0 <= y1);
-    let table = ObstacleTable::of::<M, _, _>(rt, alloc, bitmap, y0, y1, workers, &Open)?;
-    let nears = rows::<M>(alloc, bitmap, y0, y1)?;
+    let table = ObstacleTable::of::<M, _, _>(rt, alloc, bitmap, edge, y0, y1, workers, &Open)?;
+    let nears = rows::<M>(alloc, bitmap, edge, y0, y1)?;
     same(rt, usize::from(table.width()), width, "width");
     for (y, want) in (y0..y1).zip(nears.as_slice().chunks_exact(width)) {
         compare_row::<M>(rt, alloc, &table, y, want)?;
@@ -66,9 +67,10 @@ fn tells_what_the_rows_have(rt: HostRuntime) -> Result<(), Fail> {
             for rare in [2, 20, 2000] {
                 let (width, height) = (draws.side(width), draws.side(height));
                 let bitmap = draws.map(rt.alloc(), width, height, rare)?;
-                compare::<Euclid2>(&rt, rt.alloc(), &bitmap, count, 0)?;
-                compare::<City>(&rt, rt.alloc(), &bitmap, count, height / 3)?;
-                compare::<Chess>(&rt, rt.alloc(), &bitmap, count, height / 2)?;
+                let edge = draws.edge();
+                compare::<Euclid2>(&rt, rt.alloc(), &bitmap, edge, count, 0)?;
+                compare::<City>(&rt, rt.alloc(), &bitmap, edge, count, height / 3)?;
+                compare::<Chess>(&rt, rt.alloc(), &bitmap, edge, count, height / 2)?;
             }
         }
     }
@@ -78,7 +80,7 @@ fn tells_what_the_rows_have(rt: HostRuntime) -> Result<(), Fail> {
 #[test]
 fn no_obstacle_is_told(rt: HostRuntime) -> Result<(), Fail> {
     let bitmap = Bitmap::blank(rt.alloc(), 70, 3)?;
-    compare::<Chess>(&rt, rt.alloc(), &bitmap, 4, 0)
+    compare::<Chess>(&rt, rt.alloc(), &bitmap, Edge::Open, 4, 0)
 }
 
 #[test]
@@ -87,7 +89,7 @@ fn strips_meet(rt: HostRuntime) -> Result<(), Fail> {
     let workers = Workers::new(2).ok_or("no workers")?;
     let gate = Meeting::new();
     assert!(rt; bitmap.height() == 4);
-    ObstacleTable::of::<City, _, _>(&rt, rt.alloc(), &bitmap, 0, 4, workers, &gate)?;
+    ObstacleTable::of::<City, _, _>(&rt, rt.alloc(), &bitmap, Edge::Open, 0, 4, workers, &gate)?;
     holds(&rt, !gate.was_alone(), "both strips enter");
     Ok(())
 }
@@ -98,7 +100,7 @@ fn each_strip_enters_once(rt: HostRuntime) -> Result<(), Fail> {
     let bitmap = Bitmap::blank(rt.alloc(), 5, 3)?;
     let gate = Counts::new();
     assert!(rt; bitmap.height() == 3);
-    ObstacleTable::of::<Chess, _, _>(&rt, rt.alloc(), &bitmap, 0, 3, workers, &gate)?;
+    ObstacleTable::of::<Chess, _, _>(&rt, rt.alloc(), &bitmap, Edge::Open, 0, 3, workers, &gate)?;
     for strip in 0..17 {
         let once = u64::from(1 <= strip && strip <= 4);
         same(

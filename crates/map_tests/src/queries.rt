@@ -7,7 +7,7 @@ mod slow;
 use crate::compare::{holds, same};
 use bits::Bitmap;
 use clearance::{along, at, clear_of, least_in};
-use metric::{Cell, Chess, City, Euclid2, Near, Rect, Refusal};
+use metric::{Cell, Chess, City, Edge, Euclid2, Near, Rect, Refusal, Spot};
 use std::alloc::{AllocError, Global};
 use std::process::Abort;
 use std::test::Fail;
@@ -73,10 +73,7 @@ fn beside((place, dist): (Place, u32)) -> (Cell, Near) {
 
 /// A cell with its distance to an obstacle.
 fn beside_at((x, y): Place, dist: u32, obstacle: Place) -> (Cell, Near) {
-    let cell = Cell {
-        x: obstacle.0,
-        y: obstacle.1,
-    };
+    let cell = Edge::Open.spot(obstacle.0.min(4095), obstacle.1.min(4095));
     (Cell { x, y }, Near { dist, cell })
 }
 
@@ -85,12 +82,12 @@ fn paths_are_answered(rt: HostRuntime) -> Result<(), Fail> {
     let bitmap = drawn(&rt, rt.alloc(), 6, 4, &[(2, 1)])?;
     for (number, (places, want)) in PATHS.iter().enumerate() {
         let points = cells(rt.alloc(), places)?;
-        let answer = along::<City>(rt.alloc(), &bitmap, &points);
+        let answer = along::<City>(rt.alloc(), &bitmap, Edge::Open, &points);
         match want {
             Ok(found) => same(&rt, answer, Ok(Some(beside(*found))), ("path", number)),
             Err(refusal) => same(&rt, answer, Err(*refusal), ("path", number)),
         }
-        let clear = clear_of::<City>(rt.alloc(), &bitmap, &points, 0);
+        let clear = clear_of::<City>(rt.alloc(), &bitmap, Edge::Open, &points, 0);
         match want {
             Ok(_) => same(&rt, clear, Ok(None), ("path", number)),
             Err(refusal) => same(&rt, clear, Err(*refusal), ("path", number)),
@@ -103,9 +100,9 @@ fn paths_are_answered(rt: HostRuntime) -> Result<(), Fail> {
 fn long_paths_are_refused(rt: HostRuntime) -> Result<(), Fail> {
     let bitmap = drawn(&rt, rt.alloc(), 6, 4, &[(2, 1)])?;
     let points = [Cell { x: 2, y: 3 }; 1001];
-    let answer = along::<City>(rt.alloc(), &bitmap, &points);
+    let answer = along::<City>(rt.alloc(), &bitmap, Edge::Open, &points);
     same(&rt, answer, Err(Refusal::BadPath), "answer");
-    let answer = along::<City>(rt.alloc(), &bitmap, &points[..1000]);
+    let answer = along::<City>(rt.alloc(), &bitmap, Edge::Open, &points[..1000]);
     same(&rt, answer, Ok(Some(beside(((2, 3), 2)))), "answer");
     Ok(())
 }
@@ -115,7 +112,7 @@ fn clear_paths_are_told(rt: HostRuntime) -> Result<(), Fail> {
     let bitmap = drawn(&rt, rt.alloc(), 6, 4, &[(2, 1)])?;
     let points = cells(rt.alloc(), &ROUND)?;
     for (d, want) in CLEARANCES {
-        let answer = clear_of::<City>(rt.alloc(), &bitmap, &points, d);
+        let answer = clear_of::<City>(rt.alloc(), &bitmap, Edge::Open, &points, d);
         same(&rt, answer, Ok(want.map(beside)), ("clear of", d));
     }
     Ok(())
@@ -125,10 +122,10 @@ fn clear_paths_are_told(rt: HostRuntime) -> Result<(), Fail> {
 fn rectangles_are_answered(rt: HostRuntime) -> Result<(), Fail> {
     let bitmap = drawn(&rt, rt.alloc(), 6, 4, &[(2, 1)])?;
     let below = Rect::new(0, 2, 6, 4).expect(&rt, "it has a cell");
-    let answer = least_in::<Euclid2>(rt.alloc(), &bitmap, below);
+    let answer = least_in::<Euclid2>(rt.alloc(), &bitmap, Edge::Open, below);
     same(&rt, answer, Ok(Some(beside(((2, 2), 1)))), "answer");
     let wide = Rect::new(0, 0, 7, 4).expect(&rt, "it has a cell");
-    let answer = least_in::<Euclid2>(rt.alloc(), &bitmap, wide);
+    let answer = least_in::<Euclid2>(rt.alloc(), &bitmap, Edge::Open, wide);
     same(&rt, answer, Err(Refusal::OutOfRange), "answer");
     Ok(())
 }
@@ -138,19 +135,19 @@ fn cells_are_answered(rt: HostRuntime) -> Result<(), Fail> {
     let row = drawn(&rt, rt.alloc(), 3, 1, &[(0, 0), (2, 0)])?;
     let left = Near {
         dist: 1,
-        cell: Cell { x: 0, y: 0 },
+        cell: Spot { x: 0, y: 0 },
     };
-    let answer = at::<Euclid2>(rt.alloc(), &row, Cell { x: 1, y: 0 });
+    let answer = at::<Euclid2>(rt.alloc(), &row, Edge::Open, Cell { x: 1, y: 0 });
     same(&rt, answer, Ok(Some(left)), "answer");
-    let answer = at::<Euclid2>(rt.alloc(), &row, Cell { x: 3, y: 0 });
+    let answer = at::<Euclid2>(rt.alloc(), &row, Edge::Open, Cell { x: 3, y: 0 });
     same(&rt, answer, Err(Refusal::OutOfRange), "answer");
 
     let column = drawn(&rt, rt.alloc(), 3, 2, &[(0, 0), (0, 1)])?;
     let lower = Near {
         dist: 2,
-        cell: Cell { x: 0, y: 1 },
+        cell: Spot { x: 0, y: 1 },
     };
-    let answer = at::<Chess>(rt.alloc(), &column, Cell { x: 2, y: 1 });
+    let answer = at::<Chess>(rt.alloc(), &column, Edge::Open, Cell { x: 2, y: 1 });
     same(&rt, answer, Ok(Some(lower)), "answer");
     Ok(())
 }
@@ -162,25 +159,25 @@ fn no_obstacle_is_found(rt: HostRuntime) -> Result<(), Fail> {
     let whole = Rect::new(0, 0, 6, 4).expect(&rt, "it has a cell");
     same(
         &rt,
-        at::<City>(rt.alloc(), &blank, Cell { x: 5, y: 3 }),
+        at::<City>(rt.alloc(), &blank, Edge::Open, Cell { x: 5, y: 3 }),
         Ok(None),
         "at",
     );
     same(
         &rt,
-        least_in::<City>(rt.alloc(), &blank, whole),
+        least_in::<City>(rt.alloc(), &blank, Edge::Open, whole),
         Ok(None),
         "least in",
     );
     same(
         &rt,
-        along::<City>(rt.alloc(), &blank, &points),
+        along::<City>(rt.alloc(), &blank, Edge::Open, &points),
         Ok(None),
         "along",
     );
     same(
         &rt,
-        clear_of::<City>(rt.alloc(), &blank, &points, u32::MAX),
+        clear_of::<City>(rt.alloc(), &blank, Edge::Open, &points, u32::MAX),
         Ok(None),
         "clear of",
     );

@@ -5,7 +5,7 @@ use crate::draws::Draws;
 use crate::nearest::nearest_obstacle;
 use bits::Bitmap;
 use field::rows;
-use metric::{Cell, Chess, City, Euclid2, Metric, MetricKind, Near, Rect, Refusal};
+use metric::{Cell, Chess, City, Edge, Euclid2, Metric, MetricKind, Near, Rect, Refusal, Spot};
 use std::alloc::Global;
 use std::process::Abort;
 use std::test::Fail;
@@ -128,9 +128,9 @@ fn all_rows(
     kind: MetricKind,
 ) -> Result<Vec<Option<Near>>, Refusal> {
     match kind {
-        MetricKind::Euclid2 => rows::<Euclid2>(alloc, bitmap, 0, bitmap.height()),
-        MetricKind::City => rows::<City>(alloc, bitmap, 0, bitmap.height()),
-        MetricKind::Chess => rows::<Chess>(alloc, bitmap, 0, bitmap.height()),
+        MetricKind::Euclid2 => rows::<Euclid2>(alloc, bitmap, Edge::Open, 0, bitmap.height()),
+        MetricKind::City => rows::<City>(alloc, bitmap, Edge::Open, 0, bitmap.height()),
+        MetricKind::Chess => rows::<Chess>(alloc, bitmap, Edge::Open, 0, bitmap.height()),
     }
 }
 
@@ -141,7 +141,7 @@ fn worked_rows(rt: HostRuntime) -> Result<(), Fail> {
         let nears = all_rows(rt.alloc(), &bitmap, *kind)?;
         assert!(rt; want.len() <= nears.len());
         for (place, ((dist, x, y), near)) in want.iter().zip(nears.iter()).enumerate() {
-            let cell = Cell { x: *x, y: *y };
+            let cell = Edge::Open.spot((*x).min(4095), (*y).min(4095));
             same(
                 &rt,
                 *near,
@@ -162,9 +162,9 @@ fn one_row_of_two(rt: HostRuntime) -> Result<(), Fail> {
         same(&rt, near.map(|near| near.dist), Some(dist), "map");
     }
     assert!(rt; bitmap.height() == 2);
-    let lower = rows::<Euclid2>(rt.alloc(), &bitmap, 1, 2)?;
+    let lower = rows::<Euclid2>(rt.alloc(), &bitmap, Edge::Open, 1, 2)?;
     same(&rt, lower.as_slice(), &nears[7..], "as slice");
-    assert!(rt; rows::<Euclid2>(rt.alloc(), &bitmap, 1, 1)?.is_empty());
+    assert!(rt; rows::<Euclid2>(rt.alloc(), &bitmap, Edge::Open, 1, 1)?.is_empty());
     Ok(())
 }
 
@@ -179,13 +179,13 @@ fn no_obstacle_is_near(rt: HostRuntime) -> Result<(), Fail> {
 
 /// Compares each cell's answer with the plain minimum.
 fn compare<M: Metric>(rt: &impl Abort, alloc: Global, bitmap: &Bitmap) -> Result<(), Refusal> {
-    let nears = rows::<M>(alloc, bitmap, 0, bitmap.height())?;
+    let nears = rows::<M>(alloc, bitmap, Edge::Open, 0, bitmap.height())?;
     let mut answers = nears.iter();
     for y in 0..bitmap.height() {
         for x in 0..bitmap.width() {
             let cell = Cell { x, y };
             assert!(rt; bitmap.holds(cell));
-            let want = nearest_obstacle::<M>(bitmap, cell);
+            let want = nearest_obstacle::<M>(bitmap, Edge::Open, cell);
             same(rt, answers.next(), Some(&want), (x, y));
         }
     }
@@ -214,9 +214,9 @@ fn as_the_plain_minimum(rt: HostRuntime) -> Result<(), Fail> {
 fn the_largest_distance(rt: HostRuntime) -> Result<(), Fail> {
     let bitmap = drawn(&rt, rt.alloc(), 4096, 4096, &[(0, 0)])?;
     assert!(rt; bitmap.height() == 4096);
-    let nears = rows::<Euclid2>(rt.alloc(), &bitmap, 4095, 4096)?;
+    let nears = rows::<Euclid2>(rt.alloc(), &bitmap, Edge::Open, 4095, 4096)?;
     let last = nears.last().ok_or("no answer")?;
-    let cell = Cell { x: 0, y: 0 };
+    let cell = Spot { x: 0, y: 0 };
     same(
         &rt,
         *last,
@@ -235,7 +235,7 @@ fn full_map(rt: HostRuntime) -> Result<(), Fail> {
     let all = Rect::new(0, 0, 1024, 1024).ok_or("a rectangle without cells")?;
     assert!(rt; bitmap.holds_rect(all));
     bitmap.fill(all, true);
-    let nears = rows::<Euclid2>(rt.alloc(), &bitmap, 0, bitmap.height())?;
+    let nears = rows::<Euclid2>(rt.alloc(), &bitmap, Edge::Open, 0, bitmap.height())?;
     same(&rt, nears.len(), 1 << 20, "len");
     assert!(rt;
         nears

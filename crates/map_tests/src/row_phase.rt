@@ -4,7 +4,7 @@ use crate::compare::same;
 use bits::Bitmap;
 use column::ColumnTable;
 use envelope::{Stack, row};
-use metric::{Cell, Chess, City, Euclid2, Metric, Near, Refusal};
+use metric::{Cell, Chess, City, Edge, Euclid2, Metric, Near, Refusal};
 use std::alloc::Global;
 use std::process::Abort;
 use std::test::Fail;
@@ -26,7 +26,7 @@ fn row_of<M: Metric>(
     y: u16,
     width: u16,
 ) -> Result<[Option<Near>; 7], Refusal> {
-    let table = ColumnTable::of(alloc, bitmap)?;
+    let table = ColumnTable::of(alloc, bitmap, Edge::Open)?;
     let mut stack = Stack::new(alloc, width)?;
     let mut nears = [None; 7];
     assert!(rt; table.width() == 7 && 7 <= width);
@@ -39,7 +39,7 @@ fn row_of<M: Metric>(
 fn near_at((dist, x, y): (u32, u16, u16)) -> Option<Near> {
     Some(Near {
         dist,
-        cell: Cell { x, y },
+        cell: Edge::Open.spot(x.min(4095), y.min(4095)),
     })
 }
 
@@ -142,7 +142,7 @@ fn no_obstacle_is_near(rt: HostRuntime) -> Result<(), Fail> {
 #[test]
 fn one_stack_serves_both_rows(rt: HostRuntime) -> Result<(), Fail> {
     let bitmap = drawn(rt.alloc())?;
-    let table = ColumnTable::of(rt.alloc(), &bitmap)?;
+    let table = ColumnTable::of(rt.alloc(), &bitmap, Edge::Open)?;
     let mut stack = Stack::new(rt.alloc(), 7)?;
     let (mut above, mut below) = ([None; 7], [None; 7]);
     assert!(rt; table.width() == 7 && table.height() == 2);

@@ -131,8 +131,8 @@ fn distances_are_sums_of_squares(rt: HostRuntime) {
 
 /// The last cell at which the left one of two columns isn't worse, by the rule of a metric.
 fn last_by<M: Metric>(rt: &impl Abort, (i, gi): (u16, u16), (u, gu): (u16, u16)) -> i64 {
-    assert!(rt; i < u && u <= 4095);
-    assert!(rt; gi <= 4095 && gu <= 4095);
+    assert!(rt; i < u && u <= 4097);
+    assert!(rt; gi <= 4097 && gu <= 4097);
     M::last_not_worse(i, gi, u, gu)
 }
 
@@ -141,7 +141,7 @@ fn separators_of_two_columns(rt: HostRuntime) {
     same(&rt, last_by::<Euclid2>(&rt, (0, 0), (4, 0)), 2, "last by");
     same(&rt, last_by::<Euclid2>(&rt, (0, 2), (1, 0)), -1, "last by");
     same(&rt, last_by::<City>(&rt, (0, 0), (4, 1)), 2, "last by");
-    same(&rt, last_by::<City>(&rt, (0, 0), (2, 2)), 4095, "last by");
+    same(&rt, last_by::<City>(&rt, (0, 0), (2, 2)), 4097, "last by");
     same(&rt, last_by::<City>(&rt, (0, 3), (2, 0)), -1, "last by");
     same(&rt, last_by::<Chess>(&rt, (0, 1), (4, 1)), 2, "last by");
     same(&rt, last_by::<Chess>(&rt, (0, 3), (4, 0)), 1, "last by");

@@ -6,7 +6,7 @@ use Rattle.metric.specs.Distance.{Grows}
 use Rattle.metric.specs.Crossing.{AreColumns, IsRightNearer, StaysNearer}
 
 -- two columns side by side, with one gap, are columns of a map
-beside : (a g : ℕ) → a < 4095 → g ≤ 4095 → AreColumns a g (a + 1) g
+beside : (a g : ℕ) → a < 4097 → g ≤ 4097 → AreColumns a g (a + 1) g
 beside a g column row = record { order = omega arith; within = omega arith; left = row; right = row }
 
 -- what is strictly nearer at a cell so far from the two columns
@@ -18,7 +18,7 @@ nearer_right : (distance : ℕ → ℕ → ℕ) (a g x m n : ℕ) → abs_diff x
 nearer_right distance a g x m n right left nearer = let less = nearer.less in rw (right, left) at less
 
 -- one column more isn't nearer, where both columns can be mirrored within the largest map
-grows_near : (distance : ℕ → ℕ → ℕ) → StaysNearer distance → (a g : ℕ) → 2 * a + 1 ≤ 4095 → g ≤ 4095 → distance a g ≤ distance (a + 1) g
+grows_near : (distance : ℕ → ℕ → ℕ) → StaysNearer distance → (a g : ℕ) → 2 * a + 1 ≤ 4097 → g ≤ 4097 → distance a g ≤ distance (a + 1) g
 grows_near distance stays a g mirrored row = elim (cases_lt (distance (a + 1) g) (distance a g)) [
   | inl less ↦
       let here = right_nearer distance a g 0 (a + 1) a (omega arith) (omega arith) less in
@@ -29,7 +29,7 @@ grows_near distance stays a g mirrored row = elim (cases_lt (distance (a + 1) g)
 ]
 
 -- one column more isn't nearer
-grows_step : (distance : ℕ → ℕ → ℕ) → StaysNearer distance → (a g : ℕ) → a < 4095 → g ≤ 4095 → distance a g ≤ distance (a + 1) g
+grows_step : (distance : ℕ → ℕ → ℕ) → StaysNearer distance → (a g : ℕ) → a < 4097 → g ≤ 4097 → distance a g ≤ distance (a + 1) g
 grows_step distance stays a g column row = elim (cases_lt (distance (a + 1) g) (distance a g)) [
   | inl less ↦
       let here = right_nearer distance a g 0 (a + 1) a (omega arith) (omega arith) less in
@@ -42,7 +42,7 @@ grows_step distance stays a g column row = elim (cases_lt (distance (a + 1) g) (
 ]
 
 -- so many columns more aren't nearer
-grows_by : (distance : ℕ → ℕ → ℕ) → StaysNearer distance → (k a g : ℕ) → a + k ≤ 4095 → g ≤ 4095 → distance a g ≤ distance (a + k) g
+grows_by : (distance : ℕ → ℕ → ℕ) → StaysNearer distance → (k a g : ℕ) → a + k ≤ 4097 → g ≤ 4097 → distance a g ≤ distance (a + k) g
 grows_by distance stays zero a g column row = let same : a + 0 ≡ a = omega arith in rw same (omega arith)
 grows_by distance stays (suc k) a g column row =
     let before = grows_by distance stays k a g (omega arith) row in
@@ -51,13 +51,13 @@ grows_by distance stays (suc k) a g column row =
     rw same (omega arith)
 
 -- a distance doesn't fall as the column difference grows, up to the largest map's
-pub of_grows_with_dx : (distance : ℕ → ℕ → ℕ) → StaysNearer distance → (a b g : ℕ) → a ≤ b → b ≤ 4095 → g ≤ 4095 → distance a g ≤ distance b g
+pub of_grows_with_dx : (distance : ℕ → ℕ → ℕ) → StaysNearer distance → (a b g : ℕ) → a ≤ b → b ≤ 4097 → g ≤ 4097 → distance a g ≤ distance b g
 of_grows_with_dx distance stays a b g order column row =
     let sum : a + (b - a) ≡ b = omega arith in
     rw sum at (grows_by distance stays (b - a) a g (omega arith) row)
 
 -- a distance doesn't fall as both differences grow, up to the largest map's
-pub of_grows : (distance : ℕ → ℕ → ℕ) → Grows distance → StaysNearer distance → (a b g h : ℕ) → a ≤ b → b ≤ 4095 → g ≤ h → h ≤ 4095 → distance a g ≤ distance b h
+pub of_grows : (distance : ℕ → ℕ → ℕ) → Grows distance → StaysNearer distance → (a b g h : ℕ) → a ≤ b → b ≤ 4097 → g ≤ h → h ≤ 4097 → distance a g ≤ distance b h
 of_grows distance grows stays a b g h columns column rows row =
     let across = of_grows_with_dx distance stays a b g columns column (omega arith) in
     let down = grows b g h column rows row in

@@ -1,4 +1,5 @@
 pub mod Appending
+pub mod CellwiseLemmas
 pub mod Decimals
 pub mod Fronts
 pub mod Growing

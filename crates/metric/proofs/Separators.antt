@@ -29,13 +29,13 @@ pub euclid2_behind : (i gi u gu x : ℕ) → i < u → euclid2 u gu < euclid2 i 
 euclid2_behind i gi u gu x order behind = nearer_beyond i gi u gu x order (omega arith)
 
 -- otherwise the quotient is the last cell at which the left column isn't worse
-pub euclid2_last : (i gi u gu : ℕ) → i < u → euclid2 i gi ≤ euclid2 u gu → IsLastNotWorse euclid2 i gi u gu (pos (min ((euclid2 u gu - euclid2 i gi) / (2 * (u - i))) 4095))
+pub euclid2_last : (i gi u gu : ℕ) → i < u → euclid2 i gi ≤ euclid2 u gu → IsLastNotWorse euclid2 i gi u gu (pos (min ((euclid2 u gu - euclid2 i gi) / (2 * (u - i))) 4097))
 euclid2_last i gi u gu order front =
     let ahead = euclid2 u gu - euclid2 i gi in
     let some : 0 < 2 * (u - i) = omega arith in
-    let within : min (ahead / (2 * (u - i))) 4095 * (2 * (u - i)) ≤ ahead = (le-div_iff_mul-le some).0 (omega arith) in (
+    let within : min (ahead / (2 * (u - i))) 4097 * (2 * (u - i)) ≤ ahead = (le-div_iff_mul-le some).0 (omega arith) in (
       omega arith,
-      not_worse_within i gi u gu (min (ahead / (2 * (u - i))) 4095) order (omega (arith, within)),
+      not_worse_within i gi u gu (min (ahead / (2 * (u - i))) 4097) order (omega (arith, within)),
       λ x after most.
           let beyond : ahead < x * (2 * (u - i)) = (div-lt_iff_lt-mul some).0 (omega arith) in
           nearer_beyond i gi u gu x order (omega (arith, beyond)),

@@ -14,9 +14,9 @@ at_column distance i g x = distance (abs_diff x i) g
 -- two columns of a map, i on the left and u on the right, with how many rows away their obstacles lie
 pub record AreColumns (i gi u gu : ℕ) : Type 0 where
   pub order : i < u
-  pub within : u ≤ 4095
-  pub left : gi ≤ 4095
-  pub right : gu ≤ 4095
+  pub within : u ≤ 4097
+  pub left : gi ≤ 4097
+  pub right : gu ≤ 4097
 
 -- from the cell in column x the right one of two columns is strictly nearer
 pub record IsRightNearer (distance : ℕ → ℕ → ℕ) (i gi u gu x : ℕ) : Type 0 where
@@ -24,12 +24,12 @@ pub record IsRightNearer (distance : ℕ → ℕ → ℕ) (i gi u gu x : ℕ) : 
 
 -- where the right one of two columns is strictly nearer, it is so at each cell further right, up to the largest map's edge
 abbrev pub StaysNearer : (ℕ → ℕ → ℕ) → Type 0
-StaysNearer distance = (i gi u gu x z : ℕ) → AreColumns i gi u gu → x ≤ z → z ≤ 4095 → IsRightNearer distance i gi u gu x → IsRightNearer distance i gi u gu z
+StaysNearer distance = (i gi u gu x z : ℕ) → AreColumns i gi u gu → x ≤ z → z ≤ 4097 → IsRightNearer distance i gi u gu x → IsRightNearer distance i gi u gu z
 
--- the last cell from 0 to 4095 at which the left one of two columns isn't worse than the right one, or -1 where there is none
+-- the last cell from 0 to 4097 at which the left one of two columns isn't worse than the right one, or -1 where there is none
 abbrev pub IsLastNotWorse : (ℕ → ℕ → ℕ) → ℕ → ℕ → ℕ → ℕ → ℤ → Type 0
-IsLastNotWorse distance i gi u gu (pos last) = (last ≤ 4095) × (at_column distance i gi last ≤ at_column distance u gu last) × ((x : ℕ) → last < x → x ≤ 4095 → IsRightNearer distance i gi u gu x)
-IsLastNotWorse distance i gi u gu (negsuc before) = (before ≡ 0) × ((x : ℕ) → x ≤ 4095 → IsRightNearer distance i gi u gu x)
+IsLastNotWorse distance i gi u gu (pos last) = (last ≤ 4097) × (at_column distance i gi last ≤ at_column distance u gu last) × ((x : ℕ) → last < x → x ≤ 4097 → IsRightNearer distance i gi u gu x)
+IsLastNotWorse distance i gi u gu (negsuc before) = (before ≡ 0) × ((x : ℕ) → x ≤ 4097 → IsRightNearer distance i gi u gu x)
 
 -- the square of a difference, where the first number is the larger
 square_above : (i d : ℕ) → d * d + 2 * ((i + d) * i) ≡ (i + d) * (i + d) + i * i

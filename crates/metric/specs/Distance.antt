@@ -1,7 +1,7 @@
--- Distances between cells, and from a cell to the nearest of a set of obstacles.
+-- Distances between cells.
 -- Source: A. Meijster, J. Roerdink, W. Hesselink, "A General Algorithm for Computing Distance Transforms in Linear Time" (2000): the distance transform and its metrics.
--- Here the Euclidean distance has no square root taken, and none stands in place of infinity.
-use Rattle.std.specs.Prelude.{◌≡◌, ℕ, ◌+◌, ◌*◌, ◌≤◌, max, Option, Some, None}
+-- Here the Euclidean distance has no square root taken.
+use Rattle.std.specs.Prelude.{ℕ, ◌+◌, ◌*◌, ◌≤◌, max}
 use Rattle.std.specs.Int.{abs_diff}
 use Rattle.std.proofs.Common.{arith}
 use Rattle.std.proofs.Math.Nat.{mul-le-mul}
@@ -16,23 +16,7 @@ distance_between distance x y a b = distance (abs_diff x a) (abs_diff y b)
 
 -- a distance doesn't fall as the row difference grows, up to the largest map's
 abbrev pub Grows : (ℕ → ℕ → ℕ) → Type 0
-Grows distance = (dx g h : ℕ) → dx ≤ 4095 → g ≤ h → h ≤ 4095 → distance dx g ≤ distance dx h
-
--- some obstacle lies at distance d of the cell (x, y)
-pub record IsReached (distance : ℕ → ℕ → ℕ) (Obstacle : ℕ → ℕ → Type 0) (x y d : ℕ) : Type 0 where
-  pub column : ℕ
-  pub row : ℕ
-  pub obstacle : Obstacle column row
-  pub distance_is : distance_between distance x y column row ≡ d
-
--- no obstacle lies nearer than d to the cell (x, y)
-abbrev pub IsLowerBound : (ℕ → ℕ → ℕ) → (ℕ → ℕ → Type 0) → ℕ → ℕ → ℕ → Type 0
-IsLowerBound distance Obstacle x y d = (a b : ℕ) → Obstacle a b → d ≤ distance_between distance x y a b
-
--- the least distance of the cell (x, y) to an obstacle; none where there is no obstacle
-abbrev pub IsLeastDistance : (ℕ → ℕ → ℕ) → (ℕ → ℕ → Type 0) → ℕ → ℕ → Option ℕ → Type 0
-IsLeastDistance distance Obstacle x y None = (a b : ℕ) → Obstacle a b → ⊥
-IsLeastDistance distance Obstacle x y (Some d) = IsReached distance Obstacle x y d × IsLowerBound distance Obstacle x y d
+Grows distance = (dx g h : ℕ) → dx ≤ 4097 → g ≤ h → h ≤ 4097 → distance dx g ≤ distance dx h
 
 -- the square of the straight distance doesn't fall as the row difference grows
 pub euclid2_grows : Grows euclid2

@@ -8,8 +8,8 @@ use Rattle.metric.specs.Distance.{euclid2, city, chess}
 -- a distance in 16 bits is put together of the part of its row difference and its reach, which is the distance of the columns alone; it is exact below 32400, and no less where the distance is no less
 pub record IsSmall (distance : ℕ → ℕ → ℕ) (part : ℕ → ℕ) (joined : ℕ → ℕ → ℕ) : Type 0 where
   pub few : (g : ℕ) → part g ≤ 32400
-  pub far : (g : ℕ) → 61440 ≤ g → part g ≡ 32400
-  pub told : (dx g : ℕ) → dx ≤ 97 → g ≤ 4095 → min 32400 (joined (part g) (distance dx 0)) ≡ min 32400 (distance dx g)
+  pub far : (g : ℕ) → 61438 ≤ g → part g ≡ 32400
+  pub told : (dx g : ℕ) → dx ≤ 97 → g ≤ 4097 → min 32400 (joined (part g) (distance dx 0)) ≡ min 32400 (distance dx g)
   pub at_least : (p r : ℕ) → p ≤ joined p r
   pub fits : (p r : ℕ) → p ≤ 32400 → r ≤ 9409 → joined p r < 65536
   pub reach : (dx : ℕ) → dx ≤ 97 → distance dx 0 ≤ 9409

@@ -1,6 +1,8 @@
+pub mod Cellwise
 pub mod Crossing
 pub mod Digits
 pub mod Distance
+pub mod Edge
 pub mod Fault
 pub mod Kind
 pub mod Lanes

@@ -5,6 +5,7 @@
 
 mod cell;
 mod decimal;
+mod edge;
 mod fault;
 mod gate;
 mod kind;
@@ -14,11 +15,13 @@ mod memory;
 mod near;
 mod rect;
 mod refusal;
+mod spot;
 mod std_streams;
 mod stream;
 
 pub use cell::Cell;
 pub use decimal::push_decimal;
+pub use edge::Edge;
 pub use fault::PbmFault;
 pub use gate::Gate;
 pub use kind::MetricKind;
@@ -28,5 +31,6 @@ pub use memory::{MemorySink, MemorySource, MemoryStream};
 pub use near::Near;
 pub use rect::Rect;
 pub use refusal::{Field, Refusal};
+pub use spot::Spot;
 pub use std_streams::{ReaderSource, WriterSink};
 pub use stream::{ReadFault, Sink, Source, Stream, WriteFault};

@@ -15,15 +15,15 @@ pub trait Metric {
     /// The distance of two cells so many columns and so many rows apart.
     ghost distance: { ℕ → ℕ → ℕ };
 
-    /// The distance of two cells that are `dx` columns and `g` rows apart, each at most 4095, the most in a map.
+    /// The distance of two cells that are `dx` columns and `g` rows apart, each at most 4097, the most in a map.
     fn of(dx: u16, g: u16) -> u32
-        requires columns { dx ≤ 4095 }
-        requires rows { g ≤ 4095 }
+        requires columns { dx ≤ 4097 }
+        requires rows { g ≤ 4097 }
         ensures { result ≡ distance dx g };
 
-    /// The last cell of a row, from 0 to 4095, at which column `i` isn't worse than column `u`; -1 where there is none.
+    /// The last cell of a row, from 0 to 4097, at which column `i` isn't worse than column `u`; -1 where there is none.
     ///
-    /// The nearest obstacles of the two columns lie `gi` and `gu` rows away. Columns and rows are at most 4095, the most in a map, and `i` is the left one.
+    /// The nearest obstacles of the two columns lie `gi` and `gu` rows away. Columns and rows are at most 4097, the most in a map, and `i` is the left one.
     fn last_not_worse(i: u16, gi: u16, u: u16, gu: u16) -> i64
         requires { AreColumns i gi u gu }
         ensures { IsLastNotWorse distance i gi u gu result };
@@ -37,7 +37,7 @@ pub trait Metric {
     /// The reach of cells that lie so many columns apart. Where that of one column is 0, no distance is put together: the metric's rows are worked by the stack alone, and parts, reaches and how they join may be anything.
     ghost reach_of: { ℕ → ℕ };
 
-    /// The part that a row difference has in a distance of 16 bits: at most 32,400, which it is for all from 61,440 on.
+    /// The part that a row difference has in a distance of 16 bits: at most 32,400, which it is for all from 61,438 on.
     fn part(g: u16) -> u16
         ensures { result ≡ part_of g };
 
@@ -66,7 +66,7 @@ pub trait Metric {
     ghost stays_nearer: { StaysNearer distance };
 }
 
-/// The square of the straight distance, in cells squared: at most 33,538,050.
+/// The square of the straight distance, in cells squared: at most 33,570,818.
 #[derive(Clone, Copy, Debug, PartialEq, Eq)]
 pub struct Euclid2;
 
@@ -85,7 +85,7 @@ impl Metric for Euclid2 {
             return -1;
         }
         let last = half_quotient(right - left, u - i);
-        i64::from(last.min(4095))
+        i64::from(last.min(4097))
     }
 
     ghost part_of = { square_part };
@@ -129,7 +129,7 @@ fn half_quotient(ahead: u32, apart: u16) -> u32
     }
 }
 
-/// Steps to the four cells beside: `dx + dy`, at most 8190.
+/// Steps to the four cells beside: `dx + dy`, at most 8194.
 #[derive(Clone, Copy, Debug, PartialEq, Eq)]
 pub struct City;
 
@@ -143,7 +143,7 @@ impl Metric for City {
     fn last_not_worse(i: u16, gi: u16, u: u16, gu: u16) -> i64 {
         let apart = u - i;
         if gu >= gi + apart {
-            4095
+            4097
         } else if gi > gu + apart {
             -1
         } else {
@@ -179,7 +179,7 @@ impl Metric for City {
     ghost stays_nearer = { city_stays_nearer };
 }
 
-/// Steps to the eight cells round: the larger of `dx` and `dy`, at most 4095.
+/// Steps to the eight cells round: the larger of `dx` and `dy`, at most 4097.
 #[derive(Clone, Copy, Debug, PartialEq, Eq)]
 pub struct Chess;
 
@@ -193,7 +193,7 @@ impl Metric for Chess {
     fn last_not_worse(i: u16, gi: u16, u: u16, gu: u16) -> i64 {
         let middle = (i + u) / 2;
         if gi <= gu {
-            i64::from(middle.max(i + gu).min(4095))
+            i64::from(middle.max(i + gu).min(4097))
         } else if gi <= u {
             i64::from(middle.min(u - gi))
         } else {

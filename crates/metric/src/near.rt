@@ -1,10 +1,10 @@
 //! A distance and the obstacle that it is to.
 
-use crate::cell::Cell;
+use crate::spot::Spot;
 
 /// The nearest obstacle of a cell: its distance `dist`, in the unit of the metric, and where it is.
 #[derive(Clone, Copy, Debug, PartialEq, Eq)]
 pub struct Near {
     pub dist: u32,
-    pub cell: Cell,
+    pub cell: Spot,
 }

@@ -1,5 +1,5 @@
 -- A dump that is written in pieces.
-use Rattle.std.proofs.Common.{◌≡◌, ℕ, ◌+◌, ◌-◌, ◌*◌, ◌<◌, ◌≤◌, List, [], ◌++◌, Option, Some, None, Result, Ok, Err, refl, sym, ap, subst, ◌∙◌, arith}
+use Rattle.std.proofs.Common.{◌≡◌, ℕ, ◌-◌, ◌*◌, ◌<◌, ◌≤◌, List, [], ◌++◌, Option, Some, None, Result, Ok, Err, refl, sym, ap, subst, ◌∙◌, arith}
 use Rattle.std.specs.List.{range_with_len, flat_map}
 use Rattle.std.specs.Prelude.{OnOk, OnErr, Vec}
 use Rattle.std.proofs.lemmas.List.{append-nil}
@@ -9,7 +9,7 @@ use Rattle.proto.specs.Said.{Said}
 use Rattle.proto.specs.Said as saids
 use Rattle.metric.specs.declared.stream.WriteFault.{WriteFault}
 use Rattle.bits.specs.Cells.{Cells}
-use Rattle.pbm.specs.Writing.{plain_digit, plain_text}
+use Rattle.pbm.specs.Writing.{plain_digit}
 use Rattle.pbm.proofs.Ranges.{flat_map-rows}
 use Rattle.shelf.specs.Store.{StoreId}
 use Rattle.shelf.specs.Roles.{ReaderView}
@@ -17,9 +17,9 @@ use Rattle.proto.specs.declared.answer.Answer.{Answer}
 use Rattle.proto.specs.declared.answer.Answer.TheVariants as answers
 use Rattle.proto.specs.declared.serve.end.End.{End}
 use Rattle.proto.specs.Replies.{reply_line}
-use Rattle.proto.specs.Callers.{CallerValue, IsRefusedAs, bitmap_held}
+use Rattle.proto.specs.Callers.{CallerValue, bitmap_held}
 use Rattle.proto.specs.Exchanges.{IsDump, body_of}
-use Rattle.proto.specs.Served.{HasAnswered, IsDumped, IsDumpSaid, IsSaid, end_after}
+use Rattle.proto.specs.Served.{HasAnswered, IsDumpSaid, IsSaid, end_after}
 use Rattle.proto.specs.Wire.{Wire, HasNotWritten, HasWritten}
 use Rattle.proto.proofs.Wires.{failed_first, failed_on, written_on}
 

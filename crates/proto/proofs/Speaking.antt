@@ -1,6 +1,7 @@
 -- What follows a reply line: nothing, but behind a dump's.
 use Rattle.std.proofs.Common.{◌≡◌, ◌≢◌, ℕ, List, [], Option, Some, None, Result, Ok, Err, refl, inl, inr}
 use Rattle.std.specs.Prelude.{◌⊎◌, Vec}
+use Rattle.metric.specs.declared.edge.Edge.{Edge}
 use Rattle.metric.specs.declared.refusal.Refusal.{Refusal}
 use Rattle.metric.specs.declared.refusal.Refusal.TheVariants.{Memory, AlreadyPinned, NotPinned}
 use Rattle.shelf.specs.Store.{StoreId}
@@ -21,11 +22,11 @@ refusal_dumps : (refusal : Refusal) (old new : CallerValue) (n : ℕ) → IsRefu
 refusal_dumps refusal old new n refused = let e = refused.answer_is in cc
 
 -- no query is answered by a dump
-query_dumps : (distance : ℕ → ℕ → ℕ) (cells : Cells) (query : Asked) (n : ℕ) → IsAnswerBy distance cells query (answers.Dumped n) → ⊥
-query_dumps distance cells (queries.at metric cell) n answered = answered
-query_dumps distance cells (queries.rect metric x0 y0 x1 y1) n answered = answered
-query_dumps distance cells (queries.path metric points) n answered = answered
-query_dumps distance cells (queries.clear_of metric d points) n answered = answered
+query_dumps : (distance : ℕ → ℕ → ℕ) (cells : Cells) (edge : Edge) (query : Asked) (n : ℕ) → IsAnswerBy distance cells edge query (answers.Dumped n) → ⊥
+query_dumps distance cells edge (queries.at metric cell) n answered = answered
+query_dumps distance cells edge (queries.rect metric x0 y0 x1 y1) n answered = answered
+query_dumps distance cells edge (queries.path metric points) n answered = answered
+query_dumps distance cells edge (queries.clear_of metric d points) n answered = answered
 
 -- what isn't answered with a pin alone by a dump isn't by one
 pinned_dumps : (pin : Option ℕ) (old new : CallerValue) (n : ℕ) (answered : ℕ → Type 0) → ((v : ℕ) → answered v → ⊥)
@@ -49,7 +50,7 @@ line_dumps store (Ok (saids.stamp x y m)) bytes old new n other (inr (inl (fault
 line_dumps store (Ok (saids.stamp x y m)) bytes old new n other (inr (inr refused)) = refusal_dumps _ old new n refused
 line_dumps store (Ok saids.pin) bytes old new n other answered = pin_dumps store old.pin old new n answered
 line_dumps store (Ok saids.unpin) bytes old new n other answered = pinned_dumps old.pin old new n (λ v. HasUnpinned v old (answers.Dumped n) new) (λ v dumped. let e = dumped.answer_is in cc) answered
-line_dumps store (Ok (saids.asked query)) bytes old new n other answered = pinned_dumps old.pin old new n (λ _. IsQueryAnswer store query old (answers.Dumped n) new) (λ v dumped. elim dumped.answered [ inl value ↦ query_dumps _ _ query n value | inr memory ↦ (let e = memory.1 in cc) ]) answered
+line_dumps store (Ok (saids.asked query)) bytes old new n other answered = pinned_dumps old.pin old new n (λ _. IsQueryAnswer store query old (answers.Dumped n) new) (λ v dumped. elim dumped.answered [ inl value ↦ query_dumps _ _ _ query n value | inr memory ↦ (let e = memory.1 in cc) ]) answered
 line_dumps store (Ok saids.dump) bytes old new n other answered = other refl
 line_dumps store (Ok saids.quit) bytes old new n other answered = answered
 

@@ -53,9 +53,9 @@ IsStampAnswer store x y bytes old answer new =
     ⊎ ((fault : PbmFault) × (image bytes ≡ Err fault) × IsRefusedAs (BadImage fault) old answer new)
     ⊎ IsRefusedAs Memory old answer new
 
--- what a query is answered with a pin: by its own metric, of the pinned version's bitmap; or want of memory, for its points
+-- what a query is answered with a pin: by its own metric, of the pinned version's bitmap with the store's edge; or want of memory, for its points
 pub record IsQueryAnswer (store : StoreId) (query : Asked) (old : CallerValue) (answer : Answer) (new : CallerValue) : Type 0 where
-  pub answered : IsAnswerBy (distance_of (metric_asked query)) (bitmap_held store old) query answer ⊎ (HasPoints query × (answer ≡ answers.Refused Memory))
+  pub answered : IsAnswerBy (distance_of (metric_asked query)) (bitmap_held store old) store.base.setting.edge query answer ⊎ (HasPoints query × (answer ≡ answers.Refused Memory))
   pub same : new ≡ old
 
 -- what follows a reply line: the plain image of the pinned version's bitmap, where its bytes were counted

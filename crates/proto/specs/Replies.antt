@@ -1,9 +1,10 @@
--- The reply lines: this project's own rule. Numbers are plain decimal, with one blank between two words; each line ends in LF.
+-- The reply lines: this project's own rule. Numbers are plain decimal, those of an obstacle's place with a `-` where they are negative, with one blank between two words; each line ends in LF.
 use Rattle.std.specs.Prelude.{ℕ, List, [], ◌∷◌, ◌++◌, codes, Some, None}
-use Rattle.std.specs.Fmt.{decimal}
+use Rattle.std.specs.Fmt.{decimal, signed_decimal}
 use Rattle.metric.specs.Refusal.{refusal_text}
 use Rattle.metric.specs.declared.cell.Cell.{Cell}
 use Rattle.metric.specs.declared.near.Near.{Near}
+use Rattle.metric.specs.declared.spot.Spot.{Spot}
 use Rattle.map_core.specs.declared.command.Reply.{Reply}
 use Rattle.map_core.specs.declared.command.Reply.TheVariants.{Painted, Published, Reverted, Collected, Checkpointed}
 use Rattle.proto.specs.declared.answer.Answer.{Answer}
@@ -13,13 +14,17 @@ use Rattle.proto.specs.declared.answer.Answer.TheVariants as answers
 abbrev pub cell_text : Cell → List ℕ
 cell_text cell = decimal cell.x ++ (32 ∷ decimal cell.y)
 
+-- the column and the row of an obstacle, each with a `-` before it where it is negative
+abbrev pub spot_text : Spot → List ℕ
+spot_text spot = signed_decimal spot.x ++ (32 ∷ signed_decimal spot.y)
+
 -- a distance and its obstacle
 abbrev pub near_text : Near → List ℕ
-near_text near = codes "OK " ++ (decimal near.dist ++ (32 ∷ cell_text near.cell))
+near_text near = codes "OK " ++ (decimal near.dist ++ (32 ∷ spot_text near.cell))
 
 -- a distance, the cell that has it, and its obstacle
 abbrev pub found_text : Cell × Near → List ℕ
-found_text found = codes "OK " ++ (decimal found.1.dist ++ (32 ∷ (cell_text found.0 ++ (32 ∷ cell_text found.1.cell))))
+found_text found = codes "OK " ++ (decimal found.1.dist ++ (32 ∷ (cell_text found.0 ++ (32 ∷ spot_text found.1.cell))))
 
 -- numbers behind `OK`, each behind a blank
 abbrev pub numbers_text : List ℕ → List ℕ

@@ -6,25 +6,25 @@ ghost use Rattle.proto.specs.Asked.{asked_by};
 ghost use Rattle.proto.specs.Queries.{IsAnswerBy, metric_asked};
 
 use crate::answer::Answer;
-use crate::queried::Queried;
+use crate::queried::{Bordered, Queried};
 use crate::query::Query;
 use bits::Bitmap;
-use metric::{Chess, City, Euclid2, Metric, MetricKind};
+use metric::{Chess, City, Edge, Euclid2, Metric, MetricKind};
 use std::alloc::Global;
 
-/// The answer to a query on a bitmap, by its own metric: a distance in cells (for `euclid2` its square) with the nearest obstacle, or none where the bitmap has no obstacle.
+/// The answer to a query on a bitmap whose border is this, by its own metric: a distance in cells (for `euclid2` its square) with the nearest obstacle, or none where there is no obstacle. Where the border is a wall, there is always one.
 ///
 /// Refused, in this order: a path of no point or over 1000, a cell, rectangle or point out of the bitmap, the first point of a path that is neither in the row nor in the column of the point before it, and want of memory.
-pub fn answer_query(alloc: Global, bitmap: &Bitmap, query: &Query) -> Answer
-    ensures { IsAnswerBy (distance_of (metric_asked (asked_by query.now))) bitmap.now (asked_by query.now) result }
+pub fn answer_query(alloc: Global, bitmap: &Bitmap, edge: Edge, query: &Query) -> Answer
+    ensures { IsAnswerBy (distance_of (metric_asked (asked_by query.now))) bitmap.now edge (asked_by query.now) result }
 {
-    let mut map = bitmap;
-    answer_of::<&Bitmap>(alloc, &mut map, query)
+    let mut map = Bordered { bitmap, edge };
+    answer_of(alloc, &mut map, query)
 }
 
 /// As `answer_query`, of a bitmap or of the version that a pin holds. A fresh pin looks at the words that the query touches alone.
 pub fn answer_of<Q: Queried>(alloc: Global, map: &mut Q, query: &Query) -> Answer
-    ensures answer { IsAnswerBy (distance_of (metric_asked (asked_by query.now))) (Q.cells map.old) (asked_by query.now) result }
+    ensures answer { IsAnswerBy (distance_of (metric_asked (asked_by query.now))) (Q.cells map.old) (Q.edge map.old) (asked_by query.now) result }
     ensures map { map.new ≡ map.old }
 {
     match query.metric() {
@@ -36,7 +36,7 @@ pub fn answer_of<Q: Queried>(alloc: Global, map: &mut Q, query: &Query) -> Answe
 
 /// The answer to a query by this metric.
 fn answer_by<M: Metric, Q: Queried>(alloc: Global, map: &mut Q, query: &Query) -> Answer
-    ensures answer { IsAnswerBy M.distance (Q.cells map.old) (asked_by query.now) result }
+    ensures answer { IsAnswerBy M.distance (Q.cells map.old) (Q.edge map.old) (asked_by query.now) result }
     ensures map { map.new ≡ map.old }
 {
     match query {

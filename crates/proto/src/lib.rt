@@ -27,7 +27,7 @@ pub use laws::{line_of_words, words_of_line};
 pub use line::{Line, parse_line};
 pub use number::read_number;
 pub use numbers::{next_number, number_pair, number_triple, only_number};
-pub use queried::Queried;
+pub use queried::{Bordered, Queried};
 pub use query::Query;
 pub use reply::{put_answer, reply_text};
 pub use serve::{End, MOST_COUNTED, serve_stream};

@@ -2,25 +2,30 @@
 
 ghost use Rattle.std.specs.Prelude.{◌≡◌, None, IfOk, IfErr};
 ghost use Rattle.metric.specs.Nearest.{IsNear};
-ghost use Rattle.bits.specs.Cells.{Cells, IsInside, IsObstacle};
+ghost use Rattle.metric.specs.declared.edge.Edge.{Edge};
+ghost use Rattle.bits.specs.Cells.{Cells, IsInside};
+ghost use Rattle.bits.specs.Edges.{IsBlocked};
 ghost use Rattle.clearance.specs.Answers.{IsClearOf, IsLeastOf, IsRefusalFor, LiesIn, cells_of_rect};
 ghost use Rattle.clearance.specs.Paths.{IsPathRefusal, cells_of_path, path_refusal};
 
 use bits::Bitmap;
-use metric::{Cell, Metric, Near, Rect, Refusal};
+use metric::{Cell, Edge, Metric, Near, Rect, Refusal};
 use session::Pinned;
 use shelf::StoreName;
 use std::alloc::Global;
 
-/// A map that is asked the four queries. To ask changes nothing that contracts see.
+/// A map that is asked the four queries, with its edge. To ask changes nothing that contracts see.
 pub trait Queried {
     /// The map.
     ghost cells: { Self → Cells };
 
+    /// What its border is.
+    ghost edge: { Self → Edge };
+
     /// As `clearance::at`.
     fn at<M: Metric>(&mut self, alloc: Global, cell: Cell) -> Result<Option<Near>, Refusal>
         ensures inside { IfOk result (λ _. IsInside (cells self.old) cell.x cell.y) }
-        ensures near { IfOk result (λ near. IsNear M.distance (IsObstacle (cells self.old)) cell.x cell.y near) }
+        ensures near { IfOk result (λ near. IsNear M.distance (IsBlocked (cells self.old) (edge self.old)) cell.x cell.y near) }
         ensures refused { IfErr result (IsRefusalFor (IsInside (cells self.old) cell.x cell.y)) }
         ensures map { self.new ≡ self.old };
 
@@ -31,7 +36,7 @@ pub trait Queried {
         rect: Rect,
     ) -> Result<Option<(Cell, Near)>, Refusal>
         ensures inside { IfOk result (λ _. LiesIn (cells self.old) rect) }
-        ensures least { IfOk result (IsLeastOf M.distance (IsObstacle (cells self.old)) (cells_of_rect rect.x0 rect.y0 rect.x1 rect.y1)) }
+        ensures least { IfOk result (IsLeastOf M.distance (IsBlocked (cells self.old) (edge self.old)) (cells_of_rect rect.x0 rect.y0 rect.x1 rect.y1)) }
         ensures refused { IfErr result (IsRefusalFor (LiesIn (cells self.old) rect)) }
         ensures map { self.new ≡ self.old };
 
@@ -42,7 +47,7 @@ pub trait Queried {
         points: &[Cell],
     ) -> Result<Option<(Cell, Near)>, Refusal>
         ensures accepted { IfOk result (λ _. path_refusal (cells self.old) points.now ≡ None) }
-        ensures least { IfOk result (IsLeastOf M.distance (IsObstacle (cells self.old)) (cells_of_path points.now)) }
+        ensures least { IfOk result (IsLeastOf M.distance (IsBlocked (cells self.old) (edge self.old)) (cells_of_path points.now)) }
         ensures refused { IfErr result (IsPathRefusal (cells self.old) points.now) }
         ensures map { self.new ≡ self.old };
 
@@ -54,17 +59,25 @@ pub trait Queried {
         d: u32,
     ) -> Result<Option<(Cell, Near)>, Refusal>
         ensures accepted { IfOk result (λ _. path_refusal (cells self.old) points.now ≡ None) }
-        ensures clear { IfOk result (IsClearOf M.distance (IsObstacle (cells self.old)) (cells_of_path points.now) d) }
+        ensures clear { IfOk result (IsClearOf M.distance (IsBlocked (cells self.old) (edge self.old)) (cells_of_path points.now) d) }
         ensures refused { IfErr result (IsPathRefusal (cells self.old) points.now) }
         ensures map { self.new ≡ self.old };
 }
 
-impl<'a> Queried for &'a Bitmap {
-    ghost cells = { λ bitmap. bitmap.now };
+/// A bitmap, and what its border is.
+#[derive(Clone, Copy)]
+pub struct Bordered<'a> {
+    pub bitmap: &'a Bitmap,
+    pub edge: Edge,
+}
+
+impl<'a> Queried for Bordered<'a> {
+    ghost cells = { λ map. map.bitmap.now };
+
+    ghost edge = { λ map. map.edge };
 
     fn at<M: Metric>(&mut self, alloc: Global, cell: Cell) -> Result<Option<Near>, Refusal> {
-        let bitmap: &Bitmap = *self;
-        clearance::at::<M>(alloc, bitmap, cell)
+        clearance::at::<M>(alloc, self.bitmap, self.edge, cell)
     }
 
     fn least_in<M: Metric>(
@@ -72,8 +85,7 @@ impl<'a> Queried for &'a Bitmap {
         alloc: Global,
         rect: Rect,
     ) -> Result<Option<(Cell, Near)>, Refusal> {
-        let bitmap: &Bitmap = *self;
-        clearance::least_in::<M>(alloc, bitmap, rect)
+        clearance::least_in::<M>(alloc, self.bitmap, self.edge, rect)
     }
 
     fn along<M: Metric>(
@@ -81,8 +93,7 @@ impl<'a> Queried for &'a Bitmap {
         alloc: Global,
         points: &[Cell],
     ) -> Result<Option<(Cell, Near)>, Refusal> {
-        let bitmap: &Bitmap = *self;
-        clearance::along::<M>(alloc, bitmap, points)
+        clearance::along::<M>(alloc, self.bitmap, self.edge, points)
     }
 
     fn clear_of<M: Metric>(
@@ -91,8 +102,7 @@ impl<'a> Queried for &'a Bitmap {
         points: &[Cell],
         d: u32,
     ) -> Result<Option<(Cell, Near)>, Refusal> {
-        let bitmap: &Bitmap = *self;
-        clearance::clear_of::<M>(alloc, bitmap, points, d)
+        clearance::clear_of::<M>(alloc, self.bitmap, self.edge, points, d)
     }
 }
 
@@ -100,6 +110,8 @@ impl<Id: StoreName> Queried for Pinned<Id> {
     ghost use Rattle.session.specs.Sessions.{bitmap_pinned};
 
     ghost cells = { λ p. bitmap_pinned Id.store p };
+
+    ghost edge = { λ p. Id.store.base.setting.edge };
 
     fn at<M: Metric>(&mut self, alloc: Global, cell: Cell) -> Result<Option<Near>, Refusal> {
         Pinned::<Id>::at::<M>(self, alloc, cell)

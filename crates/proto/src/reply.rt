@@ -3,12 +3,12 @@
 ghost use Rattle.std.specs.Prelude.{◌≡◌, ◌≤◌, ◌+◌, [], ◌∷◌, ◌++◌, codes, length};
 ghost use Rattle.std.specs.Fmt.{decimal};
 ghost use Rattle.metric.specs.Refusal.{refusal_text};
-ghost use Rattle.proto.specs.Replies.{answer_text, cell_text, found_text, near_text, numbers_of, numbers_text, one_text, reply_line};
+ghost use Rattle.proto.specs.Replies.{answer_text, cell_text, found_text, near_text, numbers_of, numbers_text, one_text, reply_line, spot_text};
 
 use crate::answer::Answer;
 use crate::text::Text;
 use map_core::Reply;
-use metric::{Cell, Near, PbmFault, Refusal};
+use metric::{Cell, Near, PbmFault, Refusal, Spot};
 
 /// Adds a cell: two numbers and a blank.
 fn put_cell(text: &mut Text, cell: Cell)
@@ -21,6 +21,17 @@ fn put_cell(text: &mut Text, cell: Cell)
     text.put_number(u32::from(cell.y));
 }
 
+/// Adds where an obstacle is: two whole numbers and a blank.
+fn put_spot(text: &mut Text, spot: Spot)
+    requires { length text.old + 23 ≤ 128 }
+    ensures text { text.new ≡ text.old ++ spot_text spot }
+    ensures few { length text.new ≤ length text.old + 23 }
+{
+    text.put_signed(spot.x);
+    text.put(b" ");
+    text.put_signed(spot.y);
+}
+
 /// Writes a distance and its obstacle.
 fn put_near(text: &mut Text, near: Near)
     requires { text.old ≡ [] }
@@ -30,7 +41,7 @@ fn put_near(text: &mut Text, near: Near)
     text.put(b"OK ");
     text.put_number(near.dist);
     text.put(b" ");
-    put_cell(text, near.cell);
+    put_spot(text, near.cell);
 }
 
 /// Writes a distance, the cell that has it, and its obstacle.
@@ -44,7 +55,7 @@ fn put_found(text: &mut Text, cell: Cell, near: Near)
     text.put(b" ");
     put_cell(text, cell);
     text.put(b" ");
-    put_cell(text, near.cell);
+    put_spot(text, near.cell);
 }
 
 /// Writes the reply to a command.

@@ -1,7 +1,7 @@
 //! Texts of a fixed room.
 
 ghost use Rattle.std.specs.Prelude.{◌≡◌, ◌<◌, ◌≤◌, ◌+◌, ◌++◌, [], length, false, IfOk, IfErr};
-ghost use Rattle.std.specs.Fmt.{decimal, digit_glyph};
+ghost use Rattle.std.specs.Fmt.{decimal, digit_glyph, signed_decimal};
 ghost use Rattle.metric.specs.declared.refusal.Refusal.{Refusal};
 ghost use Rattle.proto.specs.Hex.{hex_digits};
 
@@ -66,6 +66,18 @@ impl Text {
         ensures few { length self.new ≤ length self.old + 10 }
     {
         push_decimal(&mut self.bytes, number);
+    }
+
+    /// Adds a whole number in decimal, with a `-` before it where it is negative. There is room for a `-` and ten digits, and more it never has.
+    pub fn put_signed(&mut self, number: i16)
+        requires { length self.old + 11 ≤ 128 }
+        ensures text { self.new ≡ self.old ++ signed_decimal number }
+        ensures few { length self.new ≤ length self.old + 11 }
+    {
+        if number < 0 {
+            self.put(b"-");
+        }
+        self.put_number(u32::from(number.unsigned_abs()));
     }
 
     /// Adds a number of 64 bits in decimal. There is room for twenty digits, and more it never has.

@@ -3,6 +3,7 @@ use Rattle.std.proofs.Common.{◌≡◌, ℕ, ◌<◌, ◌≤◌, List, false, r
 use Rattle.std.specs.Prelude.{Bool, Option, Some, None, ◌⊎◌}
 use mathlib.Core.Logic.{inl}
 use mathlib.Core.List.{IsPrefix}
+use Rattle.metric.specs.declared.edge.Edge.{Edge}
 use Rattle.bits.specs.Cells.{Cells}
 use Rattle.map_core.specs.declared.command.Entry.{Entry}
 use Rattle.map_core.specs.declared.kept.Seen.{Seen}
@@ -113,3 +114,7 @@ pin_made store x a b d y version slot bitmap ready quiet free first told last is
       height_is = height;
       bitmap_is = λ read. absurd (cc);
     }
+
+-- what is answered of a bitmap with a border is answered of the one that a pin holds, with its store's border, where they are the same
+pub asked_so : (P : Cells → Edge → Type 0) (cells held : Cells) (edge own : Edge) → cells ≡ held → edge ≡ own → P cells edge → P held own
+asked_so P cells held edge own same_cells same_edge answered = subst (λ (e : Edge). P held e) same_edge (subst (λ (b : Cells). P b edge) same_cells answered)

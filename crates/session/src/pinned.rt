@@ -17,6 +17,7 @@ use crate::reading::read_once;
 use crate::room::Room;
 use crate::session::Session;
 use bits::Bitmap;
+use metric::Edge;
 use shelf::{ReaderSeat, StoreName, Ticket};
 use std::marker::Model;
 
@@ -55,6 +56,13 @@ impl<Id: StoreName> Pinned<Id> {
         ensures holds { (self.now.seat.holds ≡ Some result) × (self.now.seat.announced ≡ Some (Exact result)) }
     {
         self.version
+    }
+
+    /// What the border of the store's map is.
+    pub fn edge(&self) -> Edge
+        ensures { result ≡ Id.store.base.setting.edge }
+    {
+        self.seat.edge()
     }
 
     /// How many of its session's commands were accepted.

@@ -1,6 +1,7 @@
 -- Which store a seat is of: this project's own rule.
 use Rattle.std.specs.Prelude.{ℕ, []}
 use Rattle.atomic_table.specs.Seated.{TableId}
+use Rattle.metric.specs.declared.edge.Edge.TheVariants.{Open}
 use Rattle.map_core.specs.Story.{no_bitmap}
 use Rattle.map_core.specs.Words.{Base}
 
@@ -18,5 +19,5 @@ abbrev pub no_store : StoreId
 no_store =
     record {
       table = record { words = 0; slots = 0; views_name = 0; atom = 0; block = 0; offset = 0; slot_names = [] };
-      base = record { setting = record { blocks = 0; versions = 0; sessions = 0; log = 0 }; opening = no_bitmap };
+      base = record { setting = record { blocks = 0; versions = 0; sessions = 0; log = 0; edge = Open }; opening = no_bitmap };
     }

@@ -19,6 +19,7 @@ use crate::plays::{Announce, Confirm, Leave, Look, Take};
 use crate::table::{View, Words};
 use atomic_table::Badge;
 use map_core::{Now, Plan};
+use metric::Edge;
 use std::alloc::Global;
 use std::marker::{Model, PhantomData};
 use std::mem::replace;
@@ -58,6 +59,13 @@ impl<Id: StoreName> ReaderSeat<Id> {
         ensures below { result < readers_of Id.store }
     {
         self.number
+    }
+
+    /// What the border of the store's map is.
+    pub fn edge(&self) -> Edge
+        ensures { result ≡ Id.store.base.setting.edge }
+    {
+        self.plan.setting.edge
     }
 
     /// How many commands were accepted with this seat.

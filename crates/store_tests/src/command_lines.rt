@@ -3,7 +3,7 @@
 use crate::compare::{holds, same};
 use bits::Bitmap;
 use map_core::{Command, Kept, Reply};
-use metric::{Cell, Rect, Refusal};
+use metric::{Cell, Edge, Rect, Refusal};
 use proto::{
     Answer, Line, Order, QueryKind, Text, Verb, answer_query, parse_line, reply_text, verb_of,
 };
@@ -164,7 +164,10 @@ fn queries_are_answered(rt: HostRuntime) -> Result<(), Fail> {
     for (line, want) in rows {
         match parse_line(rt.alloc(), line)? {
             Line::Query(query) => {
-                reply_text(&answer_query(rt.alloc(), &bitmap, &query), &mut text);
+                reply_text(
+                    &answer_query(rt.alloc(), &bitmap, Edge::Open, &query),
+                    &mut text,
+                );
                 same(&rt, text.as_bytes(), want, "as bytes");
             }
             _ => holds(&rt, false, "a query was asked"),

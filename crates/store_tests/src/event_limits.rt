@@ -7,7 +7,7 @@ use crate::compare::same;
 use crate::events::SMALL;
 use bits::Bitmap;
 use map_core::{Command, Event, Ledger, Reply, Setting, StepReply, World};
-use metric::{Rect, Refusal};
+use metric::{Edge, Rect, Refusal};
 use std::alloc::Global;
 use std::test::Fail;
 
@@ -49,6 +49,7 @@ fn the_largest_map(rt: HostRuntime) -> Result<(), Fail> {
         versions: 2,
         sessions: 64,
         log: 10,
+        edge: Edge::Open,
     };
     let map = Bitmap::blank(rt.alloc(), 4_096, 4_096)?;
     let mut world = World::open(rt.alloc(), setting, &map)?;

@@ -4,7 +4,7 @@ use crate::compare::same;
 use crate::script::{Script, kept};
 use bits::Bitmap;
 use map_core::{Command, Event, NotEnabled, Reply, Setting, StepReply, World, run};
-use metric::{Cell, Field, Rect, Refusal};
+use metric::{Cell, Edge, Field, Rect, Refusal};
 use std::test::Fail;
 
 /// Room for three blocks, two versions, one reader and ten entries.
@@ -13,6 +13,7 @@ pub const SMALL: Setting = Setting {
     versions: 2,
     sessions: 1,
     log: 10,
+    edge: Edge::Open,
 };
 
 #[test]

@@ -1,7 +1,7 @@
 //! Lines and replies, what no clause says: that lines from outside are what is meant by them, and the text of the replies.
 
 use crate::compare::{holds, same};
-use metric::{Cell, MetricKind, Near, Refusal};
+use metric::{Cell, MetricKind, Near, Refusal, Spot};
 use proto::{Answer, Line, Query, Text, parse_line, reply_text};
 use std::test::Fail;
 
@@ -111,15 +111,15 @@ fn cell(x: u16, y: u16) -> Cell {
 }
 
 /// A distance, and its obstacle.
-fn near(dist: u32, x: u16, y: u16) -> Near {
+fn near(dist: u32, x: i16, y: i16) -> Near {
     Near {
         dist,
-        cell: cell(x, y),
+        cell: Spot { x, y },
     }
 }
 
 /// Answers, and their reply lines.
-fn replies() -> [(Answer, &'static [u8]); 20] {
+fn replies() -> [(Answer, &'static [u8]); 21] {
     [
         (Answer::Version(0), b"OK 0\n"),
         (Answer::Version(4294967295), b"OK 4294967295\n"),
@@ -130,14 +130,15 @@ fn replies() -> [(Answer, &'static [u8]); 20] {
             Answer::Near(Some(near(33538050, 0, 0))),
             b"OK 33538050 0 0\n",
         ),
+        (Answer::Near(Some(near(1, -1, 0))), b"OK 1 -1 0\n"),
         (Answer::Near(None), b"NONE\n"),
         (
             Answer::Found(Some((cell(2, 0), near(1, 2, 1)))),
             b"OK 1 2 0 2 1\n",
         ),
         (
-            Answer::Found(Some((cell(65535, 10000), near(4294967295, 65535, 12345)))),
-            b"OK 4294967295 65535 10000 65535 12345\n",
+            Answer::Found(Some((cell(65535, 10000), near(4294967295, 32767, -32768)))),
+            b"OK 4294967295 65535 10000 32767 -32768\n",
         ),
         (Answer::Found(None), b"NONE\n"),
         (Answer::Clear(None), b"OK CLEAR\n"),

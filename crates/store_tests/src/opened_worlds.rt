@@ -3,7 +3,7 @@
 use crate::compare::same;
 use bits::Bitmap;
 use map_core::{Command, Event, Setting, StepReply, World};
-use metric::{Cell, Field, Refusal};
+use metric::{Cell, Edge, Field, Refusal};
 use std::test::Fail;
 
 /// Blocks, versions, sessions and log of a setting, and which field is refused for a map of two tiles.
@@ -31,6 +31,7 @@ fn the_first_bad_field_is_refused(rt: HostRuntime) -> Result<(), Fail> {
             versions,
             sessions,
             log,
+            edge: Edge::Open,
         };
         same(
             &rt,
@@ -55,6 +56,7 @@ fn a_map_of_two_tiles_is_opened(rt: HostRuntime) -> Result<(), Fail> {
         versions: 2,
         sessions: 1,
         log: 5,
+        edge: Edge::Open,
     };
     let mut world = World::open(rt.alloc(), setting, &map)?;
     same(

@@ -11,13 +11,14 @@ mod locks;
 mod meeting;
 mod patient;
 mod pooled;
+mod walled;
 mod worked;
 
 use crate::compare::{holds, same};
 use crate::opened::{hand_back, open};
 use bits::Bitmap;
 use map_core::{Reply, Setting};
-use metric::{MemorySink, MemorySource, MemoryStream, Stream};
+use metric::{Edge, MemorySink, MemorySource, MemoryStream, Stream};
 use pbm::read_image;
 use proto::{End, serve_stream};
 use session::{Blank, Session, Store};
@@ -35,6 +36,7 @@ const fn setting(blocks: u32, sessions: u32) -> Setting {
         versions: 8,
         sessions,
         log: 100_000,
+        edge: Edge::Open,
     }
 }
 

@@ -5,6 +5,7 @@ mod beside;
 mod busy;
 mod closing;
 mod counted;
+mod framed;
 mod fresh;
 mod held;
 mod later;

@@ -5,7 +5,7 @@ use crate::opened::drawn;
 use crate::told::{Call, begin, end};
 use bits::Bitmap;
 use field::{Workers, rows, rows_with};
-use metric::{Cell, Euclid2, Gate, Near, Refusal};
+use metric::{Cell, Edge, Euclid2, Gate, Near, Refusal, Spot};
 use std::alloc::Global;
 use std::process::Abort;
 use std::test::Fail;
@@ -48,7 +48,7 @@ fn look_at(rt: &impl Abort, nears: &[Option<Near>], size: [u16; 2]) {
         let dist = columns.saturating_add(squared(y, OBSTACLE.y));
         let want = Near {
             dist,
-            cell: OBSTACLE,
+            cell: Spot { x: 3, y: 4 },
         };
         same(rt, *near, Some(want), index);
     }
@@ -73,13 +73,13 @@ fn works<R: Abort + Print>(
     let call: Call = ("field", "rows");
     let height = map.height();
     begin(rt, call);
-    let first = rows::<Euclid2>(alloc, map, 0, height);
+    let first = rows::<Euclid2>(alloc, map, Edge::Open, 0, height);
     end(rt, call, first.is_err());
     let nears = match first {
         Ok(nears) => nears,
         Err(refusal) => {
             same(rt, refusal, Refusal::Memory, "rows");
-            rows::<Euclid2>(alloc, map, 0, height)?
+            rows::<Euclid2>(alloc, map, Edge::Open, 0, height)?
         }
     };
     look_at(rt, nears.as_slice(), size);
@@ -109,13 +109,13 @@ fn works_with<R: Abort + Print + Threads + Sync>(
 ) -> Result<(), Fail> {
     let height = map.height();
     begin(rt, call);
-    let first = rows_with::<Euclid2, _, _>(rt, alloc, map, 0, height, workers, &Open);
+    let first = rows_with::<Euclid2, _, _>(rt, alloc, map, Edge::Open, 0, height, workers, &Open);
     end(rt, call, first.is_err());
     let nears = match first {
         Ok(nears) => nears,
         Err(refusal) => {
             same(rt, refusal, Refusal::Memory, "bands");
-            rows_with::<Euclid2, _, _>(rt, alloc, map, 0, height, workers, &Open)?
+            rows_with::<Euclid2, _, _>(rt, alloc, map, Edge::Open, 0, height, workers, &Open)?
         }
     };
     look_at(rt, nears.as_slice(), size);

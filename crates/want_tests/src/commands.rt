@@ -7,7 +7,7 @@ use crate::compare::same;
 use crate::opened::{blank, close, hand_back, next, open, pin, unpin};
 use crate::seat::Seat;
 use map_core::Setting;
-use metric::{Cell, City, Near, Refusal};
+use metric::{Cell, City, Edge, Near, Refusal, Spot};
 use session::Blank;
 use shelf::StoreName;
 use std::alloc::Global;
@@ -24,6 +24,7 @@ const SETTING: Setting = Setting {
     versions: 8,
     sessions: 1,
     log: 100,
+    edge: Edge::Open,
 };
 
 /// The obstacle that the map is opened with.
@@ -110,7 +111,7 @@ const TOO_MANY: [Row; 2] = [
 
 /// Whether a pin is held meanwhile, the commands, the newest version after them, the nearest obstacle of the map's last cell in its first row, and what is
 /// kept of the log.
-type Game = (bool, &'static [Row], u32, u32, [u16; 2], (u32, usize));
+type Game = (bool, &'static [Row], u32, u32, [i16; 2], (u32, usize));
 
 const GAMES: [Game; 14] = [
     (false, &PAINT, 3, 127, [128, 0], (0, 6)),
@@ -159,7 +160,7 @@ fn plays_in<Id: StoreName, R: Wait + Abort + Print>(
     let mut pinned = pin(rt, alloc, seat.leave(rt));
     let near = Near {
         dist,
-        cell: Cell { x, y },
+        cell: Spot { x, y },
     };
     same(rt, pinned.version(), version, "the newest version");
     let last = pinned.at::<City>(alloc, Cell { x: 255, y: 0 });

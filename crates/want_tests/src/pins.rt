@@ -8,7 +8,7 @@ use crate::opened::{PIN, blank, close, hand_back, next, open, pin, unpin};
 use crate::seat::Seat;
 use crate::told::{begin, end};
 use map_core::Setting;
-use metric::{Cell, Refusal};
+use metric::{Cell, Edge, Refusal};
 use session::{Blank, Session, Store};
 use shelf::StoreName;
 use std::alloc::Global;
@@ -22,6 +22,7 @@ const SETTING: Setting = Setting {
     versions: 8,
     sessions: 2,
     log: 100,
+    edge: Edge::Open,
 };
 
 /// Before the pin.

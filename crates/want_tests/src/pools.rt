@@ -7,7 +7,7 @@ use crate::opened::{blank, close, open};
 use crate::ready::Ready;
 use crate::told::{Call, begin, end};
 use map_core::Setting;
-use metric::{Cell, Refusal};
+use metric::{Cell, Edge, Refusal};
 use proto::{Streams, pool};
 use session::{Blank, Session, Store};
 use shelf::StoreName;
@@ -25,6 +25,7 @@ const SETTING: Setting = Setting {
     versions: 8,
     sessions: 2,
     log: 100,
+    edge: Edge::Open,
 };
 
 /// The pool, and the one stream that it serves.

@@ -6,7 +6,7 @@ use crate::compare::{holds, same};
 use crate::opened::{blank, close, hand_back, next, open, pin, rect, unpin};
 use crate::told::{begin, end};
 use map_core::Setting;
-use metric::{Cell, Euclid2, Near};
+use metric::{Cell, Edge, Euclid2, Near, Spot};
 use session::{Blank, Pinned, Store};
 use shelf::{StoreName, Ticket};
 use std::alloc::Global;
@@ -20,6 +20,7 @@ const SETTING: Setting = Setting {
     versions: 2,
     sessions: 1,
     log: 10,
+    edge: Edge::Open,
 };
 
 /// The map's only obstacle.
@@ -29,7 +30,10 @@ const OBSTACLE: Cell = Cell { x: 3, y: 4 };
 fn near(dist: u32) -> Near {
     Near {
         dist,
-        cell: OBSTACLE,
+        cell: Spot {
+            x: OBSTACLE.x as i16,
+            y: OBSTACLE.y as i16,
+        },
     }
 }
 

@@ -7,7 +7,7 @@ use crate::opened::{blank, close, hand_back, next, open};
 use crate::ready::Ready;
 use crate::told::{begin, end};
 use map_core::Setting;
-use metric::Cell;
+use metric::{Cell, Edge};
 use proto::{End, serve_stream};
 use session::Blank;
 use shelf::StoreName;
@@ -22,6 +22,7 @@ const SETTING: Setting = Setting {
     versions: 8,
     sessions: 1,
     log: 100_000,
+    edge: Edge::Open,
 };
 
 /// What is read.

@@ -12,7 +12,7 @@ use column::ColumnTable;
 use envelope::{Stack, row};
 use epoch::kept_after;
 use map_core::{Kept, Seen};
-use metric::{Cell, Euclid2, Near, Refusal};
+use metric::{Cell, Edge, Euclid2, Near, Refusal, Spot};
 use std::alloc::Global;
 use std::process::Abort;
 use std::test::Fail;
@@ -108,31 +108,59 @@ fn line_of(alloc: Global, width: u16) -> Result<Vec<Option<Near>>, Fail> {
 }
 
 /// The table of a map's columns, made again where there was no memory.
-fn table_of(alloc: Global, map: &Bitmap) -> Result<ColumnTable, Refusal> {
-    match ColumnTable::of(alloc, map) {
+fn table_of(alloc: Global, map: &Bitmap, edge: Edge) -> Result<ColumnTable, Refusal> {
+    match ColumnTable::of(alloc, map, edge) {
         Ok(table) => Ok(table),
-        Err(_) => ColumnTable::of(alloc, map),
+        Err(_) => ColumnTable::of(alloc, map, edge),
     }
 }
 
+/// For each edge the nearest obstacle of the map's first cell.
+const NEARS: [(Edge, Near); 2] = [
+    (
+        Edge::Open,
+        Near {
+            dist: 25,
+            cell: Spot { x: 3, y: 4 },
+        },
+    ),
+    (
+        Edge::Wall,
+        Near {
+            dist: 1,
+            cell: Spot { x: -1, y: 0 },
+        },
+    ),
+];
+
 #[test]
 fn a_row_is_worked_without_memory(rt: HostRuntime) -> Result<(), Fail> {
+    let map = drawn(&rt, rt.alloc(), [64, 64], Cell { x: 3, y: 4 })?;
+    for (edge, near) in &NEARS {
+        works(&rt, rt.alloc(), &map, *edge, *near)?;
+    }
+    Ok(())
+}
+
+/// Works the first row of a map, whose first cell has this nearest obstacle.
+fn works<R: Abort + Print>(
+    rt: &R,
+    alloc: Global,
+    map: &Bitmap,
+    edge: Edge,
+    near: Near,
+) -> Result<(), Fail> {
     let call: Call = ("envelope", "row");
-    let obstacle = Cell { x: 3, y: 4 };
-    let map = drawn(&rt, rt.alloc(), [64, 64], obstacle)?;
-    let table = table_of(rt.alloc(), &map)?;
-    let mut stack = stack_for(rt.alloc(), table.width())?;
-    let mut line = line_of(rt.alloc(), table.width())?;
-    assert!(&rt; line.len() == usize::from(table.width()));
-    assert!(&rt; 0 < table.height());
-    begin(&rt, call);
+    let table = table_of(alloc, map, edge)?;
+    // Two more than a row has cells, for those of the frame.
+    let mut stack = stack_for(alloc, table.width() + 2)?;
+    let mut line = line_of(alloc, table.width())?;
+    assert!(rt; line.len() == usize::from(table.width()));
+    assert!(rt; 0 < table.height());
+    begin(rt, call);
     row::<Euclid2>(&table, 0, &mut stack, line.as_mut_slice());
-    end(&rt, call, false);
-    let want = Near {
-        dist: 25,
-        cell: obstacle,
-    };
+    end(rt, call, false);
     let first = line.first().copied();
-    same(&rt, first, Some(Some(want)), "the first cell");
+    same(rt, first, Some(Some(near)), edge);
     Ok(())
 }

@@ -5,7 +5,9 @@ use std::time::Instant;
 #[derive(Clone, Copy, Debug, PartialEq, Eq)]
 pub struct Cell { pub x: u16, pub y: u16 }
 #[derive(Clone, Copy, Debug, PartialEq, Eq)]
-pub struct Near { pub dist: u32, pub cell: Cell }
+pub struct Spot { pub x: i16, pub y: i16 }
+#[derive(Clone, Copy, Debug, PartialEq, Eq)]
+pub struct Near { pub dist: u32, pub cell: Spot }
 #[derive(Clone, Copy, Debug, PartialEq, Eq)]
 pub struct Rect { pub x0: u16, pub y0: u16, pub x1: u16, pub y1: u16 }
 pub trait Metric { fn of(dx: u16, g: u16) -> u32; }
@@ -19,8 +21,6 @@ impl Bitmap {
     pub fn width(&self) -> u16 { self.width }
     pub fn height(&self) -> u16 { self.height }
     fn across(&self) -> usize { usize::from(self.width).div_ceil(64) }
-    pub fn holds(&self, cell: Cell) -> bool { cell.x < self.width && cell.y < self.height }
-    pub fn holds_rect(&self, rect: Rect) -> bool { rect.x1 <= self.width && rect.y1 <= self.height }
     pub fn row_words(&self, y: u16) -> &[u64] {
         let across = self.across();
         let start = usize::from(y) * across;

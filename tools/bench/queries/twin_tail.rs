@@ -16,7 +16,7 @@ impl Draws {
 
 fn sum(found: Option<(Cell, Near)>) -> u64 {
     match found {
-        Some((cell, near)) => u64::from(near.dist) + 3 * u64::from(cell.x) + 5 * u64::from(cell.y) + 7 * u64::from(near.cell.x) + 11 * u64::from(near.cell.y),
+        Some((cell, near)) => u64::from(near.dist) + 3 * u64::from(cell.x) + 5 * u64::from(cell.y) + 7 * near.cell.x as u64 + 11 * near.cell.y as u64,
         None => 1,
     }
 }
@@ -35,23 +35,24 @@ fn fill_walk(draws: &mut Draws, side: u16, points: &mut [Cell]) {
     }
 }
 
-fn ask(bitmap: &Bitmap, draws: &mut Draws, kind: usize, points: &mut [Cell]) -> u64 {
+fn ask(bitmap: &Bitmap, edge: Edge, draws: &mut Draws, kind: usize, points: &mut [Cell]) -> u64 {
     let side = bitmap.width();
     let from = draws.cell(side);
+    let mut rows = bitmap;
     match kind {
-        0 => sum(nearest::<Euclid2>(bitmap, from).map(|near| (from, near))),
+        0 => sum(nearest_spot::<Euclid2, &Bitmap>(&mut rows, edge, from).map(|near| (from, near))),
         1 => {
             let (x0, y0) = (from.x.min(side - 64), from.y.min(side - 64));
-            sum(least_of_rect::<Euclid2>(bitmap, Rect { x0, y0, x1: x0 + 64, y1: y0 + 64 }))
+            sum(least_of_rect::<Euclid2, &Bitmap>(&mut rows, edge, Rect { x0, y0, x1: x0 + 64, y1: y0 + 64 }))
         }
         2 | 3 => {
             let x = from.x.min(side - 1000);
             let path = [Cell { x, y: from.y }, Cell { x: x + 999, y: from.y }];
-            sum(if kind == 2 { least_of_path::<Euclid2>(bitmap, &path) } else { first_of_path::<Euclid2>(bitmap, &path, 16) })
+            sum(if kind == 2 { least_of_path::<Euclid2, &Bitmap>(&mut rows, edge, &path) } else { first_of_path::<Euclid2, &Bitmap>(&mut rows, edge, &path, 16) })
         }
         _ => {
             fill_walk(draws, side, points);
-            sum(least_of_path::<Euclid2>(bitmap, points))
+            sum(least_of_path::<Euclid2, &Bitmap>(&mut rows, edge, points))
         }
     }
 }
@@ -70,6 +71,7 @@ fn read_raw(bytes: &[u8]) -> Bitmap {
 
 fn main() {
     let bytes = std::fs::read(std::env::args().nth(1).unwrap()).unwrap();
+    let edge = if std::env::args().nth(2).as_deref() == Some("wall") { Edge::Wall } else { Edge::Open };
     let mut least = u128::MAX;
     for _ in 0..5 {
         let start = Instant::now();
@@ -86,7 +88,7 @@ fn main() {
             answers = 0;
             let start = Instant::now();
             for _ in 0..*count {
-                answers = answers.wrapping_mul(31).wrapping_add(ask(&bitmap, &mut draws, kind, &mut points));
+                answers = answers.wrapping_mul(31).wrapping_add(ask(&bitmap, edge, &mut draws, kind, &mut points));
             }
             least = least.min(start.elapsed().as_nanos() / count);
         }

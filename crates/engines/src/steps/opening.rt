@@ -10,7 +10,7 @@ ghost use Rattle.engines.specs.Opening.{base_of, is_side, judged, opening_told, 
 
 use bits::Bitmap;
 use map_core::{Setting, World};
-use metric::{Field, Refusal};
+use metric::{Edge, Field, Refusal};
 use proto::{Text, next_number, number_triple, split_word};
 use std::alloc::Global;
 
@@ -78,6 +78,7 @@ fn read_setting(rest: Option<&[u8]>) -> Option<Setting>
         versions,
         sessions,
         log,
+        edge: Edge::Open,
     })
 }
 

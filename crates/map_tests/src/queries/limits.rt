@@ -4,7 +4,7 @@ use super::{beside_at, drawn};
 use crate::compare::same;
 use bits::Bitmap;
 use clearance::{along, at, clear_of, least_in};
-use metric::{Cell, Chess, City, Euclid2, Metric, Rect};
+use metric::{Cell, Chess, City, Edge, Euclid2, Metric, Rect};
 use std::alloc::Global;
 use std::process::Abort;
 use std::test::Fail;
@@ -24,27 +24,32 @@ fn ask_at_last<M: Metric>(
     dist: u32,
 ) -> Result<(), Fail> {
     let (cell, near) = beside_at((last.x, last.y), dist, (0, 0));
-    same(rt, at::<M>(alloc, bitmap, last), Ok(Some(near)), "at");
+    same(
+        rt,
+        at::<M>(alloc, bitmap, Edge::Open, last),
+        Ok(Some(near)),
+        "at",
+    );
     assert!(rt; last.x < 4096 && last.y < 4096);
     let corner = Rect::new(last.x, last.y, last.x + 1, last.y + 1).expect(rt, "it has a cell");
     same(
         rt,
-        least_in::<M>(alloc, bitmap, corner),
+        least_in::<M>(alloc, bitmap, Edge::Open, corner),
         Ok(Some((cell, near))),
         "least in",
     );
     let stay = [last; 1000];
     same(
         rt,
-        along::<M>(alloc, bitmap, &stay),
+        along::<M>(alloc, bitmap, Edge::Open, &stay),
         Ok(Some((cell, near))),
         "along",
     );
-    let found = clear_of::<M>(alloc, bitmap, &stay, dist.saturating_add(1));
+    let found = clear_of::<M>(alloc, bitmap, Edge::Open, &stay, dist.saturating_add(1));
     same(rt, found, Ok(Some((cell, near))), "found");
     same(
         rt,
-        clear_of::<M>(alloc, bitmap, &stay, dist),
+        clear_of::<M>(alloc, bitmap, Edge::Open, &stay, dist),
         Ok(None),
         "clear of",
     );
@@ -67,7 +72,7 @@ fn the_first_cell_is_answered_from_the_last(rt: HostRuntime) -> Result<(), Fail>
     let found = beside_at((LAST, LAST), 0, (LAST, LAST));
     same(
         &rt,
-        least_in::<City>(rt.alloc(), &bitmap, whole),
+        least_in::<City>(rt.alloc(), &bitmap, Edge::Open, whole),
         Ok(Some(found)),
         "least in",
     );
@@ -75,7 +80,7 @@ fn the_first_cell_is_answered_from_the_last(rt: HostRuntime) -> Result<(), Fail>
     let first = Cell { x: 0, y: 0 };
     same(
         &rt,
-        at::<City>(rt.alloc(), &bitmap, first),
+        at::<City>(rt.alloc(), &bitmap, Edge::Open, first),
         Ok(Some(near)),
         "at",
     );
@@ -107,9 +112,9 @@ fn the_longest_path_is_answered(rt: HostRuntime) -> Result<(), Fail> {
         }
     }
     let found = beside_at((LAST - 1, LAST), 4096, (LAST, 0));
-    let answer = along::<City>(rt.alloc(), &bitmap, &points);
+    let answer = along::<City>(rt.alloc(), &bitmap, Edge::Open, &points);
     same(&rt, answer, Ok(Some(found)), "answer");
-    let answer = clear_of::<City>(rt.alloc(), &bitmap, &points, 4097);
+    let answer = clear_of::<City>(rt.alloc(), &bitmap, Edge::Open, &points, 4097);
     same(&rt, answer, Ok(Some(found)), "answer");
     Ok(())
 }

@@ -2,7 +2,7 @@
 
 use bits::Bitmap;
 use field::rows;
-use metric::{Cell, Metric, Near, Rect, Refusal};
+use metric::{Cell, Edge, Metric, Near, Rect, Refusal};
 use std::alloc::{AllocError, Global};
 
 /// The nearest obstacles of all cells of a bitmap.
@@ -15,7 +15,7 @@ pub struct Answers {
 impl Answers {
     /// Those of this bitmap.
     pub fn of<M: Metric>(alloc: Global, bitmap: &Bitmap) -> Result<Self, Refusal> {
-        let nears = rows::<M>(alloc, bitmap, 0, bitmap.height())?;
+        let nears = rows::<M>(alloc, bitmap, Edge::Open, 0, bitmap.height())?;
         Ok(Answers {
             width: usize::from(bitmap.width()),
             nears,

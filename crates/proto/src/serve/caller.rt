@@ -85,7 +85,7 @@ impl<Id: StoreName> Caller<Id> {
     {
         match &mut self.seat {
             Seat::Free(_) => Answer::Refused(Refusal::NotPinned),
-            Seat::Holding(pinned) => answer_of::<Pinned<Id>>(alloc, pinned, query),
+            Seat::Holding(pinned) => answer_of(alloc, pinned, query),
         }
     }
 

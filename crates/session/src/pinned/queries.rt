@@ -2,7 +2,8 @@
 
 ghost use Rattle.std.specs.Prelude.{◌≡◌, None, IfOk, IfErr};
 ghost use Rattle.metric.specs.Nearest.{IsNear};
-ghost use Rattle.bits.specs.Cells.{IsInside, IsObstacle};
+ghost use Rattle.bits.specs.Cells.{IsInside};
+ghost use Rattle.bits.specs.Edges.{IsBlocked};
 ghost use Rattle.clearance.specs.Answers.{IsClearOf, IsLeastOf, IsRefusalFor, LiesIn, cells_of_rect};
 ghost use Rattle.clearance.specs.Paths.{IsPathRefusal, cells_of_path, path_refusal};
 ghost use Rattle.session.specs.Sessions.{bitmap_pinned};
@@ -13,23 +14,24 @@ use shelf::StoreName;
 use std::alloc::Global;
 
 impl<Id: StoreName> Pinned<Id> {
-    /// The nearest obstacle of a cell in the version that it holds, as `clearance::at` answers.
+    /// The nearest obstacle of a cell in the version that it holds, as `clearance::at` answers with the store's edge.
     ///
     /// Refused, in this order, for a cell outside the map (`OutOfRange`) and for want of memory.
     pub fn at<M: Metric>(&mut self, alloc: Global, cell: Cell) -> Result<Option<Near>, Refusal>
         ensures pin { self.new ≡ self.old }
         ensures inside { IfOk result (λ _. IsInside (bitmap_pinned Id.store self.old) cell.x cell.y) }
-        ensures near { IfOk result (λ near. IsNear M.distance (IsObstacle (bitmap_pinned Id.store self.old)) cell.x cell.y near) }
+        ensures near { IfOk result (λ near. IsNear M.distance (IsBlocked (bitmap_pinned Id.store self.old) Id.store.base.setting.edge) cell.x cell.y near) }
         ensures refused { IfErr result (IsRefusalFor (IsInside (bitmap_pinned Id.store self.old) cell.x cell.y)) }
     {
+        let edge = self.edge();
         if self.is_read() {
-            clearance::at::<M>(alloc, self.bitmap(), cell)
+            clearance::at::<M>(alloc, self.bitmap(), edge, cell)
         } else {
-            clearance::at_rows::<M, Pinned<Id>>(alloc, self, cell)
+            clearance::at_rows::<M, Pinned<Id>>(alloc, self, edge, cell)
         }
     }
 
-    /// The least distance over a rectangle in the version that it holds, as `clearance::least_in` answers.
+    /// The least distance over a rectangle in the version that it holds, as `clearance::least_in` answers with the store's edge.
     ///
     /// Refused, in this order, for a rectangle that isn't wholly in the map (`OutOfRange`) and for want of memory.
     pub fn least_in<M: Metric>(
@@ -39,17 +41,18 @@ impl<Id: StoreName> Pinned<Id> {
     ) -> Result<Option<(Cell, Near)>, Refusal>
         ensures pin { self.new ≡ self.old }
         ensures inside { IfOk result (λ _. LiesIn (bitmap_pinned Id.store self.old) rect) }
-        ensures least { IfOk result (IsLeastOf M.distance (IsObstacle (bitmap_pinned Id.store self.old)) (cells_of_rect rect.x0 rect.y0 rect.x1 rect.y1)) }
+        ensures least { IfOk result (IsLeastOf M.distance (IsBlocked (bitmap_pinned Id.store self.old) Id.store.base.setting.edge) (cells_of_rect rect.x0 rect.y0 rect.x1 rect.y1)) }
         ensures refused { IfErr result (IsRefusalFor (LiesIn (bitmap_pinned Id.store self.old) rect)) }
     {
+        let edge = self.edge();
         if self.is_read() {
-            clearance::least_in::<M>(alloc, self.bitmap(), rect)
+            clearance::least_in::<M>(alloc, self.bitmap(), edge, rect)
         } else {
-            clearance::least_in_rows::<M, Pinned<Id>>(alloc, self, rect)
+            clearance::least_in_rows::<M, Pinned<Id>>(alloc, self, edge, rect)
         }
     }
 
-    /// The least distance along a path in the version that it holds, as `clearance::along` answers.
+    /// The least distance along a path in the version that it holds, as `clearance::along` answers with the store's edge.
     ///
     /// Refused, in this order, for no point or over 1000 (`BadPath`), a point outside the map (`OutOfRange`), the first point that is in
     /// neither the row nor the column of the one before it (`Crooked`), and want of memory.
@@ -60,18 +63,19 @@ impl<Id: StoreName> Pinned<Id> {
     ) -> Result<Option<(Cell, Near)>, Refusal>
         ensures pin { self.new ≡ self.old }
         ensures accepted { IfOk result (λ _. path_refusal (bitmap_pinned Id.store self.old) points.now ≡ None) }
-        ensures least { IfOk result (IsLeastOf M.distance (IsObstacle (bitmap_pinned Id.store self.old)) (cells_of_path points.now)) }
+        ensures least { IfOk result (IsLeastOf M.distance (IsBlocked (bitmap_pinned Id.store self.old) Id.store.base.setting.edge) (cells_of_path points.now)) }
         ensures refused { IfErr result (IsPathRefusal (bitmap_pinned Id.store self.old) points.now) }
     {
+        let edge = self.edge();
         if self.is_read() {
-            clearance::along::<M>(alloc, self.bitmap(), points)
+            clearance::along::<M>(alloc, self.bitmap(), edge, points)
         } else {
-            clearance::along_rows::<M, Pinned<Id>>(alloc, self, points)
+            clearance::along_rows::<M, Pinned<Id>>(alloc, self, edge, points)
         }
     }
 
     /// Whether each cell of a path is at least `d` away from the obstacles of the version that it holds, in the metric's unit, as
-    /// `clearance::clear_of` answers. Refused as `along` is.
+    /// `clearance::clear_of` answers with the store's edge. Refused as `along` is.
     pub fn clear_of<M: Metric>(
         &mut self,
         alloc: Global,
@@ -80,13 +84,14 @@ impl<Id: StoreName> Pinned<Id> {
     ) -> Result<Option<(Cell, Near)>, Refusal>
         ensures pin { self.new ≡ self.old }
         ensures accepted { IfOk result (λ _. path_refusal (bitmap_pinned Id.store self.old) points.now ≡ None) }
-        ensures clear { IfOk result (IsClearOf M.distance (IsObstacle (bitmap_pinned Id.store self.old)) (cells_of_path points.now) d) }
+        ensures clear { IfOk result (IsClearOf M.distance (IsBlocked (bitmap_pinned Id.store self.old) Id.store.base.setting.edge) (cells_of_path points.now) d) }
         ensures refused { IfErr result (IsPathRefusal (bitmap_pinned Id.store self.old) points.now) }
     {
+        let edge = self.edge();
         if self.is_read() {
-            clearance::clear_of::<M>(alloc, self.bitmap(), points, d)
+            clearance::clear_of::<M>(alloc, self.bitmap(), edge, points, d)
         } else {
-            clearance::clear_of_rows::<M, Pinned<Id>>(alloc, self, points, d)
+            clearance::clear_of_rows::<M, Pinned<Id>>(alloc, self, edge, points, d)
         }
     }
 }

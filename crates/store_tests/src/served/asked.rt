@@ -1,9 +1,10 @@
 //! Queries over served streams: what a fresh pin is asked, and asked again, is answered as on the map's bitmap.
 
 use super::{Input, look, serve, setting};
-use crate::opened::{Spotted, blank, spotted};
-use bits::Bitmap;
-use proto::{Answer, End, Line, Text, answer_query, parse_line, reply_text};
+use crate::opened::{blank, spotted};
+use map_core::Setting;
+use metric::Edge;
+use proto::{Answer, Bordered, End, Line, Text, answer_of, parse_line, reply_text};
 use std::alloc::Global;
 use std::process::Abort;
 use std::sync::Wait;
@@ -37,10 +38,10 @@ const QUERIES: [&[u8]; 24] = [
     b"CLEAROF chess 2 127 3 127 66 2 66",
 ];
 
-/// Adds the line of a query to what is read, and what it is answered on a bitmap to what is written.
+/// Adds the line of a query to what is read, and what it is answered on a map to what is written.
 fn add_query(
     alloc: Global,
-    bitmap: &Bitmap,
+    map: Bordered<'_>,
     line: &[u8],
     text: &mut Text,
     read: &mut Vec<u8>,
@@ -48,8 +49,9 @@ fn add_query(
 ) -> Result<(), Fail> {
     read.extend_from_slice(line)?;
     read.extend_from_slice(b"\n")?;
+    let mut map = map;
     let answer = match parse_line(alloc, line) {
-        Ok(Line::Query(query)) => answer_query(alloc, bitmap, &query),
+        Ok(Line::Query(query)) => answer_of(alloc, &mut map, &query),
         Ok(_) => return Err(Fail::from("another line")),
         Err(refusal) => Answer::Refused(refusal),
     };
@@ -60,7 +62,7 @@ fn add_query(
 /// A client's lines, and what they are answered: each query by a fresh pin, twice, and then all of them by one pin.
 fn lines_of(
     alloc: Global,
-    bitmap: &Bitmap,
+    map: Bordered<'_>,
     read: &mut Vec<u8>,
     written: &mut Vec<u8>,
 ) -> Result<(), Fail> {
@@ -69,7 +71,7 @@ fn lines_of(
         read.extend_from_slice(b"PIN\n")?;
         written.extend_from_slice(b"OK 0\n")?;
         for _ in 0..2 {
-            add_query(alloc, bitmap, query, &mut text, read, written)?;
+            add_query(alloc, map, query, &mut text, read, written)?;
         }
         read.extend_from_slice(b"UNPIN\n")?;
         written.extend_from_slice(b"OK 0\n")?;
@@ -77,17 +79,25 @@ fn lines_of(
     read.extend_from_slice(b"PIN\n")?;
     written.extend_from_slice(b"OK 0\n")?;
     for query in &QUERIES {
-        add_query(alloc, bitmap, query, &mut text, read, written)?;
+        add_query(alloc, map, query, &mut text, read, written)?;
     }
     Ok(())
 }
 
-/// Serves these lines on a map.
-fn ask<R: Wait + Abort>(rt: &R, alloc: Global, map: Spotted) -> Result<(), Fail> {
-    let bitmap = spotted(rt, alloc, map)?;
+/// Serves these lines on a map whose obstacles are so rare, and whose border is this.
+fn ask<R: Wait + Abort>(rt: &R, alloc: Global, rare: u32, edge: Edge) -> Result<(), Fail> {
+    let bitmap = spotted(rt, alloc, ([130, 70], rare))?;
     let (mut read, mut written) = (Vec::new(alloc), Vec::new(alloc));
-    lines_of(alloc, &bitmap, &mut read, &mut written)?;
-    let blank = blank(setting(8, 1), bitmap, alloc)?;
+    let map = Bordered {
+        bitmap: &bitmap,
+        edge,
+    };
+    lines_of(alloc, map, &mut read, &mut written)?;
+    let setting = Setting {
+        edge,
+        ..setting(8, 1)
+    };
+    let blank = blank(setting, bitmap, alloc)?;
     let run = serve(rt, alloc, blank, Input::whole(&read))?;
     look(rt, "queries", &run, &written, End::EndOfInput, 0);
     Ok(())
@@ -96,7 +106,8 @@ fn ask<R: Wait + Abort>(rt: &R, alloc: Global, map: Spotted) -> Result<(), Fail>
 #[test]
 fn streams_ask_fresh_pins(rt: HostRuntime) -> Result<(), Fail> {
     for rare in [0, 9, 300, 4_000] {
-        ask(&rt, rt.alloc(), ([130, 70], rare))?;
+        ask(&rt, rt.alloc(), rare, Edge::Open)?;
+        ask(&rt, rt.alloc(), rare, Edge::Wall)?;
     }
     Ok(())
 }

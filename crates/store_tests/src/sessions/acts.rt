@@ -53,7 +53,7 @@ pub enum Told {
     /// The version that its pin holds.
     Version(u32),
     /// The version that its pin holds, how far the nearest obstacle is, and where.
-    Near(u32, u32, [u16; 2]),
+    Near(u32, u32, [i16; 2]),
     /// The version that its pin holds, where there is no obstacle.
     Free(u32),
     /// How many commands, or which session.

@@ -5,7 +5,7 @@ ghost use Rattle.std.specs.Prelude.{◌≡◌};
 use crate::compare::{holds, same};
 use crate::opened::{close, free, hand_back, next, open, pin, rect};
 use map_core::Setting;
-use metric::{Cell, City, Near};
+use metric::{Cell, City, Edge, Near};
 use session::{Blank, Session, Store};
 use shelf::{StoreName, Ticket};
 use std::alloc::Global;
@@ -21,6 +21,7 @@ const SETTING: Setting = Setting {
     versions: 4,
     sessions: 2,
     log: 10,
+    edge: Edge::Open,
 };
 
 #[test]

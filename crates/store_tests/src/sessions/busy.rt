@@ -7,7 +7,7 @@ use crate::compare::{holds, same};
 use crate::opened::{close, free, hand_back, next, open, pin, rect};
 use bits::Bitmap;
 use map_core::Setting;
-use metric::{Cell, Chess, Refusal};
+use metric::{Cell, Chess, Edge, Refusal};
 use session::{Blank, Session, Store};
 use shelf::StoreName;
 use std::alloc::Global;
@@ -39,6 +39,7 @@ fn planners_beside_a_painter(rt: HostRuntime) -> Result<(), Fail> {
         versions: 3,
         sessions: 4,
         log: 1_000_000,
+        edge: Edge::Open,
     };
     let since = Instant::now(&rt)?;
     let blank = free(rt.alloc(), setting, [128, 64])?;

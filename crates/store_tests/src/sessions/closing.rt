@@ -7,6 +7,7 @@ use crate::opened::{free, open};
 use crate::sessions::acts::{A, Act, B, Row, Told};
 use crate::sessions::players::Players;
 use map_core::Setting;
+use metric::Edge;
 use session::Blank;
 use shelf::StoreName;
 use std::alloc::Global;
@@ -45,6 +46,7 @@ fn closed(
         versions: 2,
         sessions: 2,
         log: 10,
+        edge: Edge::Open,
     };
     let blank = free(alloc, setting, [64, 64])?;
     closes_with::<Brand, _>(rt, alloc, blank, rows, left_out)

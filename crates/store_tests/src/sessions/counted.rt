@@ -4,7 +4,7 @@
 use crate::sessions::acts::{A, Act, B, Row, Told};
 use crate::sessions::players::{Game, play};
 use map_core::Setting;
-use metric::Refusal;
+use metric::{Edge, Refusal};
 use std::test::Fail;
 
 /// A map of two tiles with one block to spare.
@@ -13,6 +13,7 @@ const SPARE: Setting = Setting {
     versions: 2,
     sessions: 3,
     log: 10,
+    edge: Edge::Open,
 };
 
 /// A paint finds no block until a collect gives one back.

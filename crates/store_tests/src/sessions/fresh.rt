@@ -4,10 +4,10 @@ ghost use Rattle.std.specs.Prelude.{◌≡◌};
 
 use crate::compare::{holds, same};
 use crate::opened::{Spotted, blank, close, hand_back, next, open, pin, rect, spotted};
-use bits::Bitmap;
 use clearance::{along, at, clear_of, least_in};
 use map_core::Setting;
-use metric::{Cell, Chess, City, Euclid2, Metric};
+use metric::{Cell, Chess, City, Edge, Euclid2, Metric};
+use proto::Bordered;
 use session::{Blank, Pinned, Session};
 use shelf::StoreName;
 use std::alloc::Global;
@@ -21,6 +21,7 @@ pub const SETTING: Setting = Setting {
     versions: 4,
     sessions: 2,
     log: 100,
+    edge: Edge::Open,
 };
 
 /// A map of six tiles, whose pins look at 48 words: fewer than some cells' queries take, and more than others' do.
@@ -28,6 +29,15 @@ const FAR: Spotted = ([130, 70], 300);
 
 /// Maps each of whose cells is asked for: that one, and some of one tile.
 const ALL_CELLS: [Spotted; 4] = [FAR, ([64, 1], 40), ([5, 3], 8), ([5, 3], 0)];
+
+/// Maps from each of whose cells the border is seen as a wall: one of four tiles, and some of one.
+const WALLED: [Spotted; 5] = [
+    ([70, 66], 300),
+    ([64, 1], 40),
+    ([1, 1], 0),
+    ([5, 3], 8),
+    ([5, 3], 0),
+];
 
 /// Maps of six tiles and of one, where obstacles are near and far, on which rectangles and paths are asked for.
 const AREAS: [Spotted; 8] = [
@@ -85,10 +95,10 @@ fn compare_cell<M: Metric, Id: StoreName>(
     alloc: Global,
     session: Session<Id>,
     read: &mut Pinned<Id>,
-    map: &Bitmap,
+    map: Bordered<'_>,
     cell: Cell,
 ) -> Session<Id> {
-    let want = at::<M>(alloc, map, cell);
+    let want = at::<M>(alloc, map.bitmap, map.edge, cell);
     let mut fresh = pin(rt, alloc, session);
     same(rt, fresh.at::<M>(alloc, cell), want, ("fresh", cell));
     same(rt, fresh.at::<M>(alloc, cell), want, ("again", cell));
@@ -102,11 +112,11 @@ fn compare_rect<M: Metric, Id: StoreName>(
     alloc: Global,
     session: Session<Id>,
     read: &mut Pinned<Id>,
-    map: &Bitmap,
+    map: Bordered<'_>,
     corners: [u16; 4],
 ) -> Session<Id> {
     let area = rect(rt, corners);
-    let want = least_in::<M>(alloc, map, area);
+    let want = least_in::<M>(alloc, map.bitmap, map.edge, area);
     let mut fresh = pin(rt, alloc, session);
     same(rt, fresh.least_in::<M>(alloc, area), want, ("fresh", area));
     same(rt, fresh.least_in::<M>(alloc, area), want, ("again", area));
@@ -133,10 +143,10 @@ fn compare_path<M: Metric, Id: StoreName>(
     alloc: Global,
     session: Session<Id>,
     read: &mut Pinned<Id>,
-    map: &Bitmap,
+    map: Bordered<'_>,
     path: &[Cell],
 ) -> Session<Id> {
-    let want = along::<M>(alloc, map, path);
+    let want = along::<M>(alloc, map.bitmap, map.edge, path);
     let mut fresh = pin(rt, alloc, session);
     same(rt, fresh.along::<M>(alloc, path), want, ("fresh", path));
     same(rt, fresh.along::<M>(alloc, path), want, ("again", path));
@@ -150,10 +160,10 @@ fn compare_clear<M: Metric, Id: StoreName>(
     alloc: Global,
     session: Session<Id>,
     read: &mut Pinned<Id>,
-    map: &Bitmap,
+    map: Bordered<'_>,
     (path, d): (&[Cell], u32),
 ) -> Session<Id> {
-    let want = clear_of::<M>(alloc, map, path, d);
+    let want = clear_of::<M>(alloc, map.bitmap, map.edge, path, d);
     let mut fresh = pin(rt, alloc, session);
     let answer = fresh.clear_of::<M>(alloc, path, d);
     same(rt, answer, want, ("fresh", path, d));
@@ -170,11 +180,11 @@ fn compare_cells<M: Metric, Id: StoreName>(
     alloc: Global,
     session: Session<Id>,
     read: &mut Pinned<Id>,
-    map: &Bitmap,
+    map: Bordered<'_>,
 ) -> Session<Id> {
     let mut session = session;
-    for y in 0..map.height() {
-        for x in 0..map.width() {
+    for y in 0..map.bitmap.height() {
+        for x in 0..map.bitmap.width() {
             session = compare_cell::<M, Id>(rt, alloc, session, read, map, Cell { x, y });
         }
     }
@@ -187,7 +197,7 @@ fn compare_areas<M: Metric, Id: StoreName>(
     alloc: Global,
     session: Session<Id>,
     read: &mut Pinned<Id>,
-    map: &Bitmap,
+    map: Bordered<'_>,
 ) -> Session<Id> {
     let mut session = session;
     for corners in &CORNERS {
@@ -214,7 +224,7 @@ fn compare_by<M: Metric, Id: StoreName>(
     alloc: Global,
     session: Session<Id>,
     read: &mut Pinned<Id>,
-    map: &Bitmap,
+    map: Bordered<'_>,
     part: Part,
 ) -> Session<Id> {
     match part {
@@ -228,7 +238,7 @@ fn compare_map<Id: StoreName>(
     rt: &impl Abort,
     alloc: Global,
     blank: Blank,
-    map: &Bitmap,
+    map: Bordered<'_>,
     part: Part,
 ) -> Result<(), Fail>
     requires { blank ≡ Id.store }
@@ -245,22 +255,36 @@ fn compare_map<Id: StoreName>(
     Ok(())
 }
 
-/// Asks pins of a store on each of these maps.
-fn compare_maps(rt: &impl Abort, alloc: Global, maps: &[Spotted], part: Part) -> Result<(), Fail> {
+/// Asks pins of a store on each of these maps, whose border is this.
+fn compare_maps(
+    rt: &impl Abort,
+    alloc: Global,
+    maps: &[Spotted],
+    edge: Edge,
+    part: Part,
+) -> Result<(), Fail> {
     for map in maps {
         let bitmap = spotted(rt, alloc, *map)?;
-        let blank = blank(SETTING, spotted(rt, alloc, *map)?, alloc)?;
-        compare_map::<Brand>(rt, alloc, blank, &bitmap, part)?;
+        let setting = Setting { edge, ..SETTING };
+        let blank = blank(setting, spotted(rt, alloc, *map)?, alloc)?;
+        let bitmap = &bitmap;
+        compare_map::<Brand>(rt, alloc, blank, Bordered { bitmap, edge }, part)?;
     }
     Ok(())
 }
 
 #[test]
 fn fresh_pins_answer_each_cell(rt: HostRuntime) -> Result<(), Fail> {
-    compare_maps(&rt, rt.alloc(), &ALL_CELLS, Part::Cells)
+    compare_maps(&rt, rt.alloc(), &ALL_CELLS, Edge::Open, Part::Cells)
+}
+
+#[test]
+fn fresh_pins_see_the_wall_from_each_cell(rt: HostRuntime) -> Result<(), Fail> {
+    compare_maps(&rt, rt.alloc(), &WALLED, Edge::Wall, Part::Cells)
 }
 
 #[test]
 fn fresh_pins_answer_rectangles_and_paths(rt: HostRuntime) -> Result<(), Fail> {
-    compare_maps(&rt, rt.alloc(), &AREAS, Part::Areas)
+    compare_maps(&rt, rt.alloc(), &AREAS, Edge::Open, Part::Areas)?;
+    compare_maps(&rt, rt.alloc(), &AREAS, Edge::Wall, Part::Areas)
 }

@@ -7,6 +7,7 @@ use crate::opened::{close, free, open};
 use crate::sessions::acts::{A, Act, B, Row, Told};
 use crate::sessions::players::Players;
 use map_core::Setting;
+use metric::Edge;
 use session::Blank;
 use shelf::StoreName;
 use std::alloc::Global;
@@ -40,6 +41,7 @@ const FEW: Setting = Setting {
     versions: 4,
     sessions: 2,
     log: 4_000,
+    edge: Edge::Open,
 };
 
 #[test]

@@ -8,7 +8,7 @@ use crate::sessions::fresh::pin_and_read;
 use bits::Bitmap;
 use clearance::at;
 use map_core::Setting;
-use metric::{Cell, City, Euclid2};
+use metric::{Cell, City, Edge, Euclid2};
 use session::{Blank, Pinned, Session, Store};
 use shelf::StoreName;
 use std::alloc::Global;
@@ -20,7 +20,7 @@ use std::test::Fail;
 /// A map of six tiles, and the cell of an obstacle.
 const SPOTTED: Spotted = ([130, 70], 300);
 
-const SPOT: Cell = Cell { x: 97, y: 0 };
+const FILLED: Cell = Cell { x: 97, y: 0 };
 
 /// Four slots, and blocks for the version that is held, the newest one and the draft.
 const SETTING: Setting = Setting {
@@ -28,6 +28,7 @@ const SETTING: Setting = Setting {
     versions: 4,
     sessions: 2,
     log: 100,
+    edge: Edge::Open,
 };
 
 /// Fills the map or clears it, publishes that, and collects.
@@ -51,7 +52,7 @@ fn ask_cells<Id: StoreName>(rt: &impl Abort, alloc: Global, pinned: &mut Pinned<
     for y in 0..map.height() {
         for x in 0..map.width() {
             let cell = Cell { x, y };
-            let want = at::<Euclid2>(alloc, map, cell);
+            let want = at::<Euclid2>(alloc, map, SETTING.edge, cell);
             same(rt, pinned.at::<Euclid2>(alloc, cell), want, cell);
         }
     }
@@ -69,8 +70,8 @@ fn ask_while_others_publish<Id: StoreName, R: Wait + Abort>(
     let (store, mut sessions) = open::<Id>(alloc, blank)?;
     let mut painter = next(rt, &mut sessions);
     let mut pinned = pin(rt, alloc, next(rt, &mut sessions));
-    let want = at::<City>(alloc, map, SPOT);
-    same(rt, pinned.at::<City>(alloc, SPOT), want, "before");
+    let want = at::<City>(alloc, map, SETTING.edge, FILLED);
+    same(rt, pinned.at::<City>(alloc, FILLED), want, "before");
     holds(rt, pinned.bitmap_read().is_none(), "one query");
     for number in 0..8 {
         publish_all(rt, &store, &mut painter, number % 2 == 0);
@@ -108,7 +109,7 @@ fn pin_again<Id: StoreName, R: Wait + Abort>(
     for y in 0..full.height() {
         let cell = Cell { x: 70, y };
         let mut second = pin(rt, alloc, session);
-        let want = at::<Euclid2>(alloc, full, cell);
+        let want = at::<Euclid2>(alloc, full, SETTING.edge, cell);
         same(rt, second.at::<Euclid2>(alloc, cell), want, cell);
         session = second.unpin();
     }

@@ -8,7 +8,7 @@ use crate::sessions::acts::{A, Act, Told};
 use crate::sessions::players::Players;
 use bits::Bitmap;
 use map_core::{Reply, Setting};
-use metric::{Cell, Chess, City, Euclid2, Near, Refusal};
+use metric::{Cell, Chess, City, Edge, Euclid2, Near, Refusal, Spot};
 use session::{Blank, Pinned, Session, Store};
 use shelf::StoreName;
 use std::alloc::Global;
@@ -24,6 +24,7 @@ fn a_log_of_a_thousand_entries(rt: HostRuntime) -> Result<(), Fail> {
         versions: 2,
         sessions: 1,
         log: 1_000,
+        edge: Edge::Open,
     };
     let blank = free(rt.alloc(), setting, [64, 64])?;
     fills_a_long_log::<Brand, _>(&rt, rt.alloc(), blank)
@@ -68,6 +69,7 @@ fn the_largest_map(rt: HostRuntime) -> Result<(), Fail> {
         versions: 2,
         sessions: 1,
         log: 10,
+        edge: Edge::Open,
     };
     let mut stamp = Bitmap::blank(rt.alloc(), 4_096, 4_096)?;
     stamp.set(Cell { x: 0, y: 0 }, true);
@@ -81,7 +83,7 @@ fn the_largest_map(rt: HostRuntime) -> Result<(), Fail> {
 fn near(dist: u32) -> Near {
     Near {
         dist,
-        cell: Cell { x: 0, y: 0 },
+        cell: Spot { x: 0, y: 0 },
     }
 }
 

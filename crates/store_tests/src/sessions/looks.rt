@@ -5,7 +5,7 @@ ghost use Rattle.std.specs.Prelude.{◌≡◌};
 use crate::compare::{holds, same};
 use crate::opened::{Spotted, blank, close, hand_back, next, open, pin, rect, spotted};
 use crate::sessions::fresh::SETTING;
-use metric::{Cell, City, MetricKind, Near};
+use metric::{Cell, City, MetricKind, Near, Spot};
 use proto::{Answer, Query, answer_of};
 use session::{Blank, Pinned, Session};
 use shelf::StoreName;
@@ -19,11 +19,11 @@ const SPOTTED: Spotted = ([130, 70], 9);
 
 const EMPTY: Spotted = ([130, 70], 0);
 
-const SPOT: Cell = Cell { x: 7, y: 0 };
+const FILLED: Cell = Cell { x: 7, y: 0 };
 
 const HERE: Near = Near {
     dist: 0,
-    cell: SPOT,
+    cell: Spot { x: 7, y: 0 },
 };
 
 /// A query of the obstacle's cell alone.
@@ -42,19 +42,19 @@ const ASKS: [Ask; 5] = [Ask::At, Ask::LeastIn, Ask::Along, Ask::ClearOf, Ask::Li
 
 /// Asks a pin, which has to look at one word at least, and finds the obstacle in it.
 fn ask_once<Id: StoreName>(rt: &impl Abort, alloc: Global, pinned: &mut Pinned<Id>, ask: Ask) {
-    let found = Ok(Some((SPOT, HERE)));
+    let found = Ok(Some((FILLED, HERE)));
     match ask {
-        Ask::At => same(rt, pinned.at::<City>(alloc, SPOT), Ok(Some(HERE)), ask),
+        Ask::At => same(rt, pinned.at::<City>(alloc, FILLED), Ok(Some(HERE)), ask),
         Ask::LeastIn => {
             let area = rect(rt, [7, 0, 8, 1]);
             same(rt, pinned.least_in::<City>(alloc, area), found, ask);
         }
-        Ask::Along => same(rt, pinned.along::<City>(alloc, &[SPOT]), found, ask),
-        Ask::ClearOf => same(rt, pinned.clear_of::<City>(alloc, &[SPOT], 1), found, ask),
+        Ask::Along => same(rt, pinned.along::<City>(alloc, &[FILLED]), found, ask),
+        Ask::ClearOf => same(rt, pinned.clear_of::<City>(alloc, &[FILLED], 1), found, ask),
         Ask::Line => {
             let query = Query::At {
                 metric: MetricKind::City,
-                cell: SPOT,
+                cell: FILLED,
             };
             match answer_of(alloc, pinned, &query) {
                 Answer::Near(near) => same(rt, near, Some(HERE), ask),
@@ -159,7 +159,12 @@ fn ask_in_vain<Id: StoreName>(rt: &impl Abort, alloc: Global, blank: Blank) -> R
 {
     let (store, mut sessions) = open::<Id>(alloc, blank)?;
     let mut pinned = pin(rt, alloc, next(rt, &mut sessions));
-    same(rt, pinned.at::<City>(alloc, SPOT), Ok(None), "no obstacle");
+    same(
+        rt,
+        pinned.at::<City>(alloc, FILLED),
+        Ok(None),
+        "no obstacle",
+    );
     holds(
         rt,
         pinned.bitmap_read().is_some(),

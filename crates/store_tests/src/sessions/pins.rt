@@ -5,7 +5,7 @@ use crate::opened::rect;
 use crate::sessions::acts::{A, Act, B, Row, Told};
 use crate::sessions::players::{Game, play};
 use map_core::Setting;
-use metric::{Cell, Chess, City, Near, Refusal};
+use metric::{Cell, Chess, City, Edge, Near, Refusal, Spot};
 use session::Pinned;
 use shelf::StoreName;
 use std::alloc::Global;
@@ -21,7 +21,7 @@ fn cell(x: u16, y: u16) -> Cell {
 fn near(dist: u32) -> Near {
     Near {
         dist,
-        cell: cell(0, 0),
+        cell: Spot { x: 0, y: 0 },
     }
 }
 
@@ -73,6 +73,7 @@ fn a_pin_commands_and_asks(rt: HostRuntime) -> Result<(), Fail> {
             versions: 3,
             sessions: 1,
             log: 10,
+            edge: Edge::Open,
         },
         size: [64, 64],
         rows: &COMMANDS,
@@ -115,6 +116,7 @@ fn a_pin_learns_a_ticket(rt: HostRuntime) -> Result<(), Fail> {
             versions: 3,
             sessions: 2,
             log: 10,
+            edge: Edge::Open,
         },
         size: [64, 64],
         rows: &LEARNED,

@@ -4,7 +4,7 @@ ghost use Rattle.std.specs.Prelude.{◌≡◌};
 
 use bits::Bitmap;
 use map_core::{Reply, Setting};
-use metric::{Cell, Euclid2, Near, Rect, Refusal};
+use metric::{Cell, Edge, Euclid2, Near, Rect, Refusal};
 use session::{Blank, Session, Store};
 use shelf::StoreName;
 use std::alloc::Global;
@@ -21,6 +21,7 @@ fn a_plan_beside_a_painter(rt: HostRuntime) -> Result<(), Fail> {
         versions: 8,
         sessions: 2,
         log: 1_000,
+        edge: Edge::Open,
     };
     match Blank::of(rt.alloc(), setting, map) {
         Ok(blank) => paint_and_plan::<Brand, _>(&rt, rt.alloc(), blank),

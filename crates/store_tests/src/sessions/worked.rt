@@ -5,7 +5,7 @@ use crate::sessions::acts::{A, Act, B, C, Row, Told};
 use crate::sessions::players::{Game, play};
 use bits::Bitmap;
 use map_core::Setting;
-use metric::{Field, Rect, Refusal};
+use metric::{Edge, Field, Rect, Refusal};
 use session::Blank;
 use std::test::Fail;
 
@@ -15,6 +15,7 @@ const SMALL: Setting = Setting {
     versions: 2,
     sessions: 3,
     log: 10,
+    edge: Edge::Open,
 };
 
 /// One session pins, another publishes and collects, and a third pins what was published.
@@ -226,6 +227,7 @@ fn a_setting_is_judged_first(rt: HostRuntime) -> Result<(), Fail> {
         versions: 1,
         sessions: 0,
         log: 0,
+        edge: Edge::Open,
     };
     match Blank::of(rt.alloc(), setting, map) {
         Ok(blank) => {

@@ -1,5 +1,5 @@
 -- A row without an obstacle changes nothing.
-use Rattle.std.proofs.Common.{◌<◌, length, get_or, ℕ, arith}
+use Rattle.std.proofs.Common.{◌<◌, length, ℕ, arith}
 use Rattle.clearance.specs.Rows.{words_of_row}
 use Rattle.clearance.proofs.NearestSearches.{IsNearAmong-blank}
 use Rattle.clearance.proofs.RowWords.{IsRowOf-words, length-words_of_row}

@@ -1,6 +1,6 @@
 -- Piece by piece; the first that is near has the first cell.
 use Rattle.std.proofs.Common.{refl, ◌∙◌, ◌+◌, get_or, arith}
-use Rattle.bits.specs.Cells.{IsObstacle}
+use Rattle.bits.specs.Edges.{IsBlocked}
 use Rattle.clearance.specs.Firsts.{origin}
 use Rattle.clearance.specs.Paths.{cells_up_to}
 use Rattle.clearance.specs.Segments.{cell_count}
@@ -40,7 +40,7 @@ first_of_piece-requires g c =
       from = c.pieces.invariant.inside;
       to = path.inside c.pieces.to-index c.pieces-test.true;
       bitmap = c.holds-inside.ensures.bitmap;
-      some = IsListNear-piece g.M.Metric.distance (IsObstacle (g.R.Rows.cells c.args.rows.now)) (cells_up_to c.pieces.from to) c.args.limit c.least_of_piece.result least c.if-least_of_piece-limit.true;
+      some = IsListNear-piece g.M.Metric.distance (IsBlocked (g.R.Rows.cells c.args.rows.now) c.args.edge) (cells_up_to c.pieces.from to) c.args.limit c.least_of_piece.result least c.if-least_of_piece-limit.true;
     })
 
 pub returns-then-least_of_piece-limit-clause-found : goal.returns-then-least_of_piece-limit-clause-found
@@ -48,8 +48,8 @@ returns-then-least_of_piece-limit-clause-found g c =
     let least = rw (c.pieces.invariant.rows) at c.least_of_piece.ensures.found in
     let (place, walked, far) = c.pieces.invariant.walked in
     let to = get_or c.args.points.now c.pieces.to-index origin in
-    IsFirstOrNone-path g.M.Metric.distance (IsObstacle (g.R.Rows.cells c.args.rows.now)) c.args.points.now place c.pieces.to-index c.args.limit c.pieces.from c.first_of_piece.result walked c.pieces-test.true far
-    (IsListNear-piece g.M.Metric.distance (IsObstacle (g.R.Rows.cells c.args.rows.now)) (cells_up_to c.pieces.from to) c.args.limit c.least_of_piece.result least c.if-least_of_piece-limit.true)
+    IsFirstOrNone-path g.M.Metric.distance (IsBlocked (g.R.Rows.cells c.args.rows.now) c.args.edge) c.args.points.now place c.pieces.to-index c.args.limit c.pieces.from c.first_of_piece.result walked c.pieces-test.true far
+    (IsListNear-piece g.M.Metric.distance (IsBlocked (g.R.Rows.cells c.args.rows.now) c.args.edge) (cells_up_to c.pieces.from to) c.args.limit c.least_of_piece.result least c.if-least_of_piece-limit.true)
     (rw (c.least_of_piece.ensures.rows, c.pieces.invariant.rows) at c.first_of_piece.ensures.found)
 
 pub pieces-preserved : goal.pieces-preserved
@@ -64,8 +64,8 @@ pieces-preserved g c =
       walked = (
         place + cell_count c.pieces.from to,
         IsWalkedTo-more c.args.points.now place c.pieces.to-index c.pieces.from walked c.pieces-test.true,
-        AreFarBefore-more g.M.Metric.distance (IsObstacle (g.R.Rows.cells c.args.rows.now)) c.args.points.now place c.pieces.to-index c.args.limit c.pieces.from walked c.pieces-test.true
-            (AreFarBefore-piece g.M.Metric.distance (IsObstacle (g.R.Rows.cells c.args.rows.now)) (cells_up_to c.pieces.from to) c.args.limit c.least_of_piece.result least c.if-least_of_piece-limit.false)
+        AreFarBefore-more g.M.Metric.distance (IsBlocked (g.R.Rows.cells c.args.rows.now) c.args.edge) c.args.points.now place c.pieces.to-index c.args.limit c.pieces.from walked c.pieces-test.true
+            (AreFarBefore-piece g.M.Metric.distance (IsBlocked (g.R.Rows.cells c.args.rows.now) c.args.edge) (cells_up_to c.pieces.from to) c.args.limit c.least_of_piece.result least c.if-least_of_piece-limit.false)
             far,
       );
     }

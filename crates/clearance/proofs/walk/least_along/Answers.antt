@@ -1,6 +1,6 @@
 -- Piece by piece, each below the least so far.
 use Rattle.std.proofs.Common.{refl, ◌∙◌, ◌+◌, ◌≤◌, get_or, length, arith}
-use Rattle.bits.specs.Cells.{IsObstacle}
+use Rattle.bits.specs.Edges.{IsBlocked}
 use Rattle.clearance.specs.Firsts.{origin}
 use Rattle.clearance.specs.Paths.{cells_of_path}
 use Rattle.clearance.specs.Segments.{cell_count}
@@ -16,7 +16,7 @@ pieces-init g c =
     record {
       rows = refl;
       inside = path.inside 0 path.some;
-      walked = (0, IsWalkedTo-none c.args.points.now path.some path.straight, none, IsLeastBefore-none g.M.Metric.distance (IsObstacle (g.R.Rows.cells c.args.rows.now)) (cells_of_path c.args.points.now) 4294967296);
+      walked = (0, IsWalkedTo-none c.args.points.now path.some path.straight, none, IsLeastBefore-none g.M.Metric.distance (IsBlocked (g.R.Rows.cells c.args.rows.now) c.args.edge) (cells_of_path c.args.points.now) 4294967296);
     }
 
 pub least_of_piece-least-requires : goal.least_of_piece-least-requires
@@ -42,7 +42,7 @@ pieces-preserved g c =
         place + cell_count c.pieces.from to,
         IsWalkedTo-more c.args.points.now place c.pieces.to-index c.pieces.from walked c.pieces-test.true,
         piece-within c.args.points.now place c.pieces.to-index c.pieces.from walked c.pieces-test.true,
-        IsLeastBefore-more g.M.Metric.distance (IsObstacle (g.R.Rows.cells c.args.rows.now)) c.args.points.now place c.pieces.to-index 4294967296 c.pieces.least c.least_of_piece-least.result c.pieces.from walked c.pieces-test.true
+        IsLeastBefore-more g.M.Metric.distance (IsBlocked (g.R.Rows.cells c.args.rows.now) c.args.edge) c.args.points.now place c.pieces.to-index 4294967296 c.pieces.least c.least_of_piece-least.result c.pieces.from walked c.pieces-test.true
             (rw (c.pieces.invariant.rows) at c.least_of_piece-least.ensures.found) is,
       );
     }
@@ -50,5 +50,5 @@ pieces-preserved g c =
 pub returns-clause-found : goal.returns-clause-found
 returns-clause-found g c =
     let (place, walked, within, is) = c.pieces.invariant.walked in
-    IsLeastOver-all g.M.Metric.distance (IsObstacle (g.R.Rows.cells c.args.rows.now)) (cells_of_path c.args.points.now) 4294967296 place c.pieces.least
+    IsLeastOver-all g.M.Metric.distance (IsBlocked (g.R.Rows.cells c.args.rows.now) c.args.edge) (cells_of_path c.args.points.now) 4294967296 place c.pieces.least
     (IsWalkedTo-all c.args.points.now place c.pieces.to-index c.pieces.from walked c.pieces-test.false) within is

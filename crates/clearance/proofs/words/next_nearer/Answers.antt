@@ -1,6 +1,5 @@
 -- Word by word to the right: a part of the first one, then whole ones.
-use Rattle.std.proofs.Common.{◌≡◌, ℕ, ◌+◌, ◌-◌, ◌*◌, ◌/◌, ◌%◌, ◌≤◌, ◌<◌, length, get_or, refl, sym, ap, ◌∙◌, arith}
-use Rattle.std.specs.Int.{bit_at}
+use Rattle.std.proofs.Common.{◌≡◌, ℕ, ◌+◌, ◌-◌, ◌*◌, ◌/◌, ◌%◌, ◌≤◌, ◌<◌, length, get_or, refl, ◌∙◌, arith}
 use Rattle.clearance.specs.Rows.{words_of_row}
 use Rattle.clearance.proofs.RowSearches.{AreUnmarked, AreUnmarked-none, unmarked_word, first_in_word, IsNextNearer-first, IsNextNearer-far, IsNextNearer-none}
 use Rattle.clearance.proofs.RowWords.{length-words_of_row}

@@ -1,13 +1,15 @@
 -- The rows are looked at downwards.
 use Rattle.std.proofs.Common.{ℕ, ◌∙◌, ap, arith}
 use Rattle.std.proofs.Math.ListN.{replicate}
+use Rattle.column.specs.Capped.{capped}
+use Rattle.column.proofs.Caps.{capped_map}
 use Rattle.column.proofs.EdgeLemmas.{IsLineFrom-all, IsRowFromTo, IsSought-down, IsSought-none}
 use Rattle.column.proofs.edge.look_down.Goals as goal
 
 pub rows-init : goal.rows-init
 rows-init c = record {
   sought =
-      IsSought-none c.args.bitmap.now (IsRowFromTo c.args.bitmap.now c.args.from c.args.from) c.fill.new.self c.fill-2.new.self c.requires.bitmap (c.fill.ensures.len ∙ c.requires.room)
+      IsSought-none (capped c.args.edge c.args.bitmap.now) (IsRowFromTo (capped c.args.edge c.args.bitmap.now) c.args.from c.args.from) c.fill.new.self c.fill-2.new.self c.requires.bitmap.width_is.few (c.fill.ensures.len ∙ c.requires.room)
       (c.fill.ensures.after (λ y same. same) ∙ ap (λ (n : ℕ). replicate n 18446744073709551615) c.requires.room) (c.fill-2.ensures.after (λ y same. same) ∙ ap (λ (n : ℕ). replicate n 65535) c.requires.width)
       (λ x b low high black. omega (arith, low, high));
   bitmap = c.requires.bitmap;
@@ -16,10 +18,10 @@ rows-init c = record {
 pub rows-preserved : goal.rows-preserved
 rows-preserved c = record {
   sought =
-      IsSought-down c.args.bitmap.now c.args.from c.rows.y c.rows.missing c.look_at.new.missing c.rows.line c.look_at.new.entries c.rows.invariant.bitmap (omega arith) (omega arith)
+      IsSought-down (capped c.args.edge c.args.bitmap.now) c.args.from c.rows.y c.rows.missing c.look_at.new.missing c.rows.line c.look_at.new.entries (capped_map c.args.edge c.args.bitmap.now c.rows.invariant.bitmap) (omega arith) (omega arith)
       c.rows.invariant.sought c.look_at.ensures.len c.look_at.ensures.room c.look_at.ensures.missing c.look_at.ensures.seen;
   bitmap = c.rows.invariant.bitmap;
 }
 
 pub returns : goal.returns
-returns c = IsLineFrom-all c.args.bitmap.now c.args.from c.rows.y c.rows.missing c.rows.line c.rows.invariant.bitmap (omega arith) c.rows.invariant.sought
+returns c = IsLineFrom-all (capped c.args.edge c.args.bitmap.now) c.args.from c.rows.y c.rows.missing c.rows.line (capped_map c.args.edge c.args.bitmap.now c.rows.invariant.bitmap) (omega arith) c.rows.invariant.sought

@@ -1,13 +1,15 @@
 -- The rows are looked at upwards.
 use Rattle.std.proofs.Common.{ℕ, ◌+◌, ◌-◌, ◌≡◌, ◌∙◌, ap, arith}
 use Rattle.std.proofs.Math.ListN.{replicate}
+use Rattle.column.specs.Capped.{capped}
+use Rattle.column.proofs.Caps.{capped_map}
 use Rattle.column.proofs.EdgeLemmas.{IsRowToBefore, IsSought, IsSought-none, IsSought-up}
 use Rattle.column.proofs.edge.look_up.Goals as goal
 
 pub rows-init : goal.rows-init
 rows-init c = record {
   sought =
-      IsSought-none c.args.bitmap.now (IsRowToBefore c.args.bitmap.now c.args.from c.args.from) c.fill.new.self c.fill-2.new.self c.requires.bitmap (c.fill.ensures.len ∙ c.requires.room)
+      IsSought-none (capped c.args.edge c.args.bitmap.now) (IsRowToBefore (capped c.args.edge c.args.bitmap.now) c.args.from c.args.from) c.fill.new.self c.fill-2.new.self c.requires.bitmap.width_is.few (c.fill.ensures.len ∙ c.requires.room)
       (c.fill.ensures.after (λ y same. same) ∙ ap (λ (n : ℕ). replicate n 18446744073709551615) c.requires.room) (c.fill-2.ensures.after (λ y same. same) ∙ ap (λ (n : ℕ). replicate n 65535) c.requires.width)
       (λ x b low high black. omega (arith, low, high));
   bitmap = c.requires.bitmap;
@@ -16,10 +18,10 @@ rows-init c = record {
 pub rows-preserved : goal.rows-preserved
 rows-preserved c =
     let next : c.rows.y ≡ (c.rows.y - 1) + 1 = omega arith in
-    let sought : IsSought c.args.bitmap.now (IsRowToBefore c.args.bitmap.now ((c.rows.y - 1) + 1) c.args.from) c.rows.missing c.rows.line = rw (← next) c.rows.invariant.sought in
+    let sought : IsSought (capped c.args.edge c.args.bitmap.now) (IsRowToBefore (capped c.args.edge c.args.bitmap.now) ((c.rows.y - 1) + 1) c.args.from) c.rows.missing c.rows.line = rw (← next) c.rows.invariant.sought in
     record {
       sought =
-          IsSought-up c.args.bitmap.now (c.rows.y - 1) c.args.from c.rows.missing c.look_at.new.missing c.rows.line c.look_at.new.entries c.rows.invariant.bitmap (omega arith) c.requires.row
+          IsSought-up (capped c.args.edge c.args.bitmap.now) (c.rows.y - 1) c.args.from c.rows.missing c.look_at.new.missing c.rows.line c.look_at.new.entries (capped_map c.args.edge c.args.bitmap.now c.rows.invariant.bitmap) (omega arith) c.requires.row
           sought c.look_at.ensures.len c.look_at.ensures.room c.look_at.ensures.missing c.look_at.ensures.seen;
       bitmap = c.rows.invariant.bitmap;
     }

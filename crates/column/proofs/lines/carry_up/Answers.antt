@@ -1,5 +1,7 @@
 -- One row further up.
 use Rattle.std.proofs.Common.{◌≡◌, ◌+◌, ◌-◌, arith}
+use Rattle.column.specs.Capped.{capped}
+use Rattle.column.proofs.Caps.{capped_map}
 use Rattle.column.specs.Lines.{IsLineFrom}
 use Rattle.column.proofs.LineLemmas.{IsLineFrom-next}
 use Rattle.column.proofs.lines.carry_up.Goals as goal
@@ -7,11 +9,11 @@ use Rattle.column.proofs.lines.carry_up.Goals as goal
 pub rows-preserved : goal.rows-preserved
 rows-preserved c =
     let next : c.rows.y ≡ (c.rows.y - 1) + 1 = omega arith in
-    let line : IsLineFrom c.args.bitmap.now ((c.rows.y - 1) + 1) c.rows.line = rw (← next) c.rows.invariant.line in
+    let line : IsLineFrom (capped c.args.edge c.args.bitmap.now) ((c.rows.y - 1) + 1) c.rows.line = rw (← next) c.rows.invariant.line in
     record {
       bitmap = c.rows.invariant.bitmap;
       at_least = omega arith;
-      line = IsLineFrom-next c.args.bitmap.now (c.rows.y - 1) c.rows.line c.mark_line.new.line c.rows.invariant.bitmap (omega arith) c.mark_line.ensures.len c.mark_line.ensures.marked line;
+      line = IsLineFrom-next (capped c.args.edge c.args.bitmap.now) (c.rows.y - 1) c.rows.line c.mark_line.new.line (capped_map c.args.edge c.args.bitmap.now c.rows.invariant.bitmap) (omega arith) c.mark_line.ensures.len c.mark_line.ensures.marked line;
     }
 
 pub returns : goal.returns

@@ -1,6 +1,7 @@
 -- The line has been carried up to the row.
 use Rattle.std.proofs.Common.{◌≤◌}
 use Rattle.bits.specs.Cells.{IsBitmap}
+use Rattle.column.specs.Capped.{capped}
 use Rattle.column.specs.Lines.{IsLineFrom}
 use Rattle.column.proofs.lines.carry_up.Given as goal
 
@@ -8,5 +9,5 @@ abbrev pub invariant-rows : goal.invariant-rows
 invariant-rows l = record {
   bitmap : IsBitmap l.bitmap;
   at_least : l.from ≤ l.y;
-  line : IsLineFrom l.bitmap l.y l.line;
+  line : IsLineFrom (capped l.edge l.bitmap) l.y l.line;
 }

@@ -1,12 +1,13 @@
 -- One band more.
 use Rattle.std.proofs.Common.{◌≡◌, ◌+◌, ◌-◌, ◌*◌, min, arith, refl}
+use Rattle.column.specs.Capped.{capped}
 use Rattle.column.specs.Lines.{AreEdges, IsLineFrom}
 use Rattle.column.proofs.LineLemmas.{AreEdges-next}
 use Rattle.column.proofs.lines.fill_edges.Goals as goal
 
 pub bands-preserved : goal.bands-preserved
 bands-preserved c =
-    let cells = c.args.bitmap.now in
+    let cells = capped c.args.edge c.args.bitmap.now in
     let band = c.bands.band - 1 in
     let next : c.bands.band ≡ (c.bands.band - 1) + 1 = omega arith in
     let line : IsLineFrom cells (min (c.args.from + 64 * ((c.bands.band - 1) + 1)) c.args.to) c.bands.line = rw (← next) c.bands.invariant.line in

@@ -1,13 +1,15 @@
 -- The rows less than so many rows away have been looked at.
-use Rattle.std.proofs.Common.{◌≡◌, length}
+use Rattle.std.proofs.Common.{◌≡◌, ◌+◌, ◌*◌, length}
+use Rattle.metric.specs.Edge.{shift}
 use Rattle.bits.specs.Cells.{IsBitmap}
+use Rattle.column.specs.Capped.{capped}
 use Rattle.column.specs.Sweeps.{IsSeen}
 use Rattle.column.proofs.seek.look_around.Given as goal
 
 abbrev pub invariant-away : goal.invariant-away
 invariant-away l = record {
-  seen : IsSeen l.bitmap l.y l.away l.missing l.entries;
+  seen : IsSeen (capped l.edge l.bitmap) l.y l.away l.missing l.entries;
   bitmap : IsBitmap l.bitmap;
   words : length l.missing ≡ 64;
-  height_is : l.away-end ≡ l.bitmap.height;
+  rows_is : l.rows ≡ l.bitmap.height + 2 * shift l.edge;
 }

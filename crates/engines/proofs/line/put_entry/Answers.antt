@@ -6,12 +6,8 @@ pub returns-then-not-nearest-clause-end : goal.returns-then-not-nearest-clause-e
 returns-then-not-nearest-clause-end c =
     let few = length-decimal_32 c.in-Some.near.dist (omega arith) in omega arith
 
-pub put_coordinate-next-requires : goal.put_coordinate-next-requires
-put_coordinate-next-requires c =
-    let few = length-decimal_32 c.in-Some.near.dist (omega arith) in omega arith
-
-pub put_coordinate-requires : goal.put_coordinate-requires
-put_coordinate-requires c =
+pub put_place-requires : goal.put_place-requires
+put_place-requires c =
     let few = length-decimal_32 c.in-Some.near.dist (omega arith) in omega arith
 
 pub returns-clause-end : goal.returns-clause-end

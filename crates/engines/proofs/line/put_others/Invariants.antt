@@ -8,5 +8,5 @@ use Rattle.engines.proofs.line.put_others.Given as goal
 abbrev pub invariant-entries : goal.invariant-entries
 invariant-entries l = record {
   text : Puts l.fn.text l.at (flat_map (λ near. 32 ∷ entry_text l.nearest near) (take l.near-index l.nears)) l.text l.end;
-  end : l.end ≤ l.at + 23 * l.near-index;
+  end : l.end ≤ l.at + 25 * l.near-index;
 }

@@ -19,7 +19,7 @@ rows-preserved c =
     let count : c.rows.y + 1 - c.args.from ≡ (c.rows.y - c.args.from) + 1 = omega arith in
     let here : c.args.from + (c.rows.y - c.args.from) ≡ c.rows.y = omega arith in
     let row : length c.fill_row.new.nears ≡ width = c.fill_row.auto.nears ∙ c.rows.invariant.row in
-    let more : ((c.rows.y - c.args.from) + 1) * (23 * width + 1) ≡ (c.rows.y - c.args.from) * (23 * width + 1) + (23 * width + 1) = omega arith in
+    let more : ((c.rows.y - c.args.from) + 1) * (25 * width + 1) ≡ (c.rows.y - c.args.from) * (25 * width + 1) + (25 * width + 1) = omega arith in
     record {
       text =
           rw (count, rows_text-more c.args.nearest width c.args.from (c.rows.y - c.args.from) (nears_of c.args.table.now), here)

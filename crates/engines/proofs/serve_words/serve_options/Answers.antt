@@ -1,9 +1,11 @@
 use Rattle.std.proofs.Common.{◌∙◌, sym, ap, codes}
+use Rattle.std.specs.Prelude.{option_and_then}
 use Rattle.std.proofs.lemmas.Result.{err_from_is_err_and}
 use Rattle.clap.specs.Words.{found_of}
 use Rattle.clap.proofs.WalkLemmas.{first_value-rows}
+use Rattle.metric.specs.Edge.{edge_named}
 use Rattle.engines.specs.ServeLine.{in_range}
-use Rattle.engines.proofs.CommandLines.{none_given}
+use Rattle.engines.proofs.CommandLines.{no_edge_given, none_given}
 use Rattle.engines.proofs.serve_words.serve_options.Goals as goal
 
 pub returns : goal.returns
@@ -17,6 +19,7 @@ returns c =
         versions = ap (in_range 0 4294967295) (sym (first_value-rows given (codes "versions"))) ∙ c.in_ok-number_given-3.ensures.0;
         log = ap (in_range 0 4294967295) (sym (first_value-rows given (codes "log"))) ∙ c.in_ok-number_given-4.ensures.0;
         workers = ap (in_range 1 16) (sym (first_value-rows given (codes "workers"))) ∙ c.in_ok-number_given-5.ensures.0;
+        edge = ap (option_and_then edge_named) (sym (first_value-rows given (codes "edge"))) ∙ c.in_ok-edge_given.ensures;
       };
       refused = tt;
     }
@@ -50,3 +53,8 @@ pub returns-in_err-number_given-5-clause-refused : goal.returns-in_err-number_gi
 returns-in_err-number_given-5-clause-refused c =
     let p = err_from_is_err_and c.from_residual-in_err-number_given-5.result c.from_residual-in_err-number_given-5.ensures.1 in
     rw (p.1) (λ options are. none_given 1 16 options.workers (found_of c.args.flags.now) (codes "workers") c.in_err-number_given-5.ensures are.workers)
+
+pub returns-in_err-edge_given-clause-refused : goal.returns-in_err-edge_given-clause-refused
+returns-in_err-edge_given-clause-refused c =
+    let p = err_from_is_err_and c.from_residual-in_err-edge_given.result c.from_residual-in_err-edge_given.ensures.1 in
+    rw (p.1) (λ options are. no_edge_given options.edge (found_of c.args.flags.now) c.in_err-edge_given.ensures are.edge)

@@ -5,8 +5,9 @@ use Rattle.engines.proofs.words.dist_command.Goals as goal
 pub returns-clause-app : goal.returns-clause-app
 returns-clause-app c =
     let start : app_of c.after_help.result ≡ new_app (codes "dist") = search rules in
-    c.in_ok-arg-4.ensures.shape c.workers_flag.ensures.local
+    c.in_ok-arg-5.ensures.shape c.edge_flag.ensures.local
+    ∙ ap₂ with_rule (c.in_ok-arg-4.ensures.shape c.workers_flag.ensures.local
     ∙ ap₂ with_rule (c.in_ok-arg-3.ensures.shape c.query_flag.ensures.local
     ∙ ap₂ with_rule (c.in_ok-arg-2.ensures.shape c.nearest_flag.ensures.local
     ∙ ap₂ with_rule (c.in_ok-arg.ensures.shape c.metric_flag.ensures.local
-    ∙ ap₂ with_rule start c.metric_flag.ensures.rule) c.nearest_flag.ensures.rule) c.query_flag.ensures.rule) c.workers_flag.ensures.rule
+    ∙ ap₂ with_rule start c.metric_flag.ensures.rule) c.nearest_flag.ensures.rule) c.query_flag.ensures.rule) c.workers_flag.ensures.rule) c.edge_flag.ensures.rule

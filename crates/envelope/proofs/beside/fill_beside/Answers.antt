@@ -1,44 +1,8 @@
--- The columns that were found are the nearest ones, and a piece lies between those of the cells beside it.
-use Rattle.std.proofs.Common.{◌+◌, inl, inr, refl, arith}
-use Rattle.std.proofs.lemmas.Bool.{cases_lt}
-use Rattle.envelope.proofs.BesideLemmas.{are_told}
-use Rattle.envelope.proofs.PieceLemmas.{enough_between, piece_between}
+-- By the edge.
 use Rattle.envelope.proofs.beside.fill_beside.Goals as goal
 
-pub fill_eight-requires-clause-told : goal.fill_eight-requires-clause-told
-fill_eight-requires-clause-told g c =
-    are_told g.M.Metric.distance g.M.Metric.joined g.M.Metric.part_of c.args.entries.now c.set_parts.new.parts c.args.y (c.cells.start + 128) c.cells.start c.in-Some.low.best c.in-Some.low.away
-    (g.met.M.Metric.small c.requires.laned) g.met.M.Metric.grows g.met.M.Metric.stays_nearer c.requires.entries c.set_parts.ensures refl c.in-Some.ensures.low
+pub returns-in-Open : goal.returns-in-Open
+returns-in-Open g c = rw (c.in-Open.is) c.fill_open.ensures
 
-pub fill_eight-requires-in-Some-clause-told : goal.fill_eight-requires-in-Some-clause-told
-fill_eight-requires-in-Some-clause-told g c =
-    are_told g.M.Metric.distance g.M.Metric.joined g.M.Metric.part_of c.args.entries.now c.set_parts.new.parts c.args.y (c.cells.start + 128 + 8) (c.cells.start + 8) c.in-Some.high.best c.in-Some.high.away
-    (g.met.M.Metric.small c.requires.laned) g.met.M.Metric.grows g.met.M.Metric.stays_nearer c.requires.entries c.set_parts.ensures (omega arith) c.in-Some.ensures.high
-
-pub cells-preserved-in-Some : goal.cells-preserved-in-Some
-cells-preserved-in-Some g c =
-    let start = c.cells.start in
-    let low = c.fill_eight in
-    let high = c.fill_eight-in-Some in
-    record {
-      width = omega (arith, high.auto.answers, low.auto.answers, c.cells.invariant.width);
-      room = c.cells.invariant.room;
-      within = omega (arith, c.cells-test.true);
-      filled = λ x below inside. elim (cases_lt x start) [
-        | inl before ↦ rw (high.ensures.others x (inl (omega (arith, before))), low.ensures.others x (inl before)) (c.cells.invariant.filled x before inside)
-        | inr from ↦ elim (cases_lt x (start + 8)) [
-          | inl near ↦ rw (high.ensures.others x (inl near)) (low.ensures.filled x from near inside)
-          | inr far ↦ high.ensures.filled x far (omega (arith, below)) inside
-        ]
-      ];
-    }
-
-pub fill_piece-requires-clause-piece : goal.fill_piece-requires-clause-piece
-fill_piece-requires-clause-piece g c =
-    piece_between g.M.Metric.distance c.args.entries.now c.args.y g.met.M.Metric.stays_nearer c.requires.entries c.cells.start c.next_found-end.result.0 c.first_column-first.result c.next_found-end.result.1
-    c.first_column-first.ensures c.next_found-end.ensures.bound c.next_found-end.ensures.further
-
-pub fill_piece-requires-clause-enough : goal.fill_piece-requires-clause-enough
-fill_piece-requires-clause-enough g c =
-    enough_between g.M.Metric.distance c.args.entries.now c.args.y g.met.M.Metric.stays_nearer c.requires.entries c.cells.start c.next_found-end.result.0 c.first_column-first.result c.next_found-end.result.1
-    c.first_column-first.ensures c.next_found-end.ensures.bound c.next_found-end.ensures.further
+pub returns-in-Wall : goal.returns-in-Wall
+returns-in-Wall g c = rw (c.in-Wall.is) c.fill_walled.ensures

@@ -1,11 +1,12 @@
 -- The cells so far are filled, and all others are as before.
-use Rattle.std.proofs.Common.{◌≡◌, ℕ, ◌+◌, ◌<◌, ◌≤◌, ◌⊎◌, length, slice_index_or}
+use Rattle.std.proofs.Common.{◌≡◌, ℕ, ◌+◌, ◌-◌, ◌<◌, ◌≤◌, ◌⊎◌, length, slice_index_or}
+use Rattle.metric.specs.Edge.{shift}
 use Rattle.envelope.specs.Columns.{IsNearColumn}
 use Rattle.envelope.proofs.beside.fill_eight.Given as goal
 
 abbrev pub invariant-cells : goal.invariant-cells
 invariant-cells g l = record {
-  width : length l.answers ≡ length l.entries;
-  filled : (x : ℕ) → l.start ≤ x → x < l.start + l.lane → IsNearColumn g.M.Metric.distance l.entries l.y x (g.A.Answer.told g.M.Metric.distance x l.y (slice_index_or l.answers x g.A.Answer.nothing));
+  width : length l.answers ≡ length l.fn.answers;
+  filled : (x : ℕ) → l.start ≤ x → x < l.start + l.lane → IsNearColumn g.M.Metric.distance l.entries l.y l.edge (x + shift l.edge) (g.A.Answer.told g.M.Metric.distance x (l.y - shift l.edge) (slice_index_or l.answers x g.A.Answer.nothing));
   others : (x : ℕ) → (x < l.start) ⊎ (l.start + 8 ≤ x) → slice_index_or l.answers x g.A.Answer.nothing ≡ slice_index_or l.fn.answers x g.A.Answer.nothing;
 }

@@ -37,7 +37,7 @@ spans-preserved g c =
     let other = rw c.gap-gap.ensures.gap at c.distance.ensures in
     let few = c.requires.entries.few in
     let within = c.requires.piece.within in
-    let end_few : c.args._piece.end ≤ 4096 = omega (arith, few, within) in
+    let end_few : c.args._piece.end ≤ 4098 = omega (arith, few, within) in
     record {
       few = omega arith;
       cut =

@@ -17,7 +17,7 @@ returns-then-from-piece-clause-covered g c =
     let room : kept.result < length c.args.spans.now = omega (arith, few) in
     let few_cells = c.requires.entries.few in
     let within = c.requires.piece.within in
-    let end_few : c.args.piece.end ≤ 4096 = omega (arith, few_cells, within) in
+    let end_few : c.args.piece.end ≤ 4098 = omega (arith, few_cells, within) in
     let inside : c.start_of-start.result < c.args.piece.end = omega (arith, c.from.ensures) in
     rw c.gap-gap.ensures.gap (covered_with _ (gap_of c.args.entries.now c.args.y) (IsFrom c.args.entries.now c.args.piece.first c.args.column) (IsFrom c.args.entries.now c.args.piece.first (c.args.column + 1)) c.args.column c.args.spans.now
     (slice_set c.args.spans.now kept.result (record { start = c.start_of-start.result; column = c.args.column; gap = gap_of c.args.entries.now c.args.y c.args.column }))

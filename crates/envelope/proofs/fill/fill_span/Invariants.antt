@@ -1,4 +1,5 @@
-use Rattle.std.proofs.Common.{◌≡◌, ℕ, ◌<◌, ◌≤◌, ◌⊎◌, length, slice_index_or, Some}
+use Rattle.std.proofs.Common.{◌≡◌, ℕ, ◌+◌, ◌-◌, ◌<◌, ◌≤◌, ◌⊎◌, length, slice_index_or, Some}
+use Rattle.metric.specs.Edge.{shift}
 use Rattle.envelope.specs.Columns.{near_from}
 use Rattle.envelope.proofs.fill.fill_span.Given as goal
 
@@ -6,6 +7,6 @@ use Rattle.envelope.proofs.fill.fill_span.Given as goal
 abbrev pub invariant-loop-x : goal.invariant-loop-x
 invariant-loop-x g l = record {
   width : length l.answers ≡ length l.fn.answers;
-  filled : (x : ℕ) → l.span.start ≤ x → l.from ≤ x → x < l.x → g.A.Answer.told g.M.Metric.distance x l.y (slice_index_or l.answers x g.A.Answer.nothing) ≡ Some (near_from g.M.Metric.distance l.entries l.y l.span.column x);
-  others : (x : ℕ) → (x < l.from) ⊎ (l.end ≤ x) → slice_index_or l.answers x g.A.Answer.nothing ≡ slice_index_or l.fn.answers x g.A.Answer.nothing;
+  filled : (x : ℕ) → l.span.start ≤ x + shift l.edge → l.from ≤ x + shift l.edge → x < l.x → g.A.Answer.told g.M.Metric.distance x (l.y - shift l.edge) (slice_index_or l.answers x g.A.Answer.nothing) ≡ Some (near_from g.M.Metric.distance l.entries l.y l.edge l.span.column (x + shift l.edge));
+  others : (x : ℕ) → (x + shift l.edge < l.from) ⊎ (l.end ≤ x + shift l.edge) → slice_index_or l.answers x g.A.Answer.nothing ≡ slice_index_or l.fn.answers x g.A.Answer.nothing;
 }

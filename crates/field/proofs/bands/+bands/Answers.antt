@@ -33,5 +33,5 @@ work_bands-returns-clause-rows g t c =
     let lower = row_behind-grows shared.y0 shared.y1 shared.workers.count middle c.args.below shared.workers.few.some (omega (arith, c.requires.bands.some)) in
     let upper = row_behind-grows shared.y0 shared.y1 shared.workers.count c.args.above middle shared.workers.few.some (omega arith) in
     on_ok_both c.work_beside.result
-    (λ above below. AreNears-join g.M.Metric.distance shared.bitmap.now (row c.args.above) (row middle) (row c.args.below) c.work_beside.new.upper c.work_beside.new.lower upper lower above below)
+    (λ above below. AreNears-join g.M.Metric.distance shared.bitmap.now shared.edge (row c.args.above) (row middle) (row c.args.below) c.work_beside.new.upper c.work_beside.new.lower upper lower above below)
     c.work_beside.ensures.upper c.work_beside.ensures.lower

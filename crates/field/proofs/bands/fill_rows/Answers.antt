@@ -8,7 +8,7 @@ rows-preserved g c =
     let cells = c.args.bitmap.now in
     let start : c.from.result * c.from-width.result ≡ (c.rows.y - c.args.from) * cells.width = search rules in
     record {
-      filled = AreFilled-more (λ d x y near. near) None g.M.Metric.distance cells c.args.from c.rows.y c.rows.nears c.fill_row_at.new.nears (omega arith) c.rows.invariant.filled (rw start at c.fill_row_at.ensures.row) (rw start at c.fill_row_at.ensures.others);
+      filled = AreFilled-more (λ d x y near. near) None g.M.Metric.distance cells c.args.edge c.args.from c.rows.y c.rows.nears c.fill_row_at.new.nears (omega arith) c.rows.invariant.filled (rw start at c.fill_row_at.ensures.row) (rw start at c.fill_row_at.ensures.others);
       room = record { order = c.requires.room.order; within = c.requires.room.within; as_many = c.fill_row_at.auto.nears ∙ c.rows.invariant.room.as_many };
       columns = c.fill_row_at.ensures.columns;
       last = c.fill_row_at.ensures.to ∙ c.rows.invariant.last;

@@ -1,14 +1,15 @@
 -- The answers of the rows so far stand in order.
-use Rattle.std.proofs.Common.{◌≡◌, ◌≤◌, length}
+use Rattle.std.proofs.Common.{◌≡◌, ◌≤◌, ◌+◌, ◌*◌, length}
+use Rattle.metric.specs.Edge.{shift}
 use Rattle.field.specs.Bands.{AreAnswers}
 use Rattle.field.specs.Columns.{IsReady}
 use Rattle.field.proofs.table.push_rows.Given as goal
 
 abbrev pub invariant-rows : goal.invariant-rows
 invariant-rows g l = record {
-  answers : AreAnswers g.A.Answer.told g.A.Answer.nothing g.M.Metric.distance l.bitmap l.y0 l.y l.answers.items;
-  columns : IsReady l.bitmap l.columns l.y;
-  last : l.columns.to ≡ l.y1;
-  stack : l.bitmap.width ≤ l.stack;
+  answers : AreAnswers g.A.Answer.told g.A.Answer.nothing g.M.Metric.distance l.bitmap l.edge l.y0 l.y l.answers.items;
+  columns : IsReady l.bitmap l.edge l.columns (l.y + shift l.edge);
+  last : l.columns.to ≡ l.y1 + shift l.edge;
+  stack : l.bitmap.width + 2 * shift l.edge ≤ l.stack;
   line : length l.line ≡ l.bitmap.width;
 }

@@ -1,18 +1,30 @@
 -- After the sweeps the entries are the table of the bitmap.
-use Rattle.std.proofs.Common.{◌≡◌, length}
-use Rattle.column.proofs.Tables.{cells_tabled-swept, IsTabled-swept, written_over}
+use Rattle.std.proofs.Common.{◌≡◌, ◌+◌, ◌*◌, length, ap, refl}
+use Rattle.bits.specs.Cells.{Cells}
+use Rattle.bits.specs.Edges.{framed}
+use Rattle.bits.proofs.Framing.{framed_size}
+use Rattle.column.proofs.Tables.{bordered, cells_tabled-swept, IsTabled-swept, written_over}
 use Rattle.column.proofs.table.ColumnTable.of.Goals as goal
 
 pub invariant_of-result : goal.invariant_of-result
 invariant_of-result c =
+    let map = framed c.args.edge c.args.bitmap.now in
+    let size = framed_size c.args.edge c.args.bitmap.now in
+    let columns : c.width-width.result + 2 * c.shift.result ≡ map.width = rw size.0 (rw (c.width-width.ensures.width, c.shift.ensures) refl) in
+    let rows : c.height-height.result + 2 * c.shift-2.result ≡ map.height = rw size.1 (rw (c.height-height.ensures.height, c.shift-2.ensures) refl) in
     let many = c.in-Ok.ensures.len in
-    let written : c.in-Ok.entries.len ≡ length c.sweep.new.entries = rw (c.sweep.ensures.as_many, ← c.width-width.ensures.width, ← c.height-height.ensures.height, ← c.from.ensures, ← c.from-2.ensures) many in
+    let written : c.in-Ok.entries.len ≡ length c.sweep.new.entries = rw (c.sweep.ensures.as_many, ← columns, ← rows, ← c.from.ensures, ← c.from-2.ensures) many in
     rw (written_over c.in-Ok.entries.len c.sweep.new.entries c.in-Ok.entries.items written)
-    (IsTabled-swept c.args.bitmap.now c.width-width.result c.height-height.result c.sweep.new.entries c.width-width.ensures.bitmap c.width-width.ensures.width c.height-height.ensures.height c.sweep.ensures)
+    (IsTabled-swept c.args.bitmap.now c.width-width.result c.height-height.result c.args.edge c.sweep.new.entries c.width-width.ensures.bitmap c.width-width.ensures.width c.height-height.ensures.height c.sweep.ensures)
 
 pub returns-clause-table : goal.returns-clause-table
 returns-clause-table c =
+    let map = framed c.args.edge c.args.bitmap.now in
+    let size = framed_size c.args.edge c.args.bitmap.now in
+    let columns : c.width-width.result + 2 * c.shift.result ≡ map.width = rw size.0 (rw (c.width-width.ensures.width, c.shift.ensures) refl) in
+    let rows : c.height-height.result + 2 * c.shift-2.result ≡ map.height = rw size.1 (rw (c.height-height.ensures.height, c.shift-2.ensures) refl) in
     let many = c.in-Ok.ensures.len in
-    let written : c.in-Ok.entries.len ≡ length c.sweep.new.entries = rw (c.sweep.ensures.as_many, ← c.width-width.ensures.width, ← c.height-height.ensures.height, ← c.from.ensures, ← c.from-2.ensures) many in
+    let written : c.in-Ok.entries.len ≡ length c.sweep.new.entries = rw (c.sweep.ensures.as_many, ← columns, ← rows, ← c.from.ensures, ← c.from-2.ensures) many in
     rw (written_over c.in-Ok.entries.len c.sweep.new.entries c.in-Ok.entries.items written)
-    (cells_tabled-swept c.args.bitmap.now c.width-width.result c.height-height.result c.sweep.new.entries c.width-width.ensures.bitmap c.width-width.ensures.width c.height-height.ensures.height c.sweep.ensures)
+    (ap (λ (cells : Cells). bordered cells c.args.edge)
+    (cells_tabled-swept c.args.bitmap.now c.width-width.result c.height-height.result c.args.edge c.sweep.new.entries c.width-width.ensures.bitmap c.width-width.ensures.width c.height-height.ensures.height c.sweep.ensures))

@@ -1,6 +1,6 @@
 -- The line is the row's part of what is told.
 use Rattle.std.proofs.Common.{ℕ, ◌<◌, ◌∙◌, List, Option, map, arith}
-use Rattle.metric.specs.declared.cell.Cell.{Cell}
+use Rattle.metric.specs.declared.spot.Spot.{Spot}
 use Rattle.field.specs.Obstacles.{Obstacles, in_strips}
 use Rattle.field.proofs.ObstacleLemmas.{line_told}
 use Rattle.field.proofs.StripLemmas.{AreRows-strips}
@@ -9,7 +9,7 @@ use Rattle.field.proofs.obstacle_table.ObstacleTable.fill_row.Goals as goal
 pub returns : goal.returns
 returns g c =
     let inside = c.self.inside in
-    let strips : List (List (Option Cell)) = map (λ strip. strip.items) inside.strips.items in
+    let strips : List (List (Option Spot)) = map (λ strip. strip.items) inside.strips.items in
     let table : Obstacles = in_strips inside.width inside.y0 inside.y1 inside.height strips in
     let width = rw (← c.self.view_is) at c.requires.width in
     let len = rw (← c.self.view_is) at c.line.ensures.len in

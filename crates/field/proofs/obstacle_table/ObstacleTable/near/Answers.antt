@@ -1,7 +1,7 @@
 -- What is told of the cell.
 use Rattle.std.proofs.Common.{◌≡◌, ◌+◌, ◌-◌, ◌*◌, List, None, Option, ap, arith, map, slice_index_or, sym, ◌∙◌}
 use Rattle.std.proofs.lemmas.List.{get_or_default}
-use Rattle.metric.specs.declared.cell.Cell.{Cell}
+use Rattle.metric.specs.declared.spot.Spot.{Spot}
 use Rattle.field.specs.Obstacles.{Obstacles, in_strips, seen_from}
 use Rattle.field.proofs.ObstacleLemmas.{line_at, told_here}
 use Rattle.field.proofs.StripLemmas.{AreRows-strips}
@@ -10,7 +10,7 @@ use Rattle.field.proofs.obstacle_table.ObstacleTable.near.Goals as goal
 pub returns : goal.returns
 returns g c =
     let inside = c.self.inside in
-    let strips : List (List (Option Cell)) = map (λ strip. strip.items) inside.strips.items in
+    let strips : List (List (Option Spot)) = map (λ strip. strip.items) inside.strips.items in
     let table : Obstacles = in_strips inside.width inside.y0 inside.y1 inside.height strips in
     let rows = AreRows-strips inside.width inside.y0 inside.y1 inside.height strips c.self.invariant in
     let column = rw (← c.self.view_is) at c.requires.column in

@@ -3,7 +3,7 @@ use Rattle.std.proofs.Common.{◌≡◌, ℕ, ◌-◌, ◌*◌, ◌≤◌, List,
 use Rattle.std.proofs.Math.Nat.{mul-le-mul_right}
 use Rattle.std.proofs.lemmas.Grind.{div_ceil_times}
 use Rattle.std.proofs.lemmas.List.{length-map}
-use Rattle.metric.specs.declared.cell.Cell.{Cell}
+use Rattle.metric.specs.declared.spot.Spot.{Spot}
 use Rattle.field.specs.Obstacles.{in_strips}
 use Rattle.field.proofs.ObstacleLemmas.{AreNears-told}
 use Rattle.field.proofs.StripLemmas.{AreAnswers-strips, AreRows-strips, AreStrips-answers}
@@ -11,7 +11,7 @@ use Rattle.field.proofs.obstacle_table.ObstacleTable.of.Goals as goal
 
 pub returns-clause-rows : goal.returns-clause-rows
 returns-clause-rows g c =
-    let strips : List (List (Option Cell)) = map (λ strip. strip.items) c.in_ok-strips.strips.items in
+    let strips : List (List (Option Spot)) = map (λ strip. strip.items) c.in_ok-strips.strips.items in
     let count = c.args.workers.count in
     let rows : ℕ = c.args.y1 - c.args.y0 in
     let height = c.max-height.result in
@@ -24,8 +24,8 @@ returns-clause-rows g c =
     let found = c.in_ok-strips.ensures.each in
     let across = c.width.ensures.bitmap.width_is.few in
     let down = c.width.ensures.bitmap.height_is.few in
-    let have = AreStrips-answers g.M.Metric.distance cells c.args.y0 c.args.y1 height strips some enough found in
+    let have = AreStrips-answers g.M.Metric.distance cells c.args.edge c.args.y0 c.args.y1 height strips some enough found in
     rw c.width.ensures.width
-    (AreNears-told g.M.Metric.distance cells (in_strips cells.width c.args.y0 c.args.y1 height strips)
+    (AreNears-told g.M.Metric.distance cells c.args.edge (in_strips cells.width c.args.y0 c.args.y1 height strips)
     (AreRows-strips cells.width c.args.y0 c.args.y1 height strips (record { across = across; order = c.requires.order; within = omega (arith, down, c.requires.within); placed = have })) refl
-    (AreAnswers-strips g.M.Metric.distance cells c.args.y0 c.args.y1 height strips some c.requires.order enough found))
+    (AreAnswers-strips g.M.Metric.distance cells c.args.edge c.args.y0 c.args.y1 height strips some c.requires.order enough found))

@@ -1,9 +1,7 @@
 -- What stands before the raster, and the lines of all rows behind it.
-use Rattle.std.proofs.Common.{◌*◌}
-use Rattle.std.specs.List.{range_with_len, flat_map}
 use Rattle.std.proofs.lemmas.Result.{on_err_weaker, on_ok_weaker}
 use Rattle.pbm.specs.declared.header.Form.TheVariants.{Plain}
-use Rattle.pbm.specs.Writing.{front_text, plain_digit, plain_text}
+use Rattle.pbm.specs.Writing.{front_text, plain_text}
 use Rattle.proto.proofs.Dumping.{rows_text}
 use Rattle.proto.proofs.Wires.{failed_first, failed_on, written_on}
 use Rattle.proto.proofs.serve.dump.put_image.Goals as goal

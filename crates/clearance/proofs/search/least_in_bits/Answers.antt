@@ -3,7 +3,7 @@ use Rattle.std.proofs.Common.{◌<◌, ◌∙◌, inl, inr, arith}
 use Rattle.std.proofs.lemmas.Bool.{cases_lt}
 use Rattle.clearance.specs.Search.{row_gap}
 use Rattle.clearance.proofs.Searches.{IsLeastAmong-far, IsLeastBelow-all, IsLeastWithin-more, row_gap-within, row_within}
-use Rattle.clearance.proofs.search.least_below.Goals as goal
+use Rattle.clearance.proofs.search.least_in_bits.Goals as goal
 
 pub lowered_above-least-requires-clause-rect : goal.lowered_above-least-requires-clause-rect
 lowered_above-least-requires-clause-rect g c = rw (c.gaps.invariant.rows) c.requires

@@ -1,0 +1,132 @@
+//! The searches in a map with its border: in the bits, and where the border is a wall in its frame too, by arithmetic.
+
+ghost use Rattle.std.specs.Prelude.{◌≡◌, ◌≤◌, Some};
+ghost use Rattle.metric.specs.Nearest.{IsNear};
+ghost use Rattle.metric.specs.declared.edge.Edge.TheVariants.{Open, Wall};
+ghost use Rattle.bits.specs.Cells.{IsBitmap, IsInside, IsObstacle};
+ghost use Rattle.bits.specs.Edges.{IsBlocked, spot_of};
+ghost use Rattle.clearance.specs.Frames.{IsFoundBelow, IsLoweredByFrame};
+ghost use Rattle.clearance.specs.Search.{IsLeastBelow, IsRectIn};
+
+use crate::found::Found;
+use crate::frame::{better, frame_nearest, spot_at};
+use crate::nearest::nearest;
+use crate::rows::{Rows, holds};
+use crate::search::least_in_bits;
+use metric::{Cell, Edge, Metric, Near, Rect, Spot};
+
+/// The nearest obstacle of the cell; `None` where there is none.
+pub fn nearest_spot<M: Metric, R: Rows>(rows: &mut R, edge: Edge, cell: Cell) -> Option<Near>
+    requires { IsInside (R.cells rows.old) cell.x cell.y }
+    ensures near { IsNear M.distance (IsBlocked (R.cells rows.old) edge) cell.x cell.y result }
+    ensures rows { rows.new ≡ rows.old }
+{
+    match edge {
+        Edge::Open => nearest_open::<M, R>(rows, cell),
+        Edge::Wall => Some(nearest_walled::<M, R>(rows, cell)),
+    }
+}
+
+/// The nearest obstacle of the cell, where the border is open.
+fn nearest_open<M: Metric, R: Rows>(rows: &mut R, cell: Cell) -> Option<Near>
+    requires { IsInside (R.cells rows.old) cell.x cell.y }
+    ensures near { IsNear M.distance (IsBlocked (R.cells rows.old) Open) cell.x cell.y result }
+    ensures rows { rows.new ≡ rows.old }
+{
+    let inside = holds(rows, cell);
+    prove!(inside);
+    match nearest::<M, R>(rows, cell) {
+        Some(found) => Some(open_spot(found)),
+        None => None,
+    }
+}
+
+/// What was found in a map whose border is open.
+fn open_spot(found: Found) -> Near
+    requires column { found.cell.x ≤ 4095 }
+    requires row { found.cell.y ≤ 4095 }
+    ensures { result ≡ record { dist = found.dist; cell = spot_of Open found.cell.x found.cell.y } }
+{
+    Near {
+        dist: found.dist,
+        cell: Spot {
+            x: found.cell.x as i16,
+            y: found.cell.y as i16,
+        },
+    }
+}
+
+/// The nearest obstacle of the cell, where the border is a wall: the bits are looked at no further than the frame.
+fn nearest_walled<M: Metric, R: Rows>(rows: &mut R, cell: Cell) -> Near
+    requires { IsInside (R.cells rows.old) cell.x cell.y }
+    ensures near { IsNear M.distance (IsBlocked (R.cells rows.old) Wall) cell.x cell.y (Some result) }
+    ensures rows { rows.new ≡ rows.old }
+{
+    let inside = holds(rows, cell);
+    prove!(inside);
+    let (width, height) = (rows.width(), rows.height());
+    let framed = Cell {
+        x: cell.x + 1,
+        y: cell.y + 1,
+    };
+    let frame = frame_nearest::<M>(width + 1, height + 1, framed);
+    let own = own_below::<M, R>(rows, cell, u64::from(frame.dist) + 1);
+    spot_at(better(framed.y, frame, own))
+}
+
+/// The nearest obstacle of the bitmap, or none where none is below the limit.
+fn own_below<M: Metric, R: Rows>(rows: &mut R, cell: Cell, limit: u64) -> Option<Found>
+    requires bitmap { IsBitmap (R.cells rows.old) }
+    requires inside { IsInside (R.cells rows.old) cell.x cell.y }
+    ensures found { IsFoundBelow M.distance (IsObstacle (R.cells rows.old)) cell.x cell.y limit result }
+    ensures rows { rows.new ≡ rows.old }
+{
+    let here = Rect {
+        x0: cell.x,
+        y0: cell.y,
+        x1: cell.x + 1,
+        y1: cell.y + 1,
+    };
+    if least_in_bits::<M, R>(rows, here, limit) >= limit {
+        return None;
+    }
+    nearest::<M, R>(rows, cell)
+}
+
+/// The least of `limit` and of the distances of the rectangle's cells to the obstacles.
+pub fn least_below<M: Metric, R: Rows>(rows: &mut R, edge: Edge, rect: Rect, limit: u64) -> u64
+    requires { IsRectIn (R.cells rows.old) rect }
+    ensures least { IsLeastBelow M.distance (IsBlocked (R.cells rows.old) edge) rect limit result }
+    ensures rows { rows.new ≡ rows.old }
+{
+    match edge {
+        Edge::Open => least_in_bits::<M, R>(rows, rect, limit),
+        Edge::Wall => least_walled::<M, R>(rows, rect, limit),
+    }
+}
+
+/// The same where the border is a wall.
+fn least_walled<M: Metric, R: Rows>(rows: &mut R, rect: Rect, limit: u64) -> u64
+    requires { IsRectIn (R.cells rows.old) rect }
+    ensures least { IsLeastBelow M.distance (IsBlocked (R.cells rows.old) Wall) rect limit result }
+    ensures rows { rows.new ≡ rows.old }
+{
+    let (width, height) = (rows.width(), rows.height());
+    let lowered = lowered_by_frame::<M>(width, height, rect, limit);
+    least_in_bits::<M, R>(rows, rect, lowered)
+}
+
+/// The limit, or a lesser distance of the rectangle to the frame of a map of this size.
+fn lowered_by_frame<M: Metric>(width: u16, height: u16, rect: Rect, limit: u64) -> u64
+    requires columns { rect.x1 ≤ width }
+    requires rows { rect.y1 ≤ height }
+    requires few_columns { width ≤ 4096 }
+    requires few_rows { height ≤ 4096 }
+    ensures { IsLoweredByFrame M.distance width height rect limit result }
+{
+    let left = M::of(rect.x0 + 1, 0);
+    let right = M::of(width - (rect.x1 - 1), 0);
+    let top = M::of(0, rect.y0 + 1);
+    let bottom = M::of(0, height - (rect.y1 - 1));
+    limit.min(u64::from(left.min(right).min(top.min(bottom))))
+}

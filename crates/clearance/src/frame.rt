@@ -1,0 +1,155 @@
+//! The frame round a map, looked at by arithmetic.
+
+ghost use Rattle.std.specs.Prelude.{◌≡◌, ◌≤◌, ◌<◌, true, false, IfSome};
+ghost use Rattle.metric.specs.Cellwise.{IsAtMost};
+ghost use Rattle.metric.specs.declared.edge.Edge.TheVariants.{Wall};
+ghost use Rattle.bits.specs.Edges.{IsFrameCell, less_one, spot_of};
+ghost use Rattle.clearance.specs.Frames.{IsAlong, IsBest, IsBetter, IsFirstAsNear, IsFramedIn, key_found, moved};
+ghost use Rattle.clearance.specs.Nearest.{IsFound};
+
+use crate::found::Found;
+use metric::{Cell, Metric, Near, Spot};
+
+/// Of the columns from 1 to `x` the first from which an obstacle `gap` rows away is as near to the column `x` as from there.
+fn first_as_near<M: Metric>(x: u16, gap: u16) -> u16
+    requires some { 1 ≤ x }
+    requires column { x ≤ 4097 }
+    requires gap { gap ≤ 4097 }
+    ensures { IsFirstAsNear M.distance x gap result }
+{
+    let here = M::of(0, gap);
+    let (mut low, mut high) = (1, x);
+    'halves: while low < high {
+        let middle = low + (high - low) / 2;
+        if M::of(x - middle, gap) <= here {
+            high = middle;
+        } else {
+            low = middle + 1;
+        }
+    }
+    low
+}
+
+/// Of two obstacles, of which the first lies in the column further left, that with the lesser key.
+fn nearer(left: Found, right: Found) -> Found
+    ensures left { left.dist ≤ right.dist → result ≡ left }
+    ensures right { right.dist < left.dist → result ≡ right }
+{
+    if left.dist <= right.dist { left } else { right }
+}
+
+/// The nearest obstacle of the frame's first and last row, but for the corners.
+fn along_rows<M: Metric>(right: u16, bottom: u16, cell: Cell) -> Found
+    requires { IsFramedIn right bottom cell.x cell.y }
+    ensures { IsFound M.distance (IsAlong right bottom) cell.x cell.y result }
+{
+    let up = cell.y <= bottom - cell.y;
+    let (gap, y) = if up {
+        (cell.y, 0)
+    } else {
+        (bottom - cell.y, bottom)
+    };
+    let x = first_as_near::<M>(cell.x, gap);
+    Found {
+        dist: M::of(cell.x - x, gap),
+        cell: Cell { x, y },
+    }
+}
+
+/// The nearest obstacle of the frame.
+pub fn frame_nearest<M: Metric>(right: u16, bottom: u16, cell: Cell) -> Found
+    requires { IsFramedIn right bottom cell.x cell.y }
+    ensures { IsFound M.distance (IsFrameCell right bottom) cell.x cell.y result }
+{
+    let first = Found {
+        dist: M::of(cell.x, 0),
+        cell: Cell { x: 0, y: cell.y },
+    };
+    let last = Found {
+        dist: M::of(right - cell.x, 0),
+        cell: Cell {
+            x: right,
+            y: cell.y,
+        },
+    };
+    let along = along_rows::<M>(right, bottom, cell);
+    nearer(nearer(first, along), last)
+}
+
+/// Whether the one obstacle has no greater key than the other, seen from the row `y`.
+fn is_at_most(y: u16, one: Found, other: Found) -> bool
+    ensures yes { result ≡ true → IsAtMost (key_found y one) (key_found y other) }
+    ensures no { result ≡ false → IsAtMost (key_found y other) (key_found y one) }
+{
+    if one.dist != other.dist {
+        return one.dist < other.dist;
+    }
+    if one.cell.x != other.cell.x {
+        return one.cell.x < other.cell.x;
+    }
+    let (near, far) = (y.abs_diff(one.cell.y), y.abs_diff(other.cell.y));
+    if near != far {
+        return near < far;
+    }
+    one.cell.y <= other.cell.y
+}
+
+/// The number of a column or a row, counted from the frame's, as it is counted from the map's.
+fn from_frame(count: u16) -> i16
+    requires { count ≤ 4097 }
+    ensures { result ≡ less_one count }
+{
+    count as i16 - 1
+}
+
+/// The better of the frame's and, if there is one, the bitmap's own, which is moved by one.
+pub fn better(y: u16, frame: Found, own: Option<Found>) -> Found
+    requires { IfSome own (λ found. (found.cell.x ≤ 4095) × (found.cell.y ≤ 4095)) }
+    ensures { IsBetter y frame own result }
+{
+    match own {
+        Some(own) => better_of(y, frame, moved(own)),
+        None => frame,
+    }
+}
+
+/// The better of the frame's and one of the map's own.
+fn better_of(y: u16, frame: Found, own: Found) -> Found
+    ensures { IsBest y frame own result }
+{
+    if is_at_most(y, own, frame) {
+        own
+    } else {
+        frame
+    }
+}
+
+/// What was found in a map, as it is counted with the map's frame.
+fn moved(own: Found) -> Found
+    requires column { own.cell.x ≤ 4095 }
+    requires row { own.cell.y ≤ 4095 }
+    ensures { result ≡ moved own }
+{
+    Found {
+        dist: own.dist,
+        cell: Cell {
+            x: own.cell.x + 1,
+            y: own.cell.y + 1,
+        },
+    }
+}
+
+/// What was found in a map with its frame, as it is counted from the map's first column and row.
+pub fn spot_at(found: Found) -> Near
+    requires column { found.cell.x ≤ 4097 }
+    requires row { found.cell.y ≤ 4097 }
+    ensures { result ≡ record { dist = found.dist; cell = spot_of Wall found.cell.x found.cell.y } }
+{
+    Near {
+        dist: found.dist,
+        cell: Spot {
+            x: from_frame(found.cell.x),
+            y: from_frame(found.cell.y),
+        },
+    }
+}

@@ -1,0 +1,16 @@
+-- The cells so far are filled.
+use Rattle.std.proofs.Common.{◌≡◌, ℕ, ◌-◌, ◌+◌, ◌*◌, ◌<◌, ◌≤◌, length, slice_index_or}
+use Rattle.metric.specs.Edge.{shift}
+use Rattle.envelope.specs.Columns.{IsNearColumn}
+use Rattle.envelope.proofs.beside.fill_within.Given as goal
+
+abbrev pub invariant-cells : goal.invariant-cells
+invariant-cells g l = record {
+  width : length l.answers + 2 * shift l.edge ≡ length l.entries;
+  room : length l.entries ≤ length l.spans;
+  within : l.start ≤ length l.answers + 15;
+  filled : (x : ℕ) → x < l.start → x < length l.answers → IsNearColumn g.M.Metric.distance l.entries l.y l.edge (x + shift l.edge) (g.A.Answer.told g.M.Metric.distance x (l.y - shift l.edge) (slice_index_or l.answers x g.A.Answer.nothing));
+}
+
+abbrev pub decreases-cells : goal.decreases-cells
+decreases-cells g l = length l.answers + 16 - l.start

@@ -1,0 +1,60 @@
+//! What the border of a map is.
+
+ghost use Rattle.std.specs.Prelude.{◌≡◌, ◌≤◌};
+ghost use Rattle.metric.specs.Edge.{edge_named, shift, spot_of};
+
+use crate::spot::Spot;
+
+/// What lies round a map.
+#[derive(Clone, Copy, Debug, PartialEq, Eq, Hash)]
+pub enum Edge {
+    /// Nothing: only cells of the map are obstacles.
+    Open,
+    /// A wall: each cell of the frame round the map is an obstacle too.
+    Wall,
+}
+
+impl Edge {
+    /// The edge of this name, which is `open` or `wall`.
+    pub fn named(name: &[u8]) -> Option<Self>
+        ensures { result ≡ edge_named name.now }
+    {
+        if name == b"open".as_slice() {
+            Some(Edge::Open)
+        } else if name == b"wall".as_slice() {
+            Some(Edge::Wall)
+        } else {
+            None
+        }
+    }
+
+    /// By how many columns and rows a cell is moved where the frame is counted too: 0 where the edge is open, 1 where it is a wall.
+    #[inline(always)]
+    pub fn shift(self) -> u16
+        ensures { result ≡ shift self }
+    {
+        match self {
+            Edge::Open => 0,
+            Edge::Wall => 1,
+        }
+    }
+
+    /// The spot of a cell that is counted with the frame. Column and row are at most 4097.
+    #[inline(always)]
+    pub fn spot(self, column: u16, row: u16) -> Spot
+        requires column { column ≤ 4097 }
+        requires row { row ≤ 4097 }
+        ensures { result ≡ spot_of self column row }
+    {
+        match self {
+            Edge::Open => Spot {
+                x: column as i16,
+                y: row as i16,
+            },
+            Edge::Wall => Spot {
+                x: column as i16 - 1,
+                y: row as i16 - 1,
+            },
+        }
+    }
+}
