@@ -54,7 +54,7 @@ fn line_of(alloc: Global, verb: Verb, rest: Option<&[u8]>) -> Result<Line, Refus
 
 /// What a line says, without its LF and the CR before it. A number has 1 to 10 digits, and 4294967295 at most.
 ///
-/// Refused, in this order: a first word that is none of the fourteen commands, whatever follows it; another number or form of arguments, a rectangle without a cell, or one with a corner over 4096; a path of no point or over 1000; want of memory, for the points of a path alone, and only where the line is good.
+/// Refused, in this order: a first word that is none of the fifteen commands, whatever follows it; another number or form of arguments, a rectangle without a cell, or one with a corner over 4096; a path of no point or over 1000; want of memory, for the points of a path alone, and only where the line is good.
 #[tactic(auto, unfolding(crate::specs::Said::said))]
 pub fn parse_line(alloc: Global, bytes: &[u8]) -> Result<Line, Refusal>
     ensures line { IfOk result (λ line. said bytes.now ≡ Ok (said_by line)) }
