@@ -1,7 +1,7 @@
 #!/usr/bin/env python3
-"""Checks what README.md and docs/ quote: pieces of files, runs at a terminal, the conversation of docs/PROTOCOL.md, and links.
+"""Checks what README.md and docs/ quote and name: pieces of files, runs at a terminal, the conversation of docs/PROTOCOL.md, links, and names in backticks.
 
-A block behind `<!-- from FILE -->` stands so in that file; a line `..` in it stands for what is left out. A block whose first line begins with `$ ` is run
+A block after `<!-- from FILE -->` stands so in that file; a line `..` in it stands for what is left out. A block whose first line begins with `$ ` is run
 by bash, with `clearmap` on the path, in a scratch folder of its page; blocks that name a port are left out, as they take two terminals.
 """
 import os
@@ -10,6 +10,9 @@ import re
 import subprocess
 import sys
 import tempfile
+
+sys.dont_write_bytecode = True
+from page_names import wrong_names, wrong_promises
 
 TOP = pathlib.Path(__file__).resolve().parent.parent
 PROGRAM = pathlib.Path(os.environ.get("CLEARMAP", TOP / "crates/clearmap/out/clearmap"))
@@ -83,11 +86,26 @@ def check_conversation():
         server.stdout.close()
 
 
+def anchors_of(page):
+    """What links can name of a page: its headings, in small letters, without marks."""
+    headings = re.findall(r"^#+ (.*)$", page.read_text(), re.M)
+    return {re.sub(r"[^\w -]", "", heading.lower()).replace(" ", "-") for heading in headings}
+
+
 def check_links(page, text):
-    """Each link to a file names one."""
-    for target in re.findall(r"\]\(([^)#:]+)\)", text):
-        if not (page.parent / target).exists():
+    """Each link to a file names one, and each link to a heading one that is there."""
+    for target, anchor in re.findall(r"\]\(([^)#:]*)(?:#([^)]*))?\)", text):
+        file = page.parent / target if target else page
+        if not file.exists():
             wrong.append(f"{page.name} links to {target}, which isn't there")
+        elif anchor and anchor not in anchors_of(file):
+            wrong.append(f"{page.name} links to {target}#{anchor}, which isn't there")
+
+
+def check_names(page, text):
+    """What stands in backticks is there: paths, calls, clauses and definitions."""
+    for name in [*wrong_names(text), *wrong_promises(text)]:
+        wrong.append(f"{page.name} names {name}, which isn't there")
 
 
 def main():
@@ -102,6 +120,7 @@ def main():
             folder.mkdir()
             (folder / "examples").symlink_to(TOP / "examples")
             check_links(page, text)
+            check_names(page, text)
             quotes += check_quotes(page, text)
             runs += check_runs(page, text, folder)
     check_conversation()
