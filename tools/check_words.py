@@ -62,7 +62,7 @@ def sentences(page):
 def in_page(path):
     text = (TOP / path).read_text()
     for number, line in enumerate(text.split("\n"), 1):
-        if not line.startswith("    "):
+        if not line.startswith(("    ", "<!--")):
             for found in plainer(re.sub(r"`[^`]*`", "", line)):
                 yield number, found
     for number, sentence in sentences(text):
