@@ -12,6 +12,9 @@ import re
 import subprocess
 import sys
 
+sys.dont_write_bytecode = True
+from page_names import lines_of_text
+
 TOP = pathlib.Path(__file__).resolve().parent.parent
 PLAINER = {
     r"behind": "after, below",
@@ -50,19 +53,20 @@ def plainer(text):
 def sentences(page):
     """The sentences of a page, each with its line; code and quotes are left out, and so are tables."""
     paragraph, start = "", 0
-    for number, line in enumerate([*page.split("\n"), ""], 1):
-        if not line.strip() or line.startswith(("    ", "|", "#", "<!--", "![")) or re.match(r" *(-|\d+\.) ", line):
+    for number, line in [*lines_of_text(page), (0, "")]:
+        is_text = line.strip() and not line.startswith(("|", "#", "<!--", "!["))
+        if not is_text or re.match(r" *(-|\d+\.) ", line):
             for sentence in re.split(r"(?<=[.?!:]) ", re.sub(r"`[^`]*`", "it", paragraph)):
                 yield start, sentence
             paragraph = ""
-        if line.strip() and not line.startswith(("    ", "|", "#", "<!--", "![")):
+        if is_text:
             paragraph, start = (f"{paragraph} {line.strip()}", start) if paragraph else (line.strip(), number)
 
 
 def in_page(path):
     text = (TOP / path).read_text()
-    for number, line in enumerate(text.split("\n"), 1):
-        if not line.startswith(("    ", "<!--")):
+    for number, line in lines_of_text(text):
+        if not line.startswith("<!--"):
             for found in plainer(re.sub(r"`[^`]*`", "", line)):
                 yield number, found
     for number, sentence in sentences(text):

@@ -79,10 +79,19 @@ def is_there(span):
     return all(word in words() for word in re.findall(r"\w+", span) if re.search(r"[a-z0-9]_[a-z]|[A-Z][a-z]", word))
 
 
+def lines_of_text(page):
+    """The lines of a page outside of blocks, each with its number. A block is moved in by four blanks, and comes after an empty line."""
+    before, in_block = "", False
+    for number, line in enumerate(page.split("\n"), 1):
+        in_block = line.startswith("    ") and (in_block or not before.strip())
+        before = line
+        if not in_block:
+            yield number, line
+
+
 def wrong_names(text):
     """What a page names in backticks, outside of blocks, and there is not."""
-    lines = [line for line in text.split("\n") if not line.startswith("    ")]
-    spans = dict.fromkeys(re.findall(r"`([^`\n]+)`", "\n".join(lines)))
+    spans = dict.fromkeys(span for _, line in lines_of_text(text) for span in re.findall(r"`([^`]+)`", line))
     return [span for span in spans if not span.startswith(OUTSIDE) and not is_there(span)]
 
 
