@@ -4,7 +4,7 @@
     tools/check_words.py [PATH ..]
 
 Everywhere: words that have a plainer one. In pages: a sentence of many words, or of several facts. In proofs: a lemma without a line, a line that begins in the middle,
-one that has no verb, and one that several lemmas of a crate have.
+one that has no verb, and one that several lemmas have.
 """
 import collections
 import pathlib
@@ -84,14 +84,14 @@ def in_proofs(path, told):
         if said := re.match(r" *-- (.*)", line):
             for found in plainer(said[1]):
                 yield number, found
-        lemma = re.match(r"pub ([\w◌-]+) : ", line)
+        lemma = re.match(r"(?:pub )?([\w◌-]+) : ", line)
         if not lemma or not re.fullmatch(r"crates/\w+/proofs/\w+\.antt", path):
             continue
         said = re.match(r"-- (.*)", lines[number - 2])
         if not said:
             yield number, f"{lemma[1]} has no line"
             continue
-        told[path.split("/")[1], said[1]].append(f"{path}:{number}")
+        told[said[1]].append(f"{path}:{number}")
         if re.match(r"(and|or|but|one more|the same|as above|likewise|so|then|also)\b", said[1], re.I):
             yield number - 1, f"begins in the middle: {said[1][:60]}"
         elif not set(re.findall(r"[\w']+", said[1].lower())) & set(VERBS):
@@ -112,7 +112,7 @@ def main():
         for number, what in found:
             count += 1
             print(f"{path}:{number}: {what}")
-    for (_, line), places in told.items():
+    for line, places in told.items():
         if len(places) > 1:
             count += 1
             print(f"{places[0]}: {len(places)} lemmas have the line '{line[:60]}': {', '.join(places[1:])}")
