@@ -10,5 +10,6 @@ pub mod Refusals
 pub mod RowSearches
 pub mod RowWords
 pub mod Searches
+pub mod Stretches
 pub mod StripLines
 pub mod Walks

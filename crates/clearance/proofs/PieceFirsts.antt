@@ -1,21 +1,19 @@
 -- The cells behind a point, up to the next, as the lines of a strip, and as a piece of a path.
-use Rattle.std.proofs.Common.{◌≡◌, ℕ, ℤ, ◌+◌, ◌-◌, ◌^◌, ◌<◌, ◌≤◌, inl, inr, List, length, get_or, Option, Some, None, refl, sym, subst, ◌∙◌, arith}
-use Rattle.std.proofs.lemmas.Bool.{cases_lt}
+use Rattle.std.proofs.Common.{◌≡◌, ℕ, ℤ, ◌+◌, ◌-◌, ◌^◌, ◌<◌, ◌≤◌, List, length, Option, refl, sym, subst, ◌∙◌, arith}
 use Rattle.metric.specs.declared.cell.Cell.{Cell}
 use Rattle.metric.specs.declared.near.Near.{Near}
 use Rattle.metric.specs.declared.rect.Rect.{Rect}
 use Rattle.metric.specs.Nearest.{spot_distance}
-use Rattle.clearance.specs.Paths.{towards, cells_up_to, cells_of_path}
+use Rattle.clearance.specs.Paths.{towards, cells_up_to}
 use Rattle.clearance.specs.Rows.{IsFar}
 use Rattle.clearance.specs.Search.{IsInRect, IsLeastBelow}
 use Rattle.clearance.specs.Segments.{cell_count}
-use Rattle.clearance.specs.Firsts.{IsCellNear, IsCellWithNear, IsListNear, origin, cell_in, distance_at, AreFarBefore, IsFirstOrNone, IsLeastBefore, IsLeastOver}
+use Rattle.clearance.specs.Firsts.{IsCellNear, IsCellWithNear, IsListNear, cell_in, AreFarBefore, IsFirstOrNone, IsLeastOver}
 use Rattle.clearance.specs.Answers.{IsLeastOf}
 use Rattle.clearance.specs.Strips.{IsOnLine, IsSomeNear, IsFirstNear}
 use Rattle.clearance.specs.declared.strip.Strip.{Strip}
 use Rattle.clearance.proofs.Firsts.{IsFirstOrNone-at, IsLeastOf-first}
-use Rattle.clearance.proofs.Searches.{IsFar-lower}
-use Rattle.clearance.proofs.Walks.{IsWalkedTo, IsWalkedTo-step, cell_of_step, length-cells_up_to, get_or-cells_up_to}
+use Rattle.clearance.proofs.Walks.{cell_of_step, length-cells_up_to, get_or-cells_up_to}
 
 -- the strip of the cells from one point to another
 pub record IsPieceStrip (from to : Cell) (strip : Strip) : Type 0 where
@@ -118,36 +116,6 @@ IsFirstOrNone-piece distance Obstacle from to strip limit count step cell found 
     subst (λ (c : Cell). limit ≤ spot_distance distance c.x c.y a b) (sym before.1) far)
     with
 
--- a piece's cell at its place of the path
-piece-place : (points : List Cell) (place j i : ℕ) (from : Cell) → IsWalkedTo points place j from → j < length points → i < length (cells_up_to from (get_or points j origin))
-    → (place + i < length (cells_of_path points)) × (cell_in (cells_of_path points) (place + i) ≡ cell_in (cells_up_to from (get_or points j origin)) i)
-piece-place points place j i from walked more within =
-    let cell = cell_at from (get_or points j origin) i within in
-    let step = IsWalkedTo-step points place j i from walked more cell.0 in
-    (step.0, step.1 ∙ sym cell.1)
-
--- a place of the path is one before the piece, or one of it
-place-piece : (points : List Cell) (place j i : ℕ) (from : Cell) → IsWalkedTo points place j from → j < length points → place ≤ i → i < place + cell_count from (get_or points j origin)
-    → (i - place < length (cells_up_to from (get_or points j origin))) × (cell_in (cells_of_path points) i ≡ cell_in (cells_up_to from (get_or points j origin)) (i - place))
-place-piece points place j i from walked more later before =
-    let size = length-cells_up_to from (get_or points j origin) in
-    let within : i - place < length (cells_up_to from (get_or points j origin)) = omega arith in
-    let at = piece-place points place j (i - place) from walked more within in
-    let same : place + (i - place) ≡ i = omega arith in
-    (within, rw same at at.1)
-
--- one piece more is far
-pub AreFarBefore-more : (distance : ℕ → ℕ → ℕ) (Obstacle : ℤ → ℤ → Type 0) (points : List Cell) (place j limit : ℕ) (from : Cell) → IsWalkedTo points place j from → j < length points
-    → AreFarBefore distance Obstacle (cells_up_to from (get_or points j origin)) limit (length (cells_up_to from (get_or points j origin)))
-    → AreFarBefore distance Obstacle (cells_of_path points) limit place
-    → AreFarBefore distance Obstacle (cells_of_path points) limit (place + cell_count from (get_or points j origin))
-AreFarBefore-more distance Obstacle points place j limit from walked more piece before = λ i a b within obstacle. elim (cases_lt i place) [
-  | inl earlier ↦ before i a b earlier obstacle
-  | inr later ↦
-      let at = place-piece points place j i from walked more later within in
-      subst (λ (c : Cell). limit ≤ spot_distance distance c.x c.y a b) (sym at.1) (piece (i - place) a b at.0 obstacle)
-]
-
 -- a piece whose least isn't below the limit is far
 pub AreFarBefore-piece : (distance : ℕ → ℕ → ℕ) (Obstacle : ℤ → ℤ → Type 0) (cells : List Cell) (limit least : ℕ) → IsLeastOver distance Obstacle cells limit least → limit ≤ least
     → AreFarBefore distance Obstacle cells limit (length cells)
@@ -159,80 +127,6 @@ pub IsListNear-piece : (distance : ℕ → ℕ → ℕ) (Obstacle : ℤ → ℤ 
 IsListNear-piece distance Obstacle cells limit least is less =
     let (i, within, a, b, obstacle, dist) = is.reached less in
     (i, within, record { a = a; b = b; obstacle = obstacle; nearer = rw dist less })
-
--- the first cell of the first piece that is near is the first of the path
-pub IsFirstOrNone-path : (distance : ℕ → ℕ → ℕ) (Obstacle : ℤ → ℤ → Type 0) (points : List Cell) (place j limit : ℕ) (from : Cell) (found : Option (Cell × Near)) → IsWalkedTo points place j from → j < length points
-    → AreFarBefore distance Obstacle (cells_of_path points) limit place
-    → IsListNear distance Obstacle (cells_up_to from (get_or points j origin)) limit
-    → IsFirstOrNone distance Obstacle (cells_up_to from (get_or points j origin)) limit found
-    → IsFirstOrNone distance Obstacle (cells_of_path points) limit found
-IsFirstOrNone-path distance Obstacle points place j limit from None walked more before (i, within, near) far =
-    let low = far i near.a near.b within near.obstacle in
-    let less = near.nearer in
-    absurd (omega arith)
-IsFirstOrNone-path distance Obstacle points place j limit from (Some found) walked more before near first =
-    let at = piece-place points place j first.place from walked more first.within in
-    record {
-      place = place + first.place;
-      within = at.0;
-      cell_is = at.1 ∙ first.cell_is;
-      near_is = first.near_is;
-      nearer = first.nearer;
-      before = λ i a b earlier obstacle. elim (cases_lt i place) [
-        | inl early ↦ before i a b early obstacle
-        | inr late ↦
-            let last = first.within in
-            let size = length-cells_up_to from (get_or points j origin) in
-            let here = place-piece points place j i from walked more late (omega arith) in
-            subst (λ (c : Cell). limit ≤ spot_distance distance c.x c.y a b) (sym here.1) (first.before (i - place) a b (omega arith) obstacle)
-      ];
-    }
-
--- the least over one piece more
-pub IsLeastBefore-more : (distance : ℕ → ℕ → ℕ) (Obstacle : ℤ → ℤ → Type 0) (points : List Cell) (place j limit least next : ℕ) (from : Cell) → IsWalkedTo points place j from → j < length points
-    → IsLeastOver distance Obstacle (cells_up_to from (get_or points j origin)) least next
-    → IsLeastBefore distance Obstacle (cells_of_path points) limit place least
-    → IsLeastBefore distance Obstacle (cells_of_path points) limit (place + cell_count from (get_or points j origin)) next
-IsLeastBefore-more distance Obstacle points place j limit least next from walked more piece before =
-    let lower = piece.within in
-    let low = before.within in
-    let size = length-cells_up_to from (get_or points j origin) in
-    record {
-      within = omega arith;
-      far = λ i a b within obstacle. elim (cases_lt i place) [
-        | inl earlier ↦ IsFar-lower (distance_at distance (cells_of_path points) i a b) least next lower (before.far i a b earlier obstacle)
-        | inr later ↦
-            let at = place-piece points place j i from walked more later within in
-            subst (λ (c : Cell). IsFar (spot_distance distance c.x c.y a b) next) (sym at.1) (piece.far (i - place) a b at.0 obstacle)
-      ];
-      reached = λ less. elim (cases_lt next least) [
-        | inl lowered ↦
-            let (i, within, a, b, obstacle, dist) = piece.reached lowered in
-            let at = piece-place points place j i from walked more within in
-            let inside : place + i < place + cell_count from (get_or points j origin) = omega arith in
-            (place + i, inside, a, b, obstacle, subst (λ (c : Cell). spot_distance distance c.x c.y a b ≡ next) (sym at.1) dist)
-        | inr same ↦
-            let (i, within, a, b, obstacle, dist) = before.reached (omega arith) in
-            let inside : i < place + cell_count from (get_or points j origin) = omega arith in
-            let equal : least ≡ next = omega arith in
-            (i, inside, a, b, obstacle, dist ∙ equal)
-      ];
-    }
-
--- before the first piece the least is the limit
-pub IsLeastBefore-none : (distance : ℕ → ℕ → ℕ) (Obstacle : ℤ → ℤ → Type 0) (cells : List Cell) (limit : ℕ) → IsLeastBefore distance Obstacle cells limit 0 limit
-IsLeastBefore-none distance Obstacle cells limit = record {
-  within = omega arith;
-  far = λ i a b within obstacle. absurd (omega arith);
-  reached = λ less. absurd (omega arith);
-}
-
--- once all pieces have been looked at, the least is that of all cells
-pub IsLeastOver-all : (distance : ℕ → ℕ → ℕ) (Obstacle : ℤ → ℤ → Type 0) (cells : List Cell) (limit place least : ℕ) → length cells ≤ place → place ≤ length cells
-    → IsLeastBefore distance Obstacle cells limit place least → IsLeastOver distance Obstacle cells limit least
-IsLeastOver-all distance Obstacle cells limit place least all most is =
-    let same : place ≡ length cells = omega arith in
-    subst (λ (n : ℕ). IsLeastBefore distance Obstacle cells limit n least) same is
 
 -- where the least of all cells isn't one that a distance may have, there is no obstacle
 pub IsLeastOver-none : (distance : ℕ → ℕ → ℕ) (Obstacle : ℤ → ℤ → Type 0) (cells : List Cell) (limit least : ℕ) → 0 < length cells → IsLeastOver distance Obstacle cells limit least → 2 ^ 32 ≤ least
@@ -246,9 +140,3 @@ IsLeastOf-over distance Obstacle cells limit least found is less first =
     let (i, within, a, b, obstacle, dist) = is.reached less in
     IsLeastOf-first distance Obstacle cells least found (λ k c d inside there. (is.far k c d inside there).not_below) i within
     (record { a = a; b = b; obstacle = obstacle; nearer = rw dist (omega arith) }) first
-
--- a piece lies within its path
-pub piece-within : (points : List Cell) (place j : ℕ) (from : Cell) → IsWalkedTo points place j from → j < length points → place + cell_count from (get_or points j origin) ≤ length (cells_of_path points)
-piece-within points place j from walked more =
-    let last = (IsWalkedTo-step points place j (cell_count from (get_or points j origin) - 1) from walked more (omega arith)).0 in
-    omega arith

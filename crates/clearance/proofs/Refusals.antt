@@ -1,5 +1,5 @@
 -- Which paths aren't refused.
-use Rattle.std.proofs.Common.{◌≡◌, ℕ, zero, suc, ◌+◌, ◌<◌, ◌≤◌, ◌⊎◌, Bool, true, false, ◌||◌, List, [], ◌∷◌, length, get_or, drop, Option, Some, None, refl, ap, ◌∙◌, arith, eqb, leb, ltb, cond}
+use Rattle.std.proofs.Common.{◌≡◌, ℕ, zero, suc, ◌+◌, ◌<◌, ◌≤◌, ◌⊎◌, inl, Bool, true, false, ◌||◌, List, [], ◌∷◌, length, get_or, drop, Option, Some, None, refl, ap, ◌∙◌, arith, eqb, leb, ltb, cond}
 use Rattle.std.specs.Option.{option_map}
 use Rattle.std.specs.List.{list_any}
 use Rattle.std.proofs.lemmas.Bool.Decides.{nat_tests}
@@ -8,7 +8,7 @@ use Rattle.metric.specs.declared.cell.Cell.{Cell}
 use Rattle.metric.specs.declared.refusal.Refusal.TheVariants.{BadPath, OutOfRange, Crooked}
 use Rattle.bits.specs.Cells.{Cells, IsInside}
 use Rattle.clearance.specs.Paths.{is_outside, first_crooked, crooked_point, path_refusal}
-use Rattle.clearance.specs.Segments.{IsStraight}
+use Rattle.clearance.specs.Segments.{IsStraight, IsWalk}
 use Rattle.clearance.specs.Firsts.{origin}
 use Rattle.std.proofs.lemmas.Bool.{or_parts}
 
@@ -89,18 +89,22 @@ IsPath-from cells points none =
     let size = few_points (length points) p.0 in
     record { some = size.0; few = size.1; inside = all_inside cells points q.0; straight = map_none Crooked (crooked_point points) q.1 }
 
--- the points that follow lie each in the row or column of the one before
-abbrev pub AreStraight : Cell → List Cell → Type 0
-AreStraight before [] = Unit {0}
-AreStraight before (point ∷ points) = IsStraight before point × AreStraight point points
-
 -- a test of a point in the row or column of another, which holds
 straight_from : (a b c d : ℕ) → (eqb a b || eqb c d) ≡ true → (a ≡ b) ⊎ (c ≡ d)
 straight_from a b c d test = grind (arith, nat_tests)
 
--- points of which none is crooked
-pub AreStraight-from : (index : ℕ) (before : Cell) (points : List Cell) → first_crooked index before points ≡ None → AreStraight before points
-AreStraight-from index before [] none = tt
-AreStraight-from index before (point ∷ points) none =
+-- points in the bitmap of which none is crooked are a walk
+walk_from : (cells : Cells) (index : ℕ) (before : Cell) (points : List Cell) → first_crooked index before points ≡ None → IsInside cells before.x before.y
+    → ((j : ℕ) → j < length points → IsInside cells (get_or points j origin).x (get_or points j origin).y) → IsWalk cells before points
+walk_from cells index before [] none here inside = here
+walk_from cells index before (point ∷ points) none here inside =
     let p = choice_taken (eqb point.x before.x || eqb point.y before.y) (first_crooked (index + 1) point points) index none in
-    (straight_from point.x before.x point.y before.y p.0, AreStraight-from (index + 1) point points p.1)
+    (here, straight_from point.x before.x point.y before.y p.0, walk_from cells (index + 1) point points p.1 (inside 0 (omega arith)) (λ j within. inside (suc j) (omega arith)))
+
+-- a path that isn't refused is a walk from its first point, as if that were repeated
+pub IsWalk-path : (cells : Cells) (points : List Cell) → path_refusal cells points ≡ None → IsWalk cells (get_or points 0 origin) points
+IsWalk-path cells [] none = absurd (let path = IsPath-from cells [] none in let some = path.some in omega arith)
+IsWalk-path cells (first ∷ points) none =
+    let path = IsPath-from cells (first ∷ points) none in
+    let here = path.inside 0 path.some in
+    (here, inl refl, walk_from cells 1 first points path.straight here (λ j within. path.inside (suc j) (omega arith)))

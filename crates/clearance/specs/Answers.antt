@@ -1,11 +1,11 @@
 -- The answers of queries over several cells: this project's own rule.
-use Rattle.std.specs.Prelude.{◌≡◌, ℕ, ℤ, ◌-◌, ◌<◌, ◌≤◌, ◌⊎◌, List, length, map, Option, Some, None, slice_index_or}
+use Rattle.std.specs.Prelude.{◌≡◌, ℕ, ℤ, ◌-◌, ◌<◌, ◌≤◌, List, length, map, Option, Some, None, slice_index_or}
 use Rattle.std.specs.List.{range_with_len, flat_map}
 use Rattle.metric.specs.declared.cell.Cell.{Cell}
 use Rattle.metric.specs.declared.near.Near.{Near}
 use Rattle.metric.specs.declared.rect.Rect.{Rect}
 use Rattle.metric.specs.declared.refusal.Refusal.{Refusal}
-use Rattle.metric.specs.declared.refusal.Refusal.TheVariants.{OutOfRange, Memory}
+use Rattle.metric.specs.declared.refusal.Refusal.TheVariants.{OutOfRange}
 use Rattle.metric.specs.Nearest.{IsNearest}
 use Rattle.bits.specs.Cells.{Cells}
 
@@ -49,6 +49,6 @@ IsClearOf distance Obstacle cells d (Some found) = IsFirstBelow distance Obstacl
 abbrev pub LiesIn : Cells → Rect → Type 0
 LiesIn cells rect = (rect.x1 ≤ cells.width) × (rect.y1 ≤ cells.height)
 
--- why a query of one cell or of a rectangle is refused: it doesn't lie in the bitmap, or it does and memory was wanting
+-- why a query of one cell or of a rectangle is refused: it doesn't lie in the bitmap
 abbrev pub IsRefusalFor : Type 0 → Refusal → Type 0
-IsRefusalFor inside refusal = ((refusal ≡ OutOfRange) × (inside → ⊥)) ⊎ ((refusal ≡ Memory) × inside)
+IsRefusalFor inside refusal = (refusal ≡ OutOfRange) × (inside → ⊥)

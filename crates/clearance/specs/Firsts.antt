@@ -86,3 +86,7 @@ pub record IsLeastBefore (distance : ℕ → ℕ → ℕ) (Obstacle : ℤ → �
 -- the least of the limit and of the distances of all cells of the list
 abbrev pub IsLeastOver : (ℕ → ℕ → ℕ) → (ℤ → ℤ → Type 0) → List Cell → ℕ → ℕ → Type 0
 IsLeastOver distance Obstacle cells limit least = IsLeastBefore distance Obstacle cells limit (length cells) least
+
+-- no cell of the list has an obstacle at a distance below the bound
+abbrev pub IsBoundOver : (ℕ → ℕ → ℕ) → (ℤ → ℤ → Type 0) → List Cell → ℕ → Type 0
+IsBoundOver distance Obstacle cells bound = (i : ℕ) (a b : ℤ) → i < length cells → Obstacle a b → IsFar (distance_at distance cells i a b) bound

@@ -1,10 +1,10 @@
 -- Paths: which cells a list of points passes, and which paths are refused: this project's own rule.
-use Rattle.std.specs.Prelude.{◌≡◌, ℕ, ◌+◌, ◌-◌, ◌==◌, ◌||◌, ◌⊎◌, nat_lt, nat_le, min, max, Bool, List, [], ◌∷◌, ◌++◌, length, map, Option, Some, None, option_map, if◌then◌else◌}
+use Rattle.std.specs.Prelude.{◌≡◌, ℕ, ◌+◌, ◌-◌, ◌==◌, ◌||◌, nat_lt, nat_le, min, max, Bool, List, [], ◌∷◌, ◌++◌, length, map, Option, Some, None, option_map, if◌then◌else◌}
 use Rattle.std.specs.Int.{abs_diff}
 use Rattle.std.specs.List.{range_with_len, list_any}
 use Rattle.metric.specs.declared.cell.Cell.{Cell}
 use Rattle.metric.specs.declared.refusal.Refusal.{Refusal}
-use Rattle.metric.specs.declared.refusal.Refusal.TheVariants.{BadPath, OutOfRange, Crooked, Memory}
+use Rattle.metric.specs.declared.refusal.Refusal.TheVariants.{BadPath, OutOfRange, Crooked}
 use Rattle.bits.specs.Cells.{Cells}
 
 -- the coordinate k steps from one towards another, which it doesn't pass
@@ -39,13 +39,13 @@ abbrev pub crooked_point : List Cell → Option ℕ
 crooked_point [] = None
 crooked_point (first ∷ points) = first_crooked 1 first points
 
--- why a path is refused, want of memory aside: it has no point or over 1000, a point is outside, a point is crooked
+-- why a path is refused: it has no point or over 1000, a point is outside, a point is crooked
 abbrev pub path_refusal : Cells → List Cell → Option Refusal
 path_refusal cells points =
     if length points == 0 || nat_lt 1000 (length points) then Some BadPath
     else if list_any (is_outside cells) points then Some OutOfRange
     else option_map Crooked (crooked_point points)
 
--- why a path is refused: as it lies in the bitmap, or for want of memory where it is good
+-- that a path is refused for this
 abbrev pub IsPathRefusal : Cells → List Cell → Refusal → Type 0
-IsPathRefusal cells points refusal = (path_refusal cells points ≡ Some refusal) ⊎ ((refusal ≡ Memory) × (path_refusal cells points ≡ None))
+IsPathRefusal cells points refusal = path_refusal cells points ≡ Some refusal

@@ -1,11 +1,17 @@
 -- Segments of a path, and strips of lines side by side: this project's own rule.
-use Rattle.std.specs.Prelude.{◌≡◌, ℕ, ◌+◌, ◌≤◌, ◌<◌, ◌⊎◌, max}
+use Rattle.std.specs.Prelude.{◌≡◌, ℕ, ◌+◌, ◌≤◌, ◌<◌, ◌⊎◌, max, List, [], ◌∷◌}
 use Rattle.std.specs.Int.{abs_diff}
 use Rattle.metric.specs.declared.cell.Cell.{Cell}
+use Rattle.bits.specs.Cells.{Cells, IsInside}
 
 -- a point lies in the row or in the column of the point before it
 abbrev pub IsStraight : Cell → Cell → Type 0
 IsStraight from to = (to.x ≡ from.x) ⊎ (to.y ≡ from.y)
+
+-- a point and those that follow it lie in the bitmap, each in the row or in the column of the one before it
+abbrev pub IsWalk : Cells → Cell → List Cell → Type 0
+IsWalk cells from [] = IsInside cells from.x from.y
+IsWalk cells from (to ∷ points) = IsInside cells from.x from.y × IsStraight from to × IsWalk cells to points
 
 -- how many cells lie behind a point, up to the next
 abbrev pub cell_count : Cell → Cell → ℕ

@@ -6,6 +6,7 @@
 mod area;
 mod bit;
 mod border;
+mod bound;
 mod found;
 mod frame;
 mod nearest;

@@ -1,15 +1,16 @@
-//! The first cell of a path that has the least distance, or one that is asked for, piece by piece.
+//! The first cell of a path that has the least distance, or one that is asked for, found by halves of its points.
 
-ghost use Rattle.std.specs.Prelude.{◌≡◌, ◌^◌, None};
+ghost use Rattle.std.specs.Prelude.{◌≡◌, None};
 ghost use Rattle.bits.specs.Cells.{IsBitmap, IsInside};
 ghost use Rattle.bits.specs.Edges.{IsBlocked};
 ghost use Rattle.clearance.specs.Answers.{IsLeastOf};
-ghost use Rattle.clearance.specs.Firsts.{IsFirstOrNone, IsLeastOver, IsListNear};
-ghost use Rattle.clearance.specs.Paths.{cells_of_path, cells_up_to, path_refusal};
-ghost use Rattle.clearance.specs.Segments.{IsStraight};
+ghost use Rattle.clearance.specs.Firsts.{IsFirstOrNone, IsLeastOver};
+ghost use Rattle.clearance.specs.Paths.{cells_behind, cells_of_path, cells_up_to, path_refusal};
+ghost use Rattle.clearance.specs.Segments.{IsStraight, IsWalk};
 
 use crate::area::with_nearest;
 use crate::border::least_below;
+use crate::bound::bound_along;
 use crate::rows::{Rows, holds};
 use crate::search::NO_LIMIT;
 use crate::segment::count_cells;
@@ -26,27 +27,14 @@ pub fn least_of_path<M: Metric, R: Rows>(
     ensures found { IsLeastOf M.distance (IsBlocked (R.cells rows.old) edge) (cells_of_path points.now) result }
     ensures rows { rows.new ≡ rows.old }
 {
-    let least = least_along::<M, R>(rows, edge, points);
+    let start = points[0];
+    let inside = holds(rows, start);
+    prove!(inside);
+    let least = least_along::<M, R>(rows, edge, start, points, NO_LIMIT);
     if least >= NO_LIMIT {
         return None;
     }
-    first_of_path::<M, R>(rows, edge, points, least + 1)
-}
-
-/// The least distance along a path; `NO_LIMIT` where there is no obstacle.
-fn least_along<M: Metric, R: Rows>(rows: &mut R, edge: Edge, points: &[Cell]) -> u64
-    requires { path_refusal (R.cells rows.old) points.now ≡ None }
-    ensures found { IsLeastOver M.distance (IsBlocked (R.cells rows.old) edge) (cells_of_path points.now) (2 ^ 32) result }
-    ensures rows { rows.new ≡ rows.old }
-{
-    let (mut least, mut from) = (NO_LIMIT, points[0]);
-    let inside = holds(rows, from);
-    prove!(inside);
-    'pieces: for to in points {
-        least = least_of_piece::<M, R>(rows, edge, from, *to, least);
-        from = *to;
-    }
-    least
+    first_along::<M, R>(rows, edge, start, points, least + 1)
 }
 
 /// The first cell along a path that has an obstacle at a distance below the limit, with its nearest obstacle; `None` where no cell has.
@@ -60,19 +48,80 @@ pub fn first_of_path<M: Metric, R: Rows>(
     ensures found { IsFirstOrNone M.distance (IsBlocked (R.cells rows.old) edge) (cells_of_path points.now) limit result }
     ensures rows { rows.new ≡ rows.old }
 {
-    let mut from = points[0];
-    let inside = holds(rows, from);
+    let start = points[0];
+    let inside = holds(rows, start);
     prove!(inside);
-    'pieces: for to in points {
-        if least_of_piece::<M, R>(rows, edge, from, *to, limit) < limit {
-            return first_of_piece::<M, R>(rows, edge, from, *to, limit);
-        }
-        from = *to;
-    }
-    None
+    first_along::<M, R>(rows, edge, start, points, limit)
 }
 
-/// The least of the limit and of the distances of the cells behind a point, up to the next.
+/// The least of the limit and of the distances of the cells after a point, along all points that follow it.
+///
+/// A stretch whose cells are all too far is passed over as a whole. The half that lies nearer to an obstacle comes first, so that it lowers the limit for the other.
+fn least_along<M: Metric, R: Rows>(
+    rows: &mut R,
+    edge: Edge,
+    from: Cell,
+    points: &[Cell],
+    limit: u64,
+) -> u64
+    requires walk { IsWalk (R.cells rows.old) from points.now }
+    requires bitmap { IsBitmap (R.cells rows.old) }
+    ensures found { IsLeastOver M.distance (IsBlocked (R.cells rows.old) edge) (cells_behind from points.now) limit result }
+    ensures rows { rows.new ≡ rows.old }
+{
+    if points.is_empty() {
+        return limit;
+    }
+    if points.len() == 1 {
+        return least_of_piece::<M, R>(rows, edge, from, points[0], limit);
+    }
+    if bound_along::<M, R>(rows, edge, from, points, limit) >= limit {
+        return limit;
+    }
+    let (front, back) = points.split_at(points.len() / 2);
+    let middle = front[front.len() - 1];
+    let near = bound_along::<M, R>(rows, edge, from, front, limit);
+    let other = bound_along::<M, R>(rows, edge, middle, back, limit);
+    if other < near {
+        let lowered = least_along::<M, R>(rows, edge, middle, back, limit);
+        return least_along::<M, R>(rows, edge, from, front, lowered);
+    }
+    let least = least_along::<M, R>(rows, edge, from, front, limit);
+    least_along::<M, R>(rows, edge, middle, back, least)
+}
+
+/// The first of the cells after a point, along all points that follow it, that has an obstacle at a distance below the limit, with its nearest obstacle; `None` where no cell has.
+fn first_along<M: Metric, R: Rows>(
+    rows: &mut R,
+    edge: Edge,
+    from: Cell,
+    points: &[Cell],
+    limit: u64,
+) -> Option<(Cell, Near)>
+    requires walk { IsWalk (R.cells rows.old) from points.now }
+    requires bitmap { IsBitmap (R.cells rows.old) }
+    ensures found { IsFirstOrNone M.distance (IsBlocked (R.cells rows.old) edge) (cells_behind from points.now) limit result }
+    ensures rows { rows.new ≡ rows.old }
+{
+    if points.is_empty() {
+        return None;
+    }
+    if points.len() == 1 {
+        return first_of_piece::<M, R>(rows, edge, from, points[0], limit);
+    }
+    if bound_along::<M, R>(rows, edge, from, points, limit) >= limit {
+        return None;
+    }
+    let (front, back) = points.split_at(points.len() / 2);
+    let middle = front[front.len() - 1];
+    let found = first_along::<M, R>(rows, edge, from, front, limit);
+    if found.is_some() {
+        return found;
+    }
+    first_along::<M, R>(rows, edge, middle, back, limit)
+}
+
+/// The least of the limit and of the distances of the cells after a point, up to the next.
 fn least_of_piece<M: Metric, R: Rows>(
     rows: &mut R,
     edge: Edge,
@@ -95,7 +144,7 @@ fn least_of_piece<M: Metric, R: Rows>(
     least_below::<M, R>(rows, edge, cells.rect(1, count_cells(from, to)), limit)
 }
 
-/// The first of the cells behind a point, up to the next, that has an obstacle at a distance below the limit, with its nearest obstacle. There is one.
+/// The first of the cells after a point, up to the next, that has an obstacle at a distance below the limit, with its nearest obstacle; `None` where no cell has.
 fn first_of_piece<M: Metric, R: Rows>(
     rows: &mut R,
     edge: Edge,
@@ -107,10 +156,12 @@ fn first_of_piece<M: Metric, R: Rows>(
     requires from { IsInside (R.cells rows.old) from.x from.y }
     requires to { IsInside (R.cells rows.old) to.x to.y }
     requires bitmap { IsBitmap (R.cells rows.old) }
-    requires some { IsListNear M.distance (IsBlocked (R.cells rows.old) edge) (cells_up_to from to) limit }
     ensures found { IsFirstOrNone M.distance (IsBlocked (R.cells rows.old) edge) (cells_up_to from to) limit result }
     ensures rows { rows.new ≡ rows.old }
 {
+    if least_of_piece::<M, R>(rows, edge, from, to, limit) >= limit {
+        return None;
+    }
     let cells = Strip {
         from,
         to,

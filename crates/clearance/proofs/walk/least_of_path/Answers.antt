@@ -2,17 +2,33 @@
 use Rattle.bits.specs.Edges.{IsBlocked}
 use Rattle.clearance.specs.Paths.{cells_of_path}
 use Rattle.clearance.proofs.PieceFirsts.{IsLeastOver-none, IsLeastOf-over}
-use Rattle.clearance.proofs.Refusals.{IsPath-from}
-use Rattle.clearance.proofs.Walks.{length-cells_of_path}
+use Rattle.clearance.proofs.Refusals.{IsPath-from, IsWalk-path}
+use Rattle.clearance.proofs.Walks.{cells_of_path-start, length-cells_of_path}
 use Rattle.clearance.proofs.walk.least_of_path.Goals as goal
+
+pub least_along-least-requires : goal.least_along-least-requires
+least_along-least-requires g c = record {
+  walk = IsWalk-path (g.R.Rows.cells c.args.rows.now) c.args.points.now c.requires;
+  bitmap = c.holds-inside.ensures.bitmap;
+}
+
+pub first_along-requires : goal.first_along-requires
+first_along-requires g c = rw (c.least_along-least.ensures.rows) (record {
+  walk = IsWalk-path (g.R.Rows.cells c.args.rows.now) c.args.points.now c.requires;
+  bitmap = c.holds-inside.ensures.bitmap;
+})
 
 pub returns-then-least-ge-NO_LIMIT-clause-found : goal.returns-then-least-ge-NO_LIMIT-clause-found
 returns-then-least-ge-NO_LIMIT-clause-found g c =
     let path = IsPath-from (g.R.Rows.cells c.args.rows.now) c.args.points.now c.requires in
+    let least = rw (← cells_of_path-start c.args.points.now path.some) at c.least_along-least.ensures.found in
     IsLeastOver-none g.M.Metric.distance (IsBlocked (g.R.Rows.cells c.args.rows.now) c.args.edge) (cells_of_path c.args.points.now) 4294967296 c.least_along-least.result (length-cells_of_path c.args.points.now path.some)
-    c.least_along-least.ensures.found c.if-least-ge-NO_LIMIT.true
+    least c.if-least-ge-NO_LIMIT.true
 
 pub returns-clause-found : goal.returns-clause-found
 returns-clause-found g c =
-    IsLeastOf-over g.M.Metric.distance (IsBlocked (g.R.Rows.cells c.args.rows.now) c.args.edge) (cells_of_path c.args.points.now) 4294967296 c.least_along-least.result c.first_of_path.result
-    c.least_along-least.ensures.found c.if-least-ge-NO_LIMIT.false (rw (c.least_along-least.ensures.rows) at c.first_of_path.ensures.found)
+    let path = IsPath-from (g.R.Rows.cells c.args.rows.now) c.args.points.now c.requires in
+    let least = rw (← cells_of_path-start c.args.points.now path.some) at c.least_along-least.ensures.found in
+    let first = rw (← cells_of_path-start c.args.points.now path.some, c.least_along-least.ensures.rows) at c.first_along.ensures.found in
+    IsLeastOf-over g.M.Metric.distance (IsBlocked (g.R.Rows.cells c.args.rows.now) c.args.edge) (cells_of_path c.args.points.now) 4294967296 c.least_along-least.result c.first_along.result
+    least c.if-least-ge-NO_LIMIT.false first
