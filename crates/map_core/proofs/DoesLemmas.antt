@@ -20,12 +20,12 @@ use Rattle.map_core.specs.Steps.{Outcome, announce, load, look_map, look_tile, l
 use Rattle.map_core.specs.Sound.{InHand, IsWhole}
 use Rattle.map_core.proofs.StepLemmas.{Keeps, nothing_stored, pin_stored, number_inside, in_hand, keeps-announce, keeps-confirm, keeps-leave, keeps-load, keeps-order, keeps-write, keeps-scan, keeps-commit}
 
--- what is done unless a test is true
+-- what is done unless a test passes is done because the test fails
 pub unless_true : (test : Bool) (a o : Outcome) → (if test then None else Some a) ≡ Some o → (test ≡ false) × (a ≡ o)
 unless_true true a o is = absurd (cc)
 unless_true false a o is = (refl, cc)
 
--- what is done where a test is true
+-- what is done where a test passes is done because it passes
 pub where_true : (test : Bool) (a o : Outcome) → (if test then Some a else None) ≡ Some o → (test ≡ true) × (a ≡ o)
 where_true true a o is = (refl, cc)
 where_true false a o is = absurd (cc)
@@ -35,7 +35,7 @@ none_there : {A : Type 0} (o : Option A) → is_some o ≡ false → o ≡ None
 none_there None is = refl
 none_there (Some a) is = absurd (cc)
 
--- an announcement
+-- an announcement, where it is enabled, keeps what holds of a world
 does-announce : (w : State) (r : ℕ) (found : Option Reader) (o : Outcome) → IsWhole w → slice_get w.readers r ≡ found → announce w r found ≡ Some o → Keeps w o
 unfolding announce
 does-announce w r None o whole there is = absurd (cc)
@@ -44,7 +44,7 @@ does-announce w r (Some x) o whole there is =
     subst (λ (a : Outcome). Keeps w a) parts.1
     record { whole = keeps-announce w r x whole there (none_there x.announced parts.0); spares = pin_stored w r (number_inside w r x whole there) }
 
--- a load
+-- a load, where it is enabled, keeps what holds of a world
 does-load : (w : State) (r : ℕ) (found : Option Reader) (o : Outcome) → IsWhole w → slice_get w.readers r ≡ found → load w r found ≡ Some o → Keeps w o
 unfolding load
 does-load w r None o whole there is = absurd (cc)
@@ -55,7 +55,7 @@ does-load w r (Some x) o whole there is =
     same_outcome : (a o : Outcome) → ◌≡◌ {A = Option Outcome} (Some a) (Some o) → a ≡ o
     same_outcome a o is = cc
 
--- a leave
+-- a leave, where it is enabled, keeps what holds of a world
 does-leave : (w : State) (r : ℕ) (found : Option Reader) (o : Outcome) → IsWhole w → slice_get w.readers r ≡ found → leave w r found ≡ Some o → Keeps w o
 unfolding leave
 does-leave w r None o whole there is = absurd (cc)
@@ -64,7 +64,7 @@ does-leave w r (Some x) o whole there is =
     subst (λ (a : Outcome). Keeps w a) parts.1
     record { whole = keeps-leave w r x whole there; spares = pin_stored w r (number_inside w r x whole there) }
 
--- an exact announcement
+-- an exact announcement, where it is enabled, keeps what holds of a world
 does-confirm : (w : State) (r : ℕ) (found : Option Reader) (o : Outcome) → IsWhole w → slice_get w.readers r ≡ found → confirm w r found ≡ Some o → Keeps w o
 unfolding confirm
 does-confirm w r None o whole there is = absurd (cc)
@@ -83,11 +83,11 @@ does-confirm w r (Some x) o whole there is = by_hold w r x (to_confirm x.announc
     by_hold w r x (Some v) o whole there found is =
         subst (λ (a : Outcome). Keeps w a) (same_outcome _ o is) record { whole = keeps-confirm w r x v whole there (held x.announced x.holds v found); spares = pin_stored w r (number_inside w r x whole there) }
 
--- an answer that changes nothing
+-- an answer that changes nothing keeps what holds of a world
 keeps-same : (w : State) (answer : StepReply) → IsWhole w → Keeps w record { state = w; answer = answer; stored = None }
 keeps-same w answer whole = record { whole = whole; spares = nothing_stored w }
 
--- a look at a position
+-- a look at a position, where it is enabled, keeps what holds of a world
 does-look_map : (w : State) (p : ℕ) (held : Option ℕ) (o : Outcome) → IsWhole w → look_map w p held ≡ Some o → Keeps w o
 unfolding look_map
 does-look_map w p None o whole is = absurd (cc)
@@ -95,7 +95,7 @@ does-look_map w p (Some v) o whole is =
     let parts = where_true (nat_lt p (tiles w.base)) _ o is in
     subst (λ (a : Outcome). Keeps w a) parts.1 (keeps-same w _ whole)
 
--- a look at a row of a block
+-- a look at a row of a block, where it is enabled, keeps what holds of a world
 does-look_tile : (w : State) (b i : ℕ) (held : Option ℕ) (o : Outcome) → IsWhole w → look_tile w b i held ≡ Some o → Keeps w o
 unfolding look_tile
 does-look_tile w b i None o whole is = absurd (cc)
@@ -103,11 +103,12 @@ does-look_tile w b i (Some v) o whole is =
     let parts = where_true (is_mapped (blocks_of_state w) v b && nat_lt i 64) _ o is in
     subst (λ (a : Outcome). Keeps w a) parts.1 (keeps-same w _ whole)
 
--- an order
+-- an order that is answered, refused or not, keeps what holds of a world
 keeps-ordered : (w : State) (c : Command) (refusal : Option Refusal) → IsWhole w → refused w.base.setting (story_of w) c ≡ refusal → Keeps w (ordered w c refusal)
 keeps-ordered w c None whole is = record { whole = keeps-order w c whole is; spares = nothing_stored w }
 keeps-ordered w c (Some refusal) whole is = keeps-same w _ whole
 
+-- an order, where it is enabled, keeps what holds of a world
 does-order : (w : State) (c : Command) (hand : Option Hand) (o : Outcome) → IsWhole w → order w c hand ≡ Some o → Keeps w o
 unfolding order
 does-order w c (Some h) o whole is = absurd (cc)
@@ -117,7 +118,7 @@ does-order w c None o whole is =
     same_outcome : (a o : Outcome) → ◌≡◌ {A = Option Outcome} (Some a) (Some o) → a ≡ o
     same_outcome a o is = cc
 
--- a step of the command in hand that isn't its last
+-- a step of the command in hand that isn't its last keeps what holds of a world
 keeps-step : (w : State) (h : Hand) (c : Command) → IsWhole (in_hand w (Some h)) → h.command ≡ c → h.done < steps_before w.base (blocks_of_state w) c
     → Keeps (in_hand w (Some h)) (step_before w h c)
 unfolding steps_before
@@ -128,7 +129,7 @@ keeps-step w h Revert whole is more = absurd (omega arith)
 keeps-step w h Collect whole is more = keeps-scan w h whole is more
 keeps-step w h Checkpoint whole is more = absurd (omega arith)
 
--- the next step of the command in hand
+-- the next step of the command in hand keeps what holds of a world
 keeps-next : (w : State) (h : Hand) (o : Outcome) → IsWhole (in_hand w (Some h))
     → (if nat_lt h.done (steps_before w.base (blocks_of_state w) h.command) then Some (step_before w h h.command) else Some (commit w h)) ≡ Some o → Keeps (in_hand w (Some h)) o
 keeps-next w h o whole is =
@@ -154,12 +155,13 @@ keeps-next w h o whole is =
     left true a b o is h = absurd (cc)
     left false a b o is h = cc
 
+-- a step of the keeper, where it is enabled, keeps what holds of a world
 does-keep : (w : State) (hand : Option Hand) (o : Outcome) → IsWhole (in_hand w hand) → keep w hand ≡ Some o → Keeps (in_hand w hand) o
 unfolding keep
 does-keep w None o whole is = absurd (cc)
 does-keep w (Some h) o whole is = keeps-next w h o whole is
 
--- whatever an event does
+-- an event that is enabled keeps what holds of a world, whatever it does
 pub does-keeps : (w : State) (e : Event) (o : Outcome) → IsWhole w → does w e ≡ Some o → Keeps w o
 unfolding does
 does-keeps w (Announce r) o whole is = does-announce w r (slice_get w.readers r) o whole refl is

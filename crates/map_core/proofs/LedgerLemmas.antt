@@ -42,7 +42,7 @@ balanced k log l ready legal is =
     let base_is = is.base_is in
     record { newest_in = omega arith; base_in = omega arith; few_slots = omega arith; small = omega arith }
 
--- four tests, one after another
+-- the first refusal is the same where want of blocks is tested after all other tests
 in_turn : (inside inside_now full full_now used used_now : Bool) (slots blocks_short : Option Refusal) → inside ≡ inside_now → full ≡ full_now → used ≡ used_now
     → (if inside then (if full then Some LogFull else (if used then Some PlacesUsed else first_refusal slots blocks_short)) else Some OutOfRange)
     ≡ first_refusal (if inside_now then (if full_now then Some LogFull else (if used_now then Some PlacesUsed else slots)) else Some OutOfRange) blocks_short
@@ -56,22 +56,22 @@ in_turn inside inside_now full full_now used used_now slots blocks_short inside_
     by_tests true false false slots blocks_short = refl
     by_tests false full used slots blocks_short = refl
 
--- the area of a command, by the ledger
+-- a command lies in the map by the ledger's sides where it does by the draft's
 inside_is : (k : Base) (s : Story) (l : Ledger) → IsLedger k s l → IsOfMap k s.draft → (c : Command) → lies_within s.draft.width s.draft.height c ≡ lies_within l.width l.height c
 inside_is k s l is of_map c =
     ap (λ (n : ℕ). lies_within n s.draft.height c) (of_map.width_is ∙ sym is.width_is) ∙ ap (λ (n : ℕ). lies_within l.width n c) (of_map.height_is ∙ sym is.height_is)
 
--- whether the log is full, by the ledger
+-- the log is full by the ledger where it is by the story
 full_is : (k : Base) (s : Story) (l : Ledger) → IsLedger k s l → nat_le k.setting.log (s.places - s.base) ≡ has_no_room l
 full_is k s l is =
     ap (λ (n : ℕ). nat_le k.setting.log (n - s.base)) (sym is.places_is)
     ∙ (ap (λ (n : ℕ). nat_le k.setting.log (l.places - n)) (sym is.base_is) ∙ ap (λ (g : Setting). nat_le g.log (l.places - l.base)) (sym is.setting_is))
 
--- whether a place is left, by the ledger
+-- no place is left by the ledger where none is by the story
 used_is : (k : Base) (s : Story) (l : Ledger) → IsLedger k s l → nat_le 536870911 s.places ≡ has_no_place l
 used_is k s l is = ap (nat_le 536870911) (sym is.places_is)
 
--- whether a slot is free, by the ledger
+-- no slot is free by the ledger where none is by the story
 slots_are : (k : Base) (s : Story) (l : Ledger) → IsLedger k s l → nat_le k.setting.versions (length (kept s)) ≡ has_no_slot l
 unfolding kept
 slots_are k s l is =
@@ -97,11 +97,11 @@ refused_in_turn k s l is of_map Revert = in_turn true true _ _ _ _ None None ref
 refused_in_turn k s l is of_map Collect = in_turn true true _ _ _ _ None None refl (full_is k s l is) (used_is k s l is)
 refused_in_turn k s l is of_map Checkpoint = in_turn true true false false _ _ None None refl refl (used_is k s l is)
 
--- a command that the ledger refuses
+-- a command that the ledger refuses is refused for that reason
 pub refused_first : (k : Base) (s : Story) (l : Ledger) → IsLedger k s l → IsOfMap k s.draft → (c : Command) (refusal : Refusal) → refused_by_ledger l c ≡ Some refusal → refused k.setting s c ≡ Some refusal
 refused_first k s l is of_map c refusal by = refused_in_turn k s l is of_map c ∙ ap (λ (o : Option Refusal). first_refusal o (refused_draw_blocks k.setting s c)) by
 
--- a command that it doesn't refuse
+-- a command that the ledger doesn't refuse is refused for want of blocks alone, or isn't refused
 pub refused_next : (k : Base) (s : Story) (l : Ledger) → IsLedger k s l → IsOfMap k s.draft → (c : Command) → refused_by_ledger l c ≡ None → refused k.setting s c ≡ refused_draw_blocks k.setting s c
 refused_next k s l is of_map c by = refused_in_turn k s l is of_map c ∙ ap (λ (o : Option Refusal). first_refusal o (refused_draw_blocks k.setting s c)) by
 
@@ -114,7 +114,7 @@ refused_for_draw g s Revert is = absurd (cc)
 refused_for_draw g s Collect is = absurd (cc)
 refused_for_draw g s Checkpoint is = absurd (cc)
 
--- another command isn't
+-- a command that is no paint and no stamp isn't refused for want of blocks
 pub refused_for_none : (g : Setting) (s : Story) (c : Command) → draws c ≡ false → refused_draw_blocks g s c ≡ None
 refused_for_none g s (Paint r black) is = absurd (cc)
 refused_for_none g s (Stamp x y b) is = absurd (cc)
@@ -150,7 +150,7 @@ place_of_ledger l c by = from_test l.places (tested (lies_within l.width l.heigh
 pub inside_told : (k : Base) (s : Story) (l : Ledger) → IsLedger k s l → IsOfMap k s.draft → (c : Command) → refused_by_ledger l c ≡ None → is_inside s.draft c ≡ true
 inside_told k s l is of_map c by = inside_is k s l is of_map c ∙ inside_of_ledger l c by
 
--- the story after a paint or a stamp
+-- the story after a paint or a stamp is the one after its drawing
 pub told_draw : (s : Story) (c : Command) (reply : Reply) → IsDraw c → told s c reply ≡ after_draw s c
 unfolding told
 told_draw s (Paint r black) reply draws = refl

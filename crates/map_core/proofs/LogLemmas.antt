@@ -77,12 +77,12 @@ newest-told s Revert reply = (omega arith, omega arith)
 newest-told s Collect reply = (omega arith, omega arith)
 newest-told s Checkpoint reply = (omega arith, omega arith)
 
--- newest never falls over some entries
+-- over some entries newest never falls
 pub newest-after : (s : Story) (log : List Entry) → newest s ≤ newest (after s log)
 newest-after s [] = omega arith
 newest-after s (e ∷ es) = let here = newest-told s e.command e.reply in let rest = newest-after (told s e.command e.reply) es in let up = here.0 in omega arith
 
--- some entries, and then some more
+-- the story after some entries and then some more is the one after all of them
 pub after-append : (s : Story) (log more : List Entry) → after s (log ++ more) ≡ after (after s log) more
 after-append s [] more = refl
 after-append s (e ∷ es) more = after-append (told s e.command e.reply) es more
@@ -106,7 +106,7 @@ published-told s Revert reply v within = (refl, within)
 published-told s Collect reply v within = (refl, within)
 published-told s Checkpoint reply v within = (refl, within)
 
--- over some entries too
+-- over some entries what was published stays: the bitmap of a version, and that there is one
 published-after : (s : Story) (log : List Entry) (v : ℕ) → v < length s.published → (bitmap_of (after s log) v ≡ bitmap_of s v) × (v < length (after s log).published)
 published-after s [] v within = (refl, within)
 published-after s (e ∷ es) v within =
@@ -127,7 +127,7 @@ bitmap-beginning k seen log h v within =
     first_published : (k : Base) → 0 < length (opened k.opening).published
     first_published k = omega arith
 
--- each version has a slot
+-- an entry leaves as many slots given as bitmaps published
 each-told : (s : Story) (c : Command) (reply : Reply) → length s.slots ≡ length s.published → length (told s c reply).slots ≡ length (told s c reply).published
 unfolding told
 each-told s (Paint r black) reply each = each
@@ -137,12 +137,12 @@ each-told s Revert reply each = each
 each-told s Collect reply each = each
 each-told s Checkpoint reply each = each
 
--- over some entries too
+-- over some entries there are as many slots given as bitmaps published
 each-after : (s : Story) (log : List Entry) → length s.slots ≡ length s.published → length (after s log).slots ≡ length (after s log).published
 each-after s [] each = each
 each-after s (e ∷ es) each = each-after (told s e.command e.reply) es (each-told s e.command e.reply each)
 
--- the slot of a version stays
+-- an entry leaves the slot of each version as it is
 slots-told : (s : Story) (c : Command) (reply : Reply) (v : ℕ) → v < length s.slots → (get_or (told s c reply).slots v 0 ≡ get_or s.slots v 0) × (v < length (told s c reply).slots)
 unfolding told
 slots-told s (Paint r black) reply v within = (refl, within)
@@ -152,7 +152,7 @@ slots-told s Revert reply v within = (refl, within)
 slots-told s Collect reply v within = (refl, within)
 slots-told s Checkpoint reply v within = (refl, within)
 
--- over some entries too
+-- over some entries the slot of each version stays as it is
 slots-after : (s : Story) (log : List Entry) (v : ℕ) → v < length s.slots → get_or (after s log).slots v 0 ≡ get_or s.slots v 0
 slots-after s [] v within = refl
 slots-after s (e ∷ es) v within = let one = slots-told s e.command e.reply v within in slots-after (told s e.command e.reply) es v one.1 ∙ one.0
@@ -171,15 +171,15 @@ slot-beginning k seen log h v within =
     first_published : (k : Base) → 0 < length (opened k.opening).published
     first_published k = omega arith
 
--- a log begins with itself
+-- a log is a beginning of itself
 pub beginning_itself : (log : List Entry) → IsBeginning log log
 beginning_itself log = record { rest = []; whole = append-nil log }
 
--- a beginning of a log begins the log with one more entry
+-- a beginning of a log is one of the log with one more entry
 pub beginning-push : (seen log : List Entry) (e : Entry) → IsBeginning seen log → IsBeginning seen (log ++ e ∷ [])
 beginning-push seen log e h = record { rest = h.rest ++ e ∷ []; whole = sym (append_assoc seen h.rest (e ∷ [])) ∙ ap (λ (l : List Entry). l ++ e ∷ []) h.whole }
 
--- the log has no more entries than places count, and newest and the last checkpoint's place are at most their number
+-- legal entries end at a place that can be counted, with newest and the last checkpoint's place at most that
 pub places-after : (g : Setting) (s : Story) (log : List Entry) → IsLegalFrom g s log → s.places ≤ 536870911 → newest s ≤ s.places → s.base ≤ s.places
     → ((after s log).places ≤ 536870911) × (newest (after s log) ≤ (after s log).places) × ((after s log).base ≤ (after s log).places)
 places-after g s [] legal fits few within = (fits, few, within)
@@ -190,7 +190,7 @@ places-after g s (e ∷ es) legal fits few within =
     let most = up.1 in
     places-after g (told s e.command e.reply) es legal.1 (omega arith) (omega arith) (base-told s e.command e.reply within)
 
--- the same of a whole log
+-- a legal log ends at a place that can be counted, with newest and the last checkpoint's place at most that
 pub places-legal : (k : Base) (log : List Entry) → IsLegal k.setting k.opening log
     → ((story k log).places ≤ 536870911) × (newest (story k log) ≤ (story k log).places) × ((story k log).base ≤ (story k log).places)
 unfolding story opened newest

@@ -66,7 +66,7 @@ Shows-opening k words opening = record {
     block_at : (k : Base) (p : ℕ) → p < tiles k → get_or (range_with_len 0 (tiles k)) p 0 ≡ p
     block_at k p h = let at = get_or-range_with_len 0 (tiles k) p 0 h in omega arith
 
--- what holds between the words and the keeper
+-- before a world's first event its words and its keeper are sound together
 KeeperSound-opening : (k : Base) (words : List ℕ) → AreOpeningWords k words → KeeperSound k (story k []) (blocks k []) words record { log = []; hand = None }
 unfolding story opened newest now_of IsKept
 KeeperSound-opening k words opening = record {
@@ -77,7 +77,7 @@ KeeperSound-opening k words opening = record {
   hand = tt;
 }
 
--- what holds between the words and a reader
+-- before a world's first event its words and each reader are sound together
 ReaderSound-opening : (k : Base) (words : List ℕ) → AreOpeningWords k words → (r : ℕ) → r < k.setting.sessions
     → ReaderSound k (story k []) words record { log = []; hand = None } r fresh_reader
 unfolding pin_at pin_word
@@ -90,7 +90,7 @@ ReaderSound-opening k words opening r h = record {
   passed = tt;
 }
 
--- what a list of one thing has at a place
+-- a list that has one value at all places has that value at each place, and no more places
 slice_get-replicate : {A : Type 0} (n i : ℕ) (x y : A) → slice_get (replicate n x) i ≡ Some y → (y ≡ x) × (i < n)
 slice_get-replicate zero i x y is = absurd (cc)
 slice_get-replicate (suc n) zero x y is = (same_value x y is, omega arith)
@@ -103,7 +103,7 @@ slice_get-replicate (suc n) (suc i) x y is = let later = slice_get-replicate n i
 abbrev pub opened_state : Base → List ℕ → State
 opened_state k words = record { base = k; words = words; keeper = record { log = []; hand = None }; readers = replicate k.setting.sessions fresh_reader }
 
--- it is whole
+-- a world that is made of opening words is whole
 pub IsWhole-opening : (k : Base) (words : List ℕ) → IsReady k → AreOpeningWords k words → IsWhole (opened_state k words)
 IsWhole-opening k words ready opening = record {
   ready = ready;
@@ -114,7 +114,7 @@ IsWhole-opening k words ready opening = record {
       subst (λ (y : Reader). ReaderSound k (story k []) words record { log = []; hand = None } r y) (sym fresh.0) (ReaderSound-opening k words opening r fresh.1);
 }
 
--- it is as a world is that was opened so
+-- a world that is made of opening words is opened
 pub IsOpened-opening : (k : Base) (words : List ℕ) → IsReady k → AreOpeningWords k words → IsOpened k (opened_state k words)
 IsOpened-opening k words ready opening = record {
   base_is = refl;
@@ -148,12 +148,12 @@ pub record IsNew (g : Setting) (b opening : Cells) (words : List ℕ) (log : Lis
   pub free_room : g.blocks ≤ room.free
   pub retired_room : g.blocks ≤ room.retired
 
--- the readers of a world before its first event
+-- before a world's first event what is kept of each reader is that it has seen nothing
 map-fresh : (n : ℕ) → map (reader_of []) (replicate n fresh_standing) ≡ replicate n fresh_reader
 map-fresh zero = refl
 map-fresh (suc n) = ap (λ (xs : List Reader). fresh_reader ∷ xs) (map-fresh n)
 
--- the state of a world before its first event
+-- before a world's first event its state is the opened one
 state-new : (g : Setting) (b opening : Cells) (words : List ℕ) (log : List Entry) (scanned : List ℕ) (standings : List Standing) (u : Summary) (room : Room) → IsNew g b opening words log standings u room
     → opened_state record { setting = g; opening = b } words ≡ state_of u.ledger.setting opening words log None 0 scanned standings
 state-new g b opening words log scanned standings u room new =
@@ -163,7 +163,7 @@ state-new g b opening words log scanned standings u room new =
     ∙ (ap (λ (l : List Entry). state_of g opening words l None 0 scanned standings) (sym new.log_is)
     ∙ ap (λ (l : Ledger). state_of l.setting opening words log None 0 scanned standings) (sym new.ledger_is)))
 
--- what is kept beside the words of a world is what the empty log says
+-- what is kept besides the words of a world is what the empty log says
 consistent_opened : (g : Setting) (b opening : Cells) (words : List ℕ) (log : List Entry) (standings : List Standing) (u : Summary) (room : Room) → IsNew g b opening words log standings u room
     → IsConsistent (opened_state record { setting = g; opening = b } words) None 0 standings u room
 unfolding story blocks opened opened_blocks newest bitmap_of
@@ -200,7 +200,7 @@ pub consistent_new : (g : Setting) (b opening : Cells) (words : List ℕ) (log :
 consistent_new g b opening words log scanned standings u room new =
     subst (λ (w : State). IsConsistent w None 0 standings u room) (state-new g b opening words log scanned standings u room new) (consistent_opened g b opening words log standings u room new)
 
--- and it is opened
+-- a world is opened before its first event
 pub opened_new : (g : Setting) (b opening : Cells) (words : List ℕ) (log : List Entry) (scanned : List ℕ) (standings : List Standing) (u : Summary) (room : Room) → IsNew g b opening words log standings u room
     → IsOpened record { setting = g; opening = b } (state_of u.ledger.setting opening words log None 0 scanned standings)
 opened_new g b opening words log scanned standings u room new =

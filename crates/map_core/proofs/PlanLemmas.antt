@@ -3,13 +3,13 @@ use Rattle.std.proofs.Common.{◌≡◌, ℕ, ◌+◌, ◌*◌, refl}
 use Rattle.map_core.specs.Words.{Base, IsPlan, map_at, tile_at}
 use Rattle.map_core.specs.declared.plan.Plan.{Plan}
 
--- a word of a directory
+-- a store's sizes tell where a directory's word stands
 pub map_place : (k : Base) (plan : Plan) (slot t p : ℕ) → t ≡ plan.tiles → IsPlan k plan
     → 8 + 8 * plan.setting.sessions + (slot * t + p) ≡ map_at k slot p
 unfolding map_at
 map_place k plan slot t p tiles_is is = rw (tiles_is, is.tiles_is, is.setting_is) refl
 
--- a word of a block
+-- a store's sizes tell where a block's word stands
 pub tile_place : (k : Base) (plan : Plan) (b t i : ℕ) → t ≡ plan.tiles → IsPlan k plan
     → 8 + 8 * plan.setting.sessions + plan.setting.versions * t + (b * 64 + i) ≡ tile_at k b i
 unfolding tile_at

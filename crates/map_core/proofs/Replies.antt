@@ -15,7 +15,7 @@ abbrev pub HasKept : Story → Command → Reply → List ℕ → Type 0
 HasKept s Collect reply words = kept_told s reply ≡ kept_scanned s words
 HasKept s c reply words = Unit {0}
 
--- the one reply
+-- a reply that answers a command, and keeps what its scan keeps, is the reply that is committed
 pub the_reply : (s : Story) (c : Command) (reply : Reply) (words : List ℕ) → IsReply s c reply → HasKept s c reply words → reply ≡ reply_of s c words
 unfolding reply_of
 the_reply s (Paint r black) (Painted place changed) words is floor = ap (λ (q : ℕ × ℕ). Painted q.0 q.1) (λ i. (is.0 i, is.1 i))

@@ -19,7 +19,7 @@ use Rattle.map_core.proofs.DoesLemmas.{unless_true, where_true}
 use Rattle.map_core.proofs.StepLemmas.{slice_get-set}
 use Rattle.map_core.proofs.LogLemmas.{beginning_itself}
 
--- what is there is one thing
+-- two readers that one place has are the same
 one_there : (x y : Reader) → ◌≡◌ {A = Option Reader} (Some x) (Some y) → x ≡ y
 one_there x y is = cc
 
@@ -42,11 +42,11 @@ seen_of_one readers r x y there more q a b was now =
           subst (λ (z : Reader). IsBeginning a.seen z.seen) same (beginning_itself a.seen)
     ]
 
--- one outcome is the other
+-- two outcomes of one event are the same
 same_outcome : (a o : Outcome) → ◌≡◌ {A = Option Outcome} (Some a) (Some o) → a ≡ o
 same_outcome a o is = cc
 
--- an announcement
+-- after an announcement each reader has seen what it had
 grows-announce : (w : State) (r : ℕ) (found : Option Reader) (o : Outcome) → slice_get w.readers r ≡ found → announce w r found ≡ Some o → SeenGrows w o.state
 unfolding announce
 grows-announce w r None o there is = absurd (cc)
@@ -54,7 +54,7 @@ grows-announce w r (Some x) o there is =
     let parts = unless_true (is_some x.announced) _ o is in
     subst (λ (a : Outcome). SeenGrows w a.state) parts.1 (seen_of_one w.readers r x _ there (beginning_itself x.seen))
 
--- a load
+-- after a load each reader has seen what it had, and the one that loads has seen the whole log
 grows-load : (w : State) (r : ℕ) (found : Option Reader) (o : Outcome) → IsWhole w → slice_get w.readers r ≡ found → load w r found ≡ Some o → SeenGrows w o.state × SeesAll (Load r) o.state
 unfolding load
 grows-load w r None o whole there is = absurd (cc)
@@ -69,7 +69,7 @@ grows-load w r (Some x) o whole there is =
           | inr other ↦ absurd (other.0 refl)
         ]
 
--- a leave
+-- after a leave each reader has seen what it had
 grows-leave : (w : State) (r : ℕ) (found : Option Reader) (o : Outcome) → slice_get w.readers r ≡ found → leave w r found ≡ Some o → SeenGrows w o.state
 unfolding leave
 grows-leave w r None o there is = absurd (cc)
@@ -77,7 +77,7 @@ grows-leave w r (Some x) o there is =
     let parts = where_true (is_some x.announced) _ o is in
     subst (λ (a : Outcome). SeenGrows w a.state) parts.1 (seen_of_one w.readers r x _ there (beginning_itself x.seen))
 
--- an exact announcement
+-- after an exact announcement each reader has seen what it had
 grows-confirm : (w : State) (r : ℕ) (found : Option Reader) (o : Outcome) → slice_get w.readers r ≡ found → confirm w r found ≡ Some o → SeenGrows w o.state
 unfolding confirm
 grows-confirm w r None o there is = absurd (cc)
@@ -94,24 +94,25 @@ unfolding look_map
 stay-look_map w p None o is = absurd (cc)
 stay-look_map w p (Some v) o is = let parts = where_true (nat_lt p (tiles w.base)) _ o is in ap (λ (a : Outcome). a.state.readers) (sym parts.1)
 
--- so does a look at a row of a block
+-- a look at a row of a block leaves the readers
 stay-look_tile : (w : State) (b i : ℕ) (held : Option ℕ) (o : Outcome) → look_tile w b i held ≡ Some o → o.state.readers ≡ w.readers
 unfolding look_tile
 stay-look_tile w b i None o is = absurd (cc)
 stay-look_tile w b i (Some v) o is = let parts = where_true (is_mapped (blocks_of_state w) v b && nat_lt i 64) _ o is in ap (λ (a : Outcome). a.state.readers) (sym parts.1)
 
--- and an order, refused or not
+-- an order that is answered, refused or not, leaves the readers
 stay-ordered : (w : State) (c : Command) (refusal : Option Refusal) → (ordered w c refusal).state.readers ≡ w.readers
 stay-ordered w c None = refl
 stay-ordered w c (Some refusal) = refl
 
+-- an order leaves the readers
 stay-order : (w : State) (c : Command) (hand : Option Hand) (o : Outcome) → order w c hand ≡ Some o → o.state.readers ≡ w.readers
 unfolding order
 stay-order w c (Some h) o is = absurd (cc)
 stay-order w c None o is =
     ap (λ (a : Outcome). a.state.readers) (sym (same_outcome _ o is)) ∙ stay-ordered w c (refused w.base.setting (story_of w) c)
 
--- and each step of the keeper
+-- a step of the command in hand that isn't its last leaves the readers
 stay-step : (w : State) (h : Hand) (c : Command) → (step_before w h c).state.readers ≡ w.readers
 stay-step w h (Paint r black) = refl
 stay-step w h (Stamp x y b) = refl
@@ -120,6 +121,7 @@ stay-step w h Revert = refl
 stay-step w h Collect = refl
 stay-step w h Checkpoint = refl
 
+-- a step of the keeper leaves the readers
 stay-keep : (w : State) (hand : Option Hand) (o : Outcome) → keep w hand ≡ Some o → o.state.readers ≡ w.readers
 unfolding keep
 stay-keep w None o is = absurd (cc)
@@ -129,7 +131,7 @@ stay-keep w (Some h) o is = by_test (nat_lt h.done (steps_before w.base (blocks_
     by_test true o is = ap (λ (a : Outcome). a.state.readers) (sym (same_outcome _ o is)) ∙ stay-step w h h.command
     by_test false o is = ap (λ (a : Outcome). a.state.readers) (sym (same_outcome _ o is))
 
--- whatever an event does
+-- after any event each reader has seen what it had, and one that has loaded has seen the whole log
 pub does-grows : (w : State) (e : Event) (o : Outcome) → IsWhole w → does w e ≡ Some o → SeenGrows w o.state × SeesAll e o.state
 unfolding does
 does-grows w (Announce r) o whole is = (grows-announce w r (slice_get w.readers r) o refl is, tt)

@@ -248,7 +248,7 @@ scanned_all k m h r inside collect all count =
     let steps : h.done ≡ k.setting.sessions = all ∙ ap (steps_before k m) collect in
     omega arith
 
--- and of each reader: what it holds is kept, since the scan has passed it
+-- the last step of a command keeps what holds of each reader: what it holds is kept, since the scan has passed it
 pub ReaderSound-commit : (k : Base) (log : List Entry) (words : List ℕ) (h : Hand) (r : ℕ) (x : Reader) → r < k.setting.sessions
     → InHand k (story k log) (blocks k log) words h → h.done ≡ steps_before k (blocks k log) h.command
     → ReaderSound k (story k log) words record { log = log; hand = Some h } r x

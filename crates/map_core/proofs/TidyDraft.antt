@@ -38,7 +38,7 @@ free_is k s m tidy =
     let sum = tidy.shape.blocks in
     omega arith
 
--- another draft with its own blocks, on the same versions
+-- a tidy log stays tidy with another draft and its own blocks, on the same versions
 pub tidy-draft : (k : Base) (s : Story) (m : Blocks) → IsTidy k s m → (places base : ℕ) (draft : Cells) (changed : List Bool) (own : List (Option ℕ)) (free : List ℕ)
     → IsOfMap k draft → length own ≡ tiles k → changed ≡ map is_some own
     → ((p i : ℕ) → slice_get own p ≡ Some None → i < 64 → row_word draft p i ≡ row_word (bitmap_of s (newest s)) p i)
@@ -119,12 +119,12 @@ pub IsOfMap-drawn : (k : Base) (b : Cells) (c : Command) → IsOfMap k b → IsO
 unfolding drawn
 IsOfMap-drawn k b c h = record { width_is = h.width_is; height_is = h.height_is; bitmap = IsBitmap-cells_where b.width b.height _ h.bitmap.width_is h.bitmap.height_is }
 
--- each position is touched, or it isn't
+-- there is an answer for each position, whether a command touches it
 pub length-touched : (k : Base) (b : Cells) (c : Command) → IsOfMap k b → length (touched b c) ≡ tiles k
 unfolding touched
 length-touched k b c h = length-map-range_with_len (tile_differs b (drawn b c)) 0 (tile_count b) ∙ tile_count-of_map k b h
 
--- whether a position is touched
+-- a command touches a position where it changes the tile there
 pub get_or-touched : (k : Base) (b : Cells) (c : Command) (p : ℕ) → IsOfMap k b → p < tiles k → get_or (touched b c) p true ≡ tile_differs b (drawn b c) p
 unfolding touched
 get_or-touched k b c p h inside =

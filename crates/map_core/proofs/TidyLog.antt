@@ -58,17 +58,17 @@ IsTidy-after k s m [] few tidy legal = tidy
 IsTidy-after k s m (e ∷ es) few tidy legal =
     IsTidy-after k (told s e.command e.reply) (moved s e.command e.reply m) es few (IsTidy-told k s m e.command e.reply few tidy legal.0) legal.1
 
--- what holds after any legal log
+-- the story and the blocks of a legal log are tidy
 pub IsTidy-legal : (k : Base) (log : List Entry) → IsReady k → IsLegal k.setting k.opening log → IsTidy k (story k log) (blocks k log)
 unfolding story blocks
 IsTidy-legal k log ready legal = IsTidy-after k (opened k.opening) (opened_blocks (tiles k) k.setting.blocks) log ready.few_versions (IsTidy-opened k ready) legal
 
--- the story after one more entry
+-- one entry more makes the next story of the story before it
 pub after-push : (s : Story) (log : List Entry) (e : Entry) → after s (log ++ e ∷ []) ≡ told (after s log) e.command e.reply
 after-push s [] e = refl
 after-push s (f ∷ fs) e = after-push (told s f.command f.reply) fs e
 
--- the blocks after one more entry
+-- one entry more makes the next blocks of the blocks before it
 pub blocks_after-push : (s : Story) (m : Blocks) (log : List Entry) (e : Entry)
     → blocks_after s m (log ++ e ∷ []) ≡ moved (after s log) e.command e.reply (blocks_after s m log)
 blocks_after-push s m [] e = refl

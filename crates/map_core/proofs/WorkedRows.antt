@@ -32,7 +32,7 @@ answers_of : State → List Event → List (Option StepReply)
 answers_of w [] = []
 answers_of w (e ∷ es) = elim (does w e) [ None ↦ None ∷ answers_of w es | Some o ↦ Some o.answer ∷ answers_of o.state es ]
 
--- a world of a blank map
+-- a world of a blank map, as it is opened
 blank_world : ℕ → ℕ → Setting → State
 blank_world width height g =
     let k : Base = record { setting = g; opening = cells_where width height (λ x y. false) } in
@@ -53,7 +53,7 @@ last_answers : State → List (List Event) → List (Option StepReply)
 last_answers w [] = []
 last_answers w (es ∷ groups) = (last_of w es None).0 ∷ last_answers (last_of w es None).1 groups
 
--- a command with its steps, so many
+-- the events that give a command and take so many steps of it
 whole : Command → ℕ → List Event
 whole c n = Order c ∷ replicate n Keep
 
@@ -61,11 +61,11 @@ whole c n = Order c ∷ replicate n Keep
 pin : ℕ → List Event
 pin r = Load r ∷ Announce r ∷ Load r ∷ []
 
--- a paint of this rectangle
+-- a paint that makes the cells of this rectangle obstacles
 paint : (x0 y0 x1 y1 : ℕ) → x0 < x1 → y0 < y1 → x1 ≤ 4096 → y1 ≤ 4096 → Command
 paint x0 y0 x1 y1 a b c d = Paint record { x0 = x0; y0 = y0; x1 = x1; y1 = y1; has_cells = record { columns = a; rows = b; right = c; bottom = d } } true
 
--- a paint of the cell (x, 0)
+-- a paint that makes the cell (x, 0) an obstacle
 dot : (x : ℕ) → x < 4096 → Command
 dot x h = paint x 0 (x + 1) 1 (omega arith) (omega arith) (omega arith) (omega arith)
 
@@ -96,7 +96,7 @@ a_scan_before_an_announcement : answers_of (blank_world 64 64 record { blocks = 
 unfolding has rows_where changes word_where row_word drawn tile_differs touched opened kept_log newest bitmap_of kept inuse needed refused told opened_blocks directory_of is_mapped moved word_count pin_at map_at tile_at now_of pin_word slot_of next_slot story blocks does announce load look_map look_tile leave keep order confirm steps_before tile_write map_write kept_scanned seen_in reply_of answers_of blank_world last_of last_answers whole pin pin_exactly slots_of paint dot done no
 a_scan_before_an_announcement = refl
 
--- two pins beside a painter: a collect that a pin holds back, versions that are full, and a collect after the pin has left
+-- two pins while a painter works: a collect that a pin holds back, versions that are full, and a collect after the pin has left
 pins_beside_a_painter : last_answers (blank_world 64 64 record { blocks = 3; versions = 2; sessions = 3; log = 10; edge = Open })
     (pin 0 ∷ whole (dot 0 (omega arith)) 1 ∷ whole Publish 66 ∷ (LookMap 0 0 ∷ []) ∷ pin 2 ∷ (LookMap 2 0 ∷ []) ∷ (LookTile 2 1 0 ∷ [])
     ∷ whole Collect 4 ∷ (Order Publish ∷ []) ∷ (Leave 0 ∷ []) ∷ whole Collect 4 ∷ whole Publish 2 ∷ (LookMap 2 0 ∷ []) ∷ (LookTile 2 1 0 ∷ []) ∷ [])

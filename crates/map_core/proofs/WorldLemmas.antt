@@ -1,4 +1,4 @@
--- A world by its parts: what an event does to them, and that what is kept beside its words stays right.
+-- A world by its parts: what an event does to them, and that what is kept besides its words stays right.
 use Rattle.std.proofs.Common.{◌≡◌, ℕ, suc, ◌+◌, ◌^◌, ◌<◌, List, length, get_or, set, map, refl, ap, subst, sym, ◌∙◌, arith}
 use Rattle.std.specs.Prelude.{Option, Some, None, Ok, Err, slice_get, option_map, IfSome}
 use Rattle.std.proofs.lemmas.List.{take_all}
@@ -13,7 +13,7 @@ use Rattle.map_core.specs.declared.command.Command.TheVariants.{Publish}
 use Rattle.map_core.specs.declared.kept.Kept.{Kept}
 use Rattle.map_core.specs.declared.ledger.Ledger.{Ledger}
 use Rattle.map_core.specs.Kept.{members, first_free, IsIn, with_version}
-use Rattle.map_core.specs.Ledger.{IsLedger, IsBalanced, HasPlace}
+use Rattle.map_core.specs.Ledger.{IsLedger, IsBalanced, HasPlace, HasNowRoom}
 use Rattle.map_core.specs.Legal.{refused}
 use Rattle.map_core.specs.declared.reader.Standing.{Standing}
 use Rattle.map_core.specs.Story.{Story, newest, kept, IsKept}
@@ -85,7 +85,7 @@ reader_word w hand steps standings u room consistent r h =
     let count = consistent.whole.readers in
     omega arith
 
--- what is kept of a reader after it has seen the whole log
+-- what is kept of a reader is right after it has seen the whole log
 pub place_whole : (w : State) (hand : Option Command) (steps : ℕ) (standings : List Standing) (u : Summary) (room : Room) → IsConsistent w hand steps standings u room → (p : Standing) → p.seen ≡ length w.keeper.log → p.version ≡ u.ledger.newest
     → u.ledger.newest < 2 ^ 32 → IsStanding w.base w.keeper.log p
 place_whole w hand steps standings u room consistent p seen version small = record {
@@ -106,7 +106,7 @@ map_in_words w whole v p place is_kept is inside =
     let sized = whole.keeper.sized in
     omega arith
 
--- and so is one of the next directory
+-- a word of the next directory is one of the words
 pub next_in_words : (w : State) → IsWhole w → refused w.base.setting (story_of w) Publish ≡ None → (p place : ℕ) → place ≡ map_at w.base (next_slot w.base (story_of w)) p → p < tiles w.base → place < length w.words
 next_in_words w whole accepted p place is inside =
     let within = map-within w.base (next_slot w.base (story_of w)) p (next-within w.base (story_of w) (blocks_of_state w) whole.ready (tidy_of w whole) accepted) inside in
@@ -140,17 +140,19 @@ unfolding next_slot
 next_found_is w l is slot found = found ∙ ap (λ (q : Kept). first_free q.slots) is.kept_is
 
 -- what NOW says of a ledger with one more entry has room
-pub record HasNowRoom (l : Ledger) : Type 0 where
-  pub place : l.places < 2 ^ 29
-  pub version : l.newest < 2 ^ 29
-  pub slot : l.slot < 64
-
 pub now_room : (l new : Ledger) → IsBalanced l → HasPlace l → new ≡ record l { places = l.places + 1 } → HasNowRoom new
 now_room l new balanced left is =
     let fewer = balanced.newest_in in
     subst (λ (q : Ledger). HasNowRoom q) (sym is) record { place = omega arith; version = omega arith; slot = balanced.small }
 
--- the same of a publish
+-- what NOW says of a ledger after an entry that leaves newest and its slot has room
+pub now_room_same : (l new : Ledger) → IsBalanced l → HasPlace l → new.places ≡ l.places + 1 → new.newest ≡ l.newest → new.slot ≡ l.slot → HasNowRoom new
+now_room_same l new balanced left places newest slot =
+    let fewer = balanced.newest_in in
+    let small = balanced.small in
+    record { place = omega arith; version = omega arith; slot = omega arith }
+
+-- what NOW says of a ledger after a publish has room
 pub now_room_published : (l new : Ledger) → IsBalanced l → HasPlace l → length (members l.kept.slots) < 64
     → new ≡ record l { places = l.places + 1; newest = l.newest + 1; slot = first_free l.kept.slots; kept = with_version l.kept (l.newest + 1) } → HasNowRoom new
 now_room_published l new balanced left room is =

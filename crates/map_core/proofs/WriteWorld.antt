@@ -56,7 +56,7 @@ newest_long w hand steps standings u room consistent =
     let tidy = tidy_of w consistent.whole in
     tidy.shape.own ∙ sym (tidy.shape.directory (newest (story_of w)) (omega arith))
 
--- the word of a position with a block of its own
+-- the directory's word for a position with an own block is that block
 pub word_own : (w : State) (hand : Option Command) (steps : ℕ) (standings : List Standing) (u : Summary) (room : Room) → IsConsistent w hand steps standings u room → (p b : ℕ) (o : Option ℕ) → p < tiles w.base
     → get_or u.own p o ≡ Some b → b ≡ (map_write w.base (story_of w) (blocks_of_state w) p).word
 unfolding map_write
@@ -65,7 +65,7 @@ word_own w hand steps standings u room consistent p b o inside is =
     sym (mapped_some (blocks_of_state w).own (directory_of (blocks_of_state w) (newest (story_of w))) p b o (newest_long w hand steps standings u room consistent) (omega arith)
     (ap (λ (own : List (Option ℕ)). get_or own p o) (sym consistent.summary.own_is) ∙ is))
 
--- the word of a position without one is newest's
+-- the directory's word for a position without an own block is newest's block
 pub word_newest : (w : State) (hand : Option Command) (steps : ℕ) (standings : List Standing) (u : Summary) (room : Room) → IsConsistent w hand steps standings u room → (p at word : ℕ) (o : Option ℕ) → p < tiles w.base
     → get_or u.own p o ≡ None → at ≡ map_at w.base (slot_of w.base (story_of w) u.ledger.newest) p → word ≡ get_or w.words at 0 → word ≡ (map_write w.base (story_of w) (blocks_of_state w) p).word
 unfolding map_write
@@ -92,7 +92,7 @@ pub record IsFound (w : State) (own : List (Option ℕ)) (number position block 
   pub position_is : position ≡ get_or (own_positions 0 own) (number / 64) 0
   pub block_is : block ≡ get_or (own_list own) (number / 64) 0
 
--- its block is one of the map's
+-- the own block that a publish writes next is one of the map's
 pub found_block : (w : State) (hand : Option Command) (steps : ℕ) (standings : List Standing) (u : Summary) (room : Room) → IsConsistent w hand steps standings u room → (own : List (Option ℕ)) (n p b : ℕ)
     → IsFound w own n p b → b < w.base.setting.blocks
 found_block w hand steps standings u room consistent own n p b found =
@@ -101,7 +101,7 @@ found_block w hand steps standings u room consistent own n p b found =
     let few = own_within w.base (story_of w) (blocks_of_state w) (tidy_of w consistent.whole) (n / 64) (omega arith) in
     omega arith
 
--- its position is one of the map's
+-- the position of the own block that a publish writes next is one of the map's
 pub found_position : (w : State) (hand : Option Command) (steps : ℕ) (standings : List Standing) (u : Summary) (room : Room) → IsConsistent w hand steps standings u room → (own : List (Option ℕ)) (n p b : ℕ)
     → IsFound w own n p b → p < tiles w.base
 found_position w hand steps standings u room consistent own n p b found =
@@ -111,7 +111,7 @@ found_position w hand steps standings u room consistent own n p b found =
     let few = position_within 0 (blocks_of_state w).own (n / 64) (omega arith) in
     omega arith
 
--- where its row goes
+-- a row of an own block goes to the place where a publish stores it
 pub tile_word_at : (w : State) (own : List (Option ℕ)) (n p b row at : ℕ) → IsFound w own n p b → row ≡ n % 64 → at ≡ tile_at w.base b row
     → at ≡ (tile_write w.base (story_of w) (blocks_of_state w) n).at
 unfolding tile_write
@@ -119,7 +119,7 @@ tile_word_at w own n p b row at found row_is is =
     let block = found.block_is ∙ ap (λ (os : List (Option ℕ)). get_or (own_list os) (n / 64) 0) found.own_is in
     is ∙ (ap (λ (x : ℕ). tile_at w.base x row) block ∙ ap (λ (i : ℕ). tile_at w.base (get_or (own_list (blocks_of_state w).own) (n / 64) 0) i) row_is)
 
--- and what it is
+-- the word that a publish stores for a row of an own block is the draft's row there
 pub tile_word_is : (w : State) (hand : Option Command) (steps : ℕ) (standings : List Standing) (u : Summary) (room : Room) → IsConsistent w hand steps standings u room → (own : List (Option ℕ)) (n p b row word : ℕ)
     → IsFound w own n p b → row ≡ n % 64 → word ≡ row_word u.draft p row → word ≡ (tile_write w.base (story_of w) (blocks_of_state w) n).word
 unfolding tile_write

@@ -1,5 +1,5 @@
 -- What a ledger counts of a log, and which commands it refuses: this project's own rule.
-use Rattle.std.specs.Prelude.{◌≡◌, ◌-◌, ◌<◌, ◌≤◌, ◌&&◌, nat_le, Bool, true, false, length, slice_index, Option, Some, None, if◌then◌else◌}
+use Rattle.std.specs.Prelude.{◌≡◌, ◌^◌, ◌-◌, ◌<◌, ◌≤◌, ◌&&◌, nat_le, Bool, true, false, length, slice_index, Option, Some, None, if◌then◌else◌}
 use Rattle.metric.specs.declared.refusal.Refusal.{Refusal}
 use Rattle.metric.specs.declared.refusal.Refusal.TheVariants.{OutOfRange, VersionsFull, LogFull, PlacesUsed}
 use Rattle.map_core.specs.declared.command.Command.{Command}
@@ -33,6 +33,12 @@ pub record IsBalanced (l : Ledger) : Type 0 where
 -- a place is left for one more entry
 abbrev pub HasPlace : Ledger → Type 0
 HasPlace l = l.places < most_places
+
+-- what NOW says of a ledger has room in its word
+pub record HasNowRoom (l : Ledger) : Type 0 where
+  pub place : l.places < 2 ^ 29
+  pub version : l.newest < 2 ^ 29
+  pub slot : l.slot < 64
 
 -- whether a command's entry takes room in the log; a checkpoint alone takes none
 abbrev pub takes_room : Command → Bool

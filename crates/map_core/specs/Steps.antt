@@ -98,6 +98,7 @@ confirm_held w r x None = None
 confirm_held w r x (Some v) =
     Some record { state = with_word (with_reader w r record x { announced = Some (Exact v) }) (pin_at r) (pin_word (Some (Exact v))); answer = says.Confirmed v; stored = Some (pin_at r) }
 
+-- a reader that holds a version which it hasn't announced exactly announces it so
 unfoldable pub confirm : State → ℕ → Option Reader → Option Outcome
 confirm w r None = None
 confirm w r (Some x) = confirm_held w r x (to_confirm x.announced x.holds)

@@ -56,7 +56,7 @@ kept s = members s.kept.slots
 unfoldable pub IsKept : Story → ℕ → Type 0
 IsKept s v = IsIn s.kept v
 
--- the same story with other versions kept
+-- a story with other versions kept
 abbrev pub with_kept : Story → Kept → Story
 with_kept s kept = record s { kept = kept }
 

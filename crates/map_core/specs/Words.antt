@@ -1,4 +1,6 @@
--- The words of a world and what stands in them: this project's own rule. First NOW, then a word for each reader, each with seven unused words behind it, then the slots' directories, then the blocks, 64 words each.
+-- The words of a world and what stands in them: this project's own rule.
+-- First comes NOW, then a word for each reader, each with seven unused words after it.
+-- The slots' directories come next, and then the blocks, 64 words each.
 use Rattle.std.specs.Prelude.{◌≡◌, ℕ, ◌+◌, ◌-◌, ◌*◌, ◌/◌, ◌%◌, ◌^◌, ◌==◌, List, slice_index, Option, Some, None, if◌then◌else◌}
 use Rattle.std.specs.Int.{bit_at}
 use Rattle.bits.specs.Cells.{Cells, cells_where}

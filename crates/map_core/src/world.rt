@@ -66,16 +66,9 @@ impl World {
     /// Does an event and answers it, or answers that it isn't enabled and changes nothing.
     ///
     /// An order is refused, in this order, for its area (`OutOfRange`), for want of room in the log (`LogFull`, never a checkpoint), of a place (`PlacesUsed`), of blocks (`BlocksFull`, a
-    /// paint or a stamp) or of a slot (`VersionsFull`, a publish), and of memory. No other event asks for memory. That memory is found
+    /// paint or a stamp) or of a slot (`VersionsFull`, a publish), and of memory; only a command that is accepted is copied. No other event asks for memory. That memory is found
     /// where there is some isn't promised.
-    pub fn step(&mut self, alloc: Global, event: Event) -> Result<StepReply, NotEnabled>
-        ensures { SafeStep self.old event result self.new }
-    {
-        self.do_event(alloc, &event)
-    }
-
-    /// Does an event and answers it. Only a command that is accepted is copied.
-    pub(crate) fn do_event(&mut self, alloc: Global, event: &Event) -> Result<StepReply, NotEnabled>
+    pub fn step(&mut self, alloc: Global, event: &Event) -> Result<StepReply, NotEnabled>
         ensures { SafeStep self.old event.now result self.new }
     {
         match event {

@@ -1,16 +1,34 @@
 //! The last steps of commands: each stores NOW, and appends its entry to the log.
 
-ghost use Rattle.std.specs.Prelude.{Ok};
+ghost use Rattle.std.specs.Prelude.{◌≡◌, ◌<◌, [], ◌∷◌, ◌++◌, Ok, vec_len, vec_capacity};
 ghost use Rattle.map_core.specs.Runs.{SafeStep};
 ghost use Rattle.map_core.specs.declared.event.Event.TheVariants.{Keep};
+ghost use Rattle.map_core.specs.declared.event.StepReply.TheVariants.{Committed};
 ghost use Rattle.map_core.specs.declared.command.Command.TheVariants.{Publish, Revert, Collect, Checkpoint};
+ghost use Rattle.map_core.specs.Ledger.{HasNowRoom};
+ghost use Rattle.map_core.specs.Words.{now_word};
 ghost use Rattle.map_core.specs.Consistent.{IsLastOf, IsDrawing};
 
 use crate::blocks::{give_back_own, give_back_retired, publish_own, take_blocks};
 use crate::command::{Command, Entry};
 use crate::event::StepReply;
+use crate::ledger::Ledger;
 use crate::world::World;
 use crate::world::words::NOW_AT;
+
+/// Keeps an entry after the others, for which there is room, and stores NOW as the ledger has it then.
+fn commit(ledger: &Ledger, now: &mut u64, log: &mut Vec<Entry>, entry: Entry) -> StepReply
+    requires now { HasNowRoom ledger.now }
+    requires room { vec_len log.old < vec_capacity log.old }
+    ensures now { now.new ≡ now_word ledger.now.places ledger.now.newest ledger.now.slot }
+    ensures log { log.new.items ≡ log.old.items ++ entry ∷ [] }
+    ensures reply { result ≡ Committed entry.reply }
+{
+    let reply = entry.reply;
+    log.push_reserved(entry);
+    *now = ledger.now_word();
+    StepReply::Committed { reply }
+}
 
 impl World {
     /// The step of a paint or a stamp: it draws on the draft, and each tile that changes takes a block, where it has none.
@@ -31,9 +49,8 @@ impl World {
         );
         self.draft.copy_from(&self.scratch);
         let reply = self.ledger.enter_draw(changed);
-        self.log.push_reserved(Entry { command, reply });
-        self.words[NOW_AT] = self.ledger.now_word();
-        StepReply::Committed { reply }
+        let entry = Entry { command, reply };
+        commit(&self.ledger, &mut self.words[NOW_AT], &mut self.log, entry)
     }
 
     /// The last step of a publish: the draft is the newest version then, and its own blocks are that version's.
@@ -52,13 +69,10 @@ impl World {
         );
         self.published.copy_from(&self.draft);
         let reply = self.ledger.enter_publish();
-        self.log.push_reserved(Entry {
-            command: Command::Publish,
-            reply,
-        });
-        self.words[NOW_AT] = self.ledger.now_word();
         self.hand = None;
-        StepReply::Committed { reply }
+        let command = Command::Publish;
+        let entry = Entry { command, reply };
+        commit(&self.ledger, &mut self.words[NOW_AT], &mut self.log, entry)
     }
 
     /// The last step of a revert: the draft is the newest version again, and its own blocks are given back.
@@ -69,13 +83,10 @@ impl World {
         self.draft.copy_from(&self.published);
         give_back_own(self.own.as_mut_slice(), &mut self.free);
         let reply = self.ledger.enter_revert();
-        self.log.push_reserved(Entry {
-            command: Command::Revert,
-            reply,
-        });
-        self.words[NOW_AT] = self.ledger.now_word();
         self.hand = None;
-        StepReply::Committed { reply }
+        let command = Command::Revert;
+        let entry = Entry { command, reply };
+        commit(&self.ledger, &mut self.words[NOW_AT], &mut self.log, entry)
     }
 
     /// The one step of a checkpoint: the log has its entry, and counts anew against its limit.
@@ -84,13 +95,10 @@ impl World {
         ensures { SafeStep self.old Keep (Ok result) self.new }
     {
         let reply = self.ledger.enter_checkpoint();
-        self.log.push_reserved(Entry {
-            command: Command::Checkpoint,
-            reply,
-        });
-        self.words[NOW_AT] = self.ledger.now_word();
         self.hand = None;
-        StepReply::Committed { reply }
+        let command = Command::Checkpoint;
+        let entry = Entry { command, reply };
+        commit(&self.ledger, &mut self.words[NOW_AT], &mut self.log, entry)
     }
 
     /// The last step of a collect: the versions that no reader may need are let go, and the blocks that no kept version maps are given back.
@@ -103,12 +111,9 @@ impl World {
         give_back_retired(&kept, &mut self.retired, &mut self.free);
         let freed = (before - self.retired.len()) as u32;
         let reply = self.ledger.enter_collect(kept, freed);
-        self.log.push_reserved(Entry {
-            command: Command::Collect,
-            reply,
-        });
-        self.words[NOW_AT] = self.ledger.now_word();
         self.hand = None;
-        StepReply::Committed { reply }
+        let command = Command::Collect;
+        let entry = Entry { command, reply };
+        commit(&self.ledger, &mut self.words[NOW_AT], &mut self.log, entry)
     }
 }

@@ -5,29 +5,18 @@ use Rattle.map_core.proofs.CommitWorld.{last_known, last_does, consistent_commit
 use Rattle.map_core.proofs.JudgeLemmas.{balanced_ledger}
 use Rattle.map_core.proofs.LedgerLemmas.{ledger_checkpoint, now_of_ledger}
 use Rattle.map_core.proofs.SummaryDraw.{summary_checkpoint}
-use Rattle.map_core.proofs.WorldLemmas.{safe_done, now_word_there}
+use Rattle.map_core.proofs.WorldLemmas.{safe_done, now_word_there, now_room_same}
 use Rattle.map_core.proofs.world.World.checkpoint.Goals as goal
 
 pub enter_checkpoint-reply-requires : goal.enter_checkpoint-reply-requires
 enter_checkpoint-reply-requires c =
     place_in_hand _ _ _ _ _ _ c.self.invariant _ _ _ refl (last_known c.args.self.now _ _ c.self.inside.hand _ _ c.self.view_is refl c.requires).0
 
-pub now_word-requires-clause-place : goal.now_word-requires-clause-place
-now_word-requires-clause-place c =
-    let places = ap (λ (l : Ledger). l.places) c.enter_checkpoint-reply.ensures.entered in
-    omega (arith, (place_in_hand _ _ _ _ _ _ c.self.invariant _ _ _ refl (last_known c.args.self.now _ _ c.self.inside.hand _ _ c.self.view_is refl c.requires).0))
-
-pub now_word-requires-clause-version : goal.now_word-requires-clause-version
-now_word-requires-clause-version c =
-    let balanced = balanced_ledger _ _ _ _ _ _ c.self.invariant in
-    let newest = ap (λ (l : Ledger). l.newest) c.enter_checkpoint-reply.ensures.entered in
-    omega (arith, balanced.newest_in, (place_in_hand _ _ _ _ _ _ c.self.invariant _ _ _ refl (last_known c.args.self.now _ _ c.self.inside.hand _ _ c.self.view_is refl c.requires).0))
-
-pub now_word-requires-clause-slot : goal.now_word-requires-clause-slot
-now_word-requires-clause-slot c =
-    let balanced = balanced_ledger _ _ _ _ _ _ c.self.invariant in
-    let slot = ap (λ (l : Ledger). l.slot) c.enter_checkpoint-reply.ensures.entered in
-    omega (arith, balanced.small)
+pub commit-requires-clause-now : goal.commit-requires-clause-now
+commit-requires-clause-now c =
+    let entered = c.enter_checkpoint-reply.ensures.entered in
+    let place = place_in_hand _ _ _ _ _ _ c.self.invariant _ _ _ refl (last_known c.args.self.now _ _ c.self.inside.hand _ _ c.self.view_is refl c.requires).0 in
+    now_room_same _ _ (balanced_ledger _ _ _ _ _ _ c.self.invariant) place (ap (λ (l : Ledger). l.places) entered) (ap (λ (l : Ledger). l.newest) entered) (ap (λ (l : Ledger). l.slot) entered)
 
 pub index_mut-requires : goal.index_mut-requires
 index_mut-requires c = omega (arith, now_word_there _ _ _ _ _ _ c.self.invariant, c.self.inside.words.ok)
@@ -36,8 +25,8 @@ pub invariant_of-self : goal.invariant_of-self
 invariant_of-self c =
     let known = last_known c.args.self.now _ _ c.self.inside.hand _ _ c.self.view_is refl c.requires in
     let entered = ledger_checkpoint _ _ _ c.enter_checkpoint-reply.new.self c.enter_checkpoint-reply.result c.self.invariant.summary.ledger_is c.enter_checkpoint-reply.ensures.entered in
-    let does = last_does _ _ _ _ _ _ _ _ _ _ _ _ _ c.now_word.result c.self.invariant known (reply_checkpoint _ _ _ _ _ c.self.invariant.summary.ledger_is c.enter_checkpoint-reply.ensures.reply) (now_of_ledger _ _ _ _ entered c.now_word.ensures) in
-    rw (c.push_reserved.ensures.items)
+    let does = last_does _ _ _ _ _ _ _ _ _ _ _ _ _ c.commit.new.now c.self.invariant known (reply_checkpoint _ _ _ _ _ c.self.invariant.summary.ledger_is c.enter_checkpoint-reply.ensures.reply) (now_of_ledger _ _ _ _ entered c.commit.ensures.now) in
+    rw (c.commit.ensures.log)
     (consistent_commit _ _ _ _ _ _ c.self.inside.done _ _ _ c.self.inside.scanned.items _ _ _ _ _ _ _ _ c.self.invariant does
     (summary_checkpoint _ _ _ _ _ _ c.self.invariant.summary entered)
     (omega arith) (omega arith) (omega arith) c.self.invariant.roomy.scratch)
@@ -46,6 +35,6 @@ pub returns : goal.returns
 returns c =
     let known = last_known c.args.self.now _ _ c.self.inside.hand _ _ c.self.view_is refl c.requires in
     let entered = ledger_checkpoint _ _ _ c.enter_checkpoint-reply.new.self c.enter_checkpoint-reply.result c.self.invariant.summary.ledger_is c.enter_checkpoint-reply.ensures.entered in
-    rw (← c.self.view_is, ap (λ (l : Ledger). l.setting) c.enter_checkpoint-reply.ensures.entered, c.push_reserved.ensures.items)
+    rw (← c.self.view_is, ap (λ (l : Ledger). l.setting) c.enter_checkpoint-reply.ensures.entered, c.commit.ensures.log, c.commit.ensures.reply)
     (safe_done _ _ _ c.self.invariant.whole
-    (last_does _ _ _ _ _ _ _ _ _ _ _ _ _ c.now_word.result c.self.invariant known (reply_checkpoint _ _ _ _ _ c.self.invariant.summary.ledger_is c.enter_checkpoint-reply.ensures.reply) (now_of_ledger _ _ _ _ entered c.now_word.ensures)))
+    (last_does _ _ _ _ _ _ _ _ _ _ _ _ _ c.commit.new.now c.self.invariant known (reply_checkpoint _ _ _ _ _ c.self.invariant.summary.ledger_is c.enter_checkpoint-reply.ensures.reply) (now_of_ledger _ _ _ _ entered c.commit.ensures.now)))

@@ -7,7 +7,7 @@ use Rattle.map_core.proofs.JudgeLemmas.{balanced_ledger}
 use Rattle.map_core.proofs.LedgerLemmas.{ledger_collect, now_of_ledger}
 use Rattle.map_core.proofs.StepLemmas.{tidy_of}
 use Rattle.map_core.proofs.SummaryCollect.{summary_collect, freed_collect}
-use Rattle.map_core.proofs.WorldLemmas.{safe_done, now_word_there}
+use Rattle.map_core.proofs.WorldLemmas.{safe_done, now_word_there, now_room_same}
 use Rattle.map_core.proofs.world.World.collect.Goals as goal
 
 pub give_back_retired-requires : goal.give_back_retired-requires
@@ -24,14 +24,11 @@ pub enter_collect-reply-requires : goal.enter_collect-reply-requires
 enter_collect-reply-requires c =
     place_in_hand _ _ _ _ _ _ c.self.invariant _ _ _ refl (last_known c.args.self.now _ _ c.self.inside.hand _ _ c.self.view_is refl c.requires).0
 
-pub now_word-requires-clause-place : goal.now_word-requires-clause-place
-now_word-requires-clause-place c = let balanced = balanced_ledger _ _ _ _ _ _ c.self.invariant in let places = ap (λ (l : Ledger). l.places) c.enter_collect-reply.ensures.entered in omega (arith, (place_in_hand _ _ _ _ _ _ c.self.invariant _ _ _ refl (last_known c.args.self.now _ _ c.self.inside.hand _ _ c.self.view_is refl c.requires).0))
-
-pub now_word-requires-clause-version : goal.now_word-requires-clause-version
-now_word-requires-clause-version c = let balanced = balanced_ledger _ _ _ _ _ _ c.self.invariant in let newest = ap (λ (l : Ledger). l.newest) c.enter_collect-reply.ensures.entered in omega (arith, balanced.newest_in, (place_in_hand _ _ _ _ _ _ c.self.invariant _ _ _ refl (last_known c.args.self.now _ _ c.self.inside.hand _ _ c.self.view_is refl c.requires).0))
-
-pub now_word-requires-clause-slot : goal.now_word-requires-clause-slot
-now_word-requires-clause-slot c = let balanced = balanced_ledger _ _ _ _ _ _ c.self.invariant in let slot = ap (λ (l : Ledger). l.slot) c.enter_collect-reply.ensures.entered in omega (arith, balanced.small)
+pub commit-requires-clause-now : goal.commit-requires-clause-now
+commit-requires-clause-now c =
+    let entered = c.enter_collect-reply.ensures.entered in
+    let place = place_in_hand _ _ _ _ _ _ c.self.invariant _ _ _ refl (last_known c.args.self.now _ _ c.self.inside.hand _ _ c.self.view_is refl c.requires).0 in
+    now_room_same _ _ (balanced_ledger _ _ _ _ _ _ c.self.invariant) place (ap (λ (l : Ledger). l.places) entered) (ap (λ (l : Ledger). l.newest) entered) (ap (λ (l : Ledger). l.slot) entered)
 
 pub index_mut-requires : goal.index_mut-requires
 index_mut-requires c = omega (arith, now_word_there _ _ _ _ _ _ c.self.invariant, c.self.inside.words.ok)
@@ -46,8 +43,8 @@ invariant_of-self c =
     let tidy = tidy_of _ c.self.invariant.whole in
     let count : c.len-before.result - c.len.result ≡ length c.self.inside.retired.items - length c.give_back_retired.new.retired.items = omega (arith, c.len.ensures, c.len-before.ensures, c.self.inside.retired.ok, c.give_back_retired.new.retired.ok) in
     let freed = freed_collect _ _ _ _ _ _ _ tidy c.self.invariant.summary choice c.give_back_retired.ensures.retired count in
-    let does = last_does _ _ _ _ _ _ _ _ _ _ _ _ _ c.now_word.result c.self.invariant known (reply_collect _ _ _ _ _ _ _ ledger c.enter_collect-reply.ensures.reply kept_is freed) (now_of_ledger _ _ _ _ entered c.now_word.ensures) in
-    rw (c.push_reserved.ensures.items)
+    let does = last_does _ _ _ _ _ _ _ _ _ _ _ _ _ c.commit.new.now c.self.invariant known (reply_collect _ _ _ _ _ _ _ ledger c.enter_collect-reply.ensures.reply kept_is freed) (now_of_ledger _ _ _ _ entered c.commit.ensures.now) in
+    rw (c.commit.ensures.log)
     (consistent_commit _ _ _ _ _ _ c.self.inside.done _ _ _ c.self.inside.scanned.items _ _ _ _ _ _ _ _ c.self.invariant does
     (summary_collect _ _ _ _ _ _ _ _ _ _ _ _ c.self.invariant.summary c.enter_collect-reply.ensures.reply entered c.give_back_retired.ensures.retired c.give_back_retired.ensures.free)
     (omega arith) (omega (arith, c.give_back_retired.ensures.free_capacity)) (omega (arith, c.give_back_retired.ensures.retired_capacity)) c.self.invariant.roomy.scratch)
@@ -62,6 +59,6 @@ returns c =
     let tidy = tidy_of _ c.self.invariant.whole in
     let count : c.len-before.result - c.len.result ≡ length c.self.inside.retired.items - length c.give_back_retired.new.retired.items = omega (arith, c.len.ensures, c.len-before.ensures, c.self.inside.retired.ok, c.give_back_retired.new.retired.ok) in
     let freed = freed_collect _ _ _ _ _ _ _ tidy c.self.invariant.summary choice c.give_back_retired.ensures.retired count in
-    rw (← c.self.view_is, ap (λ (l : Ledger). l.setting) c.enter_collect-reply.ensures.entered, c.push_reserved.ensures.items)
+    rw (← c.self.view_is, ap (λ (l : Ledger). l.setting) c.enter_collect-reply.ensures.entered, c.commit.ensures.log, c.commit.ensures.reply)
     (safe_done _ _ _ c.self.invariant.whole
-    (last_does _ _ _ _ _ _ _ _ _ _ _ _ _ c.now_word.result c.self.invariant known (reply_collect _ _ _ _ _ _ _ ledger c.enter_collect-reply.ensures.reply kept_is freed) (now_of_ledger _ _ _ _ entered c.now_word.ensures)))
+    (last_does _ _ _ _ _ _ _ _ _ _ _ _ _ c.commit.new.now c.self.invariant known (reply_collect _ _ _ _ _ _ _ ledger c.enter_collect-reply.ensures.reply kept_is freed) (now_of_ledger _ _ _ _ entered c.commit.ensures.now)))

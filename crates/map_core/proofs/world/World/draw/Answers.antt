@@ -53,10 +53,10 @@ invariant_of-self c =
     let known = drawing_known c.args.self.now _ _ _ _ _ c.self.view_is refl c.requires (sym c.take.ensures.value ∙ c.in-Some.is) in
     let entered = ledger_draw _ _ _ c.enter_draw-reply.new.self _ c.enter_draw-reply.result c.self.invariant.summary.ledger_is known.draws c.enter_draw-reply.ensures.entered in
     let size : length c.take_blocks.new.own ≡ length c.self.inside.own.items = omega (arith, ap length c.as_mut_slice.ensures.value) in
-    let does = last_does _ _ _ _ _ _ _ _ _ _ _ _ _ c.now_word.result c.self.invariant known.last
+    let does = last_does _ _ _ _ _ _ _ _ _ _ _ _ _ c.commit.new.now c.self.invariant known.last
     (reply_draw _ _ _ _ _ _ _ c.self.invariant.summary.ledger_is known.draws c.enter_draw-reply.ensures.reply (count_draw _ _ _ _ _ _ c.self.invariant _ _ _ c.copy_from.ensures c.draw-changed.ensures.changed))
-    (now_of_ledger _ _ _ _ entered c.now_word.ensures) in
-    rw (c.push_reserved.ensures.items, c.take.ensures.after)
+    (now_of_ledger _ _ _ _ entered c.commit.ensures.now) in
+    rw (c.commit.ensures.log, c.take.ensures.after)
     (consistent_commit _ _ _ _ _ _ c.self.inside.done _ _ _ c.self.inside.scanned.items _ _ _ _ _ _ _ _ c.self.invariant does
     (summary_draw _ _ _ _ _ _ _ _ _ _ c.self.invariant.summary (tidy_of _ c.self.invariant.whole).shape.changed known.draws
     entered
@@ -72,17 +72,11 @@ pub returns : goal.returns
 returns c =
     let known = drawing_known c.args.self.now _ _ _ _ _ c.self.view_is refl c.requires (sym c.take.ensures.value ∙ c.in-Some.is) in
     let entered = ledger_draw _ _ _ c.enter_draw-reply.new.self _ c.enter_draw-reply.result c.self.invariant.summary.ledger_is known.draws c.enter_draw-reply.ensures.entered in
-    rw (← c.self.view_is, ap (λ (l : Ledger). l.setting) c.enter_draw-reply.ensures.entered, c.push_reserved.ensures.items, c.take.ensures.after)
+    rw (← c.self.view_is, ap (λ (l : Ledger). l.setting) c.enter_draw-reply.ensures.entered, c.commit.ensures.log, c.commit.ensures.reply, c.take.ensures.after)
     (safe_done _ _ _ c.self.invariant.whole
-    (last_does _ _ _ _ _ _ _ _ _ _ _ _ _ c.now_word.result c.self.invariant known.last
+    (last_does _ _ _ _ _ _ _ _ _ _ _ _ _ c.commit.new.now c.self.invariant known.last
     (reply_draw _ _ _ _ _ _ _ c.self.invariant.summary.ledger_is known.draws c.enter_draw-reply.ensures.reply (count_draw _ _ _ _ _ _ c.self.invariant _ _ _ c.copy_from.ensures c.draw-changed.ensures.changed))
-    (now_of_ledger _ _ _ _ entered c.now_word.ensures)))
+    (now_of_ledger _ _ _ _ entered c.commit.ensures.now)))
 
-pub now_word-requires-clause-place : goal.now_word-requires-clause-place
-now_word-requires-clause-place c = (now_room _ _ (balanced_ledger _ _ _ _ _ _ c.self.invariant) (place_in_hand _ _ _ _ _ _ c.self.invariant _ _ _ refl (sym c.take.ensures.value ∙ c.in-Some.is)) c.enter_draw-reply.ensures.entered).place
-
-pub now_word-requires-clause-version : goal.now_word-requires-clause-version
-now_word-requires-clause-version c = (now_room _ _ (balanced_ledger _ _ _ _ _ _ c.self.invariant) (place_in_hand _ _ _ _ _ _ c.self.invariant _ _ _ refl (sym c.take.ensures.value ∙ c.in-Some.is)) c.enter_draw-reply.ensures.entered).version
-
-pub now_word-requires-clause-slot : goal.now_word-requires-clause-slot
-now_word-requires-clause-slot c = (now_room _ _ (balanced_ledger _ _ _ _ _ _ c.self.invariant) (place_in_hand _ _ _ _ _ _ c.self.invariant _ _ _ refl (sym c.take.ensures.value ∙ c.in-Some.is)) c.enter_draw-reply.ensures.entered).slot
+pub commit-requires-clause-now : goal.commit-requires-clause-now
+commit-requires-clause-now c = now_room _ _ (balanced_ledger _ _ _ _ _ _ c.self.invariant) (place_in_hand _ _ _ _ _ _ c.self.invariant _ _ _ refl (sym c.take.ensures.value ∙ c.in-Some.is)) c.enter_draw-reply.ensures.entered

@@ -28,23 +28,11 @@ enter_publish-reply-requires-clause-slot c =
     let now = consistent_of c.args.self.now _ _ _ _ _ _ c.self.view_is c.self.invariant in
     next_room c.args.self.now now.whole _ now.summary.ledger_is (accepted_in c.args.self.now c.requires.hand Publish now.whole c.requires.there c.requires.command)
 
-pub now_word-requires-clause-place : goal.now_word-requires-clause-place
-now_word-requires-clause-place c =
+pub commit-requires-clause-now : goal.commit-requires-clause-now
+commit-requires-clause-now c =
     let now = consistent_of c.args.self.now _ _ _ _ _ _ c.self.view_is c.self.invariant in
     let room = next_room c.args.self.now now.whole _ now.summary.ledger_is (accepted_in c.args.self.now c.requires.hand Publish now.whole c.requires.there c.requires.command) in
-    (now_room_published _ _ (balanced_ledger _ _ _ _ _ _ c.self.invariant) (place_in_hand _ _ _ _ _ _ c.self.invariant _ _ _ refl (last_known c.args.self.now _ _ c.self.inside.hand _ _ c.self.view_is refl c.requires).0) room c.enter_publish-reply.ensures.entered).place
-
-pub now_word-requires-clause-version : goal.now_word-requires-clause-version
-now_word-requires-clause-version c =
-    let now = consistent_of c.args.self.now _ _ _ _ _ _ c.self.view_is c.self.invariant in
-    let room = next_room c.args.self.now now.whole _ now.summary.ledger_is (accepted_in c.args.self.now c.requires.hand Publish now.whole c.requires.there c.requires.command) in
-    (now_room_published _ _ (balanced_ledger _ _ _ _ _ _ c.self.invariant) (place_in_hand _ _ _ _ _ _ c.self.invariant _ _ _ refl (last_known c.args.self.now _ _ c.self.inside.hand _ _ c.self.view_is refl c.requires).0) room c.enter_publish-reply.ensures.entered).version
-
-pub now_word-requires-clause-slot : goal.now_word-requires-clause-slot
-now_word-requires-clause-slot c =
-    let now = consistent_of c.args.self.now _ _ _ _ _ _ c.self.view_is c.self.invariant in
-    let room = next_room c.args.self.now now.whole _ now.summary.ledger_is (accepted_in c.args.self.now c.requires.hand Publish now.whole c.requires.there c.requires.command) in
-    (now_room_published _ _ (balanced_ledger _ _ _ _ _ _ c.self.invariant) (place_in_hand _ _ _ _ _ _ c.self.invariant _ _ _ refl (last_known c.args.self.now _ _ c.self.inside.hand _ _ c.self.view_is refl c.requires).0) room c.enter_publish-reply.ensures.entered).slot
+    now_room_published _ _ (balanced_ledger _ _ _ _ _ _ c.self.invariant) (place_in_hand _ _ _ _ _ _ c.self.invariant _ _ _ refl (last_known c.args.self.now _ _ c.self.inside.hand _ _ c.self.view_is refl c.requires).0) room c.enter_publish-reply.ensures.entered
 
 pub publish_own-requires-clause-newest : goal.publish_own-requires-clause-newest
 publish_own-requires-clause-newest c =
@@ -88,8 +76,8 @@ invariant_of-self c =
     let tidy = tidy_of _ c.self.invariant.whole in
     let entered = ledger_publish _ _ _ c.enter_publish-reply.new.self c.enter_publish-reply.result c.self.invariant.summary.ledger_is (newest_published _ _ _ _ tidy.shape) (slots_published _ _ _ tidy) c.enter_publish-reply.ensures.entered in
     let part = newest_part _ _ _ _ _ c.self.view_is (c.from-tiles.ensures ∙ c.tiles.ensures.tiles) c.map_at-first.ensures.place in
-    let does = last_does _ _ _ _ _ _ _ _ _ _ _ _ _ c.now_word.result c.self.invariant known (reply_publish _ _ _ _ _ c.self.invariant.summary.ledger_is c.enter_publish-reply.ensures.reply) (now_of_ledger _ _ _ _ entered c.now_word.ensures) in
-    rw (c.push_reserved.ensures.items)
+    let does = last_does _ _ _ _ _ _ _ _ _ _ _ _ _ c.commit.new.now c.self.invariant known (reply_publish _ _ _ _ _ c.self.invariant.summary.ledger_is c.enter_publish-reply.ensures.reply) (now_of_ledger _ _ _ _ entered c.commit.ensures.now) in
+    rw (c.commit.ensures.log)
     (consistent_commit _ _ _ _ _ _ c.self.inside.done _ _ _ c.self.inside.scanned.items _ _ _ _ _ _ _ _ c.self.invariant does
     (summary_publish _ _ _ _ _ _ _ _ _ _ c.self.invariant.summary tidy entered c.copy_from.ensures
     (cleared_back _ _ _ _ _ c.publish_own.ensures.own c.as_mut_slice.ensures.value (omega (arith, c.self.inside.own.ok)))
@@ -102,6 +90,6 @@ returns c =
     let known = last_known c.args.self.now _ _ c.self.inside.hand _ _ c.self.view_is refl c.requires in
     let tidy = tidy_of _ c.self.invariant.whole in
     let entered = ledger_publish _ _ _ c.enter_publish-reply.new.self c.enter_publish-reply.result c.self.invariant.summary.ledger_is (newest_published _ _ _ _ tidy.shape) (slots_published _ _ _ tidy) c.enter_publish-reply.ensures.entered in
-    rw (← c.self.view_is, ap (λ (l : Ledger). l.setting) c.enter_publish-reply.ensures.entered, c.push_reserved.ensures.items)
+    rw (← c.self.view_is, ap (λ (l : Ledger). l.setting) c.enter_publish-reply.ensures.entered, c.commit.ensures.log, c.commit.ensures.reply)
     (safe_done _ _ _ c.self.invariant.whole
-    (last_does _ _ _ _ _ _ _ _ _ _ _ _ _ c.now_word.result c.self.invariant known (reply_publish _ _ _ _ _ c.self.invariant.summary.ledger_is c.enter_publish-reply.ensures.reply) (now_of_ledger _ _ _ _ entered c.now_word.ensures)))
+    (last_does _ _ _ _ _ _ _ _ _ _ _ _ _ c.commit.new.now c.self.invariant known (reply_publish _ _ _ _ _ c.self.invariant.summary.ledger_is c.enter_publish-reply.ensures.reply) (now_of_ledger _ _ _ _ entered c.commit.ensures.now)))

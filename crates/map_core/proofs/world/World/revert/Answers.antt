@@ -29,8 +29,8 @@ pub invariant_of-self : goal.invariant_of-self
 invariant_of-self c =
     let known = last_known c.args.self.now _ _ c.self.inside.hand _ _ c.self.view_is refl c.requires in
     let entered = ledger_revert _ _ _ c.enter_revert-reply.new.self c.enter_revert-reply.result c.self.invariant.summary.ledger_is c.enter_revert-reply.ensures.entered in
-    let does = last_does _ _ _ _ _ _ _ _ _ _ _ _ _ c.now_word.result c.self.invariant known (reply_revert _ _ _ _ _ c.self.invariant.summary.ledger_is c.enter_revert-reply.ensures.reply) (now_of_ledger _ _ _ _ entered c.now_word.ensures) in
-    rw (c.push_reserved.ensures.items)
+    let does = last_does _ _ _ _ _ _ _ _ _ _ _ _ _ c.commit.new.now c.self.invariant known (reply_revert _ _ _ _ _ c.self.invariant.summary.ledger_is c.enter_revert-reply.ensures.reply) (now_of_ledger _ _ _ _ entered c.commit.ensures.now) in
+    rw (c.commit.ensures.log)
     (consistent_commit _ _ _ _ _ _ c.self.inside.done _ _ _ c.self.inside.scanned.items _ _ _ _ _ _ _ _ c.self.invariant does
     (summary_revert _ _ _ _ _ _ _ _ _ c.self.invariant.summary entered c.copy_from.ensures
     (cleared_back _ _ _ _ _ c.give_back_own.ensures.own c.as_mut_slice.ensures.value (omega (arith, c.self.inside.own.ok)))
@@ -41,15 +41,9 @@ pub returns : goal.returns
 returns c =
     let known = last_known c.args.self.now _ _ c.self.inside.hand _ _ c.self.view_is refl c.requires in
     let entered = ledger_revert _ _ _ c.enter_revert-reply.new.self c.enter_revert-reply.result c.self.invariant.summary.ledger_is c.enter_revert-reply.ensures.entered in
-    rw (← c.self.view_is, ap (λ (l : Ledger). l.setting) c.enter_revert-reply.ensures.entered, c.push_reserved.ensures.items)
+    rw (← c.self.view_is, ap (λ (l : Ledger). l.setting) c.enter_revert-reply.ensures.entered, c.commit.ensures.log, c.commit.ensures.reply)
     (safe_done _ _ _ c.self.invariant.whole
-    (last_does _ _ _ _ _ _ _ _ _ _ _ _ _ c.now_word.result c.self.invariant known (reply_revert _ _ _ _ _ c.self.invariant.summary.ledger_is c.enter_revert-reply.ensures.reply) (now_of_ledger _ _ _ _ entered c.now_word.ensures)))
+    (last_does _ _ _ _ _ _ _ _ _ _ _ _ _ c.commit.new.now c.self.invariant known (reply_revert _ _ _ _ _ c.self.invariant.summary.ledger_is c.enter_revert-reply.ensures.reply) (now_of_ledger _ _ _ _ entered c.commit.ensures.now)))
 
-pub now_word-requires-clause-place : goal.now_word-requires-clause-place
-now_word-requires-clause-place c = (now_room _ _ (balanced_ledger _ _ _ _ _ _ c.self.invariant) (place_in_hand _ _ _ _ _ _ c.self.invariant _ _ _ refl (last_known c.args.self.now _ _ c.self.inside.hand _ _ c.self.view_is refl c.requires).0) c.enter_revert-reply.ensures.entered).place
-
-pub now_word-requires-clause-version : goal.now_word-requires-clause-version
-now_word-requires-clause-version c = (now_room _ _ (balanced_ledger _ _ _ _ _ _ c.self.invariant) (place_in_hand _ _ _ _ _ _ c.self.invariant _ _ _ refl (last_known c.args.self.now _ _ c.self.inside.hand _ _ c.self.view_is refl c.requires).0) c.enter_revert-reply.ensures.entered).version
-
-pub now_word-requires-clause-slot : goal.now_word-requires-clause-slot
-now_word-requires-clause-slot c = (now_room _ _ (balanced_ledger _ _ _ _ _ _ c.self.invariant) (place_in_hand _ _ _ _ _ _ c.self.invariant _ _ _ refl (last_known c.args.self.now _ _ c.self.inside.hand _ _ c.self.view_is refl c.requires).0) c.enter_revert-reply.ensures.entered).slot
+pub commit-requires-clause-now : goal.commit-requires-clause-now
+commit-requires-clause-now c = now_room _ _ (balanced_ledger _ _ _ _ _ _ c.self.invariant) (place_in_hand _ _ _ _ _ _ c.self.invariant _ _ _ refl (last_known c.args.self.now _ _ c.self.inside.hand _ _ c.self.view_is refl c.requires).0) c.enter_revert-reply.ensures.entered
