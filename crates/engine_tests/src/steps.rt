@@ -216,7 +216,7 @@ fn first_lines_are_refused(rt: HostRuntime) {
     }
 }
 
-/// A text of two lines, and what stands behind its last LF.
+/// A text of two lines, and what stands after its last LF.
 const SHORT: &str = "OPEN 64 64 3 2 1 10\nL 0\nA 0";
 
 #[test]

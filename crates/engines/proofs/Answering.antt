@@ -22,13 +22,13 @@ pub told : Option (List ℕ) → List ℕ
 told None = []
 told (Some bytes) = bytes
 
--- they are all that it told
+-- the bytes that a reader tells, none where it tells nothing, are all that it told
 pub AreAll-told : (unread : Option (List ℕ)) → AreAll unread (told unread)
 unfolding told
 AreAll-told None = tt
 AreAll-told (Some bytes) = refl
 
--- where no write failed the answer is whole
+-- where no write failed, an answer to what a reader tells is written whole
 pub answered : (options : DistOptions) (unread before after : Option (List ℕ)) (bytes : List ℕ) (written : Result ℕ WriteFault) (old new : ℕ)
     → AreAll unread bytes
     → IfOk written (λ status. (text : List ℕ) × IsImageAnswer options bytes text status × Appends before text after)
@@ -36,7 +36,7 @@ pub answered : (options : DistOptions) (unread before after : Option (List ℕ))
 answered options unread before after bytes (Ok status) old new all (text, answer, whole) counts same = record { bytes = bytes; text = text; all = all; answer = inl answer; written = whole }
 answered options unread before after bytes (Err fault) old new all whole counts same = absurd (omega (arith, counts))
 
--- where one failed a beginning of the answer is written, and the status is 1
+-- where a write failed, a beginning of the answer is written, and the status is 1
 pub begun : (options : DistOptions) (unread before after : Option (List ℕ)) (bytes : List ℕ) (written : Result ℕ WriteFault) (old new : ℕ)
     → AreAll unread bytes
     → OnErr written ((text : List ℕ) × (status : ℕ) × IsImageAnswer options bytes text status × AppendsFront before text after)
@@ -50,7 +50,7 @@ pub answer_of_fault : (options : DistOptions) (bytes : List ℕ) (fault : PbmFau
     → IsImageAnswer options bytes (image_text fault ++ 10 ∷ []) status
 answer_of_fault options bytes fault status true_of memory one = inr (record { fault = fault; true_of = true_of; memory = memory; text_is = refl; status_is = one })
 
--- the lines of a table are what is asked where no line is
+-- where no query is asked, the lines of the image's table are an answer to it
 pub asked_of_table : (options : DistOptions) (bytes : List ℕ) (table : Table) → options.query ≡ None → IsTableOf options.metric options.edge bytes table
     → IsImageAnswer options bytes (table_text options.nearest table.width table.height (nears_of table)) 0
 asked_of_table options bytes table no_line of = inl (rw no_line (record {
@@ -63,11 +63,11 @@ asked_of_table options bytes table no_line of = inl (rw no_line (record {
   status_is = refl;
 }))
 
--- a reply is what is asked where a line is
+-- where a query is asked, its reply is an answer to the image
 pub asked_of_reply : (options : DistOptions) (bytes : List ℕ) (line : Bor (List ℕ)) (text : List ℕ) (status : ℕ) → options.query ≡ Some line → IsReply options.edge line.now bytes text status → IsImageAnswer options bytes text status
 asked_of_reply options bytes line text status given reply = inl (rw given reply)
 
--- the line of want of memory, written whole, is an answer to all bytes of any reader
+-- the line of want of memory, written whole, is an answer of `dist` to all bytes of any reader
 pub memory_whole : (options : DistOptions) (unread before after : Option (List ℕ)) (written : Result ℕ WriteFault) (old new : ℕ) → IfOk written (λ status. status ≡ 1)
     → OnOk written (Appends before (image_text faults.Memory ++ 10 ∷ []) after) → Counts old written new → new ≡ old → Answers options unread before after (result_unwrap_or written 1)
 memory_whole options unread before after (Ok status) old new one whole counts same = record {
@@ -79,7 +79,7 @@ memory_whole options unread before after (Ok status) old new one whole counts sa
 }
 memory_whole options unread before after (Err fault) old new one whole counts same = absurd (omega (arith, counts))
 
--- and written in part, a beginning of one
+-- the line of want of memory, written in part, begins an answer of `dist` to all bytes of any reader
 pub memory_in_part : (options : DistOptions) (unread before after : Option (List ℕ)) (written : Result ℕ WriteFault) (old new : ℕ) → OnErr written (AppendsFront before (image_text faults.Memory ++ 10 ∷ []) after)
     → Counts old written new → new ≢ old → BeginsToAnswer options unread before after × (result_unwrap_or written 1 ≡ 1)
 memory_in_part options unread before after (Ok status) old new front counts other = absurd (other counts)
@@ -96,6 +96,6 @@ pub reads-header : (bytes : List ℕ) (n : ℕ) (cells : Cells) → Reads bytes 
 unfolding image
 reads-header bytes n cells found = let is : image bytes ≡ Ok (cells, found.rest) = reads-image bytes n cells found in first_part (header bytes) _ (cells, found.rest) is
 
--- what follows where one call finds no memory follows where its fault is handed on
+-- what follows where one call finds no memory follows where its fault is passed on
 pub memory_passed : {A B P : Type 0} (fault : PbmFault) → (let found : Result A PbmFault = Err fault in found ≡ Err faults.Memory → P) → (let passed : Result B PbmFault = Err fault in passed ≡ Err faults.Memory) → P
 memory_passed fault follows none = let same : fault ≡ faults.Memory = cc in follows (ap Err same)

@@ -33,12 +33,12 @@ use Rattle.clearance.proofs.Refusals.{map_none}
 abbrev pub read_of : Option (Text × List Row) → Option (Text × Option Text × Option Text × Option Text × Option Text × Option Text)
 read_of found = option_map (λ p. (p.0, first_of (codes "metric") p.1, one_of (codes "nearest") p.1, first_of (codes "query") p.1, first_of (codes "workers") p.1, first_of (codes "edge") p.1)) found
 
--- the words are taken, whatever the program is called
+-- the word `dist` alone is taken, whatever the program is called
 pub takes_dist : (name : List ℕ) → takes program_app (name ∷ codes "dist" ∷ []) ≡ true
 unfolding clap_on_literals
 takes_dist name = refl
 
--- they name the subcommand `dist`, and its flags have their defaults
+-- the word `dist` alone names the subcommand `dist` and no flag, so that the flags have their defaults
 pub read_of_dist : (name : List ℕ) → read_of (subcommand_of program_app (name ∷ codes "dist" ∷ [])) ≡ Some (codes "dist", Some (codes "euclid2"), Some (codes "false"), None, Some (codes "1"), Some (codes "open"))
 unfolding clap_on_literals
 read_of_dist name = refl
@@ -48,7 +48,7 @@ pub program_is_simple : is_simple program_app ≡ true
 unfolding clap_on_literals
 program_is_simple = refl
 
--- of pairs made from an option's value, the first part
+-- the first parts of pairs that are made of an option's value are the option of the first parts
 first_of_pair : {X A B : Type 0} (f : X → A) (g : X → B) (o : Option X) → option_map f o ≡ option_map (λ (p : A × B). p.0) (option_map (λ b. (f b, g b)) o)
 first_of_pair f g None = refl
 first_of_pair f g (Some x) = refl
@@ -78,12 +78,12 @@ read_rows (Some p) rows name metric nearest query workers edge these read =
     let fifth : Some (first_of (codes "edge") p.1) ≡ Some edge = ap (option_map (λ (t : Text × Option Text × Option Text × Option Text × Option Text × Option Text). t.5)) read in
     (rw (← same) (cc), rw (← same) (cc), rw (← same) (cc), rw (← same) (cc), rw (← same) (cc))
 
--- the words `steps` alone are taken, whatever the program is called
+-- the word `steps` alone is taken, whatever the program is called
 pub takes_steps : (name : List ℕ) → takes program_app (name ∷ codes "steps" ∷ []) ≡ true
 unfolding clap_on_literals
 takes_steps name = refl
 
--- they name the subcommand `steps`
+-- the word `steps` alone names the subcommand `steps`, whatever the program is called
 name_of_steps : (name : List ℕ) → option_map (λ (p : Text × List Row). p.0) (subcommand_of program_app (name ∷ codes "steps" ∷ [])) ≡ Some (codes "steps")
 unfolding clap_on_literals
 name_of_steps name = refl
@@ -98,13 +98,13 @@ named_steps name texts matches words found =
 pub named_so : (name : Text) (rows : List Row) (texts : List (List ℕ)) (matches : ArgMatches) → HasMatchesOf program_app texts matches → subcommand_of program_app texts ≡ Some (name, rows) → subcommand_name_of matches ≡ Some name
 named_so name rows texts matches found named = first_of_pair _ _ _ ∙ ap (option_map (λ (p : Text × List Row). p.0)) ((found program_is_simple).1 ∙ named)
 
--- and its flags are those that the words give
+-- a parse whose words name a subcommand has met the flags that these words give it
 rows_so : (name : Text) (given rows : List Row) (texts : List (List ℕ)) (matches : ArgMatches) → HasMatchesOf program_app texts matches → subcommand_of program_app texts ≡ Some (name, given)
     → option_map (λ (p : Text × List Row). p.1) (subcommand_rows_of matches) ≡ Some rows → given ≡ rows
 rows_so name given rows texts matches found named these =
     let same : Some given ≡ Some rows = sym (ap (option_map (λ (p : Text × List Row). p.1)) ((found program_is_simple).1 ∙ named)) ∙ these in cc
 
--- no subcommand has both names
+-- no name is both `dist` and `steps`
 pub one_name : (name : Option Text) → name ≡ Some (codes "dist") → name ≡ Some (codes "steps") → ⊥
 one_name name dist steps = let same : Some (codes "dist") ≡ Some (codes "steps") = sym dist ∙ steps in cc
 
@@ -138,7 +138,7 @@ default_options-read rows options are metric nearest query workers edge =
     ∙ (ap₂ (λ (q : Option (Bor (List ℕ))) (w : ℕ). record { metric = Euclid2; edge = options.edge; nearest = false; query = q; workers = w }) unasked one
     ∙ ap (λ (e : Edge). record { metric = Euclid2; edge = e; nearest = false; query = None; workers = 1 }) open_is)
 
--- flags with their defaults are no mistake
+-- flags with their defaults do say options
 pub defaults_are_known : (rows : List Row) → first_of (codes "metric") rows ≡ Some (codes "euclid2") → first_of (codes "workers") rows ≡ Some (codes "1") → first_of (codes "edge") rows ≡ Some (codes "open") → AreNoDistOptions rows → ⊥
 defaults_are_known rows metric workers edge (inl unknown) = let named : Some Euclid2 ≡ None = ap (option_and_then metric_named) (sym metric) ∙ unknown in cc
 defaults_are_known rows metric workers edge (inr (inl unknown)) = let named : Some Open ≡ None = ap (option_and_then edge_named) (sym edge) ∙ unknown in cc
@@ -167,7 +167,7 @@ flags_are_known rows texts matches (takes, inr (inr (inl serve))) found met thes
 flags_are_known rows texts matches (takes, inr (inr (inr ask))) found met these unknown =
     let same : Some (codes "dist") ≡ Some (codes "ask") = sym met ∙ named_so (codes "ask") ask.1.0 texts matches found ask.1.1 in cc
 
--- where the words are to be taken, name neither `dist` nor `steps`, and are refused for no options that match, they aren't refused
+-- words to be taken that aren't `dist` or `steps` are refused for want of memory alone, where other refusals mean that no options match
 pub command_is_named : (texts : List (List ℕ)) (matches : ArgMatches) (result : Result Options Fault) → AreTaken texts → HasMatchesOf program_app texts matches → (subcommand_name_of matches ≡ Some (codes "dist") → ⊥)
     → (subcommand_name_of matches ≡ Some (codes "steps") → ⊥) → OnErr result (AreNoMatch matches) → IfErr result (λ fault. fault ≡ Memory)
 command_is_named texts matches result (takes, inl dist) found no_dist no_steps none = absurd (no_dist (named_so (codes "dist") dist.rows texts matches found dist.named))
@@ -176,7 +176,7 @@ command_is_named texts matches (Ok options) (takes, inr (inr named)) found no_di
 command_is_named texts matches (Err fault) (takes, inr (inr (inl serve))) found no_dist no_steps none = absurd (none (Serve serve.0) (serve.1.0, (found program_is_simple).1 ∙ serve.1.1, serve.1.2))
 command_is_named texts matches (Err fault) (takes, inr (inr (inr ask))) found no_dist no_steps none = absurd (none (Ask ask.0) (ask.1.0, (found program_is_simple).1 ∙ ask.1.1, ask.1.2))
 
--- where the words say options or are refused, which those that are to be taken are for want of memory alone, they say it
+-- a result is what the words say where its options are theirs, and words to be taken are refused for want of memory alone
 pub said_so : (words : List (List ℕ)) (result : Result Options Fault) → IfOk result (AreOptions words) → (AreTaken words → IfErr result (λ fault. fault ≡ Memory)) → IsSaidBy words result
 said_so words (Ok options) are refused = are
 said_so words (Err fault) are refused = refused
@@ -185,7 +185,7 @@ said_so words (Err fault) are refused = refused
 pub none_given : (least most n : ℕ) (found : Found) (name : List ℕ) → in_range least most (first_value found name) ≡ None → in_range least most (first_of name (rows_of found)) ≡ Some n → ⊥
 none_given least most n found name none some = let same : None ≡ Some n = sym none ∙ (ap (in_range least most) (first_value-rows found name) ∙ some) in cc
 
--- a value that names no border names none by the rows either
+-- a value that isn't the name of a border isn't one by the rows either
 pub no_edge_given : (edge : Edge) (found : Found) → option_and_then edge_named (first_value found (codes "edge")) ≡ None → option_and_then edge_named (first_of (codes "edge") (rows_of found)) ≡ Some edge → ⊥
 no_edge_given edge found none some = let same : None ≡ Some edge = sym none ∙ (ap (option_and_then edge_named) (first_value-rows found (codes "edge")) ∙ some) in cc
 
@@ -211,7 +211,7 @@ no_match_ask matches rows named these none (Serve options) are =
 no_match_ask matches rows named these none (Dist options) are = are
 no_match_ask matches rows named these none Steps are = are
 
--- where neither was matched, no options are
+-- where neither `serve` nor `ask` was matched, no options are matched
 pub no_match : (matches : ArgMatches) → (subcommand_name_of matches ≡ Some (codes "serve") → ⊥) → (subcommand_name_of matches ≡ Some (codes "ask") → ⊥) → AreNoMatch matches
 no_match matches no_serve no_ask (Serve options) are = no_serve (first_of_pair _ _ _ ∙ ap (option_map (λ (p : Text × List Row). p.0)) are.1)
 no_match matches no_serve no_ask (Ask options) are = no_ask (first_of_pair _ _ _ ∙ ap (option_map (λ (p : Text × List Row). p.0)) are.1)

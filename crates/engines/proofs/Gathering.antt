@@ -7,11 +7,11 @@ use Rattle.metric.proofs.Taking.{Takes-nothing, Takes-more}
 use Rattle.engines.specs.Passing.{Gathers, PassesOn, PassesFront, EndsEarly, WritesEnd}
 use Rattle.engines.proofs.RefusalLines.{front_second}
 
--- bytes taken behind others, where the stream tells them
+-- bytes that are taken after the first ones that a stream tells are taken together with these
 takes_behind : (told left first second : List ℕ) (new : Option (List ℕ)) → told ≡ first ++ left → Takes (Some left) second new → Takes (Some told) (first ++ second) new
 takes_behind told left first second new split (rest, is, next) = (rest, is, split ∙ (ap (λ t. first ++ t) next ∙ sym (append_assoc first second rest)))
 
--- bytes taken, and then others
+-- bytes that are taken of a stream in two parts are taken as one
 pub Takes-both : (old between new : Option (List ℕ)) (first second : List ℕ) → Takes old first between → Takes between second new → Takes old (first ++ second) new
 Takes-both None between new first second one two = let told : Takes None second new = subst (λ r. Takes r second new) one two in told
 Takes-both (Some told) between new first second (left, is, split) two = takes_behind told left first second new split (subst (λ r. Takes r second new) is two)
@@ -20,17 +20,17 @@ Takes-both (Some told) between new first second (left, is, split) two = takes_be
 pub Takes-byte : (old new : Option (List ℕ)) (byte : ℕ) → TakesByte old (Some byte) new → Takes old (byte ∷ []) new
 Takes-byte old new byte next = Takes-more old old new [] byte (Takes-nothing old) next
 
--- the end that was met takes nothing
+-- where the end of a stream was met, nothing was taken
 pub Takes-end : (old new : Option (List ℕ)) → TakesByte old None new → Takes old [] new
 Takes-end None new next = next
 Takes-end (Some []) new (none, same) = ([], same, refl)
 Takes-end (Some (b ∷ bytes)) new (none, same) = absurd (cc)
 
--- nothing is gathered at first
+-- a buffer that is as it was has gathered nothing
 pub Gathers-nothing : (rest : Option (List ℕ)) (buffer : List ℕ) → Gathers rest buffer buffer rest
 Gathers-nothing rest buffer = record { bytes = []; taken = Takes-nothing rest; after_is = sym (append-nil buffer) }
 
--- one part is gathered behind another
+-- what is gathered in two parts, one after the other, is gathered as one
 pub Gathers-both : (old between new : Option (List ℕ)) (before middle after : List ℕ) → Gathers old before middle between → Gathers between middle after new → Gathers old before after new
 Gathers-both old between new before middle after one two = record {
   bytes = one.bytes ++ two.bytes;
@@ -38,7 +38,7 @@ Gathers-both old between new before middle after one two = record {
   after_is = two.after_is ∙ (ap (λ t. t ++ two.bytes) one.after_is ∙ append_assoc before one.bytes two.bytes);
 }
 
--- what was gathered, and more that was taken, was taken
+-- where bytes were gathered, and then more were taken, all of them were taken
 pub taken_behind : (old between new : Option (List ℕ)) (before after : List ℕ) → Gathers old before after between → ((bytes : List ℕ) × Takes between bytes new) → (bytes : List ℕ) × Takes old bytes new
 taken_behind old between new before after one (bytes, two) = (one.bytes ++ bytes, Takes-both old between new one.bytes bytes one.taken two)
 
@@ -47,23 +47,23 @@ pub Gathers-taken : (unread left : Option (List ℕ)) (before after : List ℕ) 
 Gathers-taken unread left before after empty all =
     let same : after ≡ all.bytes = all.after_is ∙ ap (λ t. t ++ all.bytes) empty in rw same all.taken
 
--- nothing written is a beginning of anything
+-- where nothing is written, a beginning of any bytes is
 pub front_nothing : (held : Option (List ℕ)) (bytes : List ℕ) → AppendsFront held bytes held
 front_nothing held bytes = record { front = []; back = bytes; whole = refl; appended = Appends-nothing held }
 
--- nothing passes at first
+-- where nothing is read and nothing is written, all that was read is written
 pub PassesOn-nothing : (unread held : Option (List ℕ)) → PassesOn unread unread held held
 PassesOn-nothing unread held = record { bytes = []; taken = Takes-nothing unread; written = Appends-nothing held }
 
--- what was read, of which nothing was written
+-- where bytes were read and nothing was written, a beginning of what was read was written
 pub PassesFront-read : (unread left held : Option (List ℕ)) → ((bytes : List ℕ) × Takes unread bytes left) → PassesFront unread left held held
 PassesFront-read unread left held (bytes, taken) = record { bytes = bytes; taken = taken; written = front_nothing held bytes }
 
--- what passed whole passed as a beginning of itself
+-- where all that was read was written, a beginning of it was
 pub PassesFront-whole : (unread left before after : Option (List ℕ)) → PassesOn unread left before after → PassesFront unread left before after
 PassesFront-whole unread left before after whole = record { bytes = whole.bytes; taken = whole.taken; written = AppendsFront-whole before after whole.bytes whole.written }
 
--- one part passes behind another
+-- what is read and written in two parts, one after the other, is read and written as one
 pub PassesOn-both : (unread between left before middle after : Option (List ℕ)) → PassesOn unread between before middle → PassesOn between left middle after → PassesOn unread left before after
 PassesOn-both unread between left before middle after one two = record {
   bytes = one.bytes ++ two.bytes;
@@ -71,7 +71,7 @@ PassesOn-both unread between left before middle after one two = record {
   written = Appends-more before middle after one.bytes two.bytes one.written two.written;
 }
 
--- a part passes behind another in part
+-- a part that is written whole, and a beginning of the next, are a beginning of what was read in both
 pub PassesFront-both : (unread between left before middle after : Option (List ℕ)) → PassesOn unread between before middle → PassesFront between left middle after → PassesFront unread left before after
 PassesFront-both unread between left before middle after one two = record {
   bytes = one.bytes ++ two.bytes;
@@ -79,7 +79,7 @@ PassesFront-both unread between left before middle after one two = record {
   written = front_second before middle after one.bytes two.bytes one.written two.written;
 }
 
--- a beginning, and the line that tells why it ended
+-- a beginning of what was read, and then the line that tells why it ended, end a run of `ask` early
 pub EndsEarly-line : (unread left before middle after : Option (List ℕ)) → PassesFront unread left before middle → WritesEnd middle after → EndsEarly unread left before after
 EndsEarly-line unread left before middle after part last = record {
   bytes = part.bytes;

@@ -9,19 +9,19 @@ use Rattle.engines.specs.StepLines.{said}
 use Rattle.engines.specs.StepRuns.{IsAnswerLine, IsDone, IsDoneInPart}
 use Rattle.engines.specs.Steps.{AreAnswered, IsAnswered, written_lines}
 
--- one line more
+-- lines that are answered, and one more that is answered after them, are lines that are answered
 AreAnswered-more : (old mid new : State) (lines texts : List (List ℕ)) (line text : List ℕ) → AreAnswered old lines texts mid → IsAnswered (said line) mid text new → AreAnswered old (lines ++ line ∷ []) (texts ++ text ∷ []) new
 AreAnswered-more old mid new [] [] line text done next = (new, subst (λ (w : State). IsAnswered (said line) w text new) done next, refl)
 AreAnswered-more old mid new [] (t ∷ texts) line text done next = absurd done
 AreAnswered-more old mid new (l ∷ lines) [] line text done next = absurd done
 AreAnswered-more old mid new (l ∷ lines) (t ∷ texts) line text (between, first, rest) next = (between, first, AreAnswered-more between mid new lines texts line text rest next)
 
--- one line more is written
+-- texts and one more are written as the lines of those, and then the line of that one
 written_lines-more : (texts : List (List ℕ)) (text : List ℕ) → written_lines (texts ++ text ∷ []) ≡ written_lines texts ++ (text ++ 10 ∷ [])
 unfolding written_lines
 written_lines-more texts text = flat_map-append (λ line. line ++ 10 ∷ []) texts (text ∷ []) ∙ ap (λ t. written_lines texts ++ t) (append-nil (text ++ 10 ∷ []))
 
--- no lines are written as nothing
+-- no texts are written as no bytes
 written_lines-none : written_lines [] ≡ []
 unfolding written_lines
 written_lines-none = refl
@@ -32,11 +32,11 @@ pub record IsHeard (start : State) (all left : List (List ℕ)) (before now : Op
   pub lines_are : all ≡ heard ++ left
   pub done : IsDone start heard before now world
 
--- at first none is done
+-- before any line is done, all lines are left
 pub IsHeard-nothing : (start : State) (all : List (List ℕ)) (before : Option (List ℕ)) → IsHeard start all all before before start
 IsHeard-nothing start all before = record { heard = []; lines_are = refl; done = record { answers = []; answered = refl; written = rw written_lines-none (Appends-nothing before) } }
 
--- a line more is done, and its answer written
+-- of the lines that are left, one more is done, and its answer is written
 pub IsHeard-more : (start old new : State) (all left : List (List ℕ)) (line text : List ℕ) (before now after : Option (List ℕ))
     → IsHeard start all (line ∷ left) before now old → IsAnswerLine (said line) old text new → Appends now text after → IsHeard start all left before after new
 IsHeard-more start old new all left line text before now after so_far next written = record {
@@ -49,7 +49,7 @@ IsHeard-more start old new all left line text before now after so_far next writt
   };
 }
 
--- a line more is done, and its answer written in part
+-- where one line more is done, and its answer is written in part, the lines are done in part
 pub IsHeard-part : (start old new : State) (all left : List (List ℕ)) (line text : List ℕ) (before now after : Option (List ℕ))
     → IsHeard start all (line ∷ left) before now old → IsAnswerLine (said line) old text new → AppendsFront now text after → IsDoneInPart start all before after
 IsHeard-part start old new all left line text before now after so_far next written = record {
@@ -64,7 +64,7 @@ IsHeard-part start old new all left line text before now after so_far next writt
       (AppendsFront-more before now after (written_lines so_far.done.answers) (next.answer ++ 10 ∷ []) [] so_far.done.written (rw (← next.text_is) written));
 }
 
--- where none is left all are done
+-- where no line is left, all lines are done
 pub IsHeard-all : (start now : State) (all left : List (List ℕ)) (before after : Option (List ℕ)) → IsHeard start all left before after now → left ≡ [] → IsDone start all before after now
 IsHeard-all start now all left before after so_far none =
     let whole : all ≡ so_far.heard = so_far.lines_are ∙ (ap (λ (ls : List (List ℕ)). so_far.heard ++ ls) none ∙ append-nil so_far.heard) in

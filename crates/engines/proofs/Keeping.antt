@@ -10,11 +10,11 @@ use Rattle.map_core.specs.Views.{State}
 use Rattle.engines.specs.Steps.{Keeps}
 use Rattle.map_core.proofs.RunLemmas.{run-push}
 
--- one step
+-- one Keep event is a run of one step of the keeper
 pub Keeps-one : (old new : State) (answer : Result StepReply NotEnabled) → SafeStep old events.Keep answer new → Keeps 1 old answer new
 Keeps-one old new answer step = record { before = []; run = (new, step, refl) }
 
--- one step more
+-- a run of steps of the keeper, and one Keep event after it, are a run of one step more
 pub Keeps-more : (count : ℕ) (old mid new : State) (first second : Result StepReply NotEnabled) → Keeps count old first mid → SafeStep mid events.Keep second new → Keeps (count + 1) old second new
 Keeps-more count old mid new first second kept step = record {
   before = kept.before ++ first ∷ [];

@@ -1,6 +1,7 @@
 pub mod Answering
 pub mod CommandLines
 pub mod Lines
+pub mod MeasuredLines
 pub mod RefusalLines
 pub mod PartLemmas
 pub mod PuttingLemmas

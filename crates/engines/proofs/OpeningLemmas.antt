@@ -24,7 +24,7 @@ unfolding numbers
 opening_of-one words others width first (inl empty) = rw (first, empty) refl
 opening_of-one words others width first (inr none) = rw (first, none) refl
 
--- of a test and what is opened where it passes, nothing
+-- where an opening is none, it is none whatever a test before it says
 none-chosen : (b : Bool) (opening : Option Opening) → None ≡ opening → None ≡ cond b opening None
 none-chosen true opening none = none
 none-chosen false opening none = refl

@@ -1,4 +1,4 @@
--- The lines of rows that stand in parts, one part's behind another's.
+-- The lines of rows that stand in parts, one part after another.
 use Rattle.std.proofs.Common.{◌≡◌, ℕ, ◌+◌, ◌-◌, ◌*◌, ◌<◌, ◌≤◌, List, ◌++◌, Bool, Option, length, min, refl, arith}
 use Rattle.metric.specs.Stream.{Appends, AppendsFront}
 use Rattle.metric.proofs.Appending.{Appends-more, AppendsFront-more}
@@ -20,7 +20,7 @@ table_text-between nearest width height nears =
     let all : height - 0 ≡ height = omega arith in
     rw all (rows_text-all nearest width height nears)
 
--- the lines of some rows and of those behind them
+-- the lines from one row to another are those up to a row between them, and then those from there on
 pub rows_between-join : (nearest : Bool) (width : ℕ) (nears : List (Option Near)) (from middle to : ℕ) → from ≤ middle → middle ≤ to
     → rows_between nearest width nears from to ≡ rows_between nearest width nears from middle ++ rows_between nearest width nears middle to
 rows_between-join nearest width nears from middle to above below =
@@ -28,7 +28,7 @@ rows_between-join nearest width nears from middle to above below =
     let on : from + (middle - from) ≡ middle = omega arith in
     rw (both, rows_text-append nearest width from (middle - from) (to - middle) nears, on) refl
 
--- a beginning of the lines in the middle, behind all those above them, is a beginning of all
+-- a beginning of the lines in the middle, after all those above them, is a beginning of all
 pub AppendsFront-rows : (nearest : Bool) (width : ℕ) (nears : List (Option Near)) (from middle next to : ℕ) (before between after : Option (List ℕ)) → from ≤ middle → middle ≤ next → next ≤ to
     → Appends before (rows_between nearest width nears from middle) between → AppendsFront between (rows_between nearest width nears middle next) after
     → AppendsFront before (rows_between nearest width nears from to) after
@@ -36,7 +36,7 @@ AppendsFront-rows nearest width nears from middle next to before between after o
     rw (rows_between-join nearest width nears from middle to one (omega arith), rows_between-join nearest width nears middle next to two three)
     (AppendsFront-more before between after (rows_between nearest width nears from middle) (rows_between nearest width nears middle next) (rows_between nearest width nears next to) above line)
 
--- one part more is written
+-- where the lines of some parts are written, and then the next part's, the lines of one part more are
 pub Appends-part : (nearest : Bool) (width height : ℕ) (nears : List (Option Near)) (from k : ℕ) (text : List ℕ) (before between after : Option (List ℕ))
     → Appends before (rows_between nearest width nears (min height from) (min height (from + 16 * k))) between
     → text ≡ rows_between nearest width nears (min height (from + 16 * k)) (min height (from + 16 * k + 16)) → Appends between text after
@@ -47,7 +47,7 @@ Appends-part nearest width height nears from k text before between after above i
     (Appends-more before between after (rows_between nearest width nears (min height from) (min height (from + 16 * k))) (rows_between nearest width nears (min height (from + 16 * k)) (min height (from + 16 * k + 16))) above
     (rw is at here))
 
--- one part is written in part
+-- where the lines of some parts are written, and then a beginning of the next, a beginning of all parts is
 pub AppendsFront-part : (nearest : Bool) (width height : ℕ) (nears : List (Option Near)) (from k count : ℕ) (text : List ℕ) (before between after : Option (List ℕ)) → k < count
     → Appends before (rows_between nearest width nears (min height from) (min height (from + 16 * k))) between
     → text ≡ rows_between nearest width nears (min height (from + 16 * k)) (min height (from + 16 * k + 16)) → AppendsFront between text after
@@ -56,7 +56,7 @@ AppendsFront-part nearest width height nears from k count text before between af
     AppendsFront-rows nearest width nears (min height from) (min height (from + 16 * k)) (min height (from + 16 * k + 16)) (min height (from + 16 * count)) before between after
     (omega arith) (omega arith) (omega arith) above (rw is at here)
 
--- the lines of some parts are written behind those of the rows above
+-- where the lines of some parts are written after those of the rows above, the lines of all these rows are
 pub Appends-parts : (nearest : Bool) (table : Table) (from count : ℕ) (before between after : Option (List ℕ))
     → Appends before (rows_between nearest table.width (nears_of table) 0 (min table.height from)) between → Appends between (parts_text nearest table from count) after
     → Appends before (rows_between nearest table.width (nears_of table) 0 (min table.height (from + 16 * count))) after
@@ -64,7 +64,7 @@ Appends-parts nearest table from count before between after above here =
     rw (rows_between-join nearest table.width (nears_of table) 0 (min table.height from) (min table.height (from + 16 * count)) (omega arith) (omega arith))
     (Appends-more before between after (rows_between nearest table.width (nears_of table) 0 (min table.height from)) (rows_between nearest table.width (nears_of table) (min table.height from) (min table.height (from + 16 * count))) above here)
 
--- a beginning of the lines of some parts, behind those of the rows above, is a beginning of the table
+-- a beginning of the lines of some parts, after those of the rows above, is a beginning of the table
 pub AppendsFront-parts : (nearest : Bool) (table : Table) (from count : ℕ) (before between after : Option (List ℕ))
     → Appends before (rows_between nearest table.width (nears_of table) 0 (min table.height from)) between → AppendsFront between (parts_text nearest table from count) after
     → AppendsFront before (table_text nearest table.width table.height (nears_of table)) after

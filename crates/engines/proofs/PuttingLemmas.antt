@@ -8,14 +8,14 @@ use Rattle.metric.specs.Digits.{two_digits}
 use Rattle.metric.proofs.Decimals.{decimal_ten_thousands}
 use Rattle.engines.specs.Putting.{Puts, four_digits}
 
--- one text behind another
+-- a text that is put, and another that is put after it, are put as one text
 pub Puts-more : (old middle new : List ℕ) (at mid end : ℕ) (first second : List ℕ) → Puts old at first middle mid → Puts middle mid second new end → Puts old at (first ++ second) new end
 Puts-more old middle new at mid end first second one two = record {
   end_is = two.end_is ∙ (ap (λ n. n + length second) one.end_is ∙ rw (length-append first second) (omega arith));
   text = two.text ∙ (ap (λ t. t ++ second) one.text ∙ append_assoc (take at old) first second);
 }
 
--- the first of four bytes that were put
+-- where four bytes were put, the first of them, up to any count, are put
 pub Puts-first : (old new four : List ℕ) (at count : ℕ) → count ≤ length four → at ≤ length old → take (at + length four) new ≡ take at old ++ four → Puts old at (take count four) new (at + count)
 Puts-first old new four at count few room put =
     let long : length (take at old) ≡ at = length-take-le at old room in
@@ -38,6 +38,6 @@ decimal_quads n large fits =
 pub length-decimal_8 : (n : ℕ) → n < 100000000 → length (decimal n) ≤ 8
 length-decimal_8 n fits = length-decimal-le 8 n (lit< tt) (omega arith) (omega arith)
 
--- nothing put leaves a text as it was
+-- where nothing is put, a text stays as it was
 pub Puts-nothing : (text : List ℕ) (at : ℕ) → Puts text at [] text at
 Puts-nothing text at = record { end_is = omega arith; text = sym (append-nil (take at text)) }

@@ -1,4 +1,4 @@
--- Two texts written one behind the other, in part.
+-- Two texts written one after the other, in part.
 use Rattle.std.proofs.Common.{ℕ, List, [], ◌++◌, Option, ap, ◌∙◌, append_assoc}
 use Rattle.std.proofs.lemmas.List.{append-nil}
 use Rattle.metric.specs.Stream.{Appends, AppendsFront}

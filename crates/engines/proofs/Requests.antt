@@ -16,15 +16,15 @@ use Rattle.engines.specs.Asking.{IsCut, IsRequest, IsUnended, bytes_behind}
 use Rattle.engines.specs.Passing.{Asks, AsksAll, EndsByBye, EndsCut, Gathers, GathersAll, PassesOn, PutsCount, PutsFewer, PutsLine, PutsUnended}
 use Rattle.engines.proofs.Gathering.{Gathers-both, Gathers-taken, Takes-both}
 
--- a part was gathered, and then all that was left
+-- where a part was gathered, and then all that was left, all was gathered
 pub GathersAll-both : (unread between left : Option (List ℕ)) (before middle after : List ℕ) → Gathers unread before middle between → GathersAll between middle after left → GathersAll unread before after left
 GathersAll-both unread between left before middle after one two = record { gathered = Gathers-both _ _ _ _ _ _ one two.gathered; ended = two.ended }
 
--- no line ends in nothing
+-- where no byte is put, no line ends in what is put
 pub PutsUnended-nothing : (before : List ℕ) → PutsUnended before before
 PutsUnended-nothing before = record { part = []; unended = All-nil (λ (b : ℕ). b ≢ 10); after_is = sym (append-nil before) }
 
--- a byte that is no LF ends no line
+-- bytes in which no line ends stay so with one byte more that is no LF
 pub PutsUnended-more : (before middle after : List ℕ) (byte : ℕ) → PutsUnended before middle → after ≡ middle ++ byte ∷ [] → byte ≢ 10 → PutsUnended before after
 PutsUnended-more before middle after byte part is other = record {
   part = part.part ++ byte ∷ [];
@@ -32,7 +32,7 @@ PutsUnended-more before middle after byte part is other = record {
   after_is = is ∙ (ap (λ t. t ++ byte ∷ []) part.after_is ∙ append_assoc before part.part (byte ∷ []));
 }
 
--- an LF ends the line
+-- bytes in which no line ends are a line once an LF is put after them
 pub PutsLine-end : (before middle after : List ℕ) (byte : ℕ) → PutsUnended before middle → after ≡ middle ++ byte ∷ [] → byte ≡ 10 → PutsLine before after
 PutsLine-end before middle after byte part is end = record {
   line = part.part;
@@ -40,17 +40,17 @@ PutsLine-end before middle after byte part is end = record {
   after_is = is ∙ (ap (λ b. middle ++ b ∷ []) end ∙ (ap (λ t. t ++ 10 ∷ []) part.after_is ∙ append_assoc before part.part (10 ∷ [])));
 }
 
--- the stream ended in a line
+-- where a stream ends before a line's LF, its bytes are in the buffer, no line ends in them, and none is left
 pub ended_unended : (unread between left : Option (List ℕ)) (before middle after : List ℕ) → Gathers unread before middle between → PutsUnended before middle → (after ≡ middle) × GathersAll between middle after left
     → PutsUnended before after × GathersAll unread before after left
 ended_unended unread between left before middle after one part (same, all) =
     (subst (λ (t : List ℕ). PutsUnended before t) (sym same) part, GathersAll-both unread between left before middle after one all)
 
--- no byte at first
+-- where no byte is put, 0 bytes are
 pub PutsCount-nothing : (before : List ℕ) → PutsCount 0 before before
 PutsCount-nothing before = record { part = []; many = refl; after_is = sym (append-nil before) }
 
--- one byte more
+-- where a byte is put after so many, one byte more is put
 pub PutsCount-more : (count : ℕ) (before middle after : List ℕ) (byte : ℕ) → PutsCount count before middle → after ≡ middle ++ byte ∷ [] → PutsCount (count + 1) before after
 PutsCount-more count before middle after byte part is = record {
   part = part.part ++ byte ∷ [];
@@ -58,24 +58,24 @@ PutsCount-more count before middle after byte part is = record {
   after_is = is ∙ (ap (λ t. t ++ byte ∷ []) part.after_is ∙ append_assoc before part.part (byte ∷ []));
 }
 
--- the stream ended before so many bytes
+-- where a stream ends before so many bytes, fewer bytes are in the buffer, and none is left
 pub ended_fewer : (count so_far : ℕ) (unread between left : Option (List ℕ)) (before middle after : List ℕ) → so_far < count → Gathers unread before middle between → PutsCount so_far before middle
     → (after ≡ middle) × GathersAll between middle after left → PutsFewer count before after × GathersAll unread before after left
 ended_fewer count so_far unread between left before middle after few one part (same, all) =
     (record { part = part.part; few = subst (λ (n : ℕ). n < count) (sym part.many) few; after_is = same ∙ part.after_is }, GathersAll-both unread between left before middle after one all)
 
--- both parts were gathered
+-- where a part was gathered, and then another, both were gathered
 pub gathered_both : {T E : Type 0} (unread between left : Option (List ℕ)) (before middle after : List ℕ) (result : Result T E) → Gathers unread before middle between → OnOk result (Gathers between middle after left)
     → OnOk result (Gathers unread before after left)
 gathered_both unread between left before middle after (Ok value) one two = Gathers-both _ _ _ _ _ _ one two
 gathered_both unread between left before middle after (Err fault) one two = tt
 
--- a line and the bytes behind it, in a buffer that was empty
+-- a line with its LF, and then the bytes after it, are what a buffer holds that was empty
 line_and_bytes : (before middle after line part : List ℕ) → before ≡ [] → middle ≡ before ++ (line ++ 10 ∷ []) → after ≡ middle ++ part → after ≡ line ++ (10 ∷ part)
 line_and_bytes before middle after line part empty first second =
     second ∙ (ap (λ t. t ++ part) (first ∙ ap (λ t. t ++ (line ++ 10 ∷ [])) empty) ∙ append_assoc line (10 ∷ []) part)
 
--- what a line counts, by what is left of it without its end
+-- the count of a line, taken from the line without its end, is the line's
 counts_so : (before middle line stripped : List ℕ) (count : ℕ) → before ≡ [] → middle ≡ before ++ (line ++ 10 ∷ []) → ((front : List ℕ) → middle ≡ front ++ 10 ∷ [] → stripped ≡ strip_carriage_return front)
     → count ≡ bytes_behind (verb_in stripped) (said stripped) → count ≡ bytes_behind (verb_in (strip_carriage_return line)) (said (strip_carriage_return line))
 counts_so before middle line stripped count empty first strips is = is ∙ ap (λ l. bytes_behind (verb_in l) (said l)) (strips line (first ∙ ap (λ t. t ++ (line ++ 10 ∷ [])) empty))
@@ -92,7 +92,7 @@ request_read before middle after stripped count (Ok value) empty first strips is
 }
 request_read before middle after stripped count (Err fault) empty first strips is second = tt
 
--- the stream ended in the line
+-- where a stream ends in a line, less than a request was read
 pub cut_line : (unread left : Option (List ℕ)) (before after : List ℕ) → before ≡ [] → PutsUnended before after × GathersAll unread before after left → EndsCut unread left
 cut_line unread left before after empty (part, all) = record {
   tail = after;
@@ -101,7 +101,7 @@ cut_line unread left before after empty (part, all) = record {
   ended = all.ended;
 }
 
--- the stream ended in the bytes that the line counts
+-- where a stream ends in the bytes that a line counts, less than a request was read
 pub cut_bytes : (unread between left : Option (List ℕ)) (before middle after stripped : List ℕ) (count : ℕ) → before ≡ [] → PutsLine before middle → Gathers unread before middle between
     → ((front : List ℕ) → middle ≡ front ++ 10 ∷ [] → stripped ≡ strip_carriage_return front) → count ≡ bytes_behind (verb_in stripped) (said stripped)
     → PutsFewer count middle after × GathersAll between middle after left → EndsCut unread left
@@ -118,11 +118,11 @@ cut_bytes unread between left before middle after stripped count empty first one
   ended = all.ended;
 }
 
--- nothing is asked at first
+-- where nothing is read and nothing is sent, no request is
 pub Asks-nothing : (unread held : Option (List ℕ)) → Asks unread unread held held
 Asks-nothing unread held = record { requests = []; are = All-nil IsRequest; taken = Takes-nothing unread; sent = Appends-nothing held }
 
--- one request
+-- where one request is read and sent, a list of requests is, with that one alone
 pub Asks-one : (unread left before after : Option (List ℕ)) (request : List ℕ) → IsRequest request → Takes unread request left → Appends before request after → Asks unread left before after
 Asks-one unread left before after request is taken sent = record {
   requests = request ∷ [];
@@ -131,7 +131,7 @@ Asks-one unread left before after request is taken sent = record {
   sent = rw (append-nil request) sent;
 }
 
--- more requests
+-- where requests are read and sent, and then more of them, all of these are
 pub Asks-both : (unread between left before middle after : Option (List ℕ)) → Asks unread between before middle → Asks between left middle after → Asks unread left before after
 Asks-both unread between left before middle after one two = record {
   requests = one.requests ++ two.requests;
@@ -140,22 +140,22 @@ Asks-both unread between left before middle after one two = record {
   sent = rw (concat-append one.requests two.requests) (Appends-more before middle after (concat one.requests) (concat two.requests) one.sent two.sent);
 }
 
--- requests that are read and sent pass on
+-- where requests are read and sent, all that is read is written
 pub Asks-passes : (unread left before after : Option (List ℕ)) → Asks unread left before after → PassesOn unread left before after
 Asks-passes unread left before after asked = record { bytes = concat asked.requests; taken = asked.taken; written = asked.sent }
 
--- the reader ended
+-- where the reader ended in less than a request, requests were read and sent up to its end
 pub AsksAll-ended : (unread left held before after : Option (List ℕ)) → EndsCut unread left → AsksAll unread left held held before after
 AsksAll-ended unread left held before after cut = record { between = unread; asked = Asks-nothing unread held; over = inr cut }
 
--- the reply ended the stream
+-- where a reply is BYE, requests were read and sent up to that reply
 pub AsksAll-bye : (unread left before after printed_before printed_after : Option (List ℕ)) (reply : List ℕ) (bye : Bool) → bye ≡ true → bye ≡ bytes_eq reply (codes "BYE" ++ 10 ∷ []) → Asks unread left before after
     → Appends printed_before reply printed_after → AsksAll unread left before after printed_before printed_after
 AsksAll-bye unread left before after printed_before printed_after reply bye bade is asked printed =
     let same : reply ≡ codes "BYE" ++ 10 ∷ [] = (bytes_eq-Decides reply (codes "BYE" ++ 10 ∷ [])).0 (sym is ∙ bade) in
     record { between = left; asked = asked; over = inl (refl, record { front = []; written = subst (λ (t : List ℕ). Appends printed_before t printed_after) same printed }) }
 
--- more was asked before
+-- where requests were read and sent, and then all others up to the end, all of them were
 pub AsksAll-both : (unread between left before middle after printed_before printed_middle printed_after : Option (List ℕ)) (printed : List ℕ) → Asks unread between before middle → Appends printed_before printed printed_middle
     → AsksAll between left middle after printed_middle printed_after → AsksAll unread left before after printed_before printed_after
 AsksAll-both unread between left before middle after printed_before printed_middle printed_after printed one first all = record {

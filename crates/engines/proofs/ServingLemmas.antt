@@ -18,12 +18,12 @@ use Rattle.engines.proofs.RefusalLines.{front_first, front_second}
 abbrev pub setting_line : Field → List ℕ
 setting_line field = refusal_text (BadSetting field) ++ 10 ∷ []
 
--- the refusal that comes with what is handed back
+-- the refusal that comes with what is returned
 abbrev refusal_back : {A B : Type 0} → Refusal → Result A (B × Refusal) → Refusal
 refusal_back other (Ok value) = other
 refusal_back other (Err back) = back.1
 
--- the refusal of a setting is written
+-- where a setting is bad, the line of its refusal was written, whole or in part
 pub told_setting : {A B : Type 0} (found : Option Field) (map : B) (other : Type 0) (result : Result A (B × Refusal)) (back : B) (refusal : Refusal) (before after : Option (List ℕ)) (written : Result ℕ WriteFault)
     → MatchOption found other (λ field. result ≡ Err (map, BadSetting field)) → result ≡ Err (back, refusal) → IfOk written (λ status. status ≡ 1)
     → OnOk written (Appends before (refusal_text refusal ++ 10 ∷ []) after) → OnErr written (AppendsFront before (refusal_text refusal ++ 10 ∷ []) after)
@@ -45,36 +45,36 @@ one_or_failed : (written : Result ℕ WriteFault) → IfOk written (λ status. s
 one_or_failed (Ok status) one = one
 one_or_failed (Err fault) one = refl
 
--- the network's fault is written
+-- where the network's fault was written, whole or in part, it alone was written, and the status is 1
 pub told_net : (found : Option Field) (before after : Option (List ℕ)) (written : Result ℕ WriteFault) → IfOk written (λ status. status ≡ 1) → OnOk written (Appends before net_text after) → OnErr written (AppendsFront before net_text after)
     → IfSome found (λ field. WritesOnly (setting_line field) before after × (result_unwrap_or written 1 ≡ 1))
 told_net None before after written one whole front = tt
 told_net (Some field) before after written one whole front = (record { text = net_text; text_is = inr refl; written = written_either before after net_text written whole front }, one_or_failed written one)
 
--- why nothing is served was written
+-- where it was written why nothing is served, all that `serve` tells was written
 pub unserved_whole : (connections : ℕ) (before after : Option (List ℕ)) (text : List ℕ) (written : Result ℕ WriteFault) → IsUnserved text → IfOk written (λ status. status ≡ 1) → OnOk written (Appends before text after)
     → IfOk written (WritesServed connections before after)
 unserved_whole connections before after text (Ok status) why one whole = record { text = text; text_is = inr (why, one); written = whole }
 unserved_whole connections before after text (Err fault) why one whole = tt
 
--- a beginning of why nothing is served was written
+-- where a beginning of why nothing is served was written, a beginning of what `serve` tells was
 pub unserved_front : (connections : ℕ) (before after : Option (List ℕ)) (text : List ℕ) (written : Result ℕ WriteFault) → IsUnserved text → OnErr written (AppendsFront before text after)
     → OnErr written (BeginsServed connections before after)
 unserved_front connections before after text (Ok status) why front = tt
 unserved_front connections before after text (Err fault) why front = record { text = text; status = 1; text_is = inr (why, refl); written = front }
 
--- want of memory was written with nothing before it
+-- where want of memory was written with nothing before it, all that `serve` tells was written
 pub lacking_whole : (connections : ℕ) (before after : Option (List ℕ)) (refusal : Refusal) (written : Result ℕ WriteFault) → refusal ≡ Memory → IfOk written (λ status. status ≡ 1)
     → OnOk written (Appends before (refusal_text refusal ++ 10 ∷ []) after) → IfOk written (WritesServed connections before after)
 lacking_whole connections before after refusal written is one whole =
     unserved_whole connections before after (refusal_text refusal ++ 10 ∷ []) written (inr (inl (ap (λ r. refusal_text r ++ 10 ∷ []) is))) one whole
 
--- a beginning of want of memory was written with nothing before it
+-- where a beginning of want of memory was written with nothing before it, a beginning of what `serve` tells was
 pub lacking_front : (connections : ℕ) (before after : Option (List ℕ)) (refusal : Refusal) (written : Result ℕ WriteFault) → refusal ≡ Memory → OnErr written (AppendsFront before (refusal_text refusal ++ 10 ∷ []) after)
     → OnErr written (BeginsServed connections before after)
 lacking_front connections before after refusal written is front = unserved_front connections before after (refusal_text refusal ++ 10 ∷ []) written (inr (inl (ap (λ r. refusal_text r ++ 10 ∷ []) is))) front
 
--- want of memory was written after the port
+-- where the port and then want of memory were written, all that `serve` tells was written
 pub stopped_whole : (connections port : ℕ) (before between after : Option (List ℕ)) (refusal : Refusal) (written : Result ℕ WriteFault) → refusal ≡ Memory → Appends before (listening_text port) between → IfOk written (λ status. status ≡ 1)
     → OnOk written (Appends between (refusal_text refusal ++ 10 ∷ []) after) → IfOk written (WritesServed connections before after)
 stopped_whole connections port before between after refusal (Ok status) is first one whole = record {
@@ -84,7 +84,7 @@ stopped_whole connections port before between after refusal (Ok status) is first
 }
 stopped_whole connections port before between after refusal (Err fault) is first one whole = tt
 
--- a beginning of want of memory was written after the port
+-- where the port and then a beginning of want of memory were written, a beginning of what `serve` tells was
 pub stopped_front : (connections port : ℕ) (before between after : Option (List ℕ)) (refusal : Refusal) (written : Result ℕ WriteFault) → refusal ≡ Memory → Appends before (listening_text port) between
     → OnErr written (AppendsFront between (refusal_text refusal ++ 10 ∷ []) after) → OnErr written (BeginsServed connections before after)
 stopped_front connections port before between after refusal (Ok status) is first front = tt
@@ -95,7 +95,7 @@ stopped_front connections port before between after refusal (Err fault) is first
   written = front_second before between after (listening_text port) (refusal_text refusal ++ 10 ∷ []) first front;
 }
 
--- how many connections were served was written after the port
+-- where it was written after the port how many connections were served, all that `serve` tells was written
 pub served_whole : (connections port log : ℕ) (before between after : Option (List ℕ)) (written : Result ℕ WriteFault) → Appends before (listening_text port) between → IfOk written (λ status. status ≡ 0)
     → OnOk written (Appends between (served_text connections log) after) → IfOk written (WritesServed connections before after)
 served_whole connections port log before between after (Ok status) first done whole = record {
@@ -105,7 +105,7 @@ served_whole connections port log before between after (Ok status) first done wh
 }
 served_whole connections port log before between after (Err fault) first done whole = tt
 
--- a beginning of how many connections were served was written after the port
+-- where a beginning of how many were served was written after the port, a beginning of what `serve` tells was
 pub served_front : (connections port log : ℕ) (before between after : Option (List ℕ)) (written : Result ℕ WriteFault) → Appends before (listening_text port) between → OnErr written (AppendsFront between (served_text connections log) after)
     → OnErr written (BeginsServed connections before after)
 served_front connections port log before between after (Ok status) first front = tt
@@ -116,7 +116,7 @@ served_front connections port log before between after (Err fault) first front =
   written = front_second before between after (listening_text port) (served_text connections log) first front;
 }
 
--- a beginning of the port's line was written, and nothing after it
+-- where a beginning of the port's line was written alone, a beginning of what `serve` tells was
 pub port_front : (connections port : ℕ) (before after : Option (List ℕ)) → AppendsFront before (listening_text port) after → BeginsServed connections before after
 port_front connections port before after front = record {
   text = listening_text port ++ served_text connections 0;
@@ -125,13 +125,13 @@ port_front connections port before after front = record {
   written = front_first before after (listening_text port) (served_text connections 0) front;
 }
 
--- where no write failed all of it was written
+-- where no write failed, all that `serve` tells was written
 pub served_unless : (connections : ℕ) (before after : Option (List ℕ)) (failed_before failed_after : ℕ) (written : Result ℕ WriteFault) → Counts failed_before written failed_after → IfOk written (WritesServed connections before after)
     → failed_after ≡ failed_before → WritesServed connections before after (result_unwrap_or written 1)
 served_unless connections before after failed_before failed_after (Ok status) counts whole same = whole
 served_unless connections before after failed_before failed_after (Err fault) counts whole same = absurd (omega (arith, counts))
 
--- where a write failed a beginning of it was written
+-- where a write failed, a beginning of what `serve` tells was written, and the status is 1
 pub begun_unless : (connections : ℕ) (before after : Option (List ℕ)) (failed_before failed_after : ℕ) (written : Result ℕ WriteFault) → Counts failed_before written failed_after → OnErr written (BeginsServed connections before after)
     → failed_after ≢ failed_before → BeginsServed connections before after × (result_unwrap_or written 1 ≡ 1)
 begun_unless connections before after failed_before failed_after (Ok status) counts front other = absurd (other counts)

@@ -6,9 +6,7 @@ use Rattle.metric.specs.declared.refusal.Refusal.TheVariants as refusals
 use Rattle.metric.specs.declared.stream.WriteFault.{WriteFault}
 use Rattle.metric.specs.Refusal.{refusal_text}
 use Rattle.metric.specs.Stream.{Appends, AppendsFront, Counts}
-use Rattle.engines.specs.declared.steps.opening.NotOpened.{NotOpened}
-use Rattle.engines.specs.declared.steps.opening.NotOpened.TheVariants as stops
-use Rattle.engines.specs.Opening.{judged, later_lines, opened_by, opening_told, refusal_of}
+use Rattle.engines.specs.Opening.{judged, later_lines, opened_by, opening_told}
 use Rattle.engines.specs.Steps.{Answers, BeginsToAnswer, IsBegun}
 use Rattle.engines.specs.TextLines.{lines_of}
 use Rattle.engines.proofs.Answering.{told, AreAll-told}
@@ -37,16 +35,13 @@ refusal_begun bytes refusal before after refused front = record {
   written = front;
 }
 
--- so does that of why no world was opened
-pub stop_begun : (bytes first : List ℕ) (later : List (List ℕ)) (stop : NotOpened) (before after : Option (List ℕ)) → lines_of bytes ≡ first ∷ later
-    → (stop ≢ stops.Memory → judged (opening_told first) ≡ Err (refusal_of stop)) → (stop ≡ stops.Memory → IsOk (judged (opening_told first))) → AppendsFront before (refusal_text (refusal_of stop) ++ 10 ∷ []) after → IsBegun bytes before after
-stop_begun bytes first later stops.Memory before after lines refused opens front = memory_begun bytes before after (rw lines (opens refl)) front
-stop_begun bytes first later stops.BadArguments before after lines refused opens front =
-    refusal_begun bytes refusals.BadArguments before after (ap opened_by lines ∙ refused (λ same. cc)) front
-stop_begun bytes first later (stops.BadSetting field) before after lines refused opens front =
-    refusal_begun bytes (refusals.BadSetting field) before after (ap opened_by lines ∙ refused (λ same. cc)) front
+-- a beginning of the line that tells why no world was opened begins an answer, where want of memory comes for a line that opens one alone
+pub stop_begun : (bytes first : List ℕ) (later : List (List ℕ)) (stop : Refusal) (before after : Option (List ℕ)) → lines_of bytes ≡ first ∷ later
+    → (stop ≢ refusals.Memory → judged (opening_told first) ≡ Err stop) → (stop ≡ refusals.Memory → IsOk (judged (opening_told first))) → AppendsFront before (refusal_text stop ++ 10 ∷ []) after → IsBegun bytes before after
+stop_begun bytes first later refusals.Memory before after lines refused opens front = memory_begun bytes before after (rw lines (opens refl)) front
+stop_begun bytes first later stop before after lines refused opens front = refusal_begun bytes stop before after (ap opened_by lines ∙ refused (λ same. cc)) front
 
--- the line of want of memory, written whole, is an answer to all bytes of any reader
+-- the line of want of memory, written whole, is an answer of `steps` to all bytes of any reader
 pub memory_answered : (unread before after : Option (List ℕ)) (written : Result ℕ WriteFault) (old new : ℕ) → IfOk written (λ status. status ≡ 1)
     → OnOk written (Appends before (refusal_text refusals.Memory ++ 10 ∷ []) after) → Counts old written new → new ≡ old → Answers unread before after (result_unwrap_or written 1)
 memory_answered unread before after (Ok status) old new one whole counts same = record {
@@ -56,7 +51,7 @@ memory_answered unread before after (Ok status) old new one whole counts same = 
 }
 memory_answered unread before after (Err fault) old new one whole counts same = absurd (omega (arith, counts))
 
--- and written in part, a beginning of one
+-- the line of want of memory, written in part, begins an answer of `steps` to all bytes of any reader
 pub memory_told_in_part : (unread before after : Option (List ℕ)) (written : Result ℕ WriteFault) (old new : ℕ) → OnErr written (AppendsFront before (refusal_text refusals.Memory ++ 10 ∷ []) after)
     → Counts old written new → new ≢ old → BeginsToAnswer unread before after × (result_unwrap_or written 1 ≡ 1)
 memory_told_in_part unread before after (Ok status) old new front counts other = absurd (other counts)

@@ -17,17 +17,17 @@ use Rattle.engines.specs.TextLines.{lines_of}
 abbrev pub opened_text : ℕ → List ℕ
 opened_text positions = (codes "OPENED " ++ decimal positions) ++ 10 ∷ []
 
--- the first answer line and those behind it are the text
+-- the first answer line and those after it are the text
 written_lines-first : (positions : ℕ) (answers : List (List ℕ)) → written_lines ((codes "OPENED " ++ decimal positions) ∷ answers) ≡ opened_text positions ++ written_lines answers
 unfolding written_lines
 written_lines-first positions answers = refl
 
--- without a line behind it the first is all
+-- where no other line comes after it, the first answer line is the whole text
 written_lines-alone : (positions : ℕ) → written_lines ((codes "OPENED " ++ decimal positions) ∷ []) ≡ opened_text positions
 unfolding written_lines
 written_lines-alone positions = append-nil (opened_text positions)
 
--- all lines are done
+-- where the first answer line is written, and then all lines are done, the whole text is told
 pub told_whole : (start last : State) (positions : ℕ) (lines : List (List ℕ)) (before between after : Option (List ℕ))
     → Appends before (opened_text positions) between → IsDone start lines between after last → IsTold start positions lines before after
 told_whole start last positions lines before between after first done = record {
@@ -36,7 +36,7 @@ told_whole start last positions lines before between after first done = record {
   written = rw (written_lines-first positions done.answers) (Appends-more before between after (opened_text positions) (written_lines done.answers) first done.written);
 }
 
--- some lines are done
+-- where the first answer line is written, and then some lines are done, the text is told in part
 pub told_in_part : (start : State) (positions : ℕ) (lines : List (List ℕ)) (before between after : Option (List ℕ))
     → Appends before (opened_text positions) between → IsDoneInPart start lines between after → IsToldInPart start positions lines before after
 told_in_part start positions lines before between after first done = record {
@@ -50,7 +50,7 @@ told_in_part start positions lines before between after first done = record {
       (AppendsFront-more before between after (opened_text positions) (written_lines done.answers) [] first done.written);
 }
 
--- the first answer line itself is written in part
+-- where the first answer line is written in part, the text is told in part
 pub told_first : (start : State) (positions : ℕ) (lines : List (List ℕ)) (before after : Option (List ℕ)) → AppendsFront before (opened_text positions) after → IsToldInPart start positions lines before after
 told_first start positions lines before after front = record {
   heard = [];
@@ -61,7 +61,7 @@ told_first start positions lines before after front = record {
   written = rw (written_lines-alone positions) front;
 }
 
--- the whole text is a beginning of itself
+-- a text that is told whole is told in part too
 pub told_all : (start : State) (positions : ℕ) (lines : List (List ℕ)) (before after : Option (List ℕ)) → IsTold start positions lines before after → IsToldInPart start positions lines before after
 told_all start positions lines before after whole = record {
   heard = lines;

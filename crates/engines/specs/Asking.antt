@@ -6,7 +6,7 @@ use Rattle.proto.specs.Said.{Said, said, stamp, verb_in}
 use Rattle.proto.specs.declared.verb.Verb.{Verb}
 use Rattle.proto.specs.declared.verb.Verb.TheVariants as verbs
 
--- how many bytes a server reads behind a line: those of a good stamp, where they aren't too many
+-- how many bytes a server reads after a line: those of a good stamp, where they aren't too many
 abbrev pub bytes_behind : Option Verb → Result Said Refusal → ℕ
 bytes_behind (Some verbs.Stamp) (Ok (stamp x y n)) = if nat_le n 17100000 then n else 0
 bytes_behind other line = 0
@@ -15,7 +15,7 @@ bytes_behind other line = 0
 abbrev pub IsUnended : List ℕ → Type 0
 IsUnended bytes = All (λ byte. byte ≢ 10) bytes
 
--- how many bytes a server reads behind a line, which comes without its LF
+-- how many bytes a server reads after a line, which comes without its LF
 abbrev pub counted_by : List ℕ → ℕ
 counted_by line = bytes_behind (verb_in (strip_carriage_return line)) (said (strip_carriage_return line))
 

@@ -17,7 +17,8 @@ use Rattle.engines.specs.Query.{IsReplyTo, asked_in, status_of}
 use Rattle.engines.specs.declared.arguments.DistOptions.{DistOptions}
 use Rattle.engines.specs.Table.{table_text}
 
--- the bytes read as an image, and the text is the lines of its rows: of each cell the nearest obstacle, by the metric and with the border that were asked for
+-- the bytes read as an image, and the text is the lines of its rows: of each cell the nearest obstacle,
+-- by the metric and with the border that were asked for
 pub record IsTable (options : DistOptions) (bytes text : List ℕ) (status : ℕ) : Type 0 where
   pub taken : ℕ
   pub cells : Cells
@@ -46,7 +47,7 @@ pub record IsRefused (bytes : List ℕ) (fault : PbmFault) : Type 0 where
   pub first : image bytes ≡ Err fault
   pub none : (n : ℕ) (cells : Cells) → Reads bytes n cells → ⊥
 
--- the text is the line of a fault that the bytes have, or of want of memory, which is met behind a good header alone
+-- the text is the line of a fault that the bytes have, or of want of memory, which is met after a good header alone
 pub record IsFault (bytes text : List ℕ) (status : ℕ) : Type 0 where
   pub fault : PbmFault
   pub true_of : fault ≢ faults.Memory → IsRefused bytes fault

@@ -1,6 +1,7 @@
 pub mod Asking
 pub mod CommandLine
 pub mod Dist
+pub mod Measured
 pub mod Parts
 pub mod Passing
 pub mod Putting

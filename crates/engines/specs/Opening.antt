@@ -1,4 +1,5 @@
--- What the first line of steps opens: this project's own rule. It is `OPEN`, the map's width and height, and its setting: blocks, versions, sessions, log. The map is blank.
+-- What the first line of steps opens: this project's own rule. It is `OPEN`, the map's width and height, and its setting: blocks, versions,
+-- sessions, log. The map is blank.
 use Rattle.std.specs.Prelude.{ℕ, Bool, ◌&&◌, nat_le, false, List, [], ◌∷◌, Option, Some, None, Result, Ok, Err, bytes_eq, codes, option_map, if◌then◌else◌}
 use Rattle.bits.specs.Cells.{cells_where}
 use Rattle.bits.specs.Tiles.{tile_count}
@@ -11,8 +12,6 @@ use Rattle.map_core.specs.Words.{Base}
 use Rattle.proto.specs.Numbers.{numbers}
 use Rattle.proto.specs.Words.{words}
 use Rattle.engines.specs.declared.steps.opening.Opening.{Opening}
-use Rattle.engines.specs.declared.steps.opening.NotOpened.{NotOpened}
-use Rattle.engines.specs.declared.steps.opening.NotOpened.TheVariants as stops
 
 -- the setting of four numbers, of a map whose border is open
 abbrev pub setting_of : List ℕ → Option Setting
@@ -53,13 +52,7 @@ abbrev pub opened_by : List (List ℕ) → Result Opening Refusal
 opened_by [] = Err refusals.BadArguments
 opened_by (first ∷ later) = judged (opening_told first)
 
--- the lines behind the first
+-- the lines after the first
 abbrev pub later_lines : List (List ℕ) → List (List ℕ)
 later_lines [] = []
 later_lines (first ∷ later) = later
-
--- the refusal of a first line, or want of memory
-abbrev pub refusal_of : NotOpened → Refusal
-refusal_of stops.BadArguments = refusals.BadArguments
-refusal_of (stops.BadSetting field) = refusals.BadSetting field
-refusal_of stops.Memory = refusals.Memory

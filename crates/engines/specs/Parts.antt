@@ -9,6 +9,7 @@ use Rattle.engines.specs.Tabled.{nears_of}
 -- where a worker puts rows of this width: there is room for sixteen
 pub record IsPart (width : ℕ) (part : Part) : Type 0 where
   pub row : vec_len part.nears ≡ width
+  pub distances : vec_len part.distances ≡ width
   pub room : 16 * (25 * width + 1) + 3 ≤ vec_len part.text
 
 -- a set of places, one for each of 1 to 16 workers
@@ -23,7 +24,7 @@ pub record HasRows (nearest : Bool) (width height : ℕ) (nears : List (Option N
   pub within : part.end ≤ vec_len part.text
   pub text : take part.end part.text.items ≡ rows_text nearest width (min height from) (min height (from + 16) - min height from) nears
 
--- each part has sixteen rows, one part's behind another's
+-- each part has sixteen rows, one part's after another's
 abbrev pub HaveRows : Bool → ℕ → ℕ → List (Option Near) → ℕ → List Part → Type 0
 HaveRows nearest width height nears from parts = (k : ℕ) (other : Part) → k < length parts → HasRows nearest width height nears (from + 16 * k) (slice_index_or parts k other)
 

@@ -7,36 +7,36 @@ use Rattle.metric.specs.declared.refusal.Refusal.TheVariants as refusals
 use Rattle.engines.specs.Asking.{IsCut, IsRequest, IsUnended}
 use Rattle.engines.specs.Refusals.{net_text}
 
--- what was read stands in a buffer, behind what it held
+-- what was read stands in a buffer, after what it held
 pub record Gathers (unread : Option (List ℕ)) (before after : List ℕ) (left : Option (List ℕ)) : Type 0 where
   pub bytes : List ℕ
   pub taken : Takes unread bytes left
   pub after_is : after ≡ before ++ bytes
 
--- all that the stream had left stands in a buffer, behind what it held
+-- all that the stream had left stands in a buffer, after what it held
 pub record GathersAll (unread : Option (List ℕ)) (before after : List ℕ) (left : Option (List ℕ)) : Type 0 where
   pub gathered : Gathers unread before after left
   pub ended : AreAll left []
 
--- a line with its LF stands in a buffer, behind what it held
+-- a line with its LF stands in a buffer, after what it held
 pub record PutsLine (before after : List ℕ) : Type 0 where
   pub line : List ℕ
   pub unended : IsUnended line
   pub after_is : after ≡ before ++ (line ++ 10 ∷ [])
 
--- bytes in which no line ends stand in a buffer, behind what it held
+-- bytes in which no line ends stand in a buffer, after what it held
 pub record PutsUnended (before after : List ℕ) : Type 0 where
   pub part : List ℕ
   pub unended : IsUnended part
   pub after_is : after ≡ before ++ part
 
--- so many bytes stand in a buffer, behind what it held
+-- so many bytes stand in a buffer, after what it held
 pub record PutsCount (count : ℕ) (before after : List ℕ) : Type 0 where
   pub part : List ℕ
   pub many : length part ≡ count
   pub after_is : after ≡ before ++ part
 
--- fewer bytes stand in a buffer, behind what it held
+-- fewer bytes stand in a buffer, after what it held
 pub record PutsFewer (count : ℕ) (before after : List ℕ) : Type 0 where
   pub part : List ℕ
   pub few : length part < count
@@ -64,7 +64,7 @@ pub record WritesEnd (held_before held_after : Option (List ℕ)) : Type 0 where
   pub line_is : IsEndLine line
   pub written : AppendsFront held_before line held_after
 
--- a beginning of what was read was written, and behind it the line that tells why it ended, or a beginning of that
+-- a beginning of what was read was written, and after it the line that tells why it ended, or a beginning of that
 pub record EndsEarly (unread left held_before held_after : Option (List ℕ)) : Type 0 where
   pub bytes : List ℕ
   pub front : List ℕ

@@ -1,10 +1,10 @@
 -- Bytes that are put into a buffer one after another: this project's own rule.
-use Rattle.std.specs.Prelude.{◌≡◌, ℕ, ◌+◌, ◌/◌, ◌%◌, ◌<◌, ◌≤◌, List, [], ◌++◌, length, take, slice_index_or}
+use Rattle.std.specs.Prelude.{◌≡◌, ℕ, ◌+◌, ◌/◌, ◌%◌, ◌<◌, ◌≤◌, List, [], ◌∷◌, ◌++◌, length, take, slice_index_or}
 use Rattle.std.specs.Fmt.{decimal}
 use Rattle.metric.specs.Digits.{two_digits}
 use Rattle.engines.specs.declared.quad.Quad.{Quad}
 
--- these bytes stand behind the first `at` of a buffer, as far as `end`, and the first are as they were
+-- these bytes stand after the first `at` of a buffer, as far as `end`, and the first are as they were
 pub record Puts (old : List ℕ) (at : ℕ) (bytes new : List ℕ) (end : ℕ) : Type 0 where
   pub end_is : end ≡ at + length bytes
   pub text : take end new ≡ take at old ++ bytes
@@ -26,3 +26,12 @@ no_quad = record { short = []; padded = []; count = 0 }
 -- the digits of the first numbers, in their order
 abbrev pub AreQuads : ℕ → List Quad → Type 0
 AreQuads count quads = (n : ℕ) → n < count → IsQuad n (slice_index_or quads n no_quad)
+
+-- this number after a blank, at the beginning of eight bytes, the last of which says how many bytes it takes
+pub record IsSpaced (n : ℕ) (word : List ℕ) : Type 0 where
+  pub few : slice_index_or word 7 0 ≤ 8
+  pub text : take (slice_index_or word 7 0) word ≡ 32 ∷ decimal n
+
+-- the first numbers, each after a blank, in their order
+abbrev pub AreSpaced : ℕ → List (List ℕ) → Type 0
+AreSpaced count words = (n : ℕ) → n < count → IsSpaced n (slice_index_or words n [])

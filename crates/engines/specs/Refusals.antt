@@ -10,7 +10,7 @@ HasWordsAlone (refusals.BlocksFull needed free) = ⊥
 HasWordsAlone (refusals.Crooked index) = ⊥
 HasWordsAlone other = Unit {0}
 
--- a name behind a title, where there is one
+-- a name after a title, where there is one
 abbrev pub name_text : Option (Bor (List ℕ)) → List ℕ
 name_text None = []
 name_text (Some name) = 32 ∷ name.now

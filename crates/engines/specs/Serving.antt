@@ -38,13 +38,13 @@ IsUnserved text = (text ≡ net_text) ⊎ ((text ≡ memory_text) ⊎ ((port : �
 abbrev pub IsServed : ℕ → List ℕ → ℕ → Type 0
 IsServed connections text status = ((port log : ℕ) × (text ≡ listening_text port ++ served_text connections log) × (status ≡ 0)) ⊎ (IsUnserved text × (status ≡ 1))
 
--- all of it was written
+-- all that `serve` tells was written, with this status
 pub record WritesServed (connections : ℕ) (held_before held_after : Option (List ℕ)) (status : ℕ) : Type 0 where
   pub text : List ℕ
   pub text_is : IsServed connections text status
   pub written : Appends held_before text held_after
 
--- a beginning of it was written
+-- a beginning of what `serve` tells was written
 pub record BeginsServed (connections : ℕ) (held_before held_after : Option (List ℕ)) : Type 0 where
   pub text : List ℕ
   pub status : ℕ

@@ -1,4 +1,5 @@
--- The answer line of an event: this project's own rule. Numbers are plain decimal but for the word of a tile's row, which is 16 hexadecimal digits.
+-- The answer line of an event: this project's own rule.
+-- Numbers are plain decimal but for the word of a tile's row, which is 16 hexadecimal digits.
 use Rattle.std.specs.Prelude.{ℕ, List, ◌∷◌, ◌++◌, codes, Result, Ok, Err}
 use Rattle.std.specs.Fmt.{decimal}
 use Rattle.metric.specs.Refusal.{refusal_text}

@@ -1,4 +1,5 @@
--- What a line of steps says: this project's own rule. The first word is a letter, and what follows it are numbers; behind `C` a command line follows.
+-- What a line of steps says: this project's own rule.
+-- The first word is a letter, and what follows it are numbers; after `C` a command line follows.
 use Rattle.std.specs.Prelude.{ℕ, List, [], ◌∷◌, Option, Some, None, Result, Ok, Err, bytes_eq, codes, option_map, unwrap_or, if◌then◌else◌}
 use Rattle.metric.specs.declared.refusal.Refusal.{Refusal}
 use Rattle.map_core.specs.declared.event.Event.{Event}
@@ -70,7 +71,7 @@ order_said (Some (verbs.Order named)) (Ok (protocol.told command)) = event (orde
 order_said (Some (verbs.Order named)) (Err refusal) = refused refusal
 order_said other line = bad
 
--- what a letter says with the words behind it; another number or form of them is nothing that is known
+-- what a letter says with the words after it; another number or form of them is nothing that is known
 abbrev pub letter_said : Letter → List (List ℕ) → Said
 letter_said letters.Announce words = unwrap_or (option_map (λ reader. event (announce reader)) (only_number (numbers words))) bad
 letter_said letters.Load words = unwrap_or (option_map (λ reader. event (load reader)) (only_number (numbers words))) bad

@@ -1,4 +1,5 @@
--- What steps answers to a text: this project's own rule. The first line opens a world; each line behind it is done in that world, and gets one answer line.
+-- What steps answers to a text: this project's own rule. The first line opens a world.
+-- Each line after it is done in that world, and gets one answer line.
 use Rattle.std.specs.Prelude.{◌≡◌, ◌≤◌, ℕ, ◌⊎◌, List, [], ◌∷◌, ◌++◌, replicate, codes, Option, Result, Ok, Err, IsErr, IsOk}
 use Rattle.std.specs.Fmt.{decimal}
 use Rattle.std.specs.List.{flat_map}
@@ -72,7 +73,7 @@ AreAnswered old (line ∷ lines) (text ∷ texts) new = (mid : State) × IsAnswe
 unfoldable pub written_lines : List (List ℕ) → List ℕ
 written_lines lines = flat_map (λ line. line ++ 10 ∷ []) lines
 
--- the text of a world with so many positions that does these lines: first how many positions, then an answer line for each line, in their order
+-- the text of a world with so many positions that does these lines: how many positions, and then an answer line for each line in turn
 pub record IsWorldText (start : State) (positions : ℕ) (lines : List (List ℕ)) (text : List ℕ) : Type 0 where
   pub last : State
   pub answers : List (List ℕ)
@@ -91,12 +92,12 @@ pub record IsOneRefusal (refusal : Refusal) (text : List ℕ) (status : ℕ) : T
   pub text_is : text ≡ refusal_text refusal ++ 10 ∷ []
   pub status_is : status ≡ 1
 
--- an answer to what the first line opens, or why it doesn't, and to these lines behind it
+-- an answer to what the first line opens, or why it doesn't, and to these lines after it
 abbrev pub IsAnswerOf : Result Opening Refusal → List (List ℕ) → List ℕ → ℕ → Type 0
 IsAnswerOf (Ok opening) lines text status = AreSteps opening lines text status
 IsAnswerOf (Err refusal) lines text status = IsOneRefusal refusal text status
 
--- an answer to a text, of which these lines behind the first are heard; or want of memory for opening a world that its first line tells
+-- an answer to a text, of which these lines after the first are heard; or want of memory for opening a world that its first line tells
 abbrev pub IsStepsAnswer : List ℕ → List (List ℕ) → List ℕ → ℕ → Type 0
 IsStepsAnswer bytes heard text status = IsAnswerOf (opened_by (lines_of bytes)) heard text status ⊎ (IsOk (opened_by (lines_of bytes)) × IsOneRefusal refusals.Memory text status)
 
@@ -106,7 +107,7 @@ pub record IsWritten (bytes : List ℕ) (held_before held_after : Option (List �
   pub answer : IsStepsAnswer bytes (later_lines (lines_of bytes)) text status
   pub written : Appends held_before text held_after
 
--- a beginning of an answer to these bytes was written; the lines for which it was made are a beginning of those behind the first
+-- a beginning of an answer to these bytes was written; the lines for which it was made are a beginning of those after the first
 pub record IsBegun (bytes : List ℕ) (held_before held_after : Option (List ℕ)) : Type 0 where
   pub heard : List (List ℕ)
   pub unheard : List (List ℕ)

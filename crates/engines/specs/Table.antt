@@ -5,11 +5,11 @@ use Rattle.metric.specs.declared.spot.Spot.{Spot}
 use Rattle.std.specs.Fmt.{decimal, signed_decimal}
 use Rattle.std.specs.List.{range_with_len, join_with_byte, slice_range, flat_map}
 
--- the column and the row of an obstacle, each behind a slash, with a `-` where it is negative
+-- the column and the row of an obstacle, each after a slash, with a `-` where it is negative
 abbrev pub place_text : Spot → List ℕ
 place_text spot = 47 ∷ (signed_decimal spot.x ++ (47 ∷ signed_decimal spot.y))
 
--- what is printed for a cell: its distance, with `/x/y` of its nearest obstacle behind it where that is asked for; `-` where there is none
+-- what is printed for a cell: its distance, with `/x/y` of its nearest obstacle after it where that is asked for; `-` where there is none
 abbrev pub entry_text : Bool → Option Near → List ℕ
 entry_text nearest None = 45 ∷ []
 entry_text false (Some near) = decimal near.dist

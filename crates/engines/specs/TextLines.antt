@@ -3,12 +3,12 @@ use Rattle.std.specs.Prelude.{ℕ, ◌==◌, List, [], ◌∷◌}
 use Rattle.std.specs.List.{slice_split}
 use Rattle.std.specs.Str.Lines.{strip_carriage_return}
 
--- the lines among the parts of a text between its LFs: all but the last part, behind which no LF stands
+-- the lines among the parts of a text between its LFs: all but the last part, after which no LF stands
 abbrev pub ended_parts : List (List ℕ) → List (List ℕ)
 ended_parts [] = []
 ended_parts (last ∷ []) = []
 ended_parts (part ∷ next ∷ parts) = strip_carriage_return part ∷ ended_parts (next ∷ parts)
 
--- the lines of a text; what stands behind its last LF is no line
+-- the lines of a text; what stands after its last LF is no line
 unfoldable pub lines_of : List ℕ → List (List ℕ)
 lines_of text = ended_parts (slice_split (λ byte. byte == 10) text)

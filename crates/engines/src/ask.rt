@@ -50,12 +50,12 @@ pub fn ask_run<S: Stream, R: Source, W: Sink>(
     ensures printed { result ≡ 0 → PassesOn (S.rest stream.old) (S.rest stream.new) (W.held writer.old) (W.held writer.new) }
     ensures well { result ≡ 0 → (R.failed_reads reader.new ≡ R.failed_reads reader.old) × (W.failed_writes writer.new ≡ W.failed_writes writer.old) }
 
-    // Any other has written a beginning of it, and behind that why it ended.
+    // Any other has written a beginning of it, and after that why it ended.
     ensures ended { result ≢ 0 → EndsEarly (S.rest stream.old) (S.rest stream.new) (W.held writer.old) (W.held writer.new) × (result ≡ 1) }
 {
     let mut request = Vec::new(alloc);
     let mut reply = Vec::new(alloc);
-    match ask_lines(alloc, stream, reader, writer, &mut request, &mut reply) {
+    match ask_lines(stream, reader, writer, &mut request, &mut reply) {
         Ok(()) => DONE,
         Err(stop) => end(writer, stop),
     }
@@ -99,7 +99,6 @@ fn print<W: Sink>(writer: &mut W, reply: &[u8]) -> Result<(), Stop>
 
 /// Asks line after line, at most 2^64 - 1 of them.
 fn ask_lines<S: Stream, R: Source, W: Sink>(
-    alloc: Global,
     stream: &mut S,
     reader: &mut R,
     writer: &mut W,
@@ -118,7 +117,7 @@ fn ask_lines<S: Stream, R: Source, W: Sink>(
     ensures asked { OnOk result (AsksAll (R.rest reader.old) (R.rest reader.new) (S.held stream.old) (S.held stream.new) (W.held writer.old) (W.held writer.new)) }
 {
     'lines: for _ in 0..u64::MAX {
-        if !ask_line(alloc, stream, reader, writer, request, reply)? {
+        if !ask_line(stream, reader, writer, request, reply)? {
             return Ok(());
         }
     }
@@ -127,7 +126,6 @@ fn ask_lines<S: Stream, R: Source, W: Sink>(
 
 /// Asks one line, and says whether another may follow. The buffers are for the line and its reply.
 fn ask_line<S: Stream, R: Source, W: Sink>(
-    alloc: Global,
     stream: &mut S,
     reader: &mut R,
     writer: &mut W,
@@ -147,7 +145,7 @@ fn ask_line<S: Stream, R: Source, W: Sink>(
     ensures reader { OnOk result (R.failed_reads reader.new ≡ R.failed_reads reader.old) }
     ensures writer { result ≢ Err Standard → W.failed_writes writer.new ≡ W.failed_writes writer.old }
 {
-    if !read_request(alloc, reader, request)? {
+    if !read_request(reader, request)? {
         return Ok(false);
     }
     exchange(stream, request.as_slice(), reply)?;

@@ -19,7 +19,7 @@ pub enum Cut {
     Memory,
 }
 
-/// Reads a line with its LF behind what the buffer holds.
+/// Reads a line with its LF after what the buffer holds.
 pub fn read_line<R: Source>(reader: &mut R, bytes: &mut Vec<u8>) -> Result<(), Cut>
     requires { CanFail (R.failed_reads reader.old) }
     ensures all { OnOk result (Gathers (R.rest reader.old) bytes.old.items bytes.new.items (R.rest reader.new)) }
@@ -38,7 +38,7 @@ pub fn read_line<R: Source>(reader: &mut R, bytes: &mut Vec<u8>) -> Result<(), C
     unreachable!()
 }
 
-/// Reads so many bytes behind what the buffer holds.
+/// Reads so many bytes after what the buffer holds.
 pub fn read_count<R: Source>(reader: &mut R, bytes: &mut Vec<u8>, count: u32) -> Result<(), Cut>
     requires { CanFail (R.failed_reads reader.old) }
     ensures all { OnOk result (Gathers (R.rest reader.old) bytes.old.items bytes.new.items (R.rest reader.new)) }
@@ -55,7 +55,7 @@ pub fn read_count<R: Source>(reader: &mut R, bytes: &mut Vec<u8>, count: u32) ->
     Ok(())
 }
 
-/// Reads one byte behind what the buffer holds.
+/// Reads one byte after what the buffer holds.
 fn read_byte<R: Source>(reader: &mut R, bytes: &mut Vec<u8>) -> Result<u8, Cut>
     requires { CanFail (R.failed_reads reader.old) }
     ensures all { OnOk result (Gathers (R.rest reader.old) bytes.old.items bytes.new.items (R.rest reader.new)) }

@@ -5,6 +5,7 @@ pub mod arguments;
 mod ask;
 mod decimals;
 mod dist;
+mod distances;
 mod engine;
 mod errors;
 mod gather;

@@ -46,7 +46,7 @@ pub fn write_net_fault<W: Sink>(writer: &mut W) -> Result<u8, WriteFault>
     write_text(writer, b"FAULT net\n", REFUSED)
 }
 
-/// The name behind the title of a refusal that has no number, where there is one.
+/// The name after the title of a refusal that has no number, where there is one.
 fn name_behind(refusal: Refusal) -> Option<&'static str>
     requires { HasWordsAlone refusal }
     ensures { refusal_text refusal ≡ refusal_title refusal ++ name_text result }
@@ -59,7 +59,7 @@ fn name_behind(refusal: Refusal) -> Option<&'static str>
     }
 }
 
-/// Writes a title, the name behind it where there is one, and LF.
+/// Writes a title, the name after it where there is one, and LF.
 fn write_words<W: Sink>(writer: &mut W, title: &[u8], name: Option<&str>) -> Result<(), WriteFault>
     requires { CanFail (W.failed_writes writer.old) }
     ensures whole { OnOk result (Appends (W.held writer.old) ((title.now ++ name_text name.entry) ++ 10 ∷ []) (W.held writer.new)) }
@@ -83,7 +83,7 @@ fn write_named<W: Sink>(writer: &mut W, title: &[u8], name: &[u8]) -> Result<(),
     write_pair(writer, name, b"\n")
 }
 
-/// Writes two texts, one behind the other.
+/// Writes two texts, one after the other.
 fn write_pair<W: Sink>(writer: &mut W, first: &[u8], second: &[u8]) -> Result<(), WriteFault>
     requires { CanFail (W.failed_writes writer.old) }
     ensures whole { OnOk result (Appends (W.held writer.old) (first.now ++ second.now) (W.held writer.new)) }

@@ -45,11 +45,14 @@ impl Print {
     {
         let (bitmap, _) = pbm::read_image(alloc, bytes)?;
         let workers = workers_of(workers);
-        let (Ok(table), Ok(decimals), Ok(even), Ok(odd)) = (
-            Table::of(rt, alloc, &bitmap, edge, metric, workers),
+        let Ok(table) = Table::of(rt, alloc, &bitmap, edge, metric, workers) else {
+            return Err(PbmFault::Memory);
+        };
+        let threads = table.threads(usize::from(workers.count));
+        let (Ok(decimals), Ok(even), Ok(odd)) = (
             Decimals::new(alloc),
-            Part::several(rt, alloc, bitmap.width(), workers.count),
-            Part::several(rt, alloc, bitmap.width(), workers.count),
+            Part::several(rt, alloc, bitmap.width(), workers.count, threads),
+            Part::several(rt, alloc, bitmap.width(), workers.count, threads),
         ) else {
             return Err(PbmFault::Memory);
         };
@@ -72,7 +75,8 @@ fn workers_of(count: u32) -> Workers
     Workers { count: 1 }
 }
 
-/// Writes the lines of all rows. In each half turn what one set of parts holds is written, beside which the workers put the rows behind those into the other set, sixteen in each part.
+/// Writes the lines of all rows. In each half turn what one set of parts holds is written, while the workers put the rows after those into
+/// the other set, sixteen in each part.
 pub fn write_table<W: Sink, R: Threads + Sync>(
     rt: &R,
     writer: &mut W,
@@ -101,7 +105,8 @@ pub fn write_table<W: Sink, R: Threads + Sync>(
     Ok(())
 }
 
-/// Writes what the full parts hold, the rows from this one on, and puts the rows behind those into the free ones: side by side, or one after the other where one thread does.
+/// Writes what the full parts hold, the rows from this one on, and puts the rows after those into the free ones: side by side, or one after
+/// the other where one thread does.
 fn write_and_put<W: Sink, R: Threads + Sync>(
     rt: &R,
     writer: &mut W,
@@ -131,7 +136,7 @@ fn write_and_put<W: Sink, R: Threads + Sync>(
     write_beside(rt, writer, decimals, table, full, free, from, next, nearest)
 }
 
-/// Writes what the full parts hold in the calling thread, beside which the workers put the rows from `next` on into the free ones.
+/// Writes what the full parts hold in the calling thread, while the workers put the rows from `next` on into the free ones.
 fn write_beside<W: Sink, R: Threads + Sync>(
     rt: &R,
     writer: &mut W,
@@ -166,13 +171,13 @@ fn write_beside<W: Sink, R: Threads + Sync>(
     written
 }
 
-/// How many threads put the rows from this one on into so many parts: one each, or one in all where there are no such rows.
+/// How many threads put the rows from this one on into so many parts: one each, or one in all where there are no such rows or the table is small.
 fn threads_for(table: &Table, parts: usize, from: u32) -> usize
     requires { 1 ≤ parts }
     ensures { 1 ≤ result }
 {
     if from < u32::from(table.height) {
-        return parts;
+        return table.threads(parts);
     }
     1
 }

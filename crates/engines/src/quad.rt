@@ -1,7 +1,7 @@
 //! The digits of the numbers below 10,000.
 
 ghost use Rattle.std.specs.Prelude.{◌≡◌, ◌+◌, ◌<◌, IfOk, vec_len};
-ghost use Rattle.engines.specs.Putting.{AreQuads, IsQuad};
+ghost use Rattle.engines.specs.Putting.{AreQuads, AreSpaced, IsQuad, IsSpaced};
 
 use std::alloc::{AllocError, Global};
 
@@ -23,6 +23,29 @@ pub fn quads(alloc: Global) -> Result<Vec<Quad>, AllocError>
         quads.push_reserved(quad_of(number));
     }
     Ok(quads)
+}
+
+/// All numbers below 10,000 after a blank, in their order: the blank, the digits without zeros in front, and in the last of the eight
+/// bytes how many these are together.
+pub fn spaced(alloc: Global) -> Result<Vec<[u8; 8]>, AllocError>
+    ensures all { IfOk result (λ words. vec_len words ≡ 10000) }
+    ensures each { IfOk result (λ words. AreSpaced 10000 words.items) }
+{
+    let mut words = Vec::with_capacity(alloc, 10_000)?;
+    'numbers: for number in 0..10_000u32 {
+        words.push_reserved(spaced_of(number));
+    }
+    Ok(words)
+}
+
+/// A number below 10,000 after a blank.
+fn spaced_of(number: u32) -> [u8; 8]
+    requires { number < 10000 }
+    ensures { IsSpaced number result }
+{
+    let quad = quad_of(number);
+    let [first, second, third, fourth] = quad.short;
+    [b' ', first, second, third, fourth, 0, 0, quad.count + 1]
 }
 
 /// The digits of a number below 10,000.

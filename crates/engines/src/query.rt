@@ -7,7 +7,7 @@ ghost use Rattle.engines.specs.Query.{IsReplyTo, asked_in, status_of};
 
 use bits::Bitmap;
 use metric::{Edge, Refusal};
-use proto::{Answer, Line, Query, Verb, answer_query, parse_line, verb_of};
+use proto::{Answer, Query, Verb, answer_query, read_query, split_verb};
 use std::alloc::Global;
 
 /// The answer to a line, a refusal of the line or of its query included.
@@ -26,11 +26,8 @@ fn query_in(alloc: Global, line: &[u8]) -> Result<Query, Refusal>
     ensures refusal { IfErr result (λ refusal. refusal ≢ Refusal.Memory → asked_in line.now ≡ Err refusal) }
     ensures memory { result ≡ Err Refusal.Memory → IsOkAnd (asked_in line.now) HasPoints }
 {
-    let Some(Verb::Ask(_)) = verb_of(line) else {
-        return Err(Refusal::UnknownCommand);
-    };
-    match parse_line(alloc, line)? {
-        Line::Query(query) => Ok(query),
+    match split_verb(line) {
+        Some((Verb::Ask(kind), rest)) => read_query(alloc, kind, rest),
         _ => Err(Refusal::UnknownCommand),
     }
 }

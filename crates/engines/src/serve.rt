@@ -53,7 +53,8 @@ impl ServeOptions {
     }
 }
 
-/// Serves the map to the connections that the listener accepts, and answers the status once there were so many. The line `LISTENING <port>` is written before the first is accepted, and `SERVED <connections> <log length>` behind the last.
+/// Serves the map to the connections that the listener accepts, and answers the status once there were so many.
+/// The line `LISTENING <port>` is written before the first is accepted, and `SERVED <connections> <log length>` after the last.
 ///
 /// In place of these it writes one line, with status 1: `FAULT net` where the listener has no port, `ERR 16 ..` for the first of blocks, versions, workers (as `Sessions`) and log that is out of its limits for this map, and `ERR 5 Memory`. A connection that can't be accepted, or fails, counts as served. Where a write fails nothing more is written, and the status is 1.
 pub fn serve_run<R: Clock + Wait + Threads + Sync, W: Sink>(

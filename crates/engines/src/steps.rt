@@ -12,12 +12,13 @@ pub mod text;
 
 use crate::REFUSED;
 use crate::input::{InputStop, read_to_end};
-use metric::{Sink, Source};
-use opening::NotOpened;
-use run::{write_steps, write_stop};
+use crate::output::write_refusal;
+use metric::{Refusal, Sink, Source};
+use run::write_steps;
 use std::alloc::Global;
 
-/// Reads a text to the end of the reader, opens the world that its first line tells, and writes one answer line for it and for each line behind it. Answers the status.
+/// Reads a text to the end of the reader, opens the world that its first line tells, and writes one answer line for it and for each
+/// line after it. Answers the status.
 ///
 /// A first line that opens no world, or want of memory for reading or opening, is one line alone, with status 1. Where a call of the reader or the writer fails, neither is called again, and the status is 1.
 pub fn steps_run<R: Source, W: Sink>(alloc: Global, reader: &mut R, writer: &mut W) -> u8
@@ -39,7 +40,7 @@ pub fn steps_run<R: Source, W: Sink>(alloc: Global, reader: &mut R, writer: &mut
 {
     match read_to_end(alloc, reader) {
         Ok(bytes) => write_steps(alloc, bytes.as_slice(), writer).unwrap_or(REFUSED),
-        Err(InputStop::Memory) => write_stop(writer, NotOpened::Memory).unwrap_or(REFUSED),
+        Err(InputStop::Memory) => write_refusal(writer, Refusal::Memory).unwrap_or(REFUSED),
         Err(InputStop::Failed) => REFUSED,
     }
 }

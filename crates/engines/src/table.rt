@@ -4,6 +4,7 @@ ghost use Rattle.std.specs.Prelude.{◌≡◌, ◌+◌, ◌*◌, ◌<◌, ◌≤
 ghost use Rattle.metric.specs.Kind.{distance_of};
 ghost use Rattle.field.specs.Obstacles.{nears_told};
 ghost use Rattle.field.specs.Rows.{AreNears};
+ghost use Rattle.engines.specs.Measured.{AreDistances};
 
 use bits::Bitmap;
 use field::{ObstacleTable, Workers};
@@ -26,7 +27,7 @@ pub struct Table {
 impl Table {
     ghost use Rattle.engines.specs.Tabled.{nears_of};
 
-    /// The nearest obstacles of the cells of this bitmap, whose border is this, found by so many workers.
+    /// The nearest obstacles of the cells of this bitmap, whose border is this, found by so many workers, or by one where there are few cells.
     pub fn of<T: Threads + Sync>(
         rt: &T,
         alloc: Global,
@@ -39,6 +40,11 @@ impl Table {
         ensures height { IfOk result (λ table. table.height ≡ bitmap.now.height) }
         ensures rows { IfOk result (λ table. AreNears (distance_of metric) bitmap.now edge 0 bitmap.now.height (nears_of table)) }
     {
+        let workers = if is_large(bitmap.width(), bitmap.height()) {
+            workers
+        } else {
+            Workers { count: 1 }
+        };
         let obstacles = obstacles_of(rt, alloc, bitmap, edge, metric, workers)?;
         Ok(Table {
             width: bitmap.width(),
@@ -60,6 +66,38 @@ impl Table {
             MetricKind::Chess => self.obstacles.fill_row::<Chess>(y, nears),
         }
     }
+
+    /// Fills a line with the distances of the cells of row `y`, in the metric's unit; `u32::MAX` where there is no obstacle.
+    pub fn fill_distances(&self, y: u16, distances: &mut [u32])
+        requires row { y < self.now.height }
+        requires width { length distances.old ≡ self.now.width }
+        ensures { AreDistances (slice_range (nears_of self.now) (y * self.now.width) (y * self.now.width + self.now.width)) distances.new }
+    {
+        match self.metric {
+            MetricKind::Euclid2 => self.obstacles.fill_distances::<Euclid2>(y, distances),
+            MetricKind::City => self.obstacles.fill_distances::<City>(y, distances),
+            MetricKind::Chess => self.obstacles.fill_distances::<Chess>(y, distances),
+        }
+    }
+
+    /// How many threads do the work of so many: as many where the table is large, and one where it has fewer than 2^20 cells.
+    pub fn threads(&self, workers: usize) -> usize
+        requires { 1 ≤ workers }
+        ensures { 1 ≤ result }
+    {
+        if is_large(self.width, self.height) {
+            return workers;
+        }
+        1
+    }
+}
+
+/// The fewest cells of a map whose rows are shared by several threads. Below them starting threads, and waiting for the last one on a busy machine, takes longer than the work that they take off one.
+const LARGE: u32 = 1 << 20;
+
+/// Whether a map of this size has so many cells that threads share its rows.
+fn is_large(width: u16, height: u16) -> bool {
+    u32::from(width) * u32::from(height) >= LARGE
 }
 
 /// The obstacles by the metric of this name, with this border.

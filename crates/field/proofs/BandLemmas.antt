@@ -1,4 +1,4 @@
--- The nearest obstacles of rows that are filled one after another, and of bands that stand one behind another.
+-- The nearest obstacles of rows that are filled one after another, and of bands that stand one after another.
 use Rattle.std.proofs.Common.{◌≡◌, ℕ, ◌+◌, ◌-◌, ◌*◌, ◌/◌, ◌<◌, ◌≤◌, ◌⊎◌, ◌∙◌, inl, inr, List, ◌++◌, take, drop, Option, None, Result, Ok, Err, OnOk, length, slice_index_or, arith, length-append}
 use Rattle.std.proofs.Math.Nat.{div-le_self, div-mul-le_self, mul-div_cancel_left, mul-le-mul_right}
 use Rattle.std.proofs.lemmas.Bool.{cases_lt}
@@ -14,7 +14,7 @@ use Rattle.field.specs.Bands.{AreAnswers, AreFilled, HasRoom, row_behind}
 use Rattle.field.specs.Rows.{AreNears}
 use Rattle.column.proofs.Sweeping.{place_above}
 
--- one row more
+-- answers that are filled as far as row y are filled one row further once that row's are written
 pub AreFilled-more : {T : Type 0} (told : Reading T) (nothing : T) (distance : ℕ → ℕ → ℕ) (cells : Cells) (edge : Edge) (from y : ℕ) (before after : List T) → from ≤ y
     → AreFilled told nothing distance cells edge from y before
     → ((x : ℕ) → x < cells.width → IsNear distance (IsBlocked cells edge) x y (told distance x y (slice_index_or after ((y - from) * cells.width + x) nothing)))
@@ -31,7 +31,7 @@ AreFilled-more told nothing distance cells edge from y before after ordered fill
   ];
 }
 
--- the rows of a band, and those of the bands behind it
+-- the answers of a band's rows and those of the rows after them, put together, are the answers of all these rows
 pub AreAnswers-join : {T : Type 0} (told : Reading T) (nothing : T) (distance : ℕ → ℕ → ℕ) (cells : Cells) (edge : Edge) (from to end : ℕ) (own others : List T) → from ≤ to → to ≤ end
     → AreAnswers told nothing distance cells edge from to own → AreAnswers told nothing distance cells edge to end others → AreAnswers told nothing distance cells edge from end (own ++ others)
 AreAnswers-join told nothing distance cells edge from to end own others ordered within above behind = record {
@@ -51,11 +51,11 @@ AreAnswers-join told nothing distance cells edge from to end own others ordered 
   };
 }
 
--- where all is kept, the answers are the nearest obstacles
+-- where all of each answer is kept, the answers of some rows are the nearest obstacles of their cells
 pub AreNears-answers : (distance : ℕ → ℕ → ℕ) (cells : Cells) (edge : Edge) (y0 y1 : ℕ) (nears : List (Option Near)) → AreAnswers (λ d x y near. near) None distance cells edge y0 y1 nears → AreNears distance cells edge y0 y1 nears
 AreNears-answers distance cells edge y0 y1 nears answers = record { as_many = answers.as_many; each = answers.filled.each }
 
--- the nearest obstacles of the rows of a band, and those of the bands behind it
+-- the nearest obstacles of a band's rows and of the rows after them, put together, are those of all these rows
 pub AreNears-join : (distance : ℕ → ℕ → ℕ) (cells : Cells) (edge : Edge) (from to end : ℕ) (own others : List (Option Near)) → from ≤ to → to ≤ end
     → AreNears distance cells edge from to own → AreNears distance cells edge to end others → AreNears distance cells edge from end (own ++ others)
 AreNears-join distance cells edge from to end own others ordered within above behind =
@@ -73,14 +73,14 @@ row_behind-grows y0 y1 count a b some order =
     let quotients : a * (y1 - y0) / count ≤ b * (y1 - y0) / count = le-div (a * (y1 - y0) / count) (b * (y1 - y0)) count some (omega (arith, scaled, below)) in
     omega (arith, quotients)
 
--- behind no band stands the first row
+-- the row after no band is the first row
 pub row_behind-none : (y0 y1 count : ℕ) → row_behind y0 y1 count 0 ≡ y0
 row_behind-none y0 y1 count =
     let none : 0 * (y1 - y0) ≡ 0 = omega arith in
     let quotient : 0 / count ≤ 0 = div-le_self 0 count in
     rw none (omega (arith, quotient))
 
--- behind all bands stand no rows
+-- the row after all bands is the one after the last row
 pub row_behind-all : (y0 y1 count : ℕ) → 1 ≤ count → y0 ≤ y1 → row_behind y0 y1 count count ≡ y1
 row_behind-all y0 y1 count some order = rw (mul-div_cancel_left (y1 - y0) some) (omega arith)
 
@@ -101,7 +101,7 @@ room_above cells from middle to answers upper lower room =
     let part : (middle - from) * cells.width ≤ (to - from) * cells.width = mul-le-mul_right cells.width (omega arith) in
     omega (arith, as_many, part)
 
--- the room behind the upper rows is that of the lower ones
+-- the room after the upper rows is that of the lower ones
 pub room_below : {T : Type 0} (cells : Cells) (from middle to : ℕ) (answers lower : List T) → from ≤ middle → middle ≤ to → HasRoom cells from to answers
     → length lower + (middle - from) * cells.width ≡ length answers → HasRoom cells middle to lower
 room_below cells from middle to answers lower above below room rest =
@@ -110,16 +110,16 @@ room_below cells from middle to answers lower above below room rest =
     let split : (to - from) * cells.width ≡ (middle - from) * cells.width + (to - middle) * cells.width = rw both (omega arith) in
     record { order = below; within = room.within; as_many = omega (arith, as_many, rest, split) }
 
--- two facts of one success
+-- what follows from two facts of one success holds of that success
 pub on_ok_both : {T E P Q R : Type 0} (result : Result T E) → (P → Q → R) → OnOk result P → OnOk result Q → OnOk result R
 on_ok_both (Ok value) both first second = both first second
 on_ok_both (Err error) both first second = first
 
--- a list that was written over as a whole
+-- the beginning of a list that was written over is what was written
 pub written_over : {T : Type 0} (n : ℕ) (new old : List T) → length new ≡ n → take n (new ++ drop (length new) old) ≡ new
 written_over n new old as_many = take_at new (drop (length new) old) n as_many
 
--- what stands in a line that was put among others
+-- an element of a line that was put among others is read at its place among them
 pub get_or-put : {T : Type 0} (all line rest : List T) (start x : ℕ) (other : T) → start ≤ length all → x < length line → slice_index_or (take start all ++ (line ++ rest)) (start + x) other ≡ slice_index_or line x other
 get_or-put all line rest start x other within inside =
     let front = length-take-le start all within in

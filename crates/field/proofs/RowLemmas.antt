@@ -10,7 +10,7 @@ use Rattle.field.specs.Columns.{IsReady}
 use Rattle.field.specs.declared.columns.Columns.{Columns}
 use Rattle.field.proofs.BandLemmas.{AreAnswers-join}
 
--- one row by itself
+-- the answers of one row are those of the rows from it to before the next
 AreAnswers-row : {T : Type 0} (told : Reading T) (nothing : T) (distance : ℕ → ℕ → ℕ) (cells : Cells) (edge : Edge) (y : ℕ) (row : List T) → AreRowAnswers told nothing distance cells edge y cells.width row → AreAnswers told nothing distance cells edge y (y + 1) row
 AreAnswers-row told nothing distance cells edge y row here = record {
   as_many =
@@ -24,13 +24,13 @@ AreAnswers-row told nothing distance cells edge y row here = record {
   };
 }
 
--- one row more
+-- the answers of some rows, with those of the next row after them, are the answers of one row more
 pub AreAnswers-more : {T : Type 0} (told : Reading T) (nothing : T) (distance : ℕ → ℕ → ℕ) (cells : Cells) (edge : Edge) (y0 y : ℕ) (rows row : List T) → y0 ≤ y
     → AreAnswers told nothing distance cells edge y0 y rows → AreRowAnswers told nothing distance cells edge y cells.width row → AreAnswers told nothing distance cells edge y0 (y + 1) (rows ++ row)
 AreAnswers-more told nothing distance cells edge y0 y rows row ordered before here =
     AreAnswers-join told nothing distance cells edge y0 y (y + 1) rows row ordered (omega arith) before (AreAnswers-row told nothing distance cells edge y row here)
 
--- behind a row that is counted with the frame comes the next one
+-- columns that are ready for the row after one that is counted with the frame are ready for the map's next row
 pub IsReady-next : (cells : Cells) (edge : Edge) (columns : Columns) (row y : ℕ) → row ≡ y + shift edge → IsReady cells edge columns (row + 1) → IsReady cells edge columns (y + 1 + shift edge)
 IsReady-next cells edge columns row y same ready =
     let next : row + 1 ≡ y + 1 + shift edge = omega (arith, same) in

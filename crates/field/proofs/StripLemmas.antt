@@ -24,11 +24,11 @@ strips_told {V} {E} items Holds found (first ∷ others) same each k inside =
     let here : slice_index_or found k (Ok first) ≡ Ok (slice_index_or (first ∷ others) k first) = rw same (get_or-map Ok (first ∷ others) k first (Ok first) below) in
     rw (get_or-map items (first ∷ others) k first [] below) (rw here at (each k (Ok first) many))
 
--- the strip of a row is one of them
+-- the strip of a row is one of the strips
 strip_below : (height rows count row : ℕ) → 1 ≤ height → rows ≤ count * height → row < rows → row / height < count
 strip_below height rows count row some enough below = (div-lt_iff_lt-mul some).1 (omega (arith, enough, below))
 
--- a row in its strip
+-- the number of a row is that of its strip times the strips' height, with its place in the strip added
 row_in_strip : (height row : ℕ) → row ≡ row / height * height + row % height
 row_in_strip height row = let parts = div-add-mod row height in omega (arith, parts)
 
@@ -43,7 +43,7 @@ cell_here width height strips row x some inside =
     omega (arith, scaled) in
     rw (place, div-mul-add (row / height) (height * width) (row % height * width + x) rest, mod-mul-add (row / height) (height * width) (row % height * width + x) rest) refl
 
--- the cell in this column of a row
+-- of the cells of all strips, the one in this column of a row is that of the row's strip
 cell_at : (width height rows : ℕ) (strips : List (List (Option Spot))) (row x : ℕ) → 1 ≤ height → row < rows → x < width
     → slice_index_or (cells_in width height rows strips) (row * width + x) None ≡ slice_index_or (slice_index_or strips (row / height) []) (row % height * width + x) None
 cell_at width height rows strips row x some below inside =
@@ -54,11 +54,11 @@ cell_at width height rows strips row x some below inside =
 length-cells_in : (width height rows : ℕ) (strips : List (List (Option Spot))) → length (cells_in width height rows strips) ≡ rows * width
 length-cells_in width height rows strips = length-map-range_with_len (cell_in width height strips) 0 (rows * width)
 
--- rows in strips are rows
+-- rows that stand in strips are rows of a map, each with its cells
 pub AreRows-strips : (width y0 y1 height : ℕ) (strips : List (List (Option Spot))) → HaveRows width y0 y1 height strips → AreRows (in_strips width y0 y1 height strips)
 AreRows-strips width y0 y1 height strips have = record { across = have.across; order = have.order; within = have.within; as_many = length-cells_in width height (y1 - y0) strips }
 
--- the rows before the strip of a row, and how far the row lies behind them
+-- all strips before a row's strip are full, and the row's place in its own strip lies within it
 strip_starts : (height rows row : ℕ) → 1 ≤ height → row < rows → (rows_before rows height (row / height) ≡ row / height * height) × (row % height < rows_before rows height (row / height + 1) - rows_before rows height (row / height))
 strip_starts height rows row some below =
     let parts = row_in_strip height row in
@@ -121,7 +121,7 @@ AreStrips-answers distance cells edge y0 y1 height strips some enough found = re
       rw (← rows) (found.each strip below).as_many;
 }
 
--- a row's strip, as it stands among all
+-- the strip that is read at the place of a row's strip is that strip
 strip_here : {V : Type 0} (items : V → List (Option Spot)) (all : List V) (width height rows row place : ℕ) (strip : V) → AreStrips width height rows (map items all) → row < rows
     → place ≡ row / height → strip ≡ slice_index_or all place strip → items strip ≡ slice_index_or (map items all) (row / height) []
 strip_here items all width height rows row place strip are below here same =
@@ -134,7 +134,7 @@ pub record IsLineOf (width y0 y1 height row start : ℕ) (strips : List (List (O
   pub within : start + width ≤ length strip
   pub line : slice_range strip start (start + width) ≡ slice_range (cells_in width height (y1 - y0) strips) (row * width) (row * width + width)
 
--- the line of a row, read from its strip
+-- the line that is read from a row's strip is the row's part of all cells
 pub IsLineOf-row : {V : Type 0} (items : V → List (Option Spot)) (all : List V) (width y0 y1 height row place : ℕ) (strip : V) → HaveRows width y0 y1 height (map items all) → row < y1 - y0
     → place ≡ row / height → strip ≡ slice_index_or all place strip → IsLineOf width y0 y1 height row (row % height * width) (map items all) (items strip)
 IsLineOf-row items all width y0 y1 height row place strip have below here same =

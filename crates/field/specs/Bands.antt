@@ -11,11 +11,11 @@ pub record IsWorkers (count : ℕ) : Type 0 where
   pub some : 1 ≤ count
   pub few : count ≤ 16
 
--- where the rows y0 to y1 - 1 are shared in so many bands, the first row behind some bands from the top
+-- where the rows y0 to y1 - 1 are shared in so many bands, the first row after some bands from the top
 abbrev pub row_behind : ℕ → ℕ → ℕ → ℕ → ℕ
 row_behind y0 y1 count bands = y0 + bands * (y1 - y0) / count
 
--- the bands behind some from the top, as far as some others, are of so many, and there is one at least
+-- the bands after some from the top, as far as some others, are of so many, and there is one at least
 pub record AreBands (count above below : ℕ) : Type 0 where
   pub some : above < below
   pub within : below ≤ count

@@ -7,7 +7,7 @@ use Rattle.column.specs.Capped.{capped}
 use Rattle.column.specs.Lines.{AreEdges, AreLinesBehind, IsLineBefore}
 use Rattle.field.specs.declared.columns.Columns.{Columns}
 
--- the rows of one band are looked at, from its first on; what lies before the row y and behind each row of the band and each band is known
+-- rows of one band are looked at, from its first on; what lies before row y, and below each row of the band and each band, is known
 pub record IsCarried (cells : Cells) (columns : Columns) (y : ℕ) : Type 0 where
   pub before : IsLineBefore cells y columns.before.items
   pub edges : AreEdges cells columns.from columns.to 0 columns.edges.items

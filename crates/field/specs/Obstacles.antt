@@ -40,7 +40,7 @@ pub record AreRows (table : Obstacles) : Type 0 where
 abbrev pub rows_before : ℕ → ℕ → ℕ → ℕ
 rows_before rows height strip = min rows (strip * height)
 
--- the cell so many places behind the first one, row by row, of rows of this width in strips of this height
+-- the cell so many places after the first one, row by row, of rows of this width in strips of this height
 abbrev pub cell_in : ℕ → ℕ → List (List (Option Spot)) → ℕ → Option Spot
 cell_in width height strips place = slice_index_or (slice_index_or strips (place / (height * width)) []) (place % (height * width)) None
 
@@ -72,3 +72,21 @@ pub record AreStripAnswers (distance : ℕ → ℕ → ℕ) (cells : Cells) (edg
 -- the nearest obstacles that a table tells, row by row, by this distance
 abbrev pub nears_told : (ℕ → ℕ → ℕ) → Obstacles → List (Option Near)
 nears_told distance table = map (λ k. seen_from distance (k % table.width) (table.y0 + k / table.width) (slice_index_or table.cells k None)) (range_with_len 0 (length table.cells))
+
+-- this is the distance of two cells that lie at most 4097 columns and rows apart, the most in a map with its frame
+pub record IsDistance (distance : ℕ → ℕ → ℕ) (number : ℕ) : Type 0 where
+  pub columns : ℕ
+  pub rows : ℕ
+  pub few_columns : columns ≤ 4097
+  pub few_rows : rows ≤ 4097
+  pub is : number ≡ distance columns rows
+
+-- the number is how far away this nearest obstacle is; where there is none, it is the largest number of 32 bits
+abbrev pub IsMeasured : (ℕ → ℕ → ℕ) → Option Near → ℕ → Type 0
+IsMeasured distance None number = number ≡ 4294967295
+IsMeasured distance (Some near) number = (number ≡ near.dist) × IsDistance distance number
+
+-- the numbers are how far away these nearest obstacles are, one by one
+pub record AreMeasured (distance : ℕ → ℕ → ℕ) (nears : List (Option Near)) (numbers : List ℕ) : Type 0 where
+  pub as_many : length numbers ≡ length nears
+  pub each : (x : ℕ) → x < length nears → IsMeasured distance (slice_index_or nears x None) (slice_index_or numbers x 0)

@@ -65,7 +65,7 @@ pub fn rows_with<M: Metric + Sync, G: Gate + Sync, R: Threads + Sync>(
     Ok(nears)
 }
 
-/// Works the bands behind `above` from the top, as far as `below`, each in a thread of its own.
+/// Works the bands after the first `above` ones, as far as `below`, each in a thread of its own.
 #[cycle(bands)]
 fn work_bands<M: Metric + Sync, G: Gate + Sync, R: Threads + Sync>(
     rt: &R,
@@ -93,7 +93,7 @@ fn work_bands<M: Metric + Sync, G: Gate + Sync, R: Threads + Sync>(
     work_beside::<M, G, R>(rt, alloc, shared, gate, above, middle, below, upper, lower)
 }
 
-/// Works the upper bands beside the lower ones.
+/// Works the upper bands and the lower ones at one time.
 #[cycle(bands)]
 fn work_beside<M: Metric + Sync, G: Gate + Sync, R: Threads + Sync>(
     rt: &R,

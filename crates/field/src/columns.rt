@@ -1,6 +1,7 @@
 //! What rows are worked from, one after another: the nearest obstacles of all columns. Where the border is a wall, rows are counted with the frame.
 //!
-//! The rows are looked at in bands of 64. Carried from row to row is the line of the obstacles before a row; what lies behind a row is known for the rows of one band, and behind each band from one walk up the bitmap.
+//! The rows are looked at in bands of 64. Carried from row to row is the line of the obstacles before a row.
+//! What lies below a row is known for the rows of one band, and below each band from one walk up the bitmap.
 
 ghost use Rattle.std.specs.Prelude.{◌≡◌, ◌+◌, ◌*◌, ◌<◌, ◌≤◌, IfErr, IfOk, false, length, true, replicate};
 ghost use Rattle.metric.specs.Edge.{shift};
@@ -28,14 +29,14 @@ pub struct Columns {
     pub to: u16,
     /// Whether each row is looked at by itself; nothing is carried then.
     pub seeks: bool,
-    /// The first row of the band in hand, and the row behind its last one.
+    /// The first row of the band in hand, and the row after its last one.
     pub first: u16,
     pub known: u16,
     /// The obstacles before the row that comes next.
     pub before: Vec<u16>,
-    /// For each row of the band in hand the obstacles behind it.
+    /// For each row of the band in hand the obstacles below it.
     pub behind: Vec<u16>,
-    /// For each band the obstacles behind it.
+    /// For each band the obstacles below it.
     pub edges: Vec<u16>,
     /// Room for a line.
     pub line: Vec<u16>,
@@ -166,7 +167,7 @@ impl Columns {
         nearest_rows(bitmap, edge, y, self.entries.as_mut_slice());
     }
 
-    /// Begins the next band where row `y` lies behind the one in hand.
+    /// Begins the next band where row `y` lies after the one in hand.
     fn reach(&mut self, bitmap: &Bitmap, edge: Edge, y: u16)
         requires bitmap { IsBitmap bitmap.now }
         requires ready { IsReady bitmap.now edge self.old y }

@@ -1,10 +1,11 @@
 //! Where an obstacle is, in four bytes.
 
-ghost use Rattle.std.specs.Prelude.{◌≡◌, ◌≤ℤ◌, pos, negsuc, IfSome, Option, None};
+ghost use Rattle.std.specs.Prelude.{◌≡◌, ◌≤◌, ◌≤ℤ◌, pos, negsuc, IfSome, Option, None};
+ghost use Rattle.field.specs.Obstacles.{IsMeasured, seen_from};
 ghost use Rattle.metric.specs.declared.spot.Spot.{Spot};
 
 use envelope::Answer;
-use metric::{Near, Spot};
+use metric::{Metric, Near, Spot};
 use std::marker::Model;
 
 /// The column and the row that stand for no obstacle: no map with its frame has them.
@@ -49,6 +50,18 @@ impl ObstacleCell {
                 y: self.y,
             })
         }
+    }
+
+    /// How far away the spot is from the cell in column `x` and row `y`; `u32::MAX` where there is none.
+    #[inline(always)]
+    pub fn measure<M: Metric>(self, x: u16, y: u16) -> u32
+        requires column { x ≤ 4095 }
+        requires row { y ≤ 4095 }
+        ensures { IsMeasured M.distance (seen_from M.distance x y self) result }
+    {
+        let (dx, dy) = ((x as i16).abs_diff(self.x), (y as i16).abs_diff(self.y));
+        let dist = M::of(dx, dy);
+        if self.x != NOWHERE { dist } else { u32::MAX }
     }
 }
 

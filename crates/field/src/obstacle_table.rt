@@ -1,7 +1,7 @@
 //! The nearest obstacles of all cells of some rows in a third of the room: only where each is, since how far away it is follows.
 
 ghost use Rattle.std.specs.Prelude.{◌≡◌, ◌↔◌, ℕ, ◌+◌, ◌-◌, ◌*◌, ◌<◌, ◌≤◌, true, IfErr, IfOk, None, length, slice_index_or, slice_range};
-ghost use Rattle.field.specs.Obstacles.{nears_told, seen_from};
+ghost use Rattle.field.specs.Obstacles.{AreMeasured, IsMeasured, nears_told, seen_from};
 ghost use Rattle.field.specs.Rows.{AreNears};
 ghost use Rattle.metric.specs.declared.refusal.Refusal.TheVariants.{Memory};
 
@@ -111,7 +111,17 @@ impl ObstacleTable {
         fill_line::<M>(y, self.line(y - self.y0), nears);
     }
 
-    /// The cells of the row so many rows behind the first one.
+    /// Fills a line with the distances of the cells of row `y` to their nearest obstacles, from the left, by the metric that the table was made by; `u32::MAX` where there is no obstacle.
+    pub fn fill_distances<M: Metric>(&self, y: u16, distances: &mut [u32])
+        requires from { self.now.y0 ≤ y }
+        requires to { y < self.now.y1 }
+        requires width { length distances.old ≡ self.now.width }
+        ensures { AreMeasured M.distance (slice_range (nears_told M.distance self.now) ((y - self.now.y0) * self.now.width) ((y - self.now.y0) * self.now.width + self.now.width)) distances.new }
+    {
+        measure_line::<M>(y, self.line(y - self.y0), distances);
+    }
+
+    /// The cells of the row so many rows after the first one.
     fn line(&self, row: u16) -> &[ObstacleCell]
         requires row { row < self.now.y1 - self.now.y0 }
         ensures len { length result.now ≡ self.now.width }
@@ -134,6 +144,19 @@ fn fill_line<M: Metric>(y: u16, cells: &[ObstacleCell], nears: &mut [Option<Near
 {
     for x in 0..nears.len() {
         nears[x] = near_from::<M>(x as u16, y, cells[x]);
+    }
+}
+
+/// Fills a line with how far away these obstacles are from the cells of row `y`.
+fn measure_line<M: Metric>(y: u16, cells: &[ObstacleCell], distances: &mut [u32])
+    requires row { y ≤ 4095 }
+    requires few { length cells.now ≤ 4096 }
+    requires width { length distances.old ≡ length cells.now }
+    ensures len { length distances.new ≡ length cells.now }
+    ensures each { (x : ℕ) → x < length cells.now → IsMeasured M.distance (seen_from M.distance x y (slice_index_or cells.now x None)) (slice_index_or distances.new x 0) }
+{
+    for x in 0..distances.len() {
+        distances[x] = cells[x].measure::<M>(x as u16, y);
     }
 }
 

@@ -67,7 +67,7 @@ fn work_strip<M: Metric, G: Gate>(
 }
 
 impl Strips<'_> {
-    /// The first row of a strip, counted from 0; the row behind the last one where the strip has none.
+    /// The first row of a strip, counted from 0; the row after the last one where the strip has none.
     fn first_row(&self, strip: u8) -> u16
         requires { strip ≤ 16 }
         ensures row { result ≡ self.now.y0 + rows_before (self.now.y1 - self.now.y0) self.now.height strip }

@@ -23,7 +23,8 @@ impl Workers {
         }
     }
 
-    /// The rows of a band, counted from 1, of those that share the rows `y0` to `y1 - 1`: its first row, and the row behind its last one. A band may have none.
+    /// The rows of a band, counted from 1, of those that share the rows `y0` to `y1 - 1`: its first row, and the row after
+    /// its last one. A band may have none.
     pub fn band_rows(self, y0: u16, y1: u16, band: u8) -> (u16, u16)
         requires order { y0 ≤ y1 }
         requires first { 1 ≤ band }
@@ -34,7 +35,7 @@ impl Workers {
         self.rows_between(y0, y1, band - 1, band)
     }
 
-    /// The first row behind `above` bands from the top, and the first one behind `below` bands.
+    /// The first row after `above` bands from the top, and the first one after `below` bands.
     pub fn rows_between(self, y0: u16, y1: u16, above: u8, below: u8) -> (u16, u16)
         requires order { y0 ≤ y1 }
         requires bands { above ≤ below }
@@ -52,7 +53,7 @@ impl Workers {
     }
 }
 
-/// The first row behind some bands from the top, of so many.
+/// The first row after some bands from the top, of so many.
 fn row_behind(y0: u16, y1: u16, count: u8, bands: u8) -> u16
     requires order { y0 ≤ y1 }
     requires count { IsWorkers count }

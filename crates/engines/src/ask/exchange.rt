@@ -47,7 +47,7 @@ fn send<S: Stream>(stream: &mut S, request: &[u8]) -> Result<(), Stop>
     Ok(())
 }
 
-/// Reads a reply behind what the buffer holds, with the bytes that it counts where they are asked for.
+/// Reads a reply after what the buffer holds, with the bytes that it counts where they are asked for.
 fn read_reply<S: Stream>(stream: &mut S, dump: bool, reply: &mut Vec<u8>) -> Result<(), Stop>
     requires { CanFail (S.failed_reads stream.old) }
     ensures all { OnOk result (Gathers (S.rest stream.old) reply.old.items reply.new.items (S.rest stream.new)) }
@@ -63,7 +63,7 @@ fn read_reply<S: Stream>(stream: &mut S, dump: bool, reply: &mut Vec<u8>) -> Res
     }
 }
 
-/// Reads a line behind what the buffer holds, which is nothing, and the bytes that it counts where they are asked for.
+/// Reads a line after what the buffer holds, which is nothing, and the bytes that it counts where they are asked for.
 fn read_whole<S: Stream>(stream: &mut S, dump: bool, reply: &mut Vec<u8>) -> Result<(), Cut>
     requires { CanFail (S.failed_reads stream.old) }
     ensures all { OnOk result (Gathers (S.rest stream.old) reply.old.items reply.new.items (S.rest stream.new)) }

@@ -11,15 +11,10 @@ ghost use Rattle.engines.specs.declared.gather.Cut.TheVariants.{Ended, Failed};
 use crate::ask::Stop;
 use crate::gather::{Cut, read_count, read_line};
 use metric::Source;
-use proto::{Line, MOST_COUNTED, Verb, parse_line, verb_of, without_cr};
-use std::alloc::Global;
+use proto::{Line, MOST_COUNTED, Verb, read_stamp, split_verb, without_cr};
 
 /// Reads a line and the bytes that it counts over what the buffer held. `false` where the reader ends before all of them.
-pub fn read_request<R: Source>(
-    alloc: Global,
-    reader: &mut R,
-    request: &mut Vec<u8>,
-) -> Result<bool, Stop>
+pub fn read_request<R: Source>(reader: &mut R, request: &mut Vec<u8>) -> Result<bool, Stop>
     requires { CanFail (R.failed_reads reader.old) }
     ensures all { result ≡ Ok true → Takes (R.rest reader.old) request.new.items (R.rest reader.new) }
     ensures taken { (taken : List ℕ) × Takes (R.rest reader.old) taken (R.rest reader.new) }
@@ -28,7 +23,7 @@ pub fn read_request<R: Source>(
     ensures ended { result ≡ Ok false → EndsCut (R.rest reader.old) (R.rest reader.new) }
 {
     request.clear();
-    match read_whole(alloc, reader, request) {
+    match read_whole(reader, request) {
         Ok(()) => Ok(true),
         Err(Cut::Ended) => Ok(false),
         Err(Cut::Failed) => Err(Stop::Standard),
@@ -36,8 +31,8 @@ pub fn read_request<R: Source>(
     }
 }
 
-/// Reads a line and the bytes that it counts behind what the buffer holds, which is nothing.
-fn read_whole<R: Source>(alloc: Global, reader: &mut R, request: &mut Vec<u8>) -> Result<(), Cut>
+/// Reads a line and the bytes that it counts after what the buffer holds, which is nothing.
+fn read_whole<R: Source>(reader: &mut R, request: &mut Vec<u8>) -> Result<(), Cut>
     requires { CanFail (R.failed_reads reader.old) }
     ensures all { OnOk result (Gathers (R.rest reader.old) request.old.items request.new.items (R.rest reader.new)) }
     ensures taken { (taken : List ℕ) × Takes (R.rest reader.old) taken (R.rest reader.new) }
@@ -46,7 +41,7 @@ fn read_whole<R: Source>(alloc: Global, reader: &mut R, request: &mut Vec<u8>) -
     ensures ended { request.old.items ≡ [] → result ≡ Err Ended → EndsCut (R.rest reader.old) (R.rest reader.new) }
 {
     read_line(reader, request)?;
-    let count = counted(alloc, without_end(request.as_slice()));
+    let count = counted(without_end(request.as_slice()));
     read_count(reader, request, count)
 }
 
@@ -60,15 +55,15 @@ pub fn without_end(line: &[u8]) -> &[u8]
     }
 }
 
-/// How many bytes a server reads behind a line.
-fn counted(alloc: Global, line: &[u8]) -> u32
+/// How many bytes a server reads after a line.
+fn counted(line: &[u8]) -> u32
     ensures { result ≡ bytes_behind (verb_in line.now) (said line.now) }
 {
-    let Some(Verb::Stamp) = verb_of(line) else {
+    let Some((Verb::Stamp, rest)) = split_verb(line) else {
         return 0;
     };
-    match parse_line(alloc, line) {
-        Ok(Line::Stamp { length, .. }) if length <= MOST_COUNTED => length,
+    match read_stamp(rest) {
+        Some(Line::Stamp { length, .. }) if length <= MOST_COUNTED => length,
         _ => 0,
     }
 }

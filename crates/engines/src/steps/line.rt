@@ -7,8 +7,7 @@ ghost use Rattle.engines.specs.StepLines.{letter_named, letter_said, order_said,
 
 use map_core::Event;
 use metric::Refusal;
-use proto::{Line, Verb, number_pair, number_triple, only_number, parse_line, split_word, verb_of};
-use std::alloc::Global;
+use proto::{Verb, number_pair, number_triple, only_number, read_order, split_verb, split_word};
 
 /// What a line says.
 #[derive(Drop)]
@@ -63,24 +62,23 @@ fn letter_of(word: &[u8]) -> Option<Letter>
 
 /// What the line of the protocol that is left of a line says. Only a command to the keeper says anything.
 #[tactic(auto, unfolding(proto::specs::Said::said, proto::specs::Said::verb_in))]
-fn order(alloc: Global, rest: Option<&[u8]>) -> StepLine
+fn order(rest: Option<&[u8]>) -> StepLine
     ensures { said_by result ≡ order_said (first_verb (words_left rest.entry)) (said_of (words_left rest.entry)) }
 {
     let Some(line) = rest else {
         return StepLine::Bad;
     };
-    let Some(Verb::Order(_)) = verb_of(line) else {
+    let Some((Verb::Order(order), rest)) = split_verb(line) else {
         return StepLine::Bad;
     };
-    match parse_line(alloc, line) {
-        Ok(Line::Command(command)) => StepLine::Event(Event::Order { command }),
-        Ok(_) => StepLine::Bad,
-        Err(refusal) => StepLine::Refused(refusal),
+    match read_order(order, rest) {
+        Some(command) => StepLine::Event(Event::Order { command }),
+        None => StepLine::Refused(Refusal::BadArguments),
     }
 }
 
 /// What a letter says with what is left of its line.
-fn letter_line(alloc: Global, letter: Letter, rest: Option<&[u8]>) -> StepLine
+fn letter_line(letter: Letter, rest: Option<&[u8]>) -> StepLine
     ensures { said_by result ≡ letter_said letter (words_left rest.entry) }
 {
     match letter {
@@ -108,7 +106,7 @@ fn letter_line(alloc: Global, letter: Letter, rest: Option<&[u8]>) -> StepLine
             Some(reader) => StepLine::Event(Event::Confirm { reader }),
             None => StepLine::Bad,
         },
-        Letter::Order => order(alloc, rest),
+        Letter::Order => order(rest),
         Letter::Keep => match only_number(rest) {
             Some(count) => StepLine::Keep { count },
             None => StepLine::Bad,
@@ -118,12 +116,12 @@ fn letter_line(alloc: Global, letter: Letter, rest: Option<&[u8]>) -> StepLine
 
 /// What a line says, without its LF and the CR before it.
 #[tactic(auto, unfolding(crate::specs::StepLines::said))]
-pub fn parse_step(alloc: Global, line: &[u8]) -> StepLine
+pub fn parse_step(line: &[u8]) -> StepLine
     ensures { said_by result ≡ said line.now }
 {
     let (word, rest) = split_word(line);
     match letter_of(word) {
-        Some(letter) => letter_line(alloc, letter, rest),
+        Some(letter) => letter_line(letter, rest),
         None => StepLine::Bad,
     }
 }

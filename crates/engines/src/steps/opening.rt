@@ -6,11 +6,12 @@ ghost use Rattle.map_core.specs.Runs.{IsOpened};
 ghost use Rattle.map_core.specs.Words.{tiles};
 ghost use Rattle.proto.specs.Numbers.{numbers};
 ghost use Rattle.proto.specs.Words.{words_left};
-ghost use Rattle.engines.specs.Opening.{base_of, is_side, judged, opening_told, refusal_of, setting_of};
+ghost use Rattle.engines.specs.Refusals.{HasWordsAlone};
+ghost use Rattle.engines.specs.Opening.{base_of, is_side, judged, opening_told, setting_of};
 
 use bits::Bitmap;
 use map_core::{Setting, World};
-use metric::{Edge, Field, Refusal};
+use metric::{Edge, Refusal};
 use proto::{Text, next_number, number_triple, split_word};
 use std::alloc::Global;
 
@@ -24,36 +25,12 @@ pub struct Opening {
     pub setting: Setting,
 }
 
-/// Why no world was opened.
-#[derive(Clone, Copy)]
-pub enum NotOpened {
-    /// The line has another form, or a side that no map has.
-    BadArguments,
-    /// The setting is out of its limits: this field first.
-    BadSetting(Field),
-    /// There was no memory.
-    Memory,
-}
-
 /// A world that a first line opened, how many positions its map has, and the room of the answers.
 #[derive(Drop)]
 pub struct Opened {
     pub world: World,
     pub tiles: u16,
     pub text: Text,
-}
-
-impl NotOpened {
-    /// The refusal that tells it.
-    pub fn refusal(self) -> Refusal
-        ensures { result ≡ refusal_of self }
-    {
-        match self {
-            NotOpened::BadArguments => Refusal::BadArguments,
-            NotOpened::BadSetting(field) => Refusal::BadSetting(field),
-            NotOpened::Memory => Refusal::Memory,
-        }
-    }
 }
 
 /// A side of a map, if the number is one.
@@ -109,28 +86,24 @@ impl Opening {
 
 impl Opened {
     /// The world that a first line opens. Memory can be wanting for a map and a setting alone that are good.
-    pub fn of(alloc: Global, line: &[u8]) -> Result<Self, NotOpened>
+    pub fn of(alloc: Global, line: &[u8]) -> Result<Self, Refusal>
         ensures opened { IfOk result (λ opened. (opening : Opening) × (judged (opening_told line.now) ≡ Ok opening) × IsOpened (base_of opening) opened.world × (opened.tiles ≡ tiles (base_of opening))) }
-        ensures refusal { IfErr result (λ stop. stop ≢ NotOpened.Memory → judged (opening_told line.now) ≡ Err (refusal_of stop)) }
-        ensures memory { result ≡ Err NotOpened.Memory → IsOk (judged (opening_told line.now)) }
+        ensures refusal { IfErr result (λ refusal. refusal ≢ Refusal.Memory → judged (opening_told line.now) ≡ Err refusal) }
+        ensures memory { result ≡ Err Refusal.Memory → IsOk (judged (opening_told line.now)) }
+        ensures words { IfErr result HasWordsAlone }
     {
         let Some(opening) = Opening::parse(line) else {
-            return Err(NotOpened::BadArguments);
+            return Err(Refusal::BadArguments);
         };
-        if let Err(Refusal::BadSetting(field)) = opening
-            .setting
-            .fits_size(opening.width, opening.height)
-        {
-            return Err(NotOpened::BadSetting(field));
-        }
+        opening.setting.fits_size(opening.width, opening.height)?;
         let Ok(map) = Bitmap::blank(alloc, opening.width, opening.height) else {
-            return Err(NotOpened::Memory);
+            return Err(Refusal::Memory);
         };
         let Ok(world) = World::open(alloc, opening.setting, &map) else {
-            return Err(NotOpened::Memory);
+            return Err(Refusal::Memory);
         };
         let Ok(text) = Text::new(alloc) else {
-            return Err(NotOpened::Memory);
+            return Err(Refusal::Memory);
         };
         let tiles = map.tiles();
         Ok(Opened { world, tiles, text })

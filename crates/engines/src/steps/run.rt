@@ -1,9 +1,7 @@
 //! The world of a text, and the answers to its lines.
 
 ghost use Rattle.std.specs.Prelude.{◌≡◌, ◌≤◌, ◌∷◌, ◌++◌, [], length, IfOk, OnOk, OnErr};
-ghost use Rattle.metric.specs.Refusal.{refusal_text};
 ghost use Rattle.metric.specs.Stream.{Appends, AppendsFront, Counts, CanFail};
-ghost use Rattle.engines.specs.Opening.{refusal_of};
 ghost use Rattle.engines.specs.StepLines.{said};
 ghost use Rattle.engines.specs.StepRuns.{IsAnswerLine, IsDone, IsDoneInPart, IsTold, IsToldInPart};
 ghost use Rattle.engines.specs.Steps.{IsBegun, IsWritten, KeepsAll};
@@ -13,10 +11,10 @@ use crate::DONE;
 use crate::output::write_refusal;
 use crate::steps::answer::{bad_line, opened_line, step_line};
 use crate::steps::line::{StepLine, parse_step};
-use crate::steps::opening::{NotOpened, Opened};
+use crate::steps::opening::Opened;
 use crate::steps::text::split_line;
 use map_core::{Event, NotEnabled, StepReply, World};
-use metric::{Sink, WriteFault};
+use metric::{Refusal, Sink, WriteFault};
 use proto::{Answer, Text, reply_text};
 use std::alloc::Global;
 
@@ -27,9 +25,9 @@ fn keep(alloc: Global, world: &mut World, count: u32) -> Result<StepReply, NotEn
     if count == 0 || world.steps_left() < count {
         return Err(NotEnabled);
     }
-    let mut answer = world.step(alloc, Event::Keep);
+    let mut answer = world.step(alloc, &Event::Keep);
     'steps: for _ in 1..count {
-        answer = world.step(alloc, Event::Keep);
+        answer = world.step(alloc, &Event::Keep);
     }
     answer
 }
@@ -39,8 +37,8 @@ fn answer_line(alloc: Global, world: &mut World, line: &[u8], text: &mut Text)
     ensures answered { IsAnswerLine (said line.now) world.old text.new world.new }
     ensures fits { length text.new ≤ 128 }
 {
-    match parse_step(alloc, line) {
-        StepLine::Event(event) => step_line(world.step(alloc, event), text),
+    match parse_step(line) {
+        StepLine::Event(event) => step_line(world.step(alloc, &event), text),
         StepLine::Keep { count } => step_line(keep(alloc, world, count), text),
         StepLine::Refused(refusal) => reply_text(&Answer::Refused(refusal), text),
         StepLine::Bad => bad_line(text),
@@ -94,17 +92,6 @@ fn write_world<W: Sink>(
     Ok(DONE)
 }
 
-/// Writes the line that tells why no world was opened.
-pub fn write_stop<W: Sink>(writer: &mut W, stop: NotOpened) -> Result<u8, WriteFault>
-    requires { CanFail (W.failed_writes writer.old) }
-    ensures status { IfOk result (λ status. status ≡ 1) }
-    ensures whole { OnOk result (Appends (W.held writer.old) (refusal_text (refusal_of stop) ++ 10 ∷ []) (W.held writer.new)) }
-    ensures front { OnErr result (AppendsFront (W.held writer.old) (refusal_text (refusal_of stop) ++ 10 ∷ []) (W.held writer.new)) }
-    ensures counts { Counts (W.failed_writes writer.old) result (W.failed_writes writer.new) }
-{
-    write_refusal(writer, stop.refusal())
-}
-
 /// Writes the answer to a text.
 pub fn write_steps<W: Sink>(alloc: Global, bytes: &[u8], writer: &mut W) -> Result<u8, WriteFault>
     requires { CanFail (W.failed_writes writer.old) }
@@ -113,10 +100,10 @@ pub fn write_steps<W: Sink>(alloc: Global, bytes: &[u8], writer: &mut W) -> Resu
     ensures counts { Counts (W.failed_writes writer.old) result (W.failed_writes writer.new) }
 {
     let Some((first, later)) = split_line(bytes) else {
-        return write_stop(writer, NotOpened::BadArguments);
+        return write_refusal(writer, Refusal::BadArguments);
     };
     match Opened::of(alloc, first) {
         Ok(opened) => write_world(alloc, opened, later, writer),
-        Err(stop) => write_stop(writer, stop),
+        Err(refusal) => write_refusal(writer, refusal),
     }
 }

@@ -2,10 +2,6 @@ use Rattle.std.proofs.Common.{arith}
 use Rattle.metric.proofs.Decimals.{length-decimal_32}
 use Rattle.engines.proofs.line.put_entry.Goals as goal
 
-pub returns-then-not-nearest-clause-end : goal.returns-then-not-nearest-clause-end
-returns-then-not-nearest-clause-end c =
-    let few = length-decimal_32 c.in-Some.near.dist (omega arith) in omega arith
-
 pub put_place-requires : goal.put_place-requires
 put_place-requires c =
     let few = length-decimal_32 c.in-Some.near.dist (omega arith) in omega arith

@@ -1,4 +1,4 @@
-use Rattle.std.proofs.Common.{◌≡◌, ◌∷◌, rules}
+use Rattle.std.proofs.Common.{◌≡◌, ◌∷◌, true, rules}
 use Rattle.engines.proofs.Lines.{row_line-cons}
 use Rattle.engines.proofs.PuttingLemmas.{Puts-more}
 use Rattle.engines.proofs.line.put_row.Goals as goal
@@ -6,5 +6,5 @@ use Rattle.engines.proofs.line.put_row.Goals as goal
 pub returns-in-Some-clause-line : goal.returns-in-Some-clause-line
 returns-in-Some-clause-line c =
     let whole : c.args.nears.now ≡ c.in-Some.first.now ∷ c.in-Some.others.now = search rules in
-    rw (whole, row_line-cons c.args.nearest c.in-Some.first.now c.in-Some.others.now)
+    rw (whole, row_line-cons true c.in-Some.first.now c.in-Some.others.now)
     (Puts-more _ _ _ _ _ _ _ _ (Puts-more _ _ _ _ _ _ _ _ c.put_entry-next.ensures.text c.put_others-end.ensures.text) c.put_byte.ensures)

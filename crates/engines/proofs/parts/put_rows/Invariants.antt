@@ -10,4 +10,5 @@ invariant-rows l = record {
   text : Puts l.fn.text 0 (rows_text l.nearest l.table.width l.from (l.y - l.from) (nears_of l.table)) l.text l.end;
   end : l.end ≤ (l.y - l.from) * (25 * l.table.width + 1);
   row : length l.nears ≡ l.table.width;
+  distances : length l.distances ≡ l.table.width;
 }

@@ -1,4 +1,4 @@
--- The row in hand stands behind those so far.
+-- The row in hand stands after those so far.
 use Rattle.std.proofs.Common.{◌≡◌, ◌++◌, ◌+◌, ◌<◌, ◌∙◌, arith, refl, rules}
 use Rattle.metric.specs.Edge.{shift}
 use Rattle.bits.specs.Edges.{framed}

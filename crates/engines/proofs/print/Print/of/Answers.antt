@@ -9,3 +9,6 @@ returns-in_err-bitmap-clause-fault g c =
 
 pub returns-in_default-clause-memory : goal.returns-in_default-clause-memory
 returns-in_default-clause-memory g c = λ none. reads-header _ _ _ c.in_ok-bitmap.ensures.reads
+
+pub returns-in_default-2-clause-memory : goal.returns-in_default-2-clause-memory
+returns-in_default-2-clause-memory g c = λ none. reads-header _ _ _ c.in_ok-bitmap.ensures.reads

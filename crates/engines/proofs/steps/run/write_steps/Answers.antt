@@ -6,11 +6,11 @@ use Rattle.engines.proofs.Telling.{told_begun}
 use Rattle.engines.proofs.steps.run.write_steps.Goals as goal
 
 pub returns-in_default-clause-front : goal.returns-in_default-clause-front
-returns-in_default-clause-front g c = on_err_weaker c.write_stop.result (λ front. refusal_begun c.args.bytes.now _ _ _ (ap opened_by c.in_default.ensures.lines) front) c.write_stop.ensures.front
+returns-in_default-clause-front g c = on_err_weaker c.write_refusal.result (λ front. refusal_begun c.args.bytes.now _ _ _ (ap opened_by c.in_default.ensures.lines) front) c.write_refusal.ensures.front
 
 pub returns-in-Err-clause-front : goal.returns-in-Err-clause-front
 returns-in-Err-clause-front g c =
-    on_err_weaker c.write_stop-in-Err.result (λ front. stop_begun c.args.bytes.now _ _ c.in-Err.stop _ _ c.in-Some.ensures.lines c.in-Err.ensures.refusal (λ e. c.in-Err.ensures.memory (ap Err e)) front) c.write_stop-in-Err.ensures.front
+    on_err_weaker c.write_refusal-in-Err.result (λ front. stop_begun c.args.bytes.now _ _ c.in-Err.refusal _ _ c.in-Some.ensures.lines c.in-Err.ensures.refusal (λ e. c.in-Err.ensures.memory (ap Err e)) front) c.write_refusal-in-Err.ensures.front
 
 pub returns-in-Ok-clause-front : goal.returns-in-Ok-clause-front
 returns-in-Ok-clause-front g c =
