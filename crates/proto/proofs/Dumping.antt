@@ -27,7 +27,7 @@ use Rattle.proto.proofs.Wires.{failed_first, failed_on, written_on}
 abbrev pub rows_text : Cells → ℕ → List ℕ
 rows_text cells y = flat_map (plain_digit cells) (range_with_len 0 (y * cells.width))
 
--- the lines of some rows more were written
+-- once the lines of the first rows, and of some rows more, were written, the lines of all these were
 pub rows_on : (cells : Cells) (old between new : Wire) (from to : ℕ) (piece : List ℕ) → from < to
     → piece ≡ flat_map (plain_digit cells) (range_with_len (from * cells.width) ((to - from) * cells.width))
     → HasWritten old (rows_text cells from) between → HasWritten between piece new → HasWritten old (rows_text cells to) new
@@ -35,7 +35,7 @@ rows_on cells old between new from to piece order is first next =
     subst (λ (t : List ℕ). HasWritten old t new) (ap (λ (t : List ℕ). rows_text cells from ++ t) is ∙ flat_map-rows (plain_digit cells) cells.width from to (omega (arith, order)))
     (written_on old between new (rows_text cells from) piece first next)
 
--- a write of the lines of some rows failed, behind which others stand
+-- where the write of the lines of some rows failed, the write of the lines of all rows failed
 pub rows_failed : (cells : Cells) (old between new : Wire) (from to all : ℕ) (piece : List ℕ) → from < to → to ≤ all
     → piece ≡ flat_map (plain_digit cells) (range_with_len (from * cells.width) ((to - from) * cells.width))
     → HasWritten old (rows_text cells from) between → HasNotWritten between piece new → HasNotWritten old (rows_text cells all) new
@@ -45,13 +45,13 @@ rows_failed cells old between new from to all piece order within is first next =
     subst (λ (t : List ℕ). HasNotWritten old t new) (flat_map-rows (plain_digit cells) cells.width to all within)
     (failed_first old new (rows_text cells to) (flat_map (plain_digit cells) (range_with_len (to * cells.width) ((all - to) * cells.width))) failed)
 
--- what a write came to is how the stream ends behind it
+-- a text that was written, or whose write failed, is said with the end that its write comes to
 pub said_after : (written : Result (Unit {0}) WriteFault) (end : Option End) (old new : Wire) (text : List ℕ) → end ≡ end_after written
     → OnOk written (HasWritten old text new) → OnErr written (HasNotWritten old text new) → IsSaid end old text new
 said_after (Ok done) end old new text is whole front = rw is whole
 said_after (Err fault) end old new text is whole front = rw is front
 
--- the same of a text that nothing follows
+-- a text with nothing after it is said with the end that its write comes to
 pub said_alone : (written : Result (Unit {0}) WriteFault) (end : Option End) (old new : Wire) (text : List ℕ) → end ≡ end_after written
     → OnOk written (HasWritten old text new) → OnErr written (HasNotWritten old text new) → IsSaid end old (text ++ []) new
 said_alone written end old new text is whole front = subst (λ (t : List ℕ). IsSaid end old t new) (sym (append-nil text)) (said_after written end old new text is whole front)
@@ -67,7 +67,7 @@ dump_body store old (answers.Version version) body is = is.1
 dump_body store old answers.Bye body is = is.1
 dump_body store old (answers.Refused refusal) body is = is.1
 
--- what is answered to DUMP and said, as of any line: without a pin, or with one
+-- what DUMP is answered and said, with a pin or without one, is an answer to its line
 dump_answered : {A : Type 0} (store : StoreId) (kept : Option (Vec ℕ A)) (end : Option End) (wire wire_after : Wire) (seat : ReaderView) (pin : Option ℕ) → IsDumpSaid store end wire (record { seat = seat; pin = pin }) wire_after
     → HasAnswered store (Ok saids.dump) kept end wire (record { seat = seat; pin = pin }) wire_after (record { seat = seat; pin = pin })
 dump_answered store kept end wire wire_after seat None said =
@@ -87,7 +87,7 @@ dump_answered store kept end wire wire_after seat (Some version) said =
       said = said.said;
     }
 
--- a line that says DUMP was answered
+-- where a line says DUMP, and its dump was said, the line was answered
 pub dumped : {A : Type 0} (store : StoreId) (heard : Result Said Refusal) (kept : Option (Vec ℕ A)) (end : Option End) (wire wire_after : Wire) (old new : CallerValue) → heard ≡ Ok saids.dump → new ≡ old
     → IsDumpSaid store end wire old wire_after → HasAnswered store heard kept end wire old wire_after new
 dumped store heard kept end wire wire_after old new is same said =

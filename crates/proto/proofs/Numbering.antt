@@ -9,7 +9,7 @@ use Rattle.proto.proofs.Splitting.{words-some}
 abbrev before : ℕ → Option (List ℕ) → Option (List ℕ)
 before n others = option_map (λ ns. n ∷ ns) others
 
--- joined numbers are two at least behind one more
+-- a number before others that are joined is not the only one
 only-joined : (n : ℕ) (first : Option ℕ) (others : Option (List ℕ)) → only_number (before n (join_number first others)) ≡ None
 only-joined n None others = refl
 only-joined n (Some next) None = refl

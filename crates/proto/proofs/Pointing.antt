@@ -11,7 +11,7 @@ use Rattle.proto.proofs.Splitting.{words-some}
 abbrev before : Cell → Option (List Cell) → Option (List Cell)
 before cell others = option_map (λ cells. cell ∷ cells) others
 
--- joined points are two at least behind one more
+-- a point before others that are joined is not the only one
 only-joined : (cell : Cell) (first : Option Cell) (others : Option (List Cell)) → only (before cell (join_point first others)) ≡ None
 only-joined cell None others = refl
 only-joined cell (Some next) None = refl
@@ -29,23 +29,23 @@ only-more cell rest bytes e =
     let some = words-some bytes in
     sym (ap only e ∙ ap (λ (ws : List (List ℕ)). only (before cell (points ws))) some.2 ∙ only-word cell some.0 some.1)
 
--- where no point stands first in what is left, no points do
+-- where what is left of a line doesn't start with a point, it is no list of points
 pub points-none : (rest : Option (Bor (List ℕ))) → is_some rest ≡ true → HasNoFirst (words_left rest) → points (words_left rest) ≡ None
 points-none None some first = absurd cc
 points-none (Some bytes) some (inr none) = none
 points-none (Some bytes) some (inl empty) = absurd (let word = words-some bytes.now in let e = sym empty ∙ word.2 in cc)
 
--- a point is counted
+-- with a point more, as many points are counted as before and one
 pub counted-more : (count : ℕ) (cell : Cell) (others : Option (List Cell)) → option_map (λ cells. count + length cells) (before cell others) ≡ option_map (λ cells. (count + 1) + length cells) others
 counted-more count cell None = refl
 counted-more count cell (Some cells) = let e : count + length (cell ∷ cells) ≡ (count + 1) + length cells = omega arith in ap (λ (n : ℕ). Some n) e
 
--- a point is added
+-- adding a point, and then the others, adds the point before the others
 pub added-more : (cells : List Cell) (cell : Cell) (others : Option (List Cell)) → option_map (λ more. cells ++ more) (before cell others) ≡ option_map (λ more. (cells ++ cell ∷ []) ++ more) others
 added-more cells cell None = refl
 added-more cells cell (Some more) = ap (λ (all : List Cell). Some all) (sym (append_assoc cells (cell ∷ []) more))
 
--- there is room for a point, and then for the others
+-- where there is room for a point and others, there is room for the point, and then for the others
 pub room-more : (len capacity : ℕ) (cell : Cell) (others : Option (List Cell)) → IsSomeAnd (before cell others) (λ cells. len + length cells ≤ capacity) → (len < capacity) × IsSomeAnd others (λ cells. (len + 1) + length cells ≤ capacity)
 room-more len capacity cell None few = absurd few
 room-more len capacity cell (Some cells) few = (omega arith, omega arith)

@@ -25,17 +25,17 @@ use Rattle.proto.specs.Served.{AreExchanges, HasAnswered, HasCounted, HasMoved, 
 use Rattle.proto.specs.Wire.{Wire, CanGoOn, HasNotWritten, HasRead, HasWritten}
 use Rattle.proto.proofs.Wires.{Takes-append, read_on}
 
--- exchanges, and more of them
+-- exchanges, and more after them, are exchanges one after another
 exchanges_on : (store : StoreId) (xs ys : List Exchange) (a b c : CallerValue) → AreExchanges store xs a b → AreExchanges store ys b c → AreExchanges store (xs ++ ys) a c
 exchanges_on store [] ys a b c same rest = subst (λ v. AreExchanges store ys v c) same rest
 exchanges_on store (x ∷ xs) ys a b c (between, first, others) rest = (between, first, exchanges_on store xs ys between b c others rest)
 
--- two parts of which each is joined with its own rest
+-- texts of two lists of exchanges, with a rest after the second, make the texts of both lists with that rest
 joined : (f : Exchange → List ℕ) (xs ys : List Exchange) (rest whole more : List ℕ) → whole ≡ flat_map f xs ++ [] → more ≡ flat_map f ys ++ rest → whole ++ more ≡ flat_map f (xs ++ ys) ++ rest
 joined f xs ys rest whole more e d =
     rw (e, d, append-nil (flat_map f xs), flat_map-append f xs ys) (sym (append_assoc (flat_map f xs) (flat_map f ys) rest))
 
--- what is said behind what was said before
+-- what was written in two parts, one after the other, is written as one
 written_behind : (end : Option End) (before between after : Option (List ℕ)) (a b unsaid : List ℕ) → Appends before a between → IsWritten end between b unsaid after → IsWritten end before (a ++ b) unsaid after
 written_behind (Some ends.WriteFailed) before between after a b unsaid one (middle, two, front) = (middle, Appends-more before between middle a b one two, front)
 written_behind None before between after a b unsaid one two = Appends-more before between after a b one two
@@ -46,7 +46,7 @@ written_behind (Some ends.TooMuchData) before between after a b unsaid one two =
 written_behind (Some ends.ReadFailed) before between after a b unsaid one two = Appends-more before between after a b one two
 written_behind (Some ends.Memory) before between after a b unsaid one two = Appends-more before between after a b one two
 
--- the text whose write failed, with more exchanges before it
+-- an unsaid text stays one where more exchanges come before it
 unsaid_behind : (end : Option End) (xs ys : List Exchange) (tail last unsaid : List ℕ) → IsUnsaid end ys tail last unsaid → IsUnsaid end (xs ++ ys) tail last unsaid
 unsaid_behind (Some ends.WriteFailed) xs ys tail last unsaid (inl (before, x, all, none, is)) =
     inl (xs ++ before, x, ap (λ zs. xs ++ zs) all ∙ sym (append_assoc xs before (x ∷ [])), none, is)
@@ -59,7 +59,7 @@ unsaid_behind (Some ends.TooMuchData) xs ys tail last unsaid none = none
 unsaid_behind (Some ends.ReadFailed) xs ys tail last unsaid none = none
 unsaid_behind (Some ends.Memory) xs ys tail last unsaid none = none
 
--- what was read and written, and more behind it
+-- what a stream read and wrote, and then read and wrote more, it read and wrote together
 moved_on : (end : Option End) (old between new : Wire) (b1 t1 u1 b2 t2 u2 : List ℕ) → HasMoved None old b1 t1 u1 between → HasMoved end between b2 t2 u2 new → HasMoved end old (b1 ++ b2) (t1 ++ t2) u2 new
 moved_on end old between new b1 t1 u1 b2 t2 u2 first next =
     record {
@@ -70,7 +70,7 @@ moved_on end old between new b1 t1 u1 b2 t2 u2 first next =
       writes = (let e = first.writes in let f = next.writes in omega arith);
     }
 
--- a stream that goes on is served further
+-- a stream that was served up to a place, and then from there on, was served in all
 pub serves_on : (store : StoreId) (end : Option End) (w1 w2 w3 : Wire) (a b c : CallerValue) → IsServed store None w1 a w2 b → IsServed store end w2 b w3 c → IsServed store end w1 a w3 c
 serves_on store end w1 w2 w3 a b c first next =
     let s = first.served in
@@ -97,7 +97,7 @@ serves_on store end w1 w2 w3 a b c first next =
       moved = moved_on end w1 w2 w3 first.bytes first.said first.unsaid next.bytes next.said next.unsaid first.moved next.moved;
     }
 
--- at first nothing is served
+-- a stream of which nothing was read has served nothing
 pub serves_nothing : (store : StoreId) (w : Wire) (a : CallerValue) → IsServed store None w a w a
 serves_nothing store w a =
     record {
@@ -108,7 +108,7 @@ serves_nothing store w a =
       moved = record { taken = Takes-nothing w.rest; reached = tt; written = Appends-nothing w.held; reads = omega arith; writes = omega arith };
     }
 
--- a stream that ends behind these bytes, with a last text, which was said or not
+-- a stream that ends after these bytes with a last text, said or unsaid, was served to its end
 ended : (store : StoreId) (end : End) (w1 w2 : Wire) (tail last said unsaid : List ℕ) (a b : CallerValue) → b.seat ≡ a.seat → IsTail (Some end) tail last → said ++ unsaid ≡ last → IsUnsaid (Some end) [] tail last unsaid
     → HasMoved (Some end) w1 tail said unsaid w2 → IsServed store (Some end) w1 a w2 b
 ended store end w1 w2 tail last said unsaid a b same is whole how moved =
@@ -120,7 +120,7 @@ ended store end w1 w2 tail last said unsaid a b same is whole how moved =
       moved = moved;
     }
 
--- what was read before a text whose write failed
+-- where bytes were read, and then a text's write failed, nothing is said, and the text is left unsaid
 unsaid_moved : (w1 w2 w3 : Wire) (bytes text : List ℕ) → HasRead 0 w1 bytes w2 → HasNotWritten w2 text w3 → HasMoved (Some ends.WriteFailed) w1 bytes [] text w3
 unsaid_moved w1 w2 w3 bytes text read written =
     record {
@@ -131,7 +131,7 @@ unsaid_moved w1 w2 w3 bytes text read written =
       writes = (let e = written.writes in let f = read.writes in omega arith);
     }
 
--- a stream that ends behind these bytes with a last text, whose write failed
+-- a stream that ends after these bytes with a last text, whose write failed, was served to its end
 unsaid_end : (store : StoreId) (w1 w2 w3 : Wire) (tail last : List ℕ) (a b : CallerValue) → b.seat ≡ a.seat → IsFarewell tail last → HasRead 0 w1 tail w2 → HasNotWritten w2 last w3 → IsServed store (Some ends.WriteFailed) w1 a w3 b
 unsaid_end store w1 w2 w3 tail last a b same farewell read written =
     ended store ends.WriteFailed w1 w3 tail last [] last a b same (inr farewell) refl (inr (farewell, refl)) (unsaid_moved w1 w2 w3 tail last read written)
@@ -148,7 +148,7 @@ cut_moved ends.TooMuchData w1 w2 bytes cut = absurd cut
 cut_moved ends.WriteFailed w1 w2 bytes cut = absurd cut
 cut_moved ends.Memory w1 w2 bytes cut = absurd cut
 
--- a part of an exchange is the tail where the input is cut off
+-- where the input is cut off in an exchange, the part of it that was read is the tail
 cut_tail : (end : End) (w1 w2 : Wire) (read bytes : List ℕ) → IsCut end w1 read w2 → IsLine bytes ⊎ IsShort bytes → IsTail (Some end) bytes []
 cut_tail ends.EndOfInput w1 w2 read bytes cut part = (part, refl)
 cut_tail ends.ReadFailed w1 w2 read bytes cut part = (part, refl)
@@ -168,7 +168,7 @@ cut_unsaid ends.TooMuchData w1 w2 read bytes cut = absurd cut
 cut_unsaid ends.WriteFailed w1 w2 read bytes cut = absurd cut
 cut_unsaid ends.Memory w1 w2 read bytes cut = absurd cut
 
--- the input is cut off behind more bytes
+-- where the input is cut off after more bytes, it is cut off after all of them
 cut_on : (end : End) (w1 w2 w3 : Wire) (a b : List ℕ) → HasRead 0 w1 a w2 → IsCut end w2 b w3 → IsCut end w1 (a ++ b) w3
 cut_on ends.EndOfInput w1 w2 w3 a b first (read, out) = (read_on 0 w1 w2 w3 a b first read, out)
 cut_on ends.ReadFailed w1 w2 w3 a b first read = read_on 1 w1 w2 w3 a b first read
@@ -192,7 +192,7 @@ line_stopped store ends.ReadFailed w1 w2 bytes a other stop = line_cut store end
 line_stopped store ends.WriteFailed w1 w2 bytes a other stop = line_cut store ends.WriteFailed w1 w2 bytes a stop
 line_stopped store ends.Memory w1 w2 bytes a other stop = line_cut store ends.Memory w1 w2 bytes a stop
 
--- what was read before a text, which then was written
+-- where bytes were read and then a text was written, these alone were taken and written, and no call failed
 said_moved : (w1 w2 w3 : Wire) (bytes text : List ℕ) → HasRead 0 w1 bytes w2 → HasWritten w2 text w3 → Takes w1.rest bytes w3.rest × Appends w1.held text w3.held × (w3.failed_reads ≡ w1.failed_reads + 0) × (w3.failed_writes ≡ w1.failed_writes + 0)
 said_moved w1 w2 w3 bytes text read written =
     (subst (λ r. Takes w1.rest bytes r) (sym written.rest) read.taken, subst (λ h. Appends h text w3.held) read.held written.appended, written.reads ∙ read.reads, (let e = written.writes in let f = read.writes in omega arith))
@@ -224,7 +224,7 @@ quits store end w1 w2 w3 bytes a b same quit read (inl (e, written)) =
 quits store end w1 w2 w3 bytes a b same quit read (inr (e, written)) =
     rw (e) (unsaid_end store w1 w2 w3 bytes _ a b same (inl (quit, refl)) read written)
 
--- the bytes that a line counts are cut off, which ends the stream
+-- where the bytes that a line counts are cut off, the stream ends
 pub counted_cut : (store : StoreId) (end : End) (w1 w2 w3 : Wire) (line : List ℕ) (a : CallerValue) → IsLine line → HasRead 0 w1 (line ++ 10 ∷ []) w2
     → counts (line_said line) ≤ 17100000 → IsCutShort (counts (line_said line)) end w2 w3 → IsServed store (Some end) w1 a w3 a
 counted_cut store end w1 w2 w3 line a is read most short =
@@ -247,7 +247,7 @@ heard_counts (Ok saids.dump) heard (inr (e, points)) = absurd points
 heard_counts (Ok saids.quit) heard (inr (e, points)) = absurd points
 heard_counts (Err refusal) heard (inr (e, points)) = absurd points
 
--- where QUIT was heard, the line says it
+-- where QUIT was heard, the line says QUIT
 pub heard_quit : (said heard : Result Said Refusal) → IsHeard said heard → heard ≡ Ok saids.quit → said ≡ Ok saids.quit
 heard_quit said heard (inl e) quit = sym e ∙ quit
 heard_quit said heard (inr (e, points)) quit = let no_quit : Err Memory ≡ Ok saids.quit = sym e ∙ quit in absurd (cc)
@@ -259,7 +259,7 @@ points_refused : (store : StoreId) (query : Asked) (pin : Option ℕ) (old : Cal
 points_refused store query None old answer new is points refused = refused
 points_refused store query (Some v) old answer new is points refused = record { answered = inr (points, refused.answer_is); same = refused.same }
 
--- what was heard is answered as the line says
+-- an answer to what was heard is an answer to what the line says
 heard_answer : (store : StoreId) (said heard : Result Said Refusal) (bytes : List ℕ) (old : CallerValue) (answer : Answer) (new : CallerValue) → IsHeard said heard → IsLineAnswer store heard bytes old answer new → IsLineAnswer store said bytes old answer new
 heard_answer store said heard bytes old answer new (inl e) answered = subst (λ h. IsLineAnswer store h bytes old answer new) e answered
 heard_answer store (Ok (saids.asked query)) heard bytes old answer new (inr (e, points)) answered =
@@ -272,11 +272,11 @@ heard_answer store (Ok saids.dump) heard bytes old answer new (inr (e, points)) 
 heard_answer store (Ok saids.quit) heard bytes old answer new (inr (e, points)) answered = absurd points
 heard_answer store (Err refusal) heard bytes old answer new (inr (e, points)) answered = absurd points
 
--- a text is one text, with nothing behind it
+-- a text is itself with nothing after it, twice
 one : (t : List ℕ) → t ≡ (t ++ []) ++ []
 one t = sym (append-nil (t ++ []) ∙ append-nil t)
 
--- one exchange, whose text was written or not
+-- an exchange whose bytes were read, and whose text was written or not, is served
 exchanged_by : (store : StoreId) (end : Option End) (w1 w2 w3 : Wire) (x : Exchange) (a b : CallerValue) → IsExchange store x a b → HasRead 0 w1 (bytes_of x) w2 → IsSaid end w2 (text_of x) w3 → IsServed store end w1 a w3 b
 exchanged_by store None w1 w2 w3 x a b is read written =
     let m = said_moved w1 w2 w3 (bytes_of x) (text_of x) read written in
@@ -302,7 +302,7 @@ exchanged_by store (Some ends.TooMuchData) w1 w2 w3 x a b is read written = absu
 exchanged_by store (Some ends.ReadFailed) w1 w2 w3 x a b is read written = absurd written
 exchanged_by store (Some ends.Memory) w1 w2 w3 x a b is read written = absurd written
 
--- a line whose counted bytes were read, which was answered, and its answer said
+-- a line is served where its counted bytes were read, it was answered, and its answer was said
 pub exchanged : {A : Type 0} (store : StoreId) (end : Option End) (w1 w2 w3 w4 : Wire) (line : List ℕ) (heard : Result Said Refusal) (count : ℕ) (kept : Option (Vec ℕ A)) (a b : CallerValue)
     → IsLine line → HasRead 0 w1 (line ++ 10 ∷ []) w2 → IsHeard (line_said line) heard → count ≡ counts heard → count ≤ 17100000 → HasCounted count kept w2 w3
     → HasAnswered store heard kept end w3 a w4 b → IsServed store end w1 a w4 b
@@ -321,13 +321,13 @@ exchanged store end w1 w2 w3 w4 line heard count kept a b is read hears count_is
     (subst (λ t. HasRead 0 w1 t w3) e (read_on 0 w1 w2 w3 (line ++ 10 ∷ []) counted.bytes read counted.read))
     done.said
 
--- a stream that goes on can go on as before
+-- a stream that could go on can go on after what it has served
 pub serves_further : (store : StoreId) (w1 w2 : Wire) (a b : CallerValue) → CanGoOn w1 → IsServed store None w1 a w2 b → CanGoOn w2
 serves_further store w1 w2 a b can served =
     let m = served.moved in
     record { reads = (let e = m.reads in let f = can.reads in omega arith); writes = (let e = m.writes in let f = can.writes in omega arith) }
 
--- a stream that has ended leaves the pin
+-- a stream that has ended was served so whatever pin its caller then has
 pub serves_left : (store : StoreId) (end : End) (w1 w2 : Wire) (a b c : CallerValue) → c.seat ≡ b.seat → IsServed store (Some end) w1 a w2 b → IsServed store (Some end) w1 a w2 c
 serves_left store end w1 w2 a b c same served =
     let s = served.served in

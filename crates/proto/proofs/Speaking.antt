@@ -1,4 +1,4 @@
--- What follows a reply line: nothing, but behind a dump's.
+-- What follows a reply line: nothing, but for a dump's.
 use Rattle.std.proofs.Common.{◌≡◌, ◌≢◌, ℕ, List, [], Option, Some, None, Result, Ok, Err, refl, inl, inr}
 use Rattle.std.specs.Prelude.{◌⊎◌, Vec}
 use Rattle.metric.specs.declared.edge.Edge.{Edge}
@@ -28,13 +28,13 @@ query_dumps distance cells edge (queries.rect metric x0 y0 x1 y1) n answered = a
 query_dumps distance cells edge (queries.path metric points) n answered = answered
 query_dumps distance cells edge (queries.clear_of metric d points) n answered = answered
 
--- what isn't answered with a pin alone by a dump isn't by one
+-- an answer that is no dump where there is a pin is none without a pin either
 pinned_dumps : (pin : Option ℕ) (old new : CallerValue) (n : ℕ) (answered : ℕ → Type 0) → ((v : ℕ) → answered v → ⊥)
     → (elim pin as (λ _. Type 0) [ None ↦ IsRefusedAs NotPinned old (answers.Dumped n) new | Some version ↦ answered version ]) → ⊥
 pinned_dumps None old new n answered never refused = refusal_dumps NotPinned old new n refused
 pinned_dumps (Some v) old new n answered never dumped = never v dumped
 
--- no pin is answered by a dump
+-- PIN is never answered by a dump
 pin_dumps : (store : StoreId) (pin : Option ℕ) (old new : CallerValue) (n : ℕ)
     → (elim pin as (λ _. Type 0) [ None ↦ HasPinned store old (answers.Dumped n) new ⊎ IsRefusedAs Memory old (answers.Dumped n) new | Some version ↦ IsRefusedAs AlreadyPinned old (answers.Dumped n) new ]) → ⊥
 pin_dumps store None old new n (inl pinned) = let e = pinned.answer_is in cc
@@ -65,7 +65,7 @@ plain_body store said bytes old new (answers.Dumped n) other answered = absurd (
 plain_body store said bytes old new answers.Bye other answered = refl
 plain_body store said bytes old new (answers.Refused refusal) other answered = refl
 
--- what was kept are some bytes
+-- some bytes are those that were kept, if any were
 pub kept_bytes : {A : Type 0} (kept : Option (Vec ℕ A)) → (bytes : List ℕ) × AreKept kept bytes
 kept_bytes None = ([], tt)
 kept_bytes (Some v) = (v.items, refl)

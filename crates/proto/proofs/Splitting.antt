@@ -16,12 +16,12 @@ is_blank byte = eqb byte 32
 abbrev is_at : ℕ → ℕ → Bool
 is_at separator byte = eqb byte separator
 
--- which side of a test was taken
+-- where a choice gives a value, the test is true and the first side is that value, or it is false and the second is
 chosen : {A : Type 0} (b : Bool) (x y z : A) → cond b x y ≡ z → ((b ≡ true) × (x ≡ z)) ⊎ ((b ≡ false) × (y ≡ z))
 chosen true x y z e = inl (refl, e)
 chosen false x y z e = inr (refl, e)
 
--- one byte more before bytes that aren't split
+-- a byte that doesn't split, before bytes that aren't split, makes them one part still
 whole-more : (separator byte : ℕ) (bytes : List ℕ) (b : Bool) → (length bytes ≤ position_or_len (is_at separator) bytes → slice_split (is_at separator) bytes ≡ bytes ∷ [])
     → length bytes + 1 ≤ cond (not b) (1 + position_or_len (is_at separator) bytes) 0 → cond b ([] ∷ slice_split (is_at separator) bytes) (onto_first byte (slice_split (is_at separator) bytes)) ≡ (byte ∷ bytes) ∷ []
 whole-more separator byte bytes true rest few = absurd (omega arith)
@@ -43,7 +43,7 @@ parts-first separator bytes end e =
       | inr none ↦ absurd (let no = none.1 in cc)
     ]
 
--- where none is found, all of it is one part
+-- where no place to split is found, all of the bytes are one part
 pub parts-one : (separator : ℕ) (bytes : List ℕ) → position (λ byte. eqb byte separator) bytes ≡ None → slice_split (λ byte. eqb byte separator) bytes ≡ bytes ∷ []
 parts-one separator bytes e =
     elim (chosen (ltb (position_or_len (is_at separator) bytes) (length bytes)) (Some (position_or_len (is_at separator) bytes)) None None e) [
@@ -51,7 +51,7 @@ parts-one separator bytes e =
       | inr none ↦ whole separator bytes (ltb-false _ _ none.0)
     ]
 
--- there is a part
+-- bytes that are split have a part
 pub parts-some : (separator : ℕ) (bytes : List ℕ) → (part : List ℕ) × (others : List (List ℕ)) × (slice_split (λ byte. eqb byte separator) bytes ≡ part ∷ others)
 parts-some separator [] = ([], [], refl)
 parts-some separator (byte ∷ bytes) = some (is_at separator byte) byte (slice_split (is_at separator) bytes)
@@ -66,7 +66,7 @@ pub words-blank : (bytes : List ℕ) (end : ℕ) → position is_blank bytes ≡
 unfolding words
 words-blank bytes end e = parts-first 32 bytes end e
 
--- where none is found, all of it is one word
+-- where no blank is found, all of the line is one word
 pub words-one : (bytes : List ℕ) → position is_blank bytes ≡ None → words bytes ≡ bytes ∷ []
 unfolding words
 words-one bytes e = parts-one 32 bytes e
@@ -81,7 +81,7 @@ pub joined-words : (bytes : List ℕ) → join_with_byte 32 (words bytes) ≡ by
 unfolding words
 joined-words bytes = join_with_byte-slice_split 32 bytes
 
--- a byte before parts without a blank
+-- parts without a blank stay so with a byte before them: a blank starts a new part, any other byte joins the first
 plain-more : (byte : ℕ) (parts : List (List ℕ)) (b : Bool) → is_blank byte ≡ b → All IsWord parts → All IsWord (cond b ([] ∷ parts) (onto_first byte parts))
 plain-more byte parts true e plain = All-cons IsWord [] parts (All-nil (λ other. other ≢ 32)) plain
 plain-more byte [] false e plain = All-cons IsWord (byte ∷ []) [] (All-cons (λ other. other ≢ 32) byte [] (eqb-false byte 32 e) (All-nil (λ other. other ≢ 32))) plain
@@ -98,7 +98,7 @@ plain-words (byte ∷ bytes) = plain-more byte (slice_split is_blank bytes) (is_
 none-blank : (word : List ℕ) → IsWord word → All (λ byte. is_blank byte ≡ false) word
 none-blank word plain = λ k d h. ne_eqb _ _ (plain k d h)
 
--- words are those of the line that they make
+-- words that are joined into a line are that line's words
 pub words-joined : (word : List ℕ) (others : List (List ℕ)) → All IsWord (word ∷ others) → words (join_with_byte 32 (word ∷ others)) ≡ word ∷ others
 unfolding words
 words-joined word [] plain = slice_split_none is_blank word (none-blank word (All-head IsWord word [] plain))

@@ -6,18 +6,18 @@ use Rattle.metric.proofs.Appending.{Appends-nothing, Appends-more, AppendsFront-
 use Rattle.metric.proofs.Taking.{Takes-nothing}
 use Rattle.proto.specs.Wire.{Wire, CanGoOn, HasNotWritten, HasRead, HasWritten}
 
--- bytes that were taken, and more behind them
+-- bytes that were taken, and more that were taken after them, were taken together
 pub Takes-append : (old between new : Option (List ℕ)) (a b : List ℕ) → Takes old a between → Takes between b new → Takes old (a ++ b) new
 Takes-append None between new a b none taken = let e : Takes None b new = subst (λ r. Takes r b new) none taken in e
 Takes-append (Some told) between new a b (left, rest, split) taken =
     let next : Takes (Some left) b new = subst (λ r. Takes r b new) rest taken in
     (next.0, next.1, split ∙ (ap (λ l. a ++ l) next.2 ∙ sym (append_assoc a b next.0)))
 
--- nothing is read at first
+-- from a wire that stays as it was, no byte was read
 pub nothing_read : (w : Wire) → HasRead 0 w [] w
 nothing_read w = record { taken = Takes-nothing w.rest; held = refl; reads = omega arith; writes = refl }
 
--- bytes that were read, and more behind them, at the last of which so many reads failed
+-- bytes that were read, and more after them, were read together, and as many reads failed as for the last
 pub read_on : (faults : ℕ) (old between new : Wire) (a b : List ℕ) → HasRead 0 old a between → HasRead faults between b new → HasRead faults old (a ++ b) new
 read_on faults old between new a b first next =
     record {
@@ -27,7 +27,7 @@ read_on faults old between new a b first next =
       writes = next.writes ∙ first.writes;
     }
 
--- where nothing more was taken
+-- bytes that were read stay so where nothing more was taken
 pub read_end : (faults : ℕ) (old between new : Wire) (a : List ℕ) → HasRead 0 old a between → HasRead faults between [] new → HasRead faults old a new
 read_end faults old between new a first next = subst (λ bytes. HasRead faults old bytes new) (append-nil a) (read_on faults old between new a [] first next)
 
@@ -39,11 +39,11 @@ goes_on old new bytes can read =
       writes = (let e = read.writes in let f = can.writes in omega arith);
     }
 
--- nothing is written at first
+-- to a wire that stays as it was, no byte was written
 pub nothing_written : (w : Wire) → HasWritten w [] w
 nothing_written w = record { rest = refl; appended = Appends-nothing w.held; reads = refl; writes = refl }
 
--- a text that was written, and one more
+-- a text that was written, and one more after it, were written together
 pub written_on : (old between new : Wire) (a b : List ℕ) → HasWritten old a between → HasWritten between b new → HasWritten old (a ++ b) new
 written_on old between new a b first next =
     record {
@@ -53,7 +53,7 @@ written_on old between new a b first next =
       writes = next.writes ∙ first.writes;
     }
 
--- a text that was written, and a failed write of the next
+-- a text that was written, and a next one whose write failed, are a text whose write failed
 pub failed_on : (old between new : Wire) (a b : List ℕ) → HasWritten old a between → HasNotWritten between b new → HasNotWritten old (a ++ b) new
 failed_on old between new a b first next =
     record {
@@ -63,7 +63,7 @@ failed_on old between new a b first next =
       writes = (let e = next.writes in let f = first.writes in omega arith);
     }
 
--- a failed write of a text is one of a longer text
+-- where the write of a text failed, that of a longer text which starts with it failed too
 pub failed_first : (old new : Wire) (a b : List ℕ) → HasNotWritten old a new → HasNotWritten old (a ++ b) new
 failed_first old new a b next =
     let f = next.front in
@@ -82,10 +82,10 @@ goes_on_written old new text can written =
       writes = (let e = written.writes in let f = can.writes in omega arith);
     }
 
--- a text that was written, where what the stream kept back couldn't be passed on
+-- a text's write failed where it was written, but what the stream kept back couldn't be passed on
 pub failed_last : (old between new : Wire) (a : List ℕ) → HasWritten old a between → HasNotWritten between [] new → HasNotWritten old a new
 failed_last old between new a first next = subst (λ t. HasNotWritten old t new) (append-nil a) (failed_on old between new a [] first next)
 
--- a text that was written and passed on
+-- a text that was written, and then passed on, was written
 pub written_last : (old between new : Wire) (a : List ℕ) → HasWritten old a between → HasWritten between [] new → HasWritten old a new
 written_last old between new a first next = subst (λ t. HasWritten old t new) (append-nil a) (written_on old between new a [] first next)

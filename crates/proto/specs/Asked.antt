@@ -26,7 +26,7 @@ asked_by (queries.Rect metric r) = rect metric r.x0 r.y0 r.x1 r.y1
 asked_by (queries.Path metric points) = path metric points.items
 asked_by (queries.ClearOf metric d points) = clear_of metric d points.items
 
--- it has points, for which memory is needed
+-- a query has points, for which memory is needed
 abbrev pub HasPoints : Asked → Type 0
 HasPoints (at metric cell) = ⊥
 HasPoints (rect metric x0 y0 x1 y1) = ⊥
@@ -61,12 +61,12 @@ abbrev pub about : (List Cell → Asked) → Result (List Cell) Refusal → Resu
 about ask (Ok points) = Ok (ask points)
 about ask (Err refusal) = Err refusal
 
--- what the first word tells, and the words behind it
+-- what the first word tells, and the words after it
 abbrev pub first_of : {A : Type 0} → (List ℕ → Option A) → List (List ℕ) → Option (A × List (List ℕ))
 first_of told [] = None
 first_of told (word ∷ others) = option_map (λ value. (value, others)) (told word)
 
--- what a query asks of the words behind the metric
+-- what a query asks of the words after the metric
 abbrev pub query_asked : QueryKind → MetricKind → List (List ℕ) → Result Asked Refusal
 query_asked kinds.At metric words = or_bad (option_map (λ cell. at metric cell) (only (points words)))
 query_asked kinds.Rect metric words = or_bad (option_and_then (λ corners. rect_of metric corners) (pair (points words)))

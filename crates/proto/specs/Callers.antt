@@ -29,13 +29,14 @@ free seat = record { seat = seat; pin = None }
 abbrev pub bitmap_held : StoreId → CallerValue → Cells
 bitmap_held store c = elim c.pin as (λ _. Cells) [ None ↦ no_bitmap | Some version ↦ bitmap_of (story_told store c.seat.seen) version ]
 
--- a caller has seen a legal log, which begins with all that it had seen, and nothing else of it has changed
+-- a caller has seen a legal log, which starts with all that it had seen, and nothing else of it has changed
 pub record HasSeenMore (store : StoreId) (old new : ReaderView) : Type 0 where
   pub began : IsPrefix old.seen new.seen
   pub legal : IsLegal store.base.setting store.base.opening (entries new.seen)
   pub seat_is : new ≡ record old { seen = new.seen }
 
--- an accepted command: the caller has seen a legal log, which begins with all that it had seen, goes on with what others put between, and ends with the command and its reply; the reply is an answer there
+-- an accepted command: the caller has seen a legal log, which starts with all that it had seen, goes on with what others put between,
+-- and ends with the command and its reply; the reply is an answer there
 pub record IsDone (store : StoreId) (old : ReaderView) (c : Command) (reply : Reply) (new : ReaderView) : Type 0 where
   pub before : List Signed
   pub began : IsPrefix old.seen before
@@ -43,7 +44,8 @@ pub record IsDone (store : StoreId) (old : ReaderView) (c : Command) (reply : Re
   pub legal : IsLegal store.base.setting store.base.opening (entries new.seen)
   pub seat_is : new ≡ record old { seen = before ++ record { by = old.number; entry = record { command = c; reply = reply } } ∷ []; made = old.made + 1 }
 
--- a refused command: the caller has seen a legal log, after which the refusal is the answer, or which doesn't refuse the command, that takes room in the log, and memory was wanting
+-- a refused command: the caller has seen a legal log, and the refusal is the log's answer,
+-- or want of memory, where the log doesn't refuse the command and the command takes room in it
 pub record IsNotDone (store : StoreId) (old : ReaderView) (c : Command) (refusal : Refusal) (new : ReaderView) : Type 0 where
   pub seen : HasSeenMore store old new
   pub why : (refused store.base.setting (story_told store new.seen) c ≡ Some refusal) ⊎ ((refused store.base.setting (story_told store new.seen) c ≡ None) × (refusal ≡ Memory) × (takes_room c ≡ true))

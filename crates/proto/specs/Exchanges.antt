@@ -26,7 +26,7 @@ use Rattle.proto.specs.Callers.{CallerValue, bitmap_held, IsCommanded, IsPinAnsw
 abbrev pub line_said : List ℕ → Result Said Refusal
 line_said line = said (strip_carriage_return line)
 
--- how many bytes behind its LF a line counts: those of a stamp's image
+-- how many bytes after its LF a line counts: those of a stamp's image
 abbrev pub counts : Result Said Refusal → ℕ
 counts (Ok (saids.stamp x y n)) = n
 counts other = 0
@@ -42,18 +42,18 @@ abbrev pub seen_in : Result Line Refusal → Result Said Refusal
 seen_in (Ok line) = Ok (said_by line)
 seen_in (Err refusal) = Err refusal
 
--- what a caller line_said that is answered with a pin alone
+-- a line that needs a pin is answered so for the version that the caller has pinned, and is refused where it has none
 abbrev pub WithPin : (ℕ → Type 0) → CallerValue → Answer → CallerValue → Type 0
 WithPin answered old answer new = elim old.pin as (λ _. Type 0) [ None ↦ IsRefusedAs NotPinned old answer new | Some version ↦ answered version ]
 
--- what a stamp of these bytes is answered: that of the command where an image stands at their front; its first fault where none does; or want of memory
+-- what a stamp of these bytes is answered: as the command where an image stands at their front, else the first fault; or want of memory
 abbrev pub IsStampAnswer : StoreId → ℕ → ℕ → List ℕ → CallerValue → Answer → CallerValue → Type 0
 IsStampAnswer store x y bytes old answer new =
     ((n : ℕ) × (cells : Cells) × Reads bytes n cells × IsCommanded store (commands.Stamp x y cells) old answer new)
     ⊎ ((fault : PbmFault) × (image bytes ≡ Err fault) × IsRefusedAs (BadImage fault) old answer new)
     ⊎ IsRefusedAs Memory old answer new
 
--- what a query is answered with a pin: by its own metric, of the pinned version's bitmap with the store's edge; or want of memory, for its points
+-- what a query is answered with a pin: by its metric, of the pinned version's bitmap with the store's edge, or want of memory for points
 pub record IsQueryAnswer (store : StoreId) (query : Asked) (old : CallerValue) (answer : Answer) (new : CallerValue) : Type 0 where
   pub answered : IsAnswerBy (distance_of (metric_asked query)) (bitmap_held store old) store.base.setting.edge query answer ⊎ (HasPoints query × (answer ≡ answers.Refused Memory))
   pub same : new ≡ old
@@ -63,7 +63,7 @@ abbrev pub body_of : StoreId → CallerValue → Answer → List ℕ
 body_of store old (answers.Dumped n) = plain_text (bitmap_held store old)
 body_of store old answer = []
 
--- a bitmap's dump: its plain image behind the number of its bytes, or want of memory
+-- a bitmap's dump: its plain image after the number of its bytes, or want of memory
 abbrev pub IsDump : Cells → Answer → List ℕ → Type 0
 IsDump cells (answers.Dumped n) body = (body ≡ plain_text cells) × (n ≡ length body)
 IsDump cells answer body = (answer ≡ answers.Refused Memory) × (body ≡ [])

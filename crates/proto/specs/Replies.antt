@@ -1,4 +1,5 @@
--- The reply lines: this project's own rule. Numbers are plain decimal, those of an obstacle's place with a `-` where they are negative, with one blank between two words; each line ends in LF.
+-- The reply lines: this project's own rule. Numbers are plain decimal, those of an obstacle's place with a `-` where they are negative.
+-- There is one blank between two words, and each line ends in LF.
 use Rattle.std.specs.Prelude.{ℕ, List, [], ◌∷◌, ◌++◌, codes, Some, None}
 use Rattle.std.specs.Fmt.{decimal, signed_decimal}
 use Rattle.metric.specs.Refusal.{refusal_text}
@@ -26,7 +27,7 @@ near_text near = codes "OK " ++ (decimal near.dist ++ (32 ∷ spot_text near.cel
 abbrev pub found_text : Cell × Near → List ℕ
 found_text found = codes "OK " ++ (decimal found.1.dist ++ (32 ∷ (cell_text found.0 ++ (32 ∷ spot_text found.1.cell))))
 
--- numbers behind `OK`, each behind a blank
+-- numbers after `OK`, each after a blank
 abbrev pub numbers_text : List ℕ → List ℕ
 numbers_text [] = []
 numbers_text (number ∷ numbers) = (32 ∷ decimal number) ++ numbers_text numbers
@@ -39,7 +40,7 @@ numbers_of (Reverted place) = place ∷ []
 numbers_of (Collected place floor freed kept) = place ∷ floor ∷ freed ∷ []
 numbers_of (Checkpointed place) = place ∷ []
 
--- a number behind `OK`
+-- a number after `OK`
 abbrev pub one_text : ℕ → List ℕ
 one_text number = codes "OK" ++ numbers_text (number ∷ [])
 

@@ -1,5 +1,6 @@
--- What a line of the protocol says: this project's own rule. Words are separated by exactly one blank, and the first one is the command, in capital letters.
--- A line of no known command is refused as such, whatever else is in it; then come arguments of the wrong number or form, and then a path of no point or over 1000.
+-- What a line of the protocol says: this project's own rule. Words are separated by exactly one blank, and the first one is the command,
+-- in capital letters. A line of no known command is refused as such, whatever else is in it; then come arguments of the wrong number
+-- or form, and then a path of no point or over 1000.
 use Rattle.std.specs.Prelude.{ℕ, List, [], ◌∷◌, Option, Some, None, Result, Ok, Err, bytes_eq, codes, option_map, if◌then◌else◌}
 use Rattle.metric.specs.declared.refusal.Refusal.{Refusal}
 use Rattle.metric.specs.declared.refusal.Refusal.TheVariants.{UnknownCommand}
@@ -13,7 +14,8 @@ use Rattle.proto.specs.Numbers.{coordinate, number_triple, numbers}
 use Rattle.proto.specs.Told.{Told, alone, order_named, order_told, told_by}
 use Rattle.proto.specs.Words.{words}
 
--- what a line says: a command to the keeper of the map, a stamp with its place and the number of its bytes, a pin or its end, a query, a dump, or the end of the stream
+-- what a line says: a command to the keeper of the map, a stamp with its place and the number of its bytes, a pin or its end,
+-- a query, a dump, or the end of the stream
 pub data Said : Type 0 where
   told : Told → Said
   stamp : (x y n : ℕ) → Said
@@ -33,7 +35,7 @@ said_by (lines.Query query) = asked (asked_by query)
 said_by lines.Dump = dump
 said_by lines.Quit = quit
 
--- it has points, for which memory is needed
+-- a line has a query with points, for which memory is needed
 abbrev pub HasPoints : Said → Type 0
 HasPoints (asked query) = queries.HasPoints query
 HasPoints other = ⊥
@@ -74,7 +76,7 @@ abbrev pub asks : Result Asked Refusal → Result Said Refusal
 asks (Ok query) = Ok (asked query)
 asks (Err refusal) = Err refusal
 
--- what a command says with the words behind its name
+-- what a command says with the words after its name
 abbrev pub verb_said : Verb → List (List ℕ) → Result Said Refusal
 verb_said (verbs.Order order) words = or_bad (option_map (λ command. told command) (order_told order words))
 verb_said (verbs.Ask kind) words = asks (arguments_asked kind words)

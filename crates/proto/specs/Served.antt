@@ -63,14 +63,14 @@ pub record IsTooMuch (bytes : List ℕ) : Type 0 where
   pub bytes_are : bytes ≡ line ++ (10 ∷ [])
   pub many : 17100000 < counts (line_said line)
 
--- a last text behind the exchanges, which the bytes behind them are answered: that of QUIT, of a line too long, of too many bytes
+-- a last text after the exchanges, which the bytes after them are answered: that of QUIT, of a line too long, of too many bytes
 abbrev pub IsFarewell : List ℕ → List ℕ → Type 0
 IsFarewell tail last =
     (IsQuit tail × (last ≡ reply_line answers.Bye))
     ⊎ (IsTooLong tail × (last ≡ reply_line (answers.Refused refusals.LineTooLong)))
     ⊎ (IsTooMuch tail × (last ≡ reply_line (answers.Refused refusals.TooMuchData)))
 
--- what stands behind the exchanges where a stream ends so, or goes on: the bytes that were read, and a last text
+-- what stands after the exchanges where a stream ends so, or goes on: the bytes that were read, and a last text
 abbrev pub IsTail : Option End → List ℕ → List ℕ → Type 0
 IsTail None tail last = (tail ≡ []) × (last ≡ [])
 IsTail (Some ends.Quit) tail last = IsQuit tail × (last ≡ reply_line answers.Bye)
@@ -81,18 +81,19 @@ IsTail (Some ends.ReadFailed) tail last = IsPart tail × (last ≡ [])
 IsTail (Some ends.WriteFailed) tail last = ((tail ≡ []) × (last ≡ [])) ⊎ IsFarewell tail last
 IsTail (Some ends.Memory) tail last = ⊥
 
--- the caller behind the last exchange: at an end its pin is left
+-- the caller after the last exchange: at an end its pin is left
 abbrev pub IsLeft : Option End → CallerValue → CallerValue → Type 0
 IsLeft None last new = new ≡ last
 IsLeft (Some end) last new = new.seat ≡ last.seat
 
--- the text whose write failed: that of the last exchange, or a last text behind it; none was, at another end
+-- the text whose write failed: that of the last exchange, or a last text after it; none was, at another end
 abbrev pub IsUnsaid : Option End → List Exchange → List ℕ → List ℕ → List ℕ → Type 0
 IsUnsaid (Some ends.WriteFailed) exchanges tail last unsaid =
     ((before : List Exchange) × (x : Exchange) × (exchanges ≡ before ++ x ∷ []) × (last ≡ []) × (unsaid ≡ text_of x)) ⊎ (IsFarewell tail last × (unsaid ≡ last))
 IsUnsaid end exchanges tail last unsaid = unsaid ≡ []
 
--- a stream that has ended so, or goes on: what was read is whole exchanges and a tail, and what is written is their texts and a last text, up to the one whose write failed
+-- a stream that has ended so, or goes on: what was read is whole exchanges and a tail, and what is written is their texts and a last text,
+-- up to the one whose write failed
 pub record Served (store : StoreId) (end : Option End) (bytes : List ℕ) (old new : CallerValue) (said unsaid : List ℕ) : Type 0 where
   pub exchanges : List Exchange
   pub tail : List ℕ
@@ -110,7 +111,7 @@ abbrev pub IsReached : Option End → Option (List ℕ) → Type 0
 IsReached (Some ends.EndOfInput) rest = IsReadOut rest
 IsReached end rest = Unit {0}
 
--- what was said stands behind what was written before, and, after a failed write, a beginning of the text whose write it was
+-- what was said stands after what was written before, and then, where a write failed, a beginning of the text that it was to write
 abbrev pub IsWritten : Option End → Option (List ℕ) → List ℕ → List ℕ → Option (List ℕ) → Type 0
 IsWritten (Some ends.WriteFailed) before said unsaid after = (between : Option (List ℕ)) × Appends before said between × AppendsFront between unsaid after
 IsWritten end before said unsaid after = Appends before said after
@@ -133,13 +134,13 @@ pub record HasMoved (end : Option End) (old : Wire) (bytes said unsaid : List �
   pub reads : new.failed_reads ≡ old.failed_reads + read_faults end
   pub writes : new.failed_writes ≡ old.failed_writes + write_faults end
 
--- the input was cut off behind these bytes: it ended, or a read failed
+-- the input was cut off after these bytes: it ended, or a read failed
 abbrev pub IsCut : End → Wire → List ℕ → Wire → Type 0
 IsCut ends.EndOfInput old bytes new = HasRead 0 old bytes new × IsReadOut new.rest
 IsCut ends.ReadFailed old bytes new = HasRead 1 old bytes new
 IsCut end old bytes new = ⊥
 
--- why a line wasn't read to its LF: these bytes are too many, or the input was cut off behind them
+-- why a line wasn't read to its LF: these bytes are too many, or the input was cut off after them
 abbrev pub IsLineStop : End → Wire → List ℕ → Wire → Type 0
 IsLineStop ends.LineTooLong old bytes new = IsTooLong bytes × HasRead 0 old bytes new
 IsLineStop end old bytes new = IsLine bytes × IsCut end old bytes new
@@ -162,7 +163,7 @@ pub record IsCutShort (count : ℕ) (end : End) (old new : Wire) : Type 0 where
   pub few : length bytes < count
   pub cut : IsCut end old bytes new
 
--- a last text was written behind which the stream ends as it was to, or a write failed
+-- a last text was written, and the stream ends after it as it was to, or a write failed
 abbrev pub HasSaid : End → End → Wire → List ℕ → Wire → Type 0
 HasSaid planned end old text new = ((end ≡ planned) × HasWritten old text new) ⊎ ((end ≡ ends.WriteFailed) × HasNotWritten old text new)
 
@@ -176,12 +177,12 @@ IsSaid None old text new = HasWritten old text new
 IsSaid (Some ends.WriteFailed) old text new = HasNotWritten old text new
 IsSaid end old text new = ⊥
 
--- how a stream ends behind such a write, if it does
+-- how a stream ends after a write of this outcome, if it does
 abbrev pub end_after : Result (Unit {0}) WriteFault → Option End
 end_after (Ok done) = None
 end_after (Err fault) = Some ends.WriteFailed
 
--- the dump of a bitmap was said: its plain image behind the number of its bytes, or want of memory
+-- the dump of a bitmap was said: its plain image after the number of its bytes, or want of memory
 pub record IsDumped (cells : Cells) (end : Option End) (wire wire_after : Wire) : Type 0 where
   pub answer : Answer
   pub body : List ℕ
@@ -201,7 +202,8 @@ pub record HasAnswered {A : Type 0} (store : StoreId) (heard : Result Said Refus
   pub body_is : body ≡ body_of store old answer
   pub said : IsSaid end wire (reply_line answer ++ body) wire_after
 
--- a caller was served over a wire up to such an end: there are bytes that were read and texts that were said, and one that wasn't after a failed write, and they are served so
+-- a caller was served over a wire up to such an end: some bytes were read, and texts were said, but for one whose write failed,
+-- and these are a stream that is served so
 pub record IsServed (store : StoreId) (end : Option End) (wire : Wire) (old : CallerValue) (wire_after : Wire) (new : CallerValue) : Type 0 where
   pub bytes : List ℕ
   pub said : List ℕ

@@ -7,7 +7,8 @@ use Rattle.proto.specs.declared.verb.Order.TheVariants as orders
 use Rattle.proto.specs.Corners.{Corners, corners_of, seen_corners}
 use Rattle.proto.specs.Numbers.{points, pair}
 
--- what the keeper is told: to give the cells of a rectangle one value, to stamp, which no line tells by itself, to publish, to revert, to collect, or to drop the entries that are kept
+-- what the keeper is told: to give the cells of a rectangle one value, to stamp, which no line tells by itself, to publish, to revert,
+-- to collect, or to drop the entries that are kept
 pub data Told : Type 0 where
   draw : Bool → Corners → Told
   stamp : Told
@@ -36,16 +37,16 @@ order_named word =
     else if bytes_eq word (codes "CHECKPOINT") then Some orders.Checkpoint
     else None
 
--- what has no arguments, with the words behind its name
+-- what has no arguments, with the words after its name
 abbrev pub alone : {A : Type 0} → A → List (List ℕ) → Option A
 alone value [] = Some value
 alone value (word ∷ words) = None
 
--- the rectangle of the words behind a name
+-- the rectangle of the words after a name
 abbrev pub rect_told : List (List ℕ) → Option Corners
 rect_told words = option_and_then corners_of (pair (points words))
 
--- what a command tells with the words behind its name
+-- what a command tells with the words after its name
 abbrev pub order_told : Order → List (List ℕ) → Option Told
 order_told orders.Paint words = option_map (draw true) (rect_told words)
 order_told orders.Clear words = option_map (draw false) (rect_told words)

@@ -11,7 +11,7 @@ use crate::points::read_pair;
 use crate::words::next_word;
 use metric::{MetricKind, Rect};
 
-/// The metric that the next word names, and what is left behind it.
+/// The metric that the next word names, and what is left after it.
 pub fn read_metric(rest: Option<&[u8]>) -> Option<(MetricKind, Option<&[u8]>)>
     ensures { MatchOption result (first_of metric_named (words_left rest.entry) ≡ None) (λ found. first_of metric_named (words_left rest.entry) ≡ Some (found.0, words_left found.1)) }
 {

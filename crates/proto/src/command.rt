@@ -13,7 +13,7 @@ use crate::points::coordinate;
 use crate::verb::Order;
 use map_core::Command;
 
-/// The command to the keeper of this name, with what is left of the line as its arguments.
+/// The command to the keeper of this name, with what is left of the line as its arguments; none where their number or form is another one.
 pub fn read_order(order: Order, rest: Option<&[u8]>) -> Option<Command>
     ensures { option_map told_by result ≡ order_told order (words_left rest.entry) }
 {
@@ -49,7 +49,7 @@ pub fn bare_line(rest: Option<&[u8]>, line: Line) -> Option<Line>
     if rest.is_some() { None } else { Some(line) }
 }
 
-/// The place of a stamp, and the number of its bytes, which are all that is left of a line.
+/// The stamp whose place and number of bytes are all that is left of a line; none where it is anything else.
 pub fn read_stamp(rest: Option<&[u8]>) -> Option<Line>
     ensures { option_map said_by result ≡ option_map stamp_of (number_triple (numbers (words_left rest.entry))) }
 {

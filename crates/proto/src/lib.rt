@@ -23,15 +23,16 @@ mod workers;
 
 pub use answer::Answer;
 pub use answering::{answer_of, answer_query};
+pub use command::{read_order, read_stamp};
 pub use laws::{line_of_words, words_of_line};
 pub use line::{Line, parse_line};
 pub use number::read_number;
 pub use numbers::{next_number, number_pair, number_triple, only_number};
 pub use queried::{Bordered, Queried};
-pub use query::Query;
+pub use query::{Query, read_query};
 pub use reply::{put_answer, reply_text};
 pub use serve::{End, MOST_COUNTED, serve_stream};
 pub use text::Text;
-pub use verb::{Order, QueryKind, Verb, verb_of};
+pub use verb::{Order, QueryKind, Verb, split_verb, verb_of};
 pub use words::{split_word, without_cr};
 pub use workers::{Streams, pool};

@@ -7,8 +7,7 @@ ghost use Rattle.proto.specs.Words.{words_left};
 
 use crate::command::{bare_line, read_order, read_stamp};
 use crate::query::{Query, read_query};
-use crate::verb::{Verb, verb_named};
-use crate::words::split_word;
+use crate::verb::{Verb, split_verb};
 use map_core::Command;
 use metric::Refusal;
 use std::alloc::Global;
@@ -16,9 +15,10 @@ use std::alloc::Global;
 /// What a line says.
 #[derive(Debug, Drop)]
 pub enum Line {
-    /// A command to the keeper of the map; never a stamp, whose image comes behind its line.
+    /// A command to the keeper of the map; never a stamp, whose image comes after its line.
     Command(Command),
-    /// A stamp at a place, whose image is in so many bytes behind the line. A coordinate that 16 bits don't hold stands as 65535, which is outside of every map as well; the number of bytes has no limit here.
+    /// A stamp at a place, whose image is in so many bytes after the line. A coordinate that 16 bits don't hold stands as 65535,
+    /// which is outside of every map as well; the number of bytes has no limit here.
     Stamp { x: u16, y: u16, length: u32 },
     /// Pins the newest version.
     Pin,
@@ -61,9 +61,8 @@ pub fn parse_line(alloc: Global, bytes: &[u8]) -> Result<Line, Refusal>
     ensures refusal { IfErr result (λ refusal. refusal ≢ Refusal.Memory → said bytes.now ≡ Err refusal) }
     ensures memory { result ≡ Err Refusal.Memory → IsOkAnd (said bytes.now) HasPoints }
 {
-    let (word, rest) = split_word(bytes);
-    match verb_named(word) {
-        Some(verb) => line_of(alloc, verb, rest),
+    match split_verb(bytes) {
+        Some((verb, rest)) => line_of(alloc, verb, rest),
         None => Err(Refusal::UnknownCommand),
     }
 }

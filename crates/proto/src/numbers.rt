@@ -8,7 +8,7 @@ ghost use Rattle.proto.specs.Words.{words_left};
 use crate::number::read_number;
 use crate::words::next_word;
 
-/// The number that the next word is, and what is left behind it.
+/// The number that the next word is, and what is left after it.
 #[tactic(auto, unfolding(crate::specs::Numbers::numbers))]
 pub fn next_number(rest: Option<&[u8]>) -> Option<(u32, Option<&[u8]>)>
     ensures first { MatchOption result (first_of number (words_left rest.entry) ≡ None) (λ found. first_of number (words_left rest.entry) ≡ Some (found.0, words_left found.1)) }

@@ -77,7 +77,7 @@ fn rect_query(metric: MetricKind, rest: Option<&[u8]>) -> Option<Query>
     Some(Query::Rect { metric, rect })
 }
 
-/// What a query asks of what is left of a line behind the metric.
+/// What a query asks of what is left of a line after the metric.
 fn query_by(
     alloc: Global,
     kind: QueryKind,

@@ -81,7 +81,7 @@ fn put_done(text: &mut Text, reply: Reply)
     }
 }
 
-/// Writes a number behind `OK`.
+/// Writes a number after `OK`.
 fn put_one(text: &mut Text, number: u64)
     requires { text.old ≡ [] }
     ensures text { text.new ≡ one_text number }
@@ -121,7 +121,7 @@ fn put_refusal(text: &mut Text, refusal: Refusal)
     }
 }
 
-/// Adds a number behind a blank.
+/// Adds a number after a blank.
 fn put_detail(text: &mut Text, number: u32)
     requires { length text.old + 11 ≤ 128 }
     ensures text { text.new ≡ text.old ++ (32 ∷ decimal number) }

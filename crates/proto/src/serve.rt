@@ -29,7 +29,10 @@ use stream_line::serve_line;
 
 /// Serves a stream of protocol lines with a session: each line is read to its LF, with the bytes that it counts, and answered before the next one is read.
 ///
-/// What was read is the lines and counted bytes that were answered, one after another, and a tail that the end tells; what was written is their answers' texts, and a last text. Commands wait for the store's lock, and are entries of its log by the same session: `made` has risen by those that were accepted, also where the reply couldn't be written. At each end the pin is left, at QUIT before its reply. Behind QUIT's LF nothing is read.
+/// What was read is the lines and counted bytes that were answered, one after another, and a tail that the end tells; what was written is
+/// their answers' texts, and a last text. Commands wait for the store's lock, and are entries of its log by the same session: `made` has
+/// risen by those that were accepted, also where the reply couldn't be written. At each end the pin is left, at QUIT before its reply.
+/// After QUIT's LF nothing is read.
 ///
 /// After a failed call of the stream it isn't called again. It ends with `Memory` only where the buffers of a line and of a reply line can't be made, and nothing was read or written then.
 pub fn serve_stream<Id: StoreName, R: Wait, S: Stream>(

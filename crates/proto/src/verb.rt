@@ -1,20 +1,22 @@
 //! The names of the fifteen commands of a line.
 
-ghost use Rattle.std.specs.Prelude.{◌≡◌};
+ghost use Rattle.std.specs.Prelude.{◌≡◌, None, Some, Err, MatchOption};
+ghost use Rattle.metric.specs.declared.refusal.Refusal.TheVariants.{UnknownCommand};
 ghost use Rattle.proto.specs.Told.{order_named};
 ghost use Rattle.proto.specs.Asked.{query_named};
-ghost use Rattle.proto.specs.Said.{bare_named, verb_in, verb_named};
+ghost use Rattle.proto.specs.Said.{bare_named, said, verb_in, verb_named, verb_said};
+ghost use Rattle.proto.specs.Words.{words_left};
 
 use crate::words::split_word;
 
 /// The command of a line, by its name alone.
 #[derive(Clone, Copy, Debug, PartialEq, Eq)]
 pub enum Verb {
-    /// A command to the keeper of the map that has no bytes behind its line.
+    /// A command to the keeper of the map that has no bytes after its line.
     Order(Order),
     /// A query on the pinned version.
     Ask(QueryKind),
-    /// A command to the keeper of the map, with the bytes of an image behind its line.
+    /// A command to the keeper of the map, with the bytes of an image after its line.
     Stamp,
     Pin,
     Unpin,
@@ -49,6 +51,17 @@ pub fn verb_of(bytes: &[u8]) -> Option<Verb>
 {
     let (word, _) = split_word(bytes);
     verb_named(word)
+}
+
+/// The command that a line names, with what stands after the blank that follows its name, where there is one; none where its first word is none of the fifteen.
+#[tactic(auto, unfolding(crate::specs::Said::said, crate::specs::Said::verb_in))]
+pub fn split_verb(bytes: &[u8]) -> Option<(Verb, Option<&[u8]>)>
+    ensures verb { MatchOption result (verb_in bytes.now ≡ None) (λ found. verb_in bytes.now ≡ Some found.0) }
+    ensures said { MatchOption result (said bytes.now ≡ Err UnknownCommand) (λ found. said bytes.now ≡ verb_said found.0 (words_left found.1)) }
+{
+    let (word, rest) = split_word(bytes);
+    let verb = verb_named(word)?;
+    Some((verb, rest))
 }
 
 /// The command of this name.

@@ -11,7 +11,7 @@ fn first_blank(bytes: &[u8]) -> Option<usize>
     bytes.iter().position(|byte| *byte == b' ')
 }
 
-/// The first word of a line, and what stands behind the blank after it, where there is one.
+/// The first word of a line, and what stands after its blank, where there is one.
 pub fn split_word(bytes: &[u8]) -> (&[u8], Option<&[u8]>)
     ensures words { words bytes.now ≡ result.0.now ∷ words_left result.1 }
     ensures fewer { bytes_left result.1 ≤ length bytes.now }
@@ -22,7 +22,7 @@ pub fn split_word(bytes: &[u8]) -> (&[u8], Option<&[u8]>)
     }
 }
 
-/// The first word of what is left of a line, and what is left behind it.
+/// The first word of what is left of a line, and what is left after it.
 pub fn next_word(rest: Option<&[u8]>) -> Option<(&[u8], Option<&[u8]>)>
     ensures words { MatchOption result (words_left rest.entry ≡ []) (λ found. words_left rest.entry ≡ found.0.now ∷ words_left found.1) }
     ensures fewer { IfSome result (λ found. bytes_left found.1 < bytes_left rest.entry) }

@@ -29,7 +29,8 @@ pub trait Streams {
 
 /// Serves streams until no more come, with one worker for each session: each asks for the next stream, lets the others ask, and serves it. Where a thread can't be started, the calling thread is that worker.
 ///
-/// The same sessions are handed back, in their order, and with each of them nothing was done but that fresh streams were served, each once. Refused for want of memory alone, and then they are as before, and no stream was asked for.
+/// The same sessions are returned, in their order, and with each of them nothing was done but that fresh streams were served, each once.
+/// Refused for want of memory alone, and then they are as before, and no stream was asked for.
 pub fn pool<Id: StoreName + Send + Sync, R: Wait + Threads + Sync, T: Streams + Send + Drop>(
     rt: &R,
     alloc: Global,

@@ -24,18 +24,18 @@ pub record IsCounted (closing : Closed) (left : List ReaderView) (before : Close
   pub made : closing.made + sum_by (λ s. s.made) left ≡ before.made + sum_by (λ s. s.made) all
   pub all_in : All (IsIn before.log) left → All (IsIn before.log) all
 
--- before the first one
+-- before any session is given up, all sessions are left
 pub counted_first : (closing : Closed) (all : List ReaderView) → IsCounted closing all closing all
 counted_first closing all = record { log = refl; readers = refl; made = refl; all_in = λ left_in. left_in }
 
--- one of one
+-- a session that is in a log is each of a list of itself alone
 one_in : (log : List Signed) (x : ReaderView) → IsIn log x → All (IsIn log) (x ∷ [])
 one_in log x here k d within = subst (IsIn log) (sym (ap (λ (n : ℕ). slice_index_or (x ∷ []) n d) first)) here
   where
     first : k ≡ 0
     first = omega arith
 
--- the last of them is given up: x, whose seat is y
+-- once the last session that is left is given up, the ones before it are left, and its entries are counted
 pub counted_next : (closing after before : Closed) (left rest all : List ReaderView) (x y : ReaderView) → IsCounted closing left before all → left ≡ rest ++ x ∷ [] → y ≡ x
     → after ≡ record closing { readers = closing.readers + 1; made = closing.made + y.made } → IsPrefix y.seen closing.log → made_by y.number closing.log ≡ y.made → IsCounted after rest before all
 counted_next closing after before left rest all x y counted left_is seat_is after_is began own =
@@ -52,7 +52,7 @@ counted_next closing after before left rest all x y counted left_is seat_is afte
       all_in = λ rest_in. counted.all_in (subst (All (IsIn before.log)) (sym left_is) (All-append (IsIn before.log) rest (x ∷ []) rest_in (one_in before.log x here)));
     }
 
--- what is handed out of a desk's log, once all sessions that were handed in are given up
+-- once all sessions that were given to it are given up, what a close returns is the last part of the desk's log
 pub handed_out : (z : StoreId) (closing after : Closed) (log kept : List Signed) (all : List ReaderView) (base : ℕ) → closing ≡ record { log = log; readers = 0; made = 0 }
     → after ≡ record closing { readers = closing.readers + length all; made = closing.made + sum_by (λ s. s.made) all } → All (IsIn closing.log) all → IsLegal z.base.setting z.base.opening (entries after.log)
     → (after.readers ≡ readers_of z → after.made ≡ length after.log) → base ≡ base_place z log → kept ≡ kept_part z log → IsHandedOut z all base kept
@@ -73,6 +73,6 @@ handed_out z closing after log kept all base closing_is after_is all_in legal ma
       last_is = omega (arith, ap length kept_is, length-drop (base_place z log) log);
     }
 
--- where none is left each session is in the log
+-- where no session is left to give up, each of them is in the log
 pub all_given_up : (closing before : Closed) (left all : List ReaderView) → IsCounted closing left before all → length left ≡ 0 → All (IsIn before.log) all
 all_given_up closing before left all counted none = counted.all_in (λ k d within. absurd (omega arith))

@@ -7,11 +7,11 @@ use Rattle.shelf.specs.Roles.{ReaderView, fresh_reader}
 use Rattle.shelf.specs.Store.{StoreId, readers_of}
 use Rattle.session.specs.Sessions.{all_fresh}
 
--- so many sessions as readers were taken
+-- there are as many sessions as readers were taken
 pub sessions_counted : (front : List Newcomer) (sessions : List ReaderView) → sessions ≡ map (λ (n : Newcomer). fresh_reader n.number) front → length sessions ≡ length front
 sessions_counted front sessions are = ap length are ∙ length-map front (λ (n : Newcomer). fresh_reader n.number)
 
--- the sessions of some readers, by number
+-- the sessions of the readers with some numbers are fresh readers with these numbers
 sessions_map : (z : StoreId) (ns : List ℕ) → map (λ (n : Newcomer). fresh_reader n.number) (map (λ n. record { number = n; store = z }) ns) ≡ map fresh_reader ns
 sessions_map z [] = refl
 sessions_map z (n ∷ ns) = ap (λ (xs : List ReaderView). fresh_reader n ∷ xs) (sessions_map z ns)
@@ -23,7 +23,7 @@ sessions_whole z all front rest sessions all_is parts none sessions_are =
     let whole : front ≡ all_newcomers z = sym (append-nil front) ∙ (ap (λ (ns : List Newcomer). front ++ ns) (sym none) ∙ (parts ∙ all_is)) in
     sessions_are ∙ (ap (map (λ (n : Newcomer). fresh_reader n.number)) whole ∙ sessions_map z (range_with_len 0 (readers_of z)))
 
--- a list of no length has nothing
+-- a list of length 0 is empty
 pub nothing_left : (ns : List Newcomer) → length ns ≡ 0 → ns ≡ []
 nothing_left [] none = refl
 nothing_left (n ∷ ns) none = absurd (omega arith)

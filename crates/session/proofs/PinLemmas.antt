@@ -33,7 +33,7 @@ seen_alone z x y steady is = is ∙ ap (λ (h : Option ℕ). record x { seen = y
 takes_hold : (announced : Option Seen) (holds : Option ℕ) (seen : List Entry) (n : ℕ) (o : Seen) → announced ≡ Some o → holds ≡ None → next_hold record { seen = seen; announced = announced; holds = holds } n ≡ Some n
 takes_hold announced holds seen n o some none = rw (some, none) refl
 
--- a load, an announcement and a load: the seat holds the newest version that it then has seen
+-- a seat that loads NOW, announces and loads NOW again holds the newest version that it then has seen
 taken_seat : (z : Base) (x a b d : ReaderView) → x.announced ≡ None → x.holds ≡ None → a ≡ loaded z a.seen x → b ≡ announcing z a → d ≡ loaded z d.seen b
     → d ≡ record x { seen = d.seen; announced = Some (From (core.newest_seen z (as_reader a))); holds = Some (newest (story z (entries d.seen))) }
 taken_seat z x a b d quiet free first told last =
@@ -46,13 +46,13 @@ taken_seat z x a b d quiet free first told last =
     ∙ (ap (λ (h : Option ℕ). record a { seen = d.seen; announced = Some o; holds = h }) (takes_hold (Some o) a.holds (entries a.seen) n o refl none)
     ∙ ap (λ (q : ℕ × ℕ). record { number = q.0; seen = d.seen; made = q.1; announced = Some o; holds = Some n }) (λ i. (ap (λ (q : ReaderView). q.number) a_is i, ap (λ (q : ReaderView). q.made) a_is i))))
 
--- which it may then announce exactly
+-- a seat that has loaded NOW, announced and loaded NOW again may announce the newest version alone
 pub may_confirm : (z : Base) (x a b d : ReaderView) (version : ℕ) → x.announced ≡ None → x.holds ≡ None → a ≡ loaded z a.seen x → b ≡ announcing z a → d ≡ loaded z d.seen b
     → version ≡ newest (story z (entries d.seen)) → to_confirm d.announced d.holds ≡ Some version
 may_confirm z x a b d version quiet free first told last is =
     ap (λ (q : ReaderView). to_confirm q.announced q.holds) (taken_seat z x a b d quiet free first told last) ∙ ap (λ (n : ℕ). Some n) (sym is)
 
--- and has then announced that one, and holds it
+-- a seat that loads, announces, loads again and confirms holds the newest version, and has announced it alone
 pub pinned_seat : (z : Base) (x a b d y : ReaderView) (version : ℕ) → x.announced ≡ None → x.holds ≡ None → a ≡ loaded z a.seen x → b ≡ announcing z a → d ≡ loaded z d.seen b
     → version ≡ newest (story z (entries d.seen)) → y ≡ confirming version d → y ≡ record x { seen = d.seen; announced = Some (Exact version); holds = Some version }
 pinned_seat z x a b d y version quiet free first told last is confirmed =
@@ -115,6 +115,6 @@ pin_made store x a b d y version slot bitmap ready quiet free first told last is
       bitmap_is = λ read. absurd (cc);
     }
 
--- what is answered of a bitmap with a border is answered of the one that a pin holds, with its store's border, where they are the same
+-- what is answered of a bitmap and its border is answered of an equal bitmap and an equal border
 pub asked_so : (P : Cells → Edge → Type 0) (cells held : Cells) (edge own : Edge) → cells ≡ held → edge ≡ own → P cells edge → P held own
 asked_so P cells held edge own same_cells same_edge answered = subst (λ (e : Edge). P held e) same_edge (subst (λ (b : Cells). P b edge) same_cells answered)

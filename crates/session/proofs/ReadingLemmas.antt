@@ -12,12 +12,12 @@ use Rattle.grid.specs.Pieces.{cells_of}
 use Rattle.grid.proofs.GridPaint.{shown_is}
 use Rattle.grid.proofs.CopyLemmas.{put_before, put_next, put_all}
 
--- one tile more is put
+-- once the tiles before one are put, and that one too, the tiles before the next are put
 pub tile_more : (old now new cells : Cells) (k : ℕ) (words : List ℕ) → now ≡ put_before old (tile_words cells) k → words ≡ tile_words cells k → new ≡ with_tile now k words
     → new ≡ put_before old (tile_words cells) (k + 1)
 tile_more old now new cells k words is read put = put ∙ (ap (λ (ws : List ℕ). with_tile now k ws) read ∙ put_next old now (tile_words cells) k is)
 
--- all tiles are put: that is the version
+-- once all tiles of a version are put, the bitmap is that version
 pub all_tiles : (z : Base) (old now cells : Cells) (k : ℕ) → IsOfMap z cells → old.width ≡ z.opening.width → old.height ≡ z.opening.height → now ≡ put_before old (tile_words cells) k → tile_count old ≤ k
     → now ≡ cells
 all_tiles z old now cells k of_map width height is end =

@@ -6,6 +6,6 @@ use Rattle.shelf.specs.declared.name.StoreName as name
 use Rattle.session.specs.Sessions.{PinView}
 use Rattle.session.specs.contracts.pinned.Pinned.{the_row}
 
--- it is as it was
+-- a pin whose lent bitmap has come back is as it was
 abbrev pub KeepsPin : (Id : RattleType) → name.Ghosts Id.Denot → MutBor PinView → Fml
 KeepsPin Id named p = follows_so (the_row Id named) (the_row Id named) p.ghost_name none (λ _ _. ⊤) (λ n. n ≡ p.now)

@@ -38,17 +38,17 @@ bitmap_pinned store p = bitmap_seen store p.seat p.version
 abbrev pub all_fresh : StoreId → List ReaderView
 all_fresh store = map fresh_reader (range_with_len 0 (readers_of store))
 
--- a log begins with what a session has seen, and has as many entries by it as it counts
+-- a log starts with what a session has seen, and has as many entries by it as it counts
 abbrev pub IsIn : List Signed → ReaderView → Type 0
 IsIn log s = IsPrefix s.seen log × (made_by s.number log ≡ s.made)
 
--- what a store that is closed hands out is the last part of one log: the place of its last checkpoint, and the entries behind it
+-- what closing a store returns is the last part of one log: the place of its last checkpoint, and the entries after it
 pub record IsHandedOut (store : StoreId) (handed : List ReaderView) (base : ℕ) (kept : List Signed) : Type 0 where
   pub log : List Signed
   pub legal : IsLegal store.base.setting store.base.opening (entries log)
-  -- it begins with what each session has seen, and has as many entries by it as it counts
+  -- it starts with what each session has seen, and has as many entries by it as it counts
   pub sessions : All (IsIn log) handed
-  -- where all sessions are handed in, what they count adds up to its length
+  -- where all sessions were given to the close, what they count adds up to its length
   pub made : length handed ≡ readers_of store → sum_by (λ s. s.made) handed ≡ length log
   pub base_is : base ≡ base_place store log
   pub kept_is : kept ≡ drop base log
@@ -72,8 +72,8 @@ pub record IsSession (store : StoreId) (x : ReaderView) (size : Size) : Type 0 w
   pub width_is : size.width ≡ store.base.opening.width
   pub height_is : size.height ≡ store.base.opening.height
 
--- a pin holds a version that was published in what it has seen, and has announced that one exactly; it knows its slot; it has the version's bitmap once it is read,
--- and until then a bitmap of the same size
+-- a pin holds a version that was published in what it has seen, has announced that one alone, and knows its slot;
+-- it has the version's bitmap once it is read, and until then a bitmap of the same size
 pub record IsPin (store : StoreId) (p : PinView) (slot : ℕ) (bitmap : Cells) (is_read : Bool) : Type 0 where
   pub announced : p.seat.announced ≡ Some (Exact p.version)
   pub held : p.seat.holds ≡ Some p.version

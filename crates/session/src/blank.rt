@@ -55,7 +55,7 @@ impl Blank {
     /// A store on this bitmap, which is its version 0. Its log is empty, and no session has a pin.
     ///
     /// Refused, in this order, for the first field of the setting that isn't within its limits for this map (`BadSetting`; `Setting` has
-    /// the limits), and for want of memory; the bitmap is handed back.
+    /// the limits), and for want of memory; the bitmap is returned.
     pub fn of(alloc: Global, setting: Setting, map: Bitmap) -> Result<Blank, (Bitmap, Refusal)>
         ensures base { IfOk result (λ blank. blank.base ≡ record { setting = setting; opening = map }) }
         ensures refused { MatchOption (bad_field (tile_count map) setting) (IfErr result (λ back. back.1 ≡ Memory)) (λ field. result ≡ Err (map, BadSetting field)) }

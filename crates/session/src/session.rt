@@ -60,7 +60,7 @@ impl<Id: StoreName> Session<Id> {
     /// Pins the newest version: makes room for one bitmap, unless a pin before has left it, then loads what is newest, announces it and what comes after it, loads again and holds
     /// that, and announces that one alone: from then on it keeps its own version, and no other. It waits for nobody, whatever others publish and collect meanwhile, and the version is at least the newest that the session had seen.
     ///
-    /// Refused for want of memory alone; the session is handed back, and nothing was announced.
+    /// Refused for want of memory alone; the session is returned, and nothing was announced.
     pub fn pin(self, alloc: Global) -> Result<Pinned<Id>, (Session<Id>, Refusal)>
         ensures free { (self.announced ≡ None) × (self.holds ≡ None) }
         ensures seat { IfOk result (λ pinned. pinned.seat ≡ record self { seen = pinned.seat.seen; announced = pinned.seat.announced; holds = Some pinned.version }) }

@@ -23,7 +23,7 @@ pub struct Store<Id: StoreName> {
 impl<Id: StoreName> Store<Id> {
     /// Opens a store, and gives its sessions, numbered from 0. Each has seen the empty log. Condition: the name is the blank's store.
     ///
-    /// Refused for want of memory alone; the blank is handed back.
+    /// Refused for want of memory alone; the blank is returned.
     pub fn open(
         alloc: Global,
         blank: Blank,
@@ -47,9 +47,10 @@ impl<Id: StoreName> Store<Id> {
         self.desk.lock(rt)
     }
 
-    /// Closes the store: the place of its log's last checkpoint, 0 where there is none, and the entries behind it. The log begins with what each session has seen, and has as many entries by it as it counts.
+    /// Closes the store: the place of its log's last checkpoint, 0 where there is none, and the entries after it.
+    /// The log starts with what each session has seen, and has as many entries by it as it counts.
     ///
-    /// Where all sessions are handed in, their counts add up to the log's length.
+    /// Where all sessions are given to this call, their counts add up to the log's length.
     pub fn close(self, sessions: Vec<Session<Id>>) -> (u32, Vec<Signed>)
         ensures { IsHandedOut Id.store sessions.items result.0 result.1.items }
     {

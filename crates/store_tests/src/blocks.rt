@@ -1,4 +1,4 @@
-//! A worked run of one arena: which block is handed out next.
+//! A worked run of one arena: which block is given next.
 
 ghost use Rattle.std.specs.Prelude.{◌≡◌, ◌∷◌};
 

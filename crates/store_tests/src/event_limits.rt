@@ -22,19 +22,19 @@ fn a_log_of_a_thousand_entries(rt: HostRuntime) -> Result<(), Fail> {
     for place in 1..1_001 {
         let ordered = world.step(
             rt.alloc(),
-            Event::Order {
+            &Event::Order {
                 command: Command::Revert,
             },
         );
         same(&rt, ordered, Ok(StepReply::Ordered { steps: 1 }), "ordered");
         let reply = Reply::Reverted { place };
-        let kept = world.step(rt.alloc(), Event::Keep);
+        let kept = world.step(rt.alloc(), &Event::Keep);
         same(&rt, kept, Ok(StepReply::Committed { reply }), "kept");
     }
     let refusal = Refusal::LogFull;
     let refused = world.step(
         rt.alloc(),
-        Event::Order {
+        &Event::Order {
             command: Command::Revert,
         },
     );
@@ -65,17 +65,17 @@ fn the_largest_map(rt: HostRuntime) -> Result<(), Fail> {
         version: 1,
     };
     for (command, steps, reply) in [(paint, 1, painted), (publish, 4_161, published)] {
-        let ordered = world.step(rt.alloc(), Event::Order { command });
+        let ordered = world.step(rt.alloc(), &Event::Order { command });
         same(&rt, ordered, Ok(StepReply::Ordered { steps }), "ordered");
         for _ in 1..steps {
             same(
                 &rt,
-                world.step(rt.alloc(), Event::Keep),
+                world.step(rt.alloc(), &Event::Keep),
                 Ok(StepReply::Written),
                 "step",
             );
         }
-        let kept = world.step(rt.alloc(), Event::Keep);
+        let kept = world.step(rt.alloc(), &Event::Keep);
         same(&rt, kept, Ok(StepReply::Committed { reply }), "kept");
     }
     let reader = 63;
@@ -107,7 +107,7 @@ fn the_largest_map(rt: HostRuntime) -> Result<(), Fail> {
             StepReply::Word { word: 1 << 63 },
         ),
     ] {
-        same(&rt, world.step(rt.alloc(), event), Ok(answer), "step");
+        same(&rt, world.step(rt.alloc(), &event), Ok(answer), "step");
     }
     Ok(())
 }

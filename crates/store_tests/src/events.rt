@@ -224,12 +224,12 @@ fn steps_are_counted_down(rt: HostRuntime) -> Result<(), Fail> {
     let mut world = World::open(rt.alloc(), setting, &map)?;
     same(
         &rt,
-        world.step(rt.alloc(), Event::Keep),
+        world.step(rt.alloc(), &Event::Keep),
         Err(NotEnabled),
         "step",
     );
     same(&rt, world.steps_left(), 0, "steps left");
-    let announced = world.step(rt.alloc(), Event::Announce { reader: 1 });
+    let announced = world.step(rt.alloc(), &Event::Announce { reader: 1 });
     same(
         &rt,
         announced,
@@ -237,7 +237,7 @@ fn steps_are_counted_down(rt: HostRuntime) -> Result<(), Fail> {
         "announced",
     );
     for (event, answer, left) in COLLECT {
-        same(&rt, world.step(rt.alloc(), event), Ok(answer), "step");
+        same(&rt, world.step(rt.alloc(), &event), Ok(answer), "step");
         same(&rt, world.steps_left(), left, "steps left");
     }
     let reply = Reply::Collected {
@@ -248,7 +248,7 @@ fn steps_are_counted_down(rt: HostRuntime) -> Result<(), Fail> {
     };
     same(
         &rt,
-        world.step(rt.alloc(), Event::Keep),
+        world.step(rt.alloc(), &Event::Keep),
         Ok(StepReply::Committed { reply }),
         "the last step",
     );

@@ -61,13 +61,13 @@ fn a_map_of_two_tiles_is_opened(rt: HostRuntime) -> Result<(), Fail> {
     let mut world = World::open(rt.alloc(), setting, &map)?;
     same(
         &rt,
-        world.step(rt.alloc(), Event::Announce { reader: 0 }),
+        world.step(rt.alloc(), &Event::Announce { reader: 0 }),
         Ok(StepReply::Announced { version: 0 }),
         "announce",
     );
     same(
         &rt,
-        world.step(rt.alloc(), Event::Load { reader: 0 }),
+        world.step(rt.alloc(), &Event::Load { reader: 0 }),
         Ok(StepReply::Now {
             place: 0,
             version: 0,
@@ -79,7 +79,7 @@ fn a_map_of_two_tiles_is_opened(rt: HostRuntime) -> Result<(), Fail> {
             &rt,
             world.step(
                 rt.alloc(),
-                Event::LookMap {
+                &Event::LookMap {
                     reader: 0,
                     position,
                 },
@@ -91,7 +91,7 @@ fn a_map_of_two_tiles_is_opened(rt: HostRuntime) -> Result<(), Fail> {
             &rt,
             world.step(
                 rt.alloc(),
-                Event::LookTile {
+                &Event::LookTile {
                     reader: 0,
                     block: position,
                     row,
@@ -106,7 +106,7 @@ fn a_map_of_two_tiles_is_opened(rt: HostRuntime) -> Result<(), Fail> {
         &rt,
         world.step(
             rt.alloc(),
-            Event::Order {
+            &Event::Order {
                 command: Command::Publish,
             },
         ),

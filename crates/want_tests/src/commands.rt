@@ -79,7 +79,7 @@ const COLLECT: [Row; 6] = [
     (Act::Publish, Told::Published(6, 3), [4, 3]),
 ];
 
-/// The same beside a pin of version 0, whose tiles stay.
+/// The fifth one is a collect while version 0 is pinned: its tiles stay.
 const COLLECT_BESIDE: [Row; 6] = [
     (Act::Paint([0, 0, 1, 1]), Told::Painted(1, 1), [4, 3]),
     (Act::Publish, Told::Published(2, 1), [3, 2]),
@@ -89,7 +89,7 @@ const COLLECT_BESIDE: [Row; 6] = [
     (Act::Publish, Told::Published(6, 3), [4, 1]),
 ];
 
-/// A checkpoint behind four entries takes no memory, and none is asked for behind it.
+/// A checkpoint after four entries takes no memory, and none is asked for after it.
 const CHECKPOINT: [Row; 6] = [
     (Act::Collect, Told::Collected(1, 0, 0), [4, 3]),
     (Act::Paint([0, 0, 1, 1]), Told::Painted(2, 1), [4, 3]),

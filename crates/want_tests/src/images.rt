@@ -18,7 +18,7 @@ const IMAGES: [(&[u8], usize); 2] = [
 /// What stands in a text before an image is appended.
 const BEFORE: &[u8] = b"before ";
 
-/// A writer of images, its name, and what stands in the text behind it.
+/// A writer of images, its name, and what the text is once an image is appended to it.
 const WRITERS: [(bool, &str, &[u8]); 2] = [
     (false, "write_plain", b"before P1\n10 1\n1000000001\n"),
     (true, "write_raw", b"before P4\n10 1\n\x80\x40"),

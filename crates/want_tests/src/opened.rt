@@ -54,7 +54,7 @@ fn look_at(rt: &impl Abort, map: &Bitmap, size: [u16; 2], obstacle: Cell) {
     holds(rt, map.get(obstacle), "the obstacle");
 }
 
-/// What a store on a map of this size with one obstacle is opened from. A refused map is handed back as it was.
+/// What a store on a map of this size with one obstacle is opened from. A refused map is returned as it was.
 pub fn blank<R: Abort + Print>(
     rt: &R,
     alloc: Global,
@@ -80,7 +80,7 @@ pub fn blank<R: Abort + Print>(
     }
 }
 
-/// Opens a store. A refused blank is handed back, and opened again.
+/// Opens a store. A refused blank is returned, and opened again.
 pub fn open<Id: StoreName, R: Abort + Print>(
     rt: &R,
     alloc: Global,
@@ -143,7 +143,7 @@ pub fn hand_back<Id: StoreName>(
     }
 }
 
-/// Pins the newest version. A refused session is handed back, and pins again.
+/// Pins the newest version. A refused session is returned, and pins again.
 pub fn pin<Id: StoreName, R: Abort + Print>(
     rt: &R,
     alloc: Global,

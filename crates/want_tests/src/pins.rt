@@ -31,7 +31,7 @@ const BEFORE: [Row; 2] = [
     (Act::Publish, Told::Published(2, 1), [3, 2]),
 ];
 
-/// Beside the pin of version 1, which stays.
+/// While version 1, which stays, is pinned.
 const BESIDE: [Row; 2] = [
     (Act::Publish, Told::Published(3, 2), [4, 2]),
     (Act::Collect, Told::Collected(4, 1, 1), [4, 2]),

@@ -39,7 +39,7 @@ fn bar(rt: &impl Abort, alloc: Global) -> Bitmap {
     bar
 }
 
-/// Looks that a stamp was handed back as it was.
+/// Looks that a stamp was returned as it was.
 fn look_at(rt: &impl Abort, bar: &Bitmap) {
     same(rt, (bar.width(), bar.height()), (3, 1), "the stamp's size");
     holds(rt, 0 < bar.height(), "the stamp's row");
@@ -169,7 +169,7 @@ impl<Id: StoreName> Seat<Id> {
         (desk.base_place(), entries.len(), last, self.made())
     }
 
-    /// Looks that so many blocks are free, by a paint that is refused for more, and that a stamp was handed back.
+    /// Looks that so many blocks are free, by a paint that is refused for more, and that a stamp was returned.
     fn look_behind(
         &mut self,
         rt: &impl Abort,

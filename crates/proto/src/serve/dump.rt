@@ -58,7 +58,7 @@ pub fn end_of(written: Result<(), WriteFault>) -> Option<End>
     }
 }
 
-/// Writes a reply line, and behind it the image whose first piece is there.
+/// Writes a reply line, and after it the image whose first piece is there.
 fn put_dump<S: Stream>(
     stream: &mut S,
     text: &mut Text,

@@ -134,7 +134,7 @@ fn hear(alloc: Global, line: &[u8]) -> Result<Line, Refusal>
     parse_line(alloc, without_cr(line))
 }
 
-/// How many bytes behind its LF a line counts: those of a stamp's image.
+/// How many bytes after its LF a line counts: those of a stamp's image.
 fn count_of(asked: &Result<Line, Refusal>) -> u32
     ensures { result ≡ counts (seen_in asked.now) }
 {

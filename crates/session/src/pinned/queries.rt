@@ -16,7 +16,7 @@ use std::alloc::Global;
 impl<Id: StoreName> Pinned<Id> {
     /// The nearest obstacle of a cell in the version that it holds, as `clearance::at` answers with the store's edge.
     ///
-    /// Refused, in this order, for a cell outside the map (`OutOfRange`) and for want of memory.
+    /// Refused for a cell outside the map (`OutOfRange`) alone. No memory is asked for.
     pub fn at<M: Metric>(&mut self, alloc: Global, cell: Cell) -> Result<Option<Near>, Refusal>
         ensures pin { self.new ≡ self.old }
         ensures inside { IfOk result (λ _. IsInside (bitmap_pinned Id.store self.old) cell.x cell.y) }
@@ -33,7 +33,7 @@ impl<Id: StoreName> Pinned<Id> {
 
     /// The least distance over a rectangle in the version that it holds, as `clearance::least_in` answers with the store's edge.
     ///
-    /// Refused, in this order, for a rectangle that isn't wholly in the map (`OutOfRange`) and for want of memory.
+    /// Refused for a rectangle that isn't wholly in the map (`OutOfRange`) alone. No memory is asked for.
     pub fn least_in<M: Metric>(
         &mut self,
         alloc: Global,
@@ -55,7 +55,7 @@ impl<Id: StoreName> Pinned<Id> {
     /// The least distance along a path in the version that it holds, as `clearance::along` answers with the store's edge.
     ///
     /// Refused, in this order, for no point or over 1000 (`BadPath`), a point outside the map (`OutOfRange`), the first point that is in
-    /// neither the row nor the column of the one before it (`Crooked`), and want of memory.
+    /// neither the row nor the column of the one before it (`Crooked`). No memory is asked for.
     pub fn along<M: Metric>(
         &mut self,
         alloc: Global,

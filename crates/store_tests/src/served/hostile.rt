@@ -20,7 +20,7 @@ const LINES: [(&[u8], &[u8]); 9] = [
     (b"PAINT 0 0 0 5", b"ERR 12 BadArguments\n"),
 ];
 
-/// A line and QUIT behind it.
+/// A line and QUIT after it.
 fn with_quit(alloc: Global, line: &[u8]) -> Result<Vec<u8>, Fail> {
     let mut bytes = Vec::from_slice(alloc, line)?;
     bytes.extend_from_slice(b"\nQUIT\n")?;

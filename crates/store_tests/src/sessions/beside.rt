@@ -1,4 +1,4 @@
-//! What waits for nobody: a pin beside a lock that is held, and a ticket from one thread to another.
+//! What waits for nobody: a pin while a lock is held, and a ticket from one thread to another.
 
 ghost use Rattle.std.specs.Prelude.{◌≡◌};
 

@@ -1,4 +1,4 @@
-//! A store that is closed with some of its sessions handed in, or none: what it gives is the entries of all of them after the last checkpoint.
+//! A store that is closed with some of its sessions, or none: what it gives is the entries of all of them after the last checkpoint.
 
 ghost use Rattle.std.specs.Prelude.{◌≡◌};
 

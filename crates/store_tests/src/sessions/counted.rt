@@ -1,5 +1,5 @@
-//! Worked runs of sessions whose blocks are counted after each command. The maps have more tiles than blocks to spare, so that a paint of the whole
-//! map is refused, and tells how many are free.
+//! Worked runs of sessions whose blocks are counted after each command. The maps have more tiles than free blocks, so that a paint of the
+//! whole map is refused, and tells how many are free.
 
 use crate::sessions::acts::{A, Act, B, Row, Told};
 use crate::sessions::players::{Game, play};
@@ -7,7 +7,7 @@ use map_core::Setting;
 use metric::{Edge, Refusal};
 use std::test::Fail;
 
-/// A map of two tiles with one block to spare.
+/// A map of two tiles with one free block.
 const SPARE: Setting = Setting {
     blocks: 3,
     versions: 2,

@@ -37,7 +37,7 @@ fn bar(rt: &impl Abort, alloc: Global) -> Bitmap {
     }
 }
 
-/// What a stamp is answered, without the bitmap that is handed back.
+/// What a stamp is answered, without the bitmap that is returned.
 fn answer(stamped: Result<Reply, (Bitmap, Refusal)>) -> Result<Reply, Refusal> {
     match stamped {
         Ok(reply) => Ok(reply),

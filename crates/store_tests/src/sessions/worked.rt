@@ -84,8 +84,8 @@ fn a_pin_keeps_its_version_alone(rt: HostRuntime) -> Result<(), Fail> {
     play(&rt, rt.alloc(), game)
 }
 
-/// The log has room for two entries. Each further command is refused for that, but for one beside the map. A ticket tells of both entries, and a pin
-/// sees the version that the second one published, as it was.
+/// The log has room for two entries. Each further command is refused for that, but for one outside the map. A ticket tells of both
+/// entries, and a pin sees the version that the second one published, as it was.
 const FULL: [Row; 13] = [
     (A, Act::Paint([0, 0, 1, 1]), Told::Painted(1, 1)),
     (A, Act::Publish, Told::Published(2, 1)),
@@ -190,7 +190,7 @@ fn clearing_free_cells_takes_no_block(rt: HostRuntime) -> Result<(), Fail> {
     play(&rt, rt.alloc(), game)
 }
 
-/// What a publish behind refused commands shows: none of their cells.
+/// What a publish after refused commands shows: none of their cells.
 const REFUSED: [Row; 9] = [
     (A, Act::Paint([0, 0, 1, 1]), Told::Painted(1, 1)),
     (A, Act::Paint([1, 0, 65, 1]), Told::Full(1, 0)),

@@ -1,4 +1,4 @@
--- The digits so far have this value, and what is left is read behind them.
+-- The digits so far have this value, and what is left is read after them.
 use Rattle.std.proofs.Common.{◌≡◌, ◌<◌, ◌^◌, drop}
 use Rattle.std.specs.List.{list_all}
 use Rattle.metric.specs.Digits.{is_digit, value_from}

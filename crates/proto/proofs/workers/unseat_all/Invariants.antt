@@ -2,7 +2,7 @@ use Rattle.std.proofs.Common.{◌≡◌, ◌≤◌, ◌++◌, All, length, map, 
 use Rattle.std.specs.Prelude.{IsSome}
 use Rattle.proto.proofs.workers.unseat_all.Given as goal
 
--- those that were taken from their seats are handed back, the last one first
+-- those that were taken from their seats are returned, the last one first
 abbrev pub invariant-seats : goal.invariant-seats
 invariant-seats g l = record {
   all : map Some l.sessions.items ++ reverse l.seats.items ≡ reverse l.fn.seats.items;

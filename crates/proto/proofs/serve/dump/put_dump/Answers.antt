@@ -1,4 +1,4 @@
--- The reply line, and the image behind it.
+-- The reply line, and the image after it.
 use Rattle.std.proofs.lemmas.Result.{on_err_weaker}
 use Rattle.pbm.specs.Writing.{plain_text}
 use Rattle.proto.specs.Replies.{reply_line}

@@ -1,4 +1,4 @@
--- What stands before the raster, and the lines of all rows behind it.
+-- What stands before the raster, and the lines of all rows after it.
 use Rattle.std.proofs.lemmas.Result.{on_err_weaker, on_ok_weaker}
 use Rattle.pbm.specs.declared.header.Form.TheVariants.{Plain}
 use Rattle.pbm.specs.Writing.{front_text, plain_text}

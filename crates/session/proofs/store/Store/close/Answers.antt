@@ -1,4 +1,4 @@
--- The last part of the desk's log is handed out.
+-- The last part of the desk's log is returned.
 use Rattle.session.proofs.ClosingLemmas.{handed_out}
 use Rattle.session.proofs.store.Store.close.Goals as goal
 
