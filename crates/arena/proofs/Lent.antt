@@ -21,28 +21,31 @@ use Rattle.arena.specs.Ownership.{block_row}
 use Rattle.arena.specs.declared.region.Tile.{Tile}
 use Rattle.arena.specs.contracts.region.Tile as C
 
+-- the fields of a tile, as a type of their own
 abbrev Words : RattleType
 Words = Struct (shape C.the_type)
 
+-- a `&` to a tile shows the address of its block, and the words that are lent with it
 pub shown : {M : Type 1} {𝓤 : Ura M} (𝓛 : Logic 𝓤) (κ : Lft) (d : Tile) (b o : ℕ) → ent 𝓤 (sem 𝓛 (hidden_shr C.the_row κ d b o)) (sep 𝓤 (sem 𝓛 (hidden_shr RawPtr κ d.at b (o + 0))) (sem 𝓛 (lent_at block_row d.at d.words κ)))
 shown 𝓛 κ d b o = qed 𝓛 (‵ (hidden_shr C.the_row κ d b o) ∷ []) ∵
     use1 𝓛 (‵ (hidden_shr Words κ (d.at, (d.number, tt)) b o) ⊛ ‵ (fhide (C.the_lent d d.at κ))) (lent_out 𝓛 C.struct C.the_codes C.the_heap C.the_lent κ d b o) $ split ! $
     unhide ! $ fsplit ! $ fsplit ! $ keep ! (0 ∷ 3 ∷ []) $ done !
 
--- its number
+-- a `&` to a tile shows its number
 pub shown_number : {M : Type 1} {𝓤 : Ura M} (𝓛 : Logic 𝓤) (κ : Lft) (d : Tile) (b o : ℕ) → ent 𝓤 (sem 𝓛 (hidden_shr C.the_row κ d b o)) (sem 𝓛 (hidden_shr u32 κ d.number b (o + 8)))
 shown_number 𝓛 κ d b o = qed 𝓛 (‵ (hidden_shr C.the_row κ d b o) ∷ []) ∵
     use1 𝓛 (‵ (hidden_shr Words κ (d.at, (d.number, tt)) b o) ⊛ ‵ (fhide (C.the_lent d d.at κ))) (lent_out 𝓛 C.struct C.the_codes C.the_heap C.the_lent κ d b o) $ split ! $
     unhide ! $ fsplit ! $ fsplit ! $ move ! (1 ∷ []) $ fsplit ! $ keep ! (0 ∷ []) $ done !
 
 module _ {M : Type 1} {𝓤 : Ura M} {𝓛 : Logic 𝓤} {K : Type 0} {Γ : List (Item 𝓤)} {G : Goal 𝓤 𝓛.H} where
-  -- a `u32` behind a `&` is looked at: [the word; the way back]
+  -- a `u32` that a `&` refers to is looked at: [the word; the way back]
   pub half_in : K → Soaks G → {κ : Lft} {q : Share} (n b at : ℕ)
       → ((q' : Share) → n < 2 ^ 32 → Seq K 𝓛 (‵ (fat q' (ty_int w32) b at (vint w32 n)) ∷ Shut 𝓛 κ q (part_at u32 q' n b at) ∷ Γ) G) → Seq K 𝓛 (‵ (hidden_shr u32 κ n b at) ∷ ‵ (flft κ q) ∷ Γ) G
   half_in t z n b at k =
       looks t z u32 (uint_Copied 𝓛 w32).opens n b at (λ q' vs. move t (1 ∷ []) $ fsplit t $ feq_l t (λ e. flt_l t (λ fn.
       rewrite t 0 (λ (us : List Val). ‵ (cell_at q' u32.mir us b at)) e refl $ move t (2 ∷ []) $ drop t $ k q' fn)))
 
+  -- a `u32` that was looked at goes back to its `&`
   pub half_out : K → Soaks G → {κ : Lft} {q q' : Share} (n b at : ℕ) → n < 2 ^ 32
       → Step K 𝓛 (‵ (flft κ q) ∷ Γ) G (‵ (fat q' (ty_int w32) b at (vint w32 n)) ∷ Shut 𝓛 κ q (part_at u32 q' n b at) ∷ Γ) G
   half_out t z {q' = q'} n b at fn = step (λ s.

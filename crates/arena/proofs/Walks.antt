@@ -10,6 +10,7 @@ use contract.Monad.{fact, fact_use}
 use denote.Builtin.{unit}
 use denote.Signature.{Slot, plain}
 
+-- the slot at place k of some slots, or a plain one where there is none
 abbrev pub slot_at : {n : ℕ} → ℕ → List (Slot n) → Slot n
 slot_at k [] = plain (λ _. unit)
 slot_at zero (s ∷ ss) = s

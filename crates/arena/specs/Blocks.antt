@@ -14,6 +14,7 @@ pub data Content : Type 0 where
   bare : Content
   held : List ℕ → Content
 
+-- a block is in, with words or as room that holds nothing yet
 abbrev pub IsHeld : Content → Type 0
 IsHeld out = ⊥
 IsHeld bare = Unit {0}
@@ -23,6 +24,7 @@ IsHeld (held ws) = Unit {0}
 abbrev pub place : Home → ℕ → ℕ
 place h k = k * 512 + h.start
 
+-- a region has at most 16,384 blocks
 abbrev pub IsHome : Home → Type 0
 IsHome h = h.count ≤ 16384
 

@@ -7,11 +7,13 @@ pub record Pool : Type 0 where
   pub home : Home
   pub free : List ℕ
 
+-- the number in a block's first word, or 0 where it has no words
 abbrev pub link_of : Content → ℕ
 link_of out = 0
 link_of bare = 0
 link_of (held ws) = slice_index_or ws 0 0
 
+-- the number of the block that block k links to
 abbrev pub next : List Content → ℕ → ℕ
 next bs k = link_of (slice_index_or bs k out)
 
@@ -20,11 +22,13 @@ abbrev pub chain : List Content → ℕ → ℕ → List ℕ
 chain bs f zero = []
 chain bs f (suc n) = f ∷ chain bs (next bs f) n
 
+-- whether a block is in, with words
 abbrev pub here : Content → Bool
 here out = false
 here bare = false
 here (held ws) = true
 
+-- no number of the list is k
 abbrev pub NotIn : ℕ → List ℕ → Type 0
 NotIn k [] = ⊤
 NotIn k (x ∷ xs) = (k ≢ x) × NotIn k xs
@@ -41,11 +45,13 @@ in_count (out ∷ bs) = in_count bs
 in_count (bare ∷ bs) = in_count bs
 in_count (held ws ∷ bs) = suc (in_count bs)
 
+-- the free list starts at block f and has n blocks, which are all that are in; there are at most 16,384 blocks in all
 pub record IsArena (bs : List Content) (f n : ℕ) : Type 0 where
   pub linked : Linked bs f n
   pub counted : in_count bs ≡ n
   pub few : length bs ≤ 16384
 
+-- a lease is for this region, whose count of blocks is known
 abbrev pub IsLeased : Home → ℕ → Home → Type 0
 IsLeased home count leased = (leased ≡ home) × (count ≡ home.count)
 

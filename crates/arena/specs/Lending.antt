@@ -8,6 +8,6 @@ use Rattle.arena.specs.contracts.region.Tile.{the_row}
 abbrev pub with_words : Tile → List ℕ → Tile
 with_words t ws = record t { words = ws }
 
--- once the borrow r ends, the tile behind t has the last words behind r
+-- once the borrow r ends, the tile that t refers to has the last words that r refers to
 abbrev pub LendsWords : MutBor Tile → MutBor (List ℕ) → Fml
 LendsWords t r = Lends the_row block_row t r (with_words t.now)

@@ -11,6 +11,7 @@ use Rattle.arena.specs.Blocks.{Home, Content, out, bare, held}
 abbrev pub block_row : RattleType
 block_row = Array u64 64
 
+-- the machine type of a block's words
 abbrev pub block_ty : Ty
 block_ty = ty_array (ty_int w64) 64
 

@@ -44,12 +44,12 @@ pub cap_not : (edge : Edge) (height y : ℕ) → is_cap edge height y ≡ false 
 cap_not Open height y free within = (omega arith, omega (arith, within))
 cap_not Wall height y free within = (grind (arith, nat_tests), grind (arith, nat_tests))
 
--- a test that fails leaves the other
+-- where the first of two tests fails, the second one decides
 or_left : (a b : Bool) → a ≡ false → (a || b) ≡ b
 or_left false b is = refl
 or_left true b is = absurd (cc)
 
--- a test that passes is enough
+-- where the first of two tests passes, one of them passes
 or_true : (a b : Bool) → a ≡ true → (a || b) ≡ true
 or_true true b is = refl
 or_true false b is = absurd (cc)
@@ -60,7 +60,7 @@ has-capped edge cells x y column above within =
     has-cells_where cells.width (cells.height + 2 * shift edge) (cap_test edge cells) x y column (omega (arith, within))
     ∙ or_left (is_cap edge cells.height y) (has cells x (y - shift edge)) (cap_free edge cells.height y above within)
 
--- in the frame's rows it has all
+-- in the frame's rows each cell of a capped map is an obstacle
 pub has-cap : (edge : Edge) (cells : Cells) (x y : ℕ) → x < cells.width → y < cells.height + 2 * shift edge → is_cap edge cells.height y ≡ true → has (capped edge cells) x y ≡ true
 has-cap edge cells x y column within cap =
     has-cells_where cells.width (cells.height + 2 * shift edge) (cap_test edge cells) x y column within ∙ or_true (is_cap edge cells.height y) (has cells x (y - shift edge)) cap
@@ -69,7 +69,7 @@ has-cap edge cells x y column within cap =
 abbrev wall_test : Cells → ℕ → ℕ → Bool
 wall_test cells x y = ((x == 0 || y == 0) || (x == cells.width + 1 || y == cells.height + 1)) || has cells (x - 1) (y - 1)
 
--- in a column of the map both tests say the same
+-- in the map's own columns, the tests of cells with the frame and with its rows alone agree
 same_test : (w h x y : ℕ) (black : Bool) → x < w → (((x + 1 == 0 || y == 0) || (x + 1 == w + 1 || y == h + 1)) || black) ≡ ((y == 0 || y == h + 1) || black)
 same_test w h x y black column = grind (arith, nat_tests)
 
@@ -98,7 +98,7 @@ column_nearest edge cells x y (Some row) bitmap column nearest = (
   λ b black. nearest.1 b (sym (has-column edge cells x b column (framed_row edge cells (x + shift edge) b bitmap black)) ∙ black),
 )
 
--- an obstacle's nearest row is its own
+-- an obstacle is the nearest of its column, seen from its own row
 own_row : (cells : Cells) (x y : ℕ) → has cells x y ≡ true → IsNearestRow cells x y (Some y)
 own_row cells x y black = (black, λ b other. IsRowAtMost-by y y b (omega arith) (λ same. omega (arith, same)))
 
@@ -123,7 +123,7 @@ pub side_not : (edge : Edge) (width x : ℕ) → is_side edge (width + 2 * shift
 side_not Open width x free within = (omega arith, omega (arith, within))
 side_not Wall width x free within = (grind (arith, nat_tests), grind (arith, nat_tests))
 
--- an entry of a row with the frame's columns
+-- each entry of a row of a capped map, with the frame's columns, tells the nearest row of the map with its frame
 framed_entry : (edge : Edge) (cells : Cells) (y : ℕ) (inner old : List ℕ) (x : ℕ) → IsBitmap cells → y < cells.height + 2 * shift edge → IsRowOfTable (capped edge cells) y inner
     → ((x : ℕ) → x < cells.width → get_or old (x + shift edge) 0 ≡ get_or inner x 0) → x < cells.width + 2 * shift edge → (side : Bool) → is_side edge (cells.width + 2 * shift edge) x ≡ side
     → IsNearestRow (framed edge cells) x y (row_of (marked side y (get_or old x 0)))
@@ -152,7 +152,7 @@ IsRowOfTable-framed edge cells y inner old new bitmap within row marks len many 
           rw marks_here (framed_entry edge cells y inner old x bitmap within row copied inside (is_side edge (cells.width + 2 * shift edge) x) refl);
     }
 
--- the entries of a row of the map, which is written into the map's own columns, with the frame's columns
+-- a row of the map that is marked, with the frame's columns, is marked as the map with its frame says
 pub marked_framed : (edge : Edge) (cells : Cells) (x y : ℕ) (old new begun : List ℕ) → y < cells.height + 2 * shift edge → is_cap edge cells.height y ≡ false
     → ((k : ℕ) → k < length begun → get_or new k 0 ≡ marked (is_side edge (length begun) k) y (get_or begun k 0)) → length begun ≡ cells.width + 2 * shift edge → x < cells.width + 2 * shift edge
     → ((k : ℕ) → k < cells.width → get_or begun (k + shift edge) 0 ≡ marked (has cells k (y - shift edge)) y (get_or old (k + shift edge) 0))
@@ -171,14 +171,14 @@ marked_framed edge cells x y old new begun within free marks many column inner =
         let test : has (framed edge cells) x y ≡ has cells (x - shift edge) (y - shift edge) = rw (back, down) at (has-framed edge cells (x - shift edge) (y - shift edge) own.1 below) in
         rw test (rw back at (inner (x - shift edge) own.1))
 
--- what was written into a part of a list, read behind the beginning that stayed
+-- an element of a part that was written into a list is read at its place in the list
 pub written_inside : (old sub rest : List ℕ) (n k x : ℕ) → n ≤ length old → n ≡ k → x < length sub → get_or (take n old ++ (sub ++ rest)) (x + k) 0 ≡ get_or sub x 0
 written_inside old sub rest n k x within same inside =
     let front : length (take n old) ≡ n = length-take-le n old within in
     let place : x + k - n ≡ x = omega (arith, same) in
     get_or-append_right (take n old) (sub ++ rest) n (x + k) 0 front (omega (arith, same)) ∙ (rw place (get_or_append_left sub rest 0 x inside))
 
--- what a part of a list was before
+-- an element of a part of a list is the list's element at that place
 pub read_inside : (old : List ℕ) (n m k x : ℕ) → n ≡ k → x < m → get_or (take m (drop n old)) x 0 ≡ get_or old (x + k) 0
 read_inside old n m k x same inside =
     let place : n + x ≡ x + k = omega (arith, same) in

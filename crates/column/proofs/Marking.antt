@@ -13,7 +13,7 @@ use Rattle.std.proofs.lemmas.List.{get_or-replicate}
 use Rattle.std.proofs.lemmas.Simd.{get_or-zip2}
 use Rattle.column.specs.Sweeps.{marked, first_marked}
 
--- one bit: a column is missing where it was, and the word has no obstacle there
+-- of one bit: a column is missing still where it was missing, and the word has no obstacle there
 bit_missing : (b m entry y : ℕ) → b < 2 → m < 2 → y < 4098 → (m == 1) ≡ (entry == 65535) → (min m (1 - b) == 1) ≡ (marked (min b m == 1) y entry == 65535)
 bit_missing b m entry y hb hm small was = grind (arith, nat_tests)
 
@@ -21,7 +21,7 @@ bit_missing b m entry y hb hm small was = grind (arith, nat_tests)
 bit_marked : (b m entry y : ℕ) → b < 2 → m < 2 → (m == 1) ≡ (entry == 65535) → marked (min b m == 1) y entry ≡ first_marked (b == 1) y entry
 bit_marked b m entry y hb hm was = grind (arith, nat_tests)
 
--- a column is missing where it was, and the word has no obstacle there
+-- a column is missing still where it was missing, and the word has no obstacle there
 pub new_missing : (word missing i old new y : ℕ) → word < 2 ^ 64 → i < 64 → y < 4098 → (bit_at missing i == 1) ≡ (old == 65535) → new ≡ marked (bit_at (bit_and word missing) i == 1) y old
     → (bit_at (bit_and missing (18446744073709551615 - word)) i == 1) ≡ (new == 65535)
 new_missing word missing i old new y fits place small was is =
@@ -41,26 +41,26 @@ none_marked word missing i old y was none =
     let free : marked (bit_at 0 i == 1) y old ≡ old = rw (bit_at-zero i) refl in
     new_marked word missing i old old y was (rw none (sym free))
 
--- a bit that the one number has, the joined number has
+-- two numbers joined have each bit of the second one
 pub joined_more : (new word i : ℕ) → bit_at word i ≤ bit_at (bit_or new word) i
 joined_more new word i = rw (bit_at_or new word i) (omega arith)
 
--- and a bit that was joined before
+-- two numbers joined have each bit of the first one
 pub joined_before : (new word bit i : ℕ) → bit ≤ bit_at new i → bit ≤ bit_at (bit_or new word) i
 joined_before new word bit i before = rw (bit_at_or new word i) (omega arith)
 
--- where nothing was joined, each number was 0
+-- where the joined number is 0, each number that was joined to it is 0
 pub joined_none : (word new : ℕ) → new ≡ 0 → ((i : ℕ) → bit_at word i ≤ bit_at new i) → word ≡ 0
 joined_none word new none less = same_from_bits word 0 (λ i.
     let zero = bit_at-zero i in
     let less_here : bit_at word i ≤ bit_at 0 i = rw (← none) (less i) in
     rw zero (omega (arith, less_here, zero)))
 
--- the test of a number that is 0
+-- a number that the test for other numbers than 0 refuses is 0
 pub zero_from_test : (n : ℕ) → not (n == 0) ≡ false → n ≡ 0
 zero_from_test n test = grind (arith, nat_tests)
 
--- a bit of eight, cut out of a word
+-- each bit of a byte that is cut out of a word is the word's bit at that place
 pub bit_of_part : (word part i : ℕ) → i < 8 → bit_at (bit_and (word / 2 ^ (8 * part)) 255) i ≡ bit_at word (8 * part + i)
 bit_of_part word part i within =
     let ones : bit_at 255 i ≡ 1 = bit_at_ones 8 i within in
@@ -88,7 +88,7 @@ has_place bits i = rw (and_pow bits i) (by_bit (bit_at bits i) (2 ^ i) (bit_at-l
 abbrev pub places : List ℕ
 places = 1 ∷ 2 ∷ 4 ∷ 8 ∷ 16 ∷ 32 ∷ 64 ∷ 128 ∷ []
 
--- each of them is a power of 2
+-- each of the lowest eight bits, alone, is a power of 2
 place_at : (i : ℕ) → i < 8 → get_or places i 0 ≡ 2 ^ i
 place_at zero within = refl
 place_at (suc zero) within = refl
@@ -100,7 +100,7 @@ place_at (suc (suc (suc (suc (suc (suc zero)))))) within = refl
 place_at (suc (suc (suc (suc (suc (suc (suc zero))))))) within = refl
 place_at (suc (suc (suc (suc (suc (suc (suc (suc i)))))))) within = absurd (omega arith)
 
--- of eight entries, by the test of each place's bit, the marked one
+-- each of eight entries becomes the row where its place's bit is set, and stays otherwise
 pub lane_marked : (bits y i : ℕ) (entries : List ℕ) → i < 8
     → cond (eqb (get_or (zip2 bit_and (replicate 8 bits) places) i 0) (get_or places i 0)) (get_or (replicate 8 y) i 0) (get_or entries i 0) ≡ marked (bit_at bits i == 1) y (get_or entries i 0)
 lane_marked bits y i entries within =

@@ -12,7 +12,7 @@ use Rattle.column.specs.Sweeps.{IsRowAbove, nearer}
 pub row_of-none : (entry : ℕ) → entry ≡ 65535 → row_of entry ≡ None
 row_of-none entry is = grind (arith, nat_tests)
 
--- any other entry stands for itself
+-- an entry that isn't the mark stands for itself
 pub row_of-some : (entry : ℕ) → entry ≢ 65535 → row_of entry ≡ Some entry
 row_of-some entry not = grind (arith, nat_tests)
 
@@ -22,11 +22,11 @@ IsRowAtMost-by y row other near upper = record {
   order = elim (cases_lt (abs_diff y row) (abs_diff y other)) [ inl nearer ↦ inl nearer | inr far ↦ let same : abs_diff y row ≡ abs_diff y other = omega arith in inr (same, upper same) ];
 }
 
--- what comes first is no farther
+-- a row that comes first is no farther than the other
 IsRowAtMost-near : (y row other : ℕ) → IsRowAtMost y row other → abs_diff y row ≤ abs_diff y other
 IsRowAtMost-near y row other at_most = elim at_most.order [ inl nearer ↦ omega arith | inr same ↦ let far = same.0 in omega arith ]
 
--- of two as far the upper comes first
+-- of two rows as far away the one that comes first isn't below the other
 IsRowAtMost-upper : (y row other : ℕ) → IsRowAtMost y row other → abs_diff y row ≡ abs_diff y other → row ≤ other
 IsRowAtMost-upper y row other at_most same = elim at_most.order [ inl nearer ↦ absurd (omega arith) | inr far ↦ far.1 ]
 
@@ -34,11 +34,11 @@ IsRowAtMost-upper y row other at_most same = elim at_most.order [ inl nearer ↦
 pub IsRowAbove-here : (cells : Cells) (x y : ℕ) → has cells x y ≡ true → IsRowAbove cells x y (Some y)
 IsRowAbove-here cells x y black = (black, omega arith, λ b within _. within)
 
--- at a free cell of the top row there is none
+-- at a free cell of the top row no obstacle lies at or above
 pub IsRowAbove-top : (cells : Cells) (x : ℕ) → has cells x 0 ≡ false → IsRowAbove cells x 0 None
 IsRowAbove-top cells x free = λ b within black. let top : b ≡ 0 = omega arith in absurd (cc)
 
--- past a free cell it stays
+-- past a free cell the lowest obstacle at or above stays
 pub IsRowAbove-free : (cells : Cells) (x y z : ℕ) (row : Option ℕ) → z ≡ y + 1 → has cells x z ≡ false → IsRowAbove cells x y row → IsRowAbove cells x z row
 IsRowAbove-free cells x y z None next free above = λ b within black.
     elim (cases_eq b z) [ inl here ↦ absurd (cc) | inr apart ↦ above b (omega arith) black ]
@@ -80,7 +80,7 @@ nearest_below cells x y row none below = (
       IsRowAtMost-by y row b (omega arith) (λ same. omega arith),
 )
 
--- the one below is the nearest where it is nearer than the one at or above
+-- the nearest seen from the row below is the nearest where it is nearer than the lowest at or above
 lower_wins : (cells : Cells) (x y above below : ℕ) → abs_diff y below < abs_diff y above → IsRowAbove cells x y (Some above) → IsNearestRow cells x (y + 1) (Some below) → IsNearestRow cells x y (Some below)
 lower_wins cells x y above below wins up down = (
   down.0,
@@ -94,7 +94,7 @@ lower_wins cells x y above below wins up down = (
       ],
 )
 
--- and otherwise the one at or above
+-- the lowest obstacle at or above a row is the nearest where the nearest seen from the row below isn't nearer
 upper_wins : (cells : Cells) (x y above below : ℕ) → abs_diff y above ≤ abs_diff y below → IsRowAbove cells x y (Some above) → IsNearestRow cells x (y + 1) (Some below) → IsNearestRow cells x y (Some above)
 upper_wins cells x y above below wins up down = (
   up.0,
@@ -109,7 +109,7 @@ upper_wins cells x y above below wins up down = (
       ],
 )
 
--- what the nearer of two entries tells, by what either of them stands for
+-- what holds in each case of two entries holds of the nearer of them
 pub nearer_by : (P : Option ℕ → Type 0) (y above below : ℕ) → (below ≡ 65535 → P (row_of above)) → (below ≢ 65535 → above ≡ 65535 → P (Some below))
     → (below ≢ 65535 → above ≢ 65535 → abs_diff y below < abs_diff y above → P (Some below)) → (below ≢ 65535 → above ≢ 65535 → abs_diff y above ≤ abs_diff y below → P (Some above)) → P (row_of (nearer y above below))
 nearer_by P y above below none_below none_above lower upper =
@@ -132,7 +132,7 @@ nearer_by P y above below none_below none_above lower upper =
       ]
     ]
 
--- of the two entries the nearer one is the nearest of all
+-- of the entry at or above a row and the nearest seen from the row below, the nearer one is the nearest of all
 pub IsNearestRow-nearer : (cells : Cells) (x y above below : ℕ) → IsRowAbove cells x y (row_of above) → IsNearestRow cells x (y + 1) (row_of below) → IsNearestRow cells x y (row_of (nearer y above below))
 IsNearestRow-nearer cells x y above below up down =
     nearer_by (IsNearestRow cells x y) y above below

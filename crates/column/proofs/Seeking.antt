@@ -12,7 +12,7 @@ use Rattle.column.specs.Columns.{IsNearestRow, IsRowOfTable, row_of}
 use Rattle.column.specs.Sweeps.{AreMissing, IsNearestWithin, IsSeen, first_marked}
 use Rattle.column.proofs.Nearest.{row_of-none, row_of-some, IsRowAtMost-by}
 
--- a mask of ones, and an entry that stands for no row
+-- a mask of ones tells of each entry without a row that it stands for none
 all_ones : (mask i entry : ℕ) → mask ≡ 18446744073709551615 → i < 64 → entry ≡ 65535 → (bit_at mask i == 1) ≡ (entry == 65535)
 all_ones mask i entry ones place none = let one = bit_at_ones 64 i place in rw (ones, none, one) refl
 
@@ -20,11 +20,11 @@ all_ones mask i entry ones place none = let one = bit_at_ones 64 i place in rw (
 pub first_marked-some : (black : Bool) (y entry : ℕ) → entry ≢ 65535 → first_marked black y entry ≡ entry
 first_marked-some black y entry some = grind (arith, nat_tests)
 
--- an entry that stands for none stays at a free cell
+-- an entry stays at a free cell
 pub first_marked-free : (black : Bool) (y entry : ℕ) → black ≡ false → first_marked black y entry ≡ entry
 first_marked-free black y entry free = grind (arith, nat_tests)
 
--- and becomes the row of an obstacle
+-- an entry that stands for no row becomes the row of an obstacle
 pub first_marked-black : (black : Bool) (y entry : ℕ) → entry ≡ 65535 → black ≡ true → first_marked black y entry ≡ y
 first_marked-black black y entry none is = grind (arith, nat_tests)
 
@@ -37,7 +37,7 @@ met_above cells x y away within black none = (
       IsRowAtMost-by y (y - away) b (omega arith) (λ same. omega arith),
 )
 
--- and the first that is met below, where the row as far above has none
+-- the first obstacle that is met below is the nearest, where the row as far above has none
 met_below : (cells : Cells) (x y away : ℕ) → (away ≤ y → has cells x (y - away) ≡ false) → has cells x (y + away) ≡ true → IsNearestWithin cells x y away None
     → IsNearestRow cells x y (Some (y + away))
 met_below cells x y away free black none = (
@@ -54,7 +54,7 @@ met_below cells x y away free black none = (
       ]),
 )
 
--- where neither row has an obstacle, there is none a row farther
+-- where neither of the two rows so far away has an obstacle, there is none a row farther
 met_none : (cells : Cells) (x y away : ℕ) → (away ≤ y → has cells x (y - away) ≡ false) → ((b : ℕ) → b ≡ y + away → has cells x b ≡ true → ⊥) → IsNearestWithin cells x y away None
     → IsNearestWithin cells x y (away + 1) None
 met_none cells x y away above below none = λ b near other.
@@ -69,7 +69,7 @@ met_none cells x y away above below none = λ b near other.
       ]
     ]
 
--- no obstacle was met above, and the row as far below is looked at
+-- where the row so far above has no obstacle, an entry is right one row farther once the row as far below is looked at
 next_below : (cells : Cells) (x y away mid new : ℕ) → IsMap cells → y < cells.height → mid ≡ 65535 → IsNearestWithin cells x y away None
     → (away ≤ y → has cells x (y - away) ≡ false)
     → (y + away < cells.height → new ≡ first_marked (has cells x (y + away)) (y + away) mid) → (cells.height ≤ y + away → new ≡ mid)
@@ -85,7 +85,7 @@ next_below cells x y away mid new map row none was free below below_not false is
     let still : new ≡ 65535 = elim (cases_lt (y + away) cells.height) [ inl within ↦ below within ∙ (first_marked-free (has cells x (y + away)) (y + away) mid is ∙ none) | inr out ↦ below_not out ∙ none ] in
     rw (row_of-none new still) (met_none cells x y away free (λ b place other. let there : has cells x (y + away) ≡ true = rw (sym place) other in absurd (cc)) was)
 
--- the row so far above is in the map
+-- where the row so far above is in the map, an entry is right one row farther once both rows so far away are looked at
 next_within : (cells : Cells) (x y away old mid new : ℕ) → IsMap cells → y < cells.height → old ≡ 65535 → away ≤ y → IsNearestWithin cells x y away None
     → mid ≡ first_marked (has cells x (y - away)) (y - away) old
     → (y + away < cells.height → new ≡ first_marked (has cells x (y + away)) (y + away) mid) → (cells.height ≤ y + away → new ≡ mid)
@@ -100,7 +100,7 @@ next_within cells x y away old mid new map row none within was above below below
 next_within cells x y away old mid new map row none within was above below below_not false is =
     next_below cells x y away mid new map row (above ∙ (first_marked-free (has cells x (y - away)) (y - away) old is ∙ none)) was (λ _. is) below below_not (has cells x (y + away)) refl
 
--- what an entry that stood for none tells, once the two rows so far away have been looked at
+-- an entry that stood for no row is right one row farther once the two rows so far away have been looked at
 next_none : (cells : Cells) (x y away old mid new : ℕ) → IsMap cells → y < cells.height → old ≡ 65535 → IsNearestWithin cells x y away None
     → (away ≤ y → mid ≡ first_marked (has cells x (y - away)) (y - away) old) → (y < away → mid ≡ old)
     → (y + away < cells.height → new ≡ first_marked (has cells x (y + away)) (y + away) mid) → (cells.height ≤ y + away → new ≡ mid)
@@ -111,7 +111,7 @@ next_none cells x y away old mid new map row none was above above_not below belo
       | inr within ↦ next_within cells x y away old mid new map row none within was (above within) below below_not (has cells x (y - away)) refl
     ]
 
--- what an entry tells, once the two rows so far away have been looked at
+-- an entry is right one row farther once the two rows so far away have been looked at
 pub IsNearestWithin-next : (cells : Cells) (x y away old mid new : ℕ) → IsMap cells → y < cells.height → IsNearestWithin cells x y away (row_of old)
     → (away ≤ y → mid ≡ first_marked (has cells x (y - away)) (y - away) old) → (y < away → mid ≡ old)
     → (y + away < cells.height → new ≡ first_marked (has cells x (y + away)) (y + away) mid) → (cells.height ≤ y + away → new ≡ mid)
@@ -144,7 +144,7 @@ IsSeen-none cells y masks entries few all none =
       nearest = λ x column. rw (row_of-none (get_or entries x 0) (empty x column)) (λ b near black. absurd (omega arith));
     }
 
--- the two rows so far away, looked at one after the other
+-- the entries of a row are right one row farther once the two rows so far away have been looked at
 pub IsSeen-next : (cells : Cells) (y away : ℕ) (masks new_masks old mid new : List ℕ) → IsMap cells → y < cells.height → IsSeen cells y away masks old
     → length mid ≡ length old → length new ≡ length mid → length new_masks ≡ length masks → AreMissing new_masks new
     → (away ≤ y → (x : ℕ) → x < cells.width → get_or mid x 0 ≡ first_marked (has cells x (y - away)) (y - away) (get_or old x 0)) → (y < away → mid ≡ old)
@@ -165,7 +165,7 @@ nearest_of_all : (cells : Cells) (x y away : ℕ) (row : Option ℕ) → IsMap c
 nearest_of_all cells x y away None map within all none = λ b black. let inside = map.inside x b black in let row = inside.row in none b (omega arith) black
 nearest_of_all cells x y away (Some row) map within all nearest = nearest
 
--- and the entries are the row of the table
+-- once all rows have been looked at, the entries are the row of the table
 pub IsRowOfTable-seen : (cells : Cells) (y away : ℕ) (masks entries : List ℕ) → IsMap cells → y < cells.height → cells.height ≤ away → IsSeen cells y away masks entries → IsRowOfTable cells y entries
 IsRowOfTable-seen cells y away masks entries map within all seen = record {
   as_many = seen.as_many;

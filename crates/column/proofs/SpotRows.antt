@@ -12,14 +12,14 @@ use Rattle.column.specs.Columns.{IsNearestRow, IsRowAtMost, row_of}
 use Rattle.column.proofs.Nearest.{row_of-some}
 use Rattle.column.specs.Spots.{IsNearestSpotRow, IsSpotRowAtMost}
 
--- the order of rows is that of their spots
+-- where rows are counted without the frame, their order is that of their spots
 at_most_open : (y r b : ℕ) → IsRowAtMost (y + 0) r b → IsSpotRowAtMost y (pos r) (pos b)
 at_most_open y r b most =
     let same : y + 0 ≡ y = omega arith in
     let here : IsRowAtMost y r b = rw same at most in
     record { order = elim here.order [ inl less ↦ inl less | inr (far, upper) ↦ inr (far, omega (arith, ints, upper)) ] }
 
--- the same where rows are counted with the frame
+-- where rows are counted with the frame, their order is that of their spots
 at_most_wall : (y r b : ℕ) → IsRowAtMost (y + 1) r b → IsSpotRowAtMost y (less_one r) (less_one b)
 at_most_wall y r b most =
     let here = apart_less y r in
@@ -36,7 +36,7 @@ open_least : (cells : Cells) (x y r : ℕ) → ((b : ℕ) → IsObstacle cells x
 open_least cells x y r least (pos b) black = at_most_open y r b (least b black)
 open_least cells x y r least (negsuc b) impossible = absurd impossible
 
--- counts of one number are one
+-- two numbers that are equal once each is one less are equal
 less_same : (n m : ℕ) → less_one n ≡ less_one m → m ≡ n
 less_same zero zero same = refl
 less_same zero (suc m) same = absurd (omega (arith, ints))
@@ -50,7 +50,7 @@ by_count cells x P bitmap each b black =
     let same = less_same x counted.a counted.column in
     subst P (sym counted.row) (each counted.b (framed_wall cells x counted.b bitmap (subst (λ (n : ℕ). IsFramed cells n counted.b) same counted.framed)))
 
--- the nearest row of a column, by spots
+-- the nearest row of a column, counted with the frame, is its nearest row by spots
 pub spot_row : (edge : Edge) (cells : Cells) (x y : ℕ) (row : Option ℕ) → IsBitmap cells → IsNearestRow (framed edge cells) x (y + shift edge) row
     → IsNearestSpotRow cells edge (spot_of edge x 0).x y (option_map (λ r. (spot_of edge x r).y) row)
 spot_row Open cells x y None bitmap none = open_no cells x none

@@ -13,7 +13,7 @@ use Rattle.column.proofs.Nearest.{row_of-none, row_of-some, IsRowAbove-here, IsR
 pub place_above : (b y width x : ℕ) → b < y → x < width → b * width + x < y * width
 place_above b y width x above column = let rows : width * (b + 1) ≤ width * y = mul-le-mul_left width (omega arith) in omega (arith, rows)
 
--- a place in a row below lies behind the row
+-- a place in a row below lies after the row
 place_below : (b y width x : ℕ) → y < b → y * width + width ≤ b * width + x
 place_below b y width x below = let rows : width * (y + 1) ≤ width * b = mul-le-mul_left width (omega arith) in omega (arith, rows)
 
@@ -26,12 +26,12 @@ pub record IsRowWritten (width y : ℕ) (old new : List ℕ) : Type 0 where
   pub len : length new ≡ length old
   pub others : (k : ℕ) → (k < y * width) ⊎ (y * width + width ≤ k) → get_or new k 0 ≡ get_or old k 0
 
--- what an entry tells of the obstacles at or above its row, once it is marked
+-- an entry tells the lowest obstacle at or above its row once it is marked
 above_marked : (cells : Cells) (x y entry : ℕ) → y < 65535 → (has cells x y ≡ false → IsRowAbove cells x y (row_of entry)) → (black : Bool) → has cells x y ≡ black → IsRowAbove cells x y (row_of (marked black y entry))
 above_marked cells x y entry small above true is = let row : row_of y ≡ Some y = row_of-some y (λ same. omega arith) in rw row (IsRowAbove-here cells x y is)
 above_marked cells x y entry small above false is = above is
 
--- the downward sweep, one row further
+-- the downward sweep is one row further once a row is copied from the row above and marked
 pub IsSweptDown-next : (cells : Cells) (y : ℕ) (old begun new : List ℕ) → IsMap cells → y < cells.height → IsSweptDown cells y old
     → IsRowWritten cells.width y old begun → IsRowWritten cells.width y begun new
     → (0 < y → (x : ℕ) → x < cells.width → get_or begun (y * cells.width + x) 0 ≡ get_or old ((y - 1) * cells.width + x) 0)
@@ -73,7 +73,7 @@ IsSweptUp-last cells entries map swept = record {
   nearest = λ x y column from within. IsNearestRow-last cells x y (row_of (get_or entries (y * cells.width + x) 0)) map (omega arith) (swept.above x y column within);
 }
 
--- the upward sweep, one row further
+-- the upward sweep is one row further once a row has the nearer of its entries and those of the row below
 pub IsSweptUp-next : (cells : Cells) (y : ℕ) (old new : List ℕ) → y + 1 < cells.height → IsSweptUp cells (y + 1) old
     → IsRowWritten cells.width y old new
     → ((x : ℕ) → x < cells.width → get_or new (y * cells.width + x) 0 ≡ nearer y (get_or old (y * cells.width + x) 0) (get_or old (y * cells.width + cells.width + x) 0))

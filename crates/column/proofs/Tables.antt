@@ -17,7 +17,7 @@ use Rattle.column.specs.Tabled.{Bordered, cells_tabled, place_in, IsTabled}
 use Rattle.column.proofs.Sweeping.{row_ends}
 use Rattle.column.proofs.Nearest.{row_of-none, row_of-some}
 
--- an obstacle's nearest row is its own
+-- the nearest row of a column, seen from an obstacle's row, is that row
 nearest_of_obstacle : (cells : Cells) (x y : ℕ) (row : Option ℕ) → has cells x y ≡ true → IsNearestRow cells x y row → row ≡ Some y
 nearest_of_obstacle cells x y None black nearest = absurd (nearest y black)
 nearest_of_obstacle cells x y (Some row) black nearest =
@@ -29,11 +29,11 @@ nearest_of_obstacle cells x y (Some row) black nearest =
 nearest_of_free : (cells : Cells) (x y : ℕ) → has cells x y ≡ false → IsNearestRow cells x y (Some y) → ⊥
 nearest_of_free cells x y free nearest = let black = nearest.0 in absurd (cc)
 
--- the test of an entry that is the row
+-- the test of an entry that is the row passes
 is_row : (entry y : ℕ) → entry ≡ y → (entry == y) ≡ true
 is_row entry y same = grind (arith, nat_tests)
 
--- the test of an entry that isn't the row
+-- the test of an entry that isn't the row fails
 is_no_row : (entry y : ℕ) → entry ≢ y → (entry == y) ≡ false
 is_no_row entry y apart = grind (arith, nat_tests)
 
@@ -72,7 +72,7 @@ cells_tabled-swept cells width height edge entries bitmap width_is height_is swe
     entry_tells (framed edge cells) (x + shift edge) (y + shift edge) (get_or entries (place_in cells.width edge x y) 0) (omega (arith, row, few, least)) nearest (has cells x y) (has-framed edge cells x y column row))
     ∙ sym (cells_where-has cells bitmap))
 
--- and is one
+-- after both sweeps the entries are a table of nearest rows of the bitmap
 pub IsTabled-swept : (cells : Cells) (width height : ℕ) (edge : Edge) (entries : List ℕ) → IsBitmap cells → width ≡ cells.width → height ≡ cells.height → IsSweptUp (framed edge cells) 0 entries
     → IsTabled width height edge entries
 IsTabled-swept cells width height edge entries bitmap width_is height_is swept =
@@ -93,7 +93,7 @@ IsTabled-swept cells width height edge entries bitmap width_is height_is swept =
 pub IsBitmap-cells_tabled : (width height : ℕ) (edge : Edge) (entries : List ℕ) → IsTabled width height edge entries → IsBitmap (cells_tabled width height edge entries)
 IsBitmap-cells_tabled width height edge entries tabled = IsBitmap-cells_where width height (λ x y. get_or entries (place_in width edge x y) 0 == y + shift edge) tabled.width_is tabled.height_is
 
--- a list that is written over another of its length
+-- a list that is written over the beginning of another is that beginning
 pub written_over : (n : ℕ) (new old : List ℕ) → n ≡ length new → take n (new ++ drop (length new) old) ≡ new
 written_over n new old as_many = rw as_many (take-append_seam new (drop (length new) old))
 

@@ -23,10 +23,10 @@ pub record IsLineFrom (cells : Cells) (y : ℕ) (line : List ℕ) : Type 0 where
   pub as_many : length line ≡ cells.width
   pub each : (x : ℕ) → x < cells.width → IsRowFrom cells x y (row_of (slice_index line x))
 
--- for each of the rows from one to before another, counted from a first one, and each column the nearest obstacle behind the row
+-- for each row from one to before another and each column, the nearest obstacle below the row; lines are counted from a first row
 pub record AreLinesBehind (cells : Cells) (first from to : ℕ) (lines : List ℕ) : Type 0 where
   pub each : (x y : ℕ) → x < cells.width → from ≤ y → y < to → IsRowFrom cells x (y + 1) (row_of (slice_index lines ((y - first) * cells.width + x)))
 
--- the rows from one to before another in bands of 64 rows, of which the first ones are left out: for each band and each column the nearest obstacle behind the band
+-- for each band of 64 rows from one on, of the rows from one to before another, and each column, the nearest obstacle below the band
 pub record AreEdges (cells : Cells) (from to bands : ℕ) (edges : List ℕ) : Type 0 where
   pub each : (x band : ℕ) → x < cells.width → bands ≤ band → from + 64 * band < to → IsRowFrom cells x (min (from + 64 * (band + 1)) to) (row_of (slice_index edges (band * cells.width + x)))

@@ -32,7 +32,8 @@ fn carry_up(bitmap: &Bitmap, edge: Edge, from: u16, to: u16, line: &mut [u16])
     }
 }
 
-/// Writes for each row of a band the line of the obstacles behind it, where that behind the band is known. `line` is room for a line.
+/// Writes for each row of a band the line of the obstacles below it, where that below the band is known.
+/// `line` is room for a line.
 pub fn fill_band(
     bitmap: &Bitmap,
     edge: Edge,
@@ -60,7 +61,8 @@ pub fn fill_band(
     }
 }
 
-/// Seeks the line of the obstacles before row `from`, and leaves for each band of the rows `from` to `to - 1` the line of the obstacles behind it. `line` is room for a line.
+/// Seeks the line of the obstacles before row `from`, and leaves for each band of the rows `from` to `to - 1`
+/// the line of the obstacles below it. `line` is room for a line.
 pub fn carry_edges(
     bitmap: &Bitmap,
     edge: Edge,
@@ -85,7 +87,8 @@ pub fn carry_edges(
     fill_edges(bitmap, edge, from, to, line, edges);
 }
 
-/// Writes for each band of the rows `from` to `to - 1` the line of the obstacles behind it, where the line in hand is that of the obstacles from row `to` on. The line is carried up on the way.
+/// Writes for each band of the rows `from` to `to - 1` the line of the obstacles below it, where the line in hand
+/// is that of the obstacles from row `to` on. The line is carried up on the way.
 fn fill_edges(bitmap: &Bitmap, edge: Edge, from: u16, to: u16, line: &mut [u16], edges: &mut [u16])
     requires bitmap { IsBitmap bitmap.now }
     requires above { shift edge ≤ from }
@@ -105,7 +108,8 @@ fn fill_edges(bitmap: &Bitmap, edge: Edge, from: u16, to: u16, line: &mut [u16],
     }
 }
 
-/// The entries of row `y`, those of the frame with them, where the line before it and that behind it are known. The line before is carried down past the row.
+/// The entries of row `y`, those of the frame with them, where the line before it and the line below it are known.
+/// The line before is carried down past the row.
 pub fn next_row(
     bitmap: &Bitmap,
     edge: Edge,

@@ -34,7 +34,7 @@ use Rattle.desk.proofs.HoldOpen.{can_answer}
 abbrev pub task_of : ℕ → Command → ℕ → List ℕ → Task
 task_of by c done words = record { by = by; hand = record { command = c; done = done; scanned = words } }
 
--- the keeper with it
+-- the keeper once it has this task in hand
 abbrev pub with_task : KeeperView → Task → KeeperView
 with_task k t = record k { task = Some t }
 
@@ -42,11 +42,11 @@ with_task k t = record k { task = Some t }
 pub none_in_hand : (z : StoreId) (k : KeeperView) (h : Holding) → CanCarry z k h → k.task ≡ None
 none_in_hand z k h able = ap (λ (u : KeeperView). u.task) able.keeper_is
 
--- each commit was met
+-- a keeper that can carry a command out has met the reader of each commit
 pub all_met : (z : StoreId) (k : KeeperView) (h : Holding) → CanCarry z k h → k.unmet ≡ None
 all_met z k h able = ap (λ (u : KeeperView). u.unmet) able.keeper_is
 
--- and its caller is dealt
+-- a keeper that can carry a command out has dealt each reader of its store
 pub is_dealt : (z : StoreId) (k : KeeperView) (h : Holding) (by : ℕ) → CanCarry z k h → by < readers_of z → by < k.dealt
 is_dealt z k h by able below = subst (λ (n : ℕ). by < n) (sym (ap (λ (u : KeeperView). u.dealt) able.keeper_is)) below
 
@@ -64,17 +64,17 @@ no_steps z m Revert one = refl
 no_steps z m Collect one = absurd one
 no_steps z m Checkpoint one = refl
 
--- so it may be committed at once
+-- a command of one step that a reader asked for may be committed as soon as it is in hand
 pub may_commit : (z : Base) (k u : KeeperView) (by : ℕ) (c : Command) → u ≡ ordered k by c → IsOneStep c → by < k.dealt → k.unmet ≡ None → MayCommit z u
 may_commit z k u by c is one caller met =
     subst (λ (q : KeeperView). MayCommit z q) (sym is)
     record { task = task_of by c 0 []; in_hand = refl; all_done = no_steps z (blocks z (entries k.log)) c one; caller = caller; met = met }
 
--- what a commit makes of a keeper with this task
+-- a keeper that commits its task becomes what `committed` says of it
 pub committed_is : (z : Base) (k u l : KeeperView) (t : Task) → u ≡ with_task k t → ((t : Task) → u.task ≡ Some t → l ≡ committed z u t) → l ≡ committed z (with_task k t) t
 committed_is z k u l t is step = step t (ap (λ (q : KeeperView). q.task) is) ∙ ap (λ (q : KeeperView). committed z q t) is
 
--- what is committed is what is answered
+-- a command that does to what is held what its reply says is carried out, with that reply, once it is committed
 pub carried_is : (z : StoreId) (k after : KeeperView) (h new : Holding) (by done : ℕ) (c : Command) (words : List ℕ) (reply : Reply) → IsTold z.base (entries k.log) h → Does h c reply new
     → HasKept (story z.base (entries k.log)) c reply words → after ≡ committed z.base (with_task k (task_of by c done words)) (task_of by c done words) → IsCarried k h by c reply after new
 carried_is z k after h new by done c words reply told does kept is =
@@ -84,7 +84,7 @@ carried_is z k after h new by done c words reply told does kept is =
       does = does;
     }
 
--- the slot of newest after a commit, by what is held then
+-- after a commit the slot that is held as newest's is the slot of the log's newest version
 slot_committed : (z : StoreId) (k : KeeperView) (h new : Holding) (by done : ℕ) (c : Command) (words : List ℕ) (reply : Reply) → IsTold z.base (entries k.log) h → Does h c reply new
     → HasKept (story z.base (entries k.log)) c reply words → new.ledger.slot ≡ newest_slot z.base (committed z.base (with_task k (task_of by c done words)) (task_of by c done words)).log
 unfolding slot_of
@@ -97,7 +97,7 @@ slot_committed z k h new by done c words reply told does kept =
     slot_after : Base → List Entry → ℕ
     slot_after base log = get_or (story base log).slots (newest (story base log)) 0
 
--- and so the slot that the keeper is told
+-- the slot that the keeper is told for a commit is the slot of the newest version after it
 pub slot_told : (z : StoreId) (k u : KeeperView) (h new : Holding) (by done : ℕ) (c : Command) (words : List ℕ) (reply : Reply) → IsTold z.base (entries k.log) h → Does h c reply new
     → HasKept (story z.base (entries k.log)) c reply words → u ≡ with_task k (task_of by c done words)
     → (t : Task) → u.task ≡ Some t → new.ledger.slot ≡ newest_slot z.base (committed z.base u t).log
@@ -106,7 +106,7 @@ slot_told z k u h new by done c words reply told does kept is t there =
     slot_committed z k h new by done c words reply told does kept
     ∙ ap (λ (q : KeeperView × Task). newest_slot z.base (committed z.base q.0 q.1).log) (λ j. (sym is j, one j))
 
--- what is done at once is a command of one step
+-- a command that is judged as done at once has one step
 pub one_step : (h : Holding) (c : Command) (j : Judged) → IsJudged h c j → IsAtOnce j → IsOneStep c
 one_step h c (kinds.Draw stroke) judged once = drawn_once c judged.kind.0
   where
@@ -122,7 +122,7 @@ one_step h c kinds.Checkpoint judged once = subst IsOneStep (sym judged.kind) tt
 one_step h c kinds.Publish judged once = absurd once
 one_step h c kinds.Collect judged once = absurd once
 
--- a command of one step has no scan
+-- a command of one step needs no scan for its reply
 pub no_scan : (z : StoreId) (k : KeeperView) (c : Command) (reply : Reply) → IsOneStep c → HasKept (story z.base (entries k.log)) c reply []
 no_scan z k (Paint r black) reply one = tt
 no_scan z k (Stamp x y b) reply one = tt
@@ -131,7 +131,7 @@ no_scan z k Revert reply one = tt
 no_scan z k Collect reply one = absurd one
 no_scan z k Checkpoint reply one = tt
 
--- a command that the ledger doesn't refuse: one more version can be counted
+-- where the ledger doesn't refuse a command, one version more can be counted
 pub next_version : (z : Base) (k : KeeperView) (h : Holding) (c : Command) → IsTold z (entries k.log) h → refused_by_ledger h.ledger c ≡ None → h.ledger.newest + 1 < 2 ^ 32
 next_version z k h c tells by =
     let left = place_of_ledger h.ledger c by in

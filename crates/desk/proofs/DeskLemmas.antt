@@ -31,7 +31,7 @@ use Rattle.desk.specs.Holdings.{IsTold, Refuses}
 use Rattle.desk.specs.Carries.{CanCarry, IsCarried, signed}
 use Rattle.desk.specs.Desks.{DeskView, story_told, base_place, kept_part, kept_after, IsDesk, IsSteady, IsAccepted, IsWhy, IsRefused, IsApplied}
 
--- where the log refuses a command, or there is no memory for its entry
+-- a desk refuses a command where the log does, or for want of memory
 why_is : (z : StoreId) (d : DeskView) (h : Holding) (c : Command) (refusal : Refusal) → IsTold z.base (entries d.log) h → Refuses h c refusal → IsWhy z d c refusal
 why_is z d h c refusal told (inl judged) = inl (sym (judged z.base (entries d.log) told))
 why_is z d h c refusal told (inr judged) = inr (sym (judged.0 z.base (entries d.log) told), judged.1, judged.2)
@@ -40,11 +40,11 @@ why_is z d h c refusal told (inr judged) = inr (sym (judged.0 z.base (entries d.
 met_steady : (z : Base) (k : KeeperView) (x : ReaderView) (more : ℕ) → IsSteady x → unmet_by x.number k.unmet ≡ more → met_by z k x ≡ record x { seen = k.log; made = x.made + more }
 met_steady z k x more steady count = λ i. record x { seen = k.log; made = x.made + count i; holds = hold_stays x (newest (story z (entries k.log))) steady i }
 
--- the keeper of a desk once a reader has met it
+-- once a reader has met the keeper of a desk, the keeper rests at the desk's log
 pub keeper_met : (z : StoreId) (d : DeskView) (k after : KeeperView) (h : Holding) (kept : List Signed) (as' : List (Option Seen)) → IsDesk z d k h kept as' → after ≡ met k → after ≡ resting (readers_of z) d.log
 keeper_met z d k after h kept as' desk is = is ∙ ap met desk.keeper_is
 
--- the reader has then seen the desk's log
+-- a reader that has met the keeper of a desk has seen the desk's log
 pub reader_met : (z : StoreId) (d : DeskView) (k : KeeperView) (h : Holding) (kept : List Signed) (as' : List (Option Seen)) (x y : ReaderView) → IsDesk z d k h kept as' → IsSteady x → y ≡ met_by z.base k x
     → y ≡ record x { seen = d.log }
 reader_met z d k h kept as' x y desk steady is =
@@ -58,7 +58,7 @@ can_carry z d k h told is = record {
   told = subst (λ (u : KeeperView). IsTold z.base (entries u.log) h) (sym is) told;
 }
 
--- after a refusal
+-- a command is refused where what is held refuses it, the desk is as before, and the reader has met the keeper
 pub refused_is : (z : StoreId) (d new : DeskView) (k : KeeperView) (h : Holding) (kept : List Signed) (as' : List (Option Seen)) (x y : ReaderView) (c : Command) (refusal : Refusal) → IsDesk z d k h kept as'
     → IsSteady x → Refuses h c refusal → new ≡ d → y ≡ met_by z.base k x → IsRefused z d x c refusal new y
 refused_is z d new k h kept as' x y c refusal desk steady judged same met_is =
@@ -70,7 +70,7 @@ pub record IsDone (z : StoreId) (d : DeskView) (k : KeeperView) (h : Holding) (b
   pub at_rest : k ≡ resting (readers_of z) d.log
   pub carried : IsCarried k h by c reply after new
 
--- the keeper then
+-- once a command is carried out, the keeper rests at the desk's log with one more entry, which its reader hasn't met
 keeper_after : (z : StoreId) (d : DeskView) (k : KeeperView) (h : Holding) (by : ℕ) (c : Command) (reply : Reply) (after : KeeperView) (new : Holding) → IsDone z d k h by c reply after new
     → after ≡ record (resting (readers_of z) (d.log ++ signed by c reply ∷ [])) { unmet = Some by }
 keeper_after z d k h by c reply after new done =
@@ -78,7 +78,7 @@ keeper_after z d k h by c reply after new done =
 
 -- ---- the entries that are kept
 
--- the base place after one more entry
+-- an entry that takes no room has its own place as the base place, and any other leaves the base place
 base_told : (s : Story) (c : Command) (reply : Reply) → (told s c reply).base ≡ (if takes_room c then s.base else s.places + 1)
 unfolding told
 base_told s (Paint r black) reply = refl
@@ -88,13 +88,13 @@ base_told s Revert reply = refl
 base_told s Collect reply = refl
 base_told s Checkpoint reply = refl
 
--- the base place of a log with one more entry
+-- a log's base place is that of its last entry where this takes no room, and else stays
 base_push : (z : StoreId) (log : List Signed) (e : Signed) → base_place z (log ++ e ∷ []) ≡ (if takes_room e.entry.command then base_place z log else length log + 1)
 base_push z log e =
     ap (λ (s : Story). s.base) (story-push z.base log e)
     ∙ (base_told (story_told z log) e.entry.command e.entry.reply ∙ ap (λ (n : ℕ). if takes_room e.entry.command then base_place z log else n + 1) (places_are z.base (entries log) ∙ length-entries log))
 
--- the entries that are kept of a log with one more
+-- a log with one more entry keeps that entry too, or none where it is a checkpoint
 pub kept_push : (z : StoreId) (log : List Signed) (e : Signed) → IsLegal z.base.setting z.base.opening (entries log) → kept_part z (log ++ e ∷ []) ≡ kept_after (kept_part z log) e
 kept_push z log e legal =
     ap (λ (n : ℕ). drop n (log ++ e ∷ [])) (base_push z log e) ∙ by_room (takes_room e.entry.command)
@@ -110,12 +110,12 @@ kept_push z log e legal =
     by_room true = drop-append-le (base_place z log) log (e ∷ []) within
     by_room false = drop_all (length log + 1) (log ++ e ∷ []) (omega (arith, length-append log (e ∷ [])))
 
--- the whole log after a command that is accepted
+-- once a command is accepted, and its reader has met the keeper, the log has one more entry
 pub log_after : (z : StoreId) (d : DeskView) (k : KeeperView) (h : Holding) (by : ℕ) (c : Command) (reply : Reply) (after last : KeeperView) (new : Holding) → IsDone z d k h by c reply after new → last ≡ met after
     → last.log ≡ d.log ++ signed by c reply ∷ []
 log_after z d k h by c reply after last new done last_is = ap (λ (q : KeeperView). q.log) (last_is ∙ ap met (keeper_after z d k h by c reply after new done))
 
--- the desk after a command that is accepted
+-- once a command is accepted, and its reader has met the keeper, the desk is one with one more entry
 pub desk_after : (z : StoreId) (d : DeskView) (k : KeeperView) (h : Holding) (by : ℕ) (c : Command) (reply : Reply) (after last : KeeperView) (new : Holding) (before kept : List Signed) (as' : List (Option Seen))
     → IsDone z d k h by c reply after new → before ≡ kept_part z d.log → kept ≡ kept_after before (signed by c reply) → last ≡ met after → length as' ≡ readers_of z → IsDesk z record { log = last.log } last new kept as'
 desk_after z d k h by c reply after last new before kept as' done before_is kept_is last_is place_each =
@@ -129,7 +129,7 @@ desk_after z d k h by c reply after last new before kept as' done before_is kept
       place_each = place_each;
     }
 
--- a command that is accepted
+-- a command that is carried out, and whose reader then meets the keeper, is accepted
 pub accepted_is : (z : StoreId) (d now : DeskView) (k : KeeperView) (h : Holding) (by : ℕ) (c : Command) (reply : Reply) (after : KeeperView) (new : Holding) (x seen y : ReaderView)
     → IsDone z d k h by c reply after new → IsSteady x → by ≡ x.number → now ≡ record { log = d.log ++ signed by c reply ∷ [] } → seen ≡ record x { seen = d.log } → y ≡ met_by z.base after seen
     → IsAccepted z d x c reply now y
@@ -174,7 +174,7 @@ pub legal_after : (z : StoreId) (d now : DeskView) (k : KeeperView) (h : Holding
 legal_after z d now k h by c reply after new done is =
     subst (λ (l : List Entry). IsLegal z.base.setting z.base.opening l) (sym (ap (λ (v : DeskView). entries v.log) is ∙ entries-push d.log (signed by c reply))) (done.carried.does z.base (entries d.log) done.told).1.legal
 
--- a command is answered, where it is accepted
+-- a command that is accepted is answered, and its seat has seen the whole log
 pub applied_accepted : (z : StoreId) (d now : DeskView) (x y : ReaderView) (c : Command) (reply : Reply) → IsAccepted z d x c reply now y → IsPrefix x.seen d.log → IsLegal z.base.setting z.base.opening (entries now.log)
     → IsApplied z d x c (Ok reply) now y
 applied_accepted z d now x y c reply accepted began legal =
@@ -190,7 +190,7 @@ applied_accepted z d now x y c reply accepted began legal =
       legal = legal;
     }
 
--- and where it is refused
+-- a command that is refused is answered, and its seat has seen the whole log
 pub applied_refused : (z : StoreId) (d now : DeskView) (x y : ReaderView) (c : Command) (refusal : Refusal) → IsRefused z d x c refusal now y → IsPrefix x.seen d.log → IsLegal z.base.setting z.base.opening (entries d.log)
     → IsApplied z d x c (Err refusal) now y
 applied_refused z d now x y c refusal refused began legal =

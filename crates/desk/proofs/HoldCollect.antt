@@ -32,7 +32,7 @@ use Rattle.desk.proofs.HoldLemmas.{tidy_told, told_more}
 kept_member : (kept_now : Kept) (v : ℕ) → IsIn kept_now v → Contains (members kept_now.slots) v
 kept_member kept_now v h = contains_member kept_now.slots h.slot v h.there
 
--- the retired pieces that stay, as retired blocks
+-- retired pieces that are kept, as retired blocks, are the retired blocks that are kept
 stay_as_blocks : (p : Retired → Bool) (rs : List OldPiece) → map retired_of (filter (λ r. p (retired_of r)) rs) ≡ filter p (map retired_of rs)
 stay_as_blocks p [] = refl
 stay_as_blocks p (r ∷ rs) = by_test (p (retired_of r)) r (filter (λ q. p (retired_of q)) rs)
@@ -42,7 +42,7 @@ stay_as_blocks p (r ∷ rs) = by_test (p (retired_of r)) r (filter (λ q. p (ret
     by_test true r qs = refl
     by_test false r qs = refl
 
--- what is kept of the log then
+-- after a collect the summary of what is held is the summary of the log
 summary_collected : (k : Base) (s : Story) (m : Blocks) (old new : Holding) (place f freed : ℕ) (kept_now : Kept) → IsTidy k s m → Holds k s m old → IsChoice s kept_now
     → Sweeps (members kept_now.slots) old.grid old.arena.free freed new.grid new.arena.free
     → new.ledger ≡ record old.ledger { places = old.ledger.places + 1; kept = kept_now }
@@ -63,7 +63,7 @@ summary_collected k s m old new place f freed kept_now tidy holds choice sweeps 
       retired_is = swept.retired_is;
     }
 
--- what is held then
+-- after a collect what is held is what the log says
 holds_collected : (k : Base) (s : Story) (m : Blocks) (old new : Holding) (place f freed : ℕ) (kept_now : Kept) → IsTidy k s m → Holds k s m old → IsChoice s kept_now
     → Sweeps (members kept_now.slots) old.grid old.arena.free freed new.grid new.arena.free → new.arena.home ≡ old.arena.home
     → new.ledger ≡ record old.ledger { places = old.ledger.places + 1; kept = kept_now }
@@ -79,7 +79,7 @@ holds_collected k s m old new place f freed kept_now tidy holds choice sweeps ho
   room_is = ap (λ (g : Tiled). g.room) sweeps.others ∙ holds.room_is;
 }
 
--- so many blocks fewer are in use as go back
+-- a collect gives back so many blocks as fewer are in use after it
 freed_told : (k : Base) (s : Story) (m : Blocks) (old new : Holding) (freed : ℕ) (kept_now : Kept) → IsTidy k s m → Holds k s m old → IsChoice s kept_now
     → Sweeps (members kept_now.slots) old.grid old.arena.free freed new.grid new.arena.free → freed + inuse (with_kept s kept_now) ≡ inuse s
 unfolding kept
@@ -93,7 +93,7 @@ freed_told k s m old new freed kept_now tidy holds choice sweeps =
     let counted = sweeps.freed_is in
     omega arith
 
--- a collect is done
+-- a collect does what its reply says
 pub collect_done : (old new : Holding) (kept_now : Kept) (freed : ℕ) (reply : Reply) → refused_by_ledger old.ledger Collect ≡ None → IsPart kept_now.slots old.ledger.kept.slots → IsIn kept_now old.ledger.newest
     → Sweeps (members kept_now.slots) old.grid old.arena.free freed new.grid new.arena.free → new.arena.home ≡ old.arena.home
     → new.ledger ≡ record old.ledger { places = old.ledger.places + 1; kept = kept_now } → reply ≡ Collected (old.ledger.places + 1) (least_kept old.ledger.newest kept_now) freed kept_now → Does old Collect reply new

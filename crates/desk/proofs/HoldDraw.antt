@@ -34,7 +34,7 @@ use Rattle.desk.specs.Judging.{IsJudged, drawing_of}
 use Rattle.desk.specs.Holdings.{summary_of, Holds, IsTold, Judges, Does}
 use Rattle.desk.proofs.HoldLemmas.{tidy_told, told_more, holds_draft}
 
--- so many blocks are needed as the log says
+-- a paint or a stamp needs so many blocks by the grid as by the log
 needed_is : (k : Base) (s : Story) (m : Blocks) (h : Holding) (c : Command) → IsTidy k s m → Holds k s m h → needed_by h.grid c ≡ needed s c
 unfolding needed
 needed_is k s m h c tidy holds =
@@ -83,16 +83,16 @@ judged_draw k log h c answer tells draws by is =
     as_draw g s Collect draws = absurd draws
     as_draw g s Checkpoint draws = absurd draws
 
--- another command that the ledger doesn't refuse isn't refused
+-- a command that draws nothing isn't refused where the ledger doesn't refuse it
 pub judged_other : (k : Base) (log : List Entry) (h : Holding) (c : Command) → IsTold k log h → is_draw c ≡ false → refused_by_ledger h.ledger c ≡ None → None ≡ refused k.setting (story k log) c
 judged_other k log h c tells other by =
     sym (refused_next k (story k log) h.ledger tells.holds.summary.ledger_is (tidy_told k log h tells).draft c by ∙ refused_for_none k.setting (story k log) c other)
 
--- why the ledger refuses a command
+-- a refusal of the ledger says why a command is refused
 pub judged_why : (h : Holding) (c : Command) (refusal : Refusal) → refused_by_ledger h.ledger c ≡ Some refusal → Judges h c (Some refusal)
 judged_why h c refusal by = λ k log tells. sym (refused_first k (story k log) h.ledger tells.holds.summary.ledger_is (tidy_told k log h tells).draft c refusal by)
 
--- a command that is judged isn't refused
+-- a command that is judged as one to carry out isn't refused
 pub judged_none : (h : Holding) (c : Command) (j : Judged) → IsJudged h c j → Judges h c None
 judged_none h c (kinds.Draw stroke) judged = λ k log tells. judged_draw k log h c None tells judged.kind.0 judged.by judged.kind.1.accepted
 judged_none h c kinds.Publish judged = λ k log tells. judged_other k log h c tells (ap is_draw judged.kind) judged.by
@@ -100,14 +100,14 @@ judged_none h c kinds.Revert judged = λ k log tells. judged_other k log h c tel
 judged_none h c kinds.Collect judged = λ k log tells. judged_other k log h c tells (ap is_draw judged.kind) judged.by
 judged_none h c kinds.Checkpoint judged = λ k log tells. judged_other k log h c tells (ap is_draw judged.kind) judged.by
 
--- why a paint or a stamp is refused, by what the grid answers to it
+-- a refusal of the grid says why a paint or a stamp is refused that the ledger doesn't refuse
 pub drawing_why : (h : Holding) (c as' : Command) (stroke : Result Stroke Refusal) (judged : Result Judged Refusal) → IsDraw c → refused_by_ledger h.ledger c ≡ None → c ≡ as'
     → IfErr stroke (λ refusal. refused_by h.grid h.arena.free as' ≡ Some refusal) → judged ≡ drawing_of stroke → IfErr judged (λ refusal. Judges h c (Some refusal))
 drawing_why h c as' (Ok stroke) judged draws by same why is = subst (λ (r : Result Judged Refusal). IfErr r (λ refusal. Judges h c (Some refusal))) (sym is) tt
 drawing_why h c as' (Err refusal) judged draws by same why is =
     subst (λ (r : Result Judged Refusal). IfErr r (λ x. Judges h c (Some x))) (sym is) (λ k log tells. judged_draw k log h c (Some refusal) tells draws by (ap (refused_by h.grid h.arena.free) same ∙ why))
 
--- a paint or a stamp is done
+-- a paint or a stamp that the grid has drawn does what its reply says
 pub draw_done : (old new : Holding) (c : Command) (changed : ℕ) (reply : Reply) → IsDraw c → refused_by_ledger old.ledger c ≡ None → refused_by old.grid old.arena.free c ≡ None
     → Draws old.grid old.arena.free c changed new.grid new.arena.free → new.arena.home ≡ old.arena.home
     → new.ledger ≡ record old.ledger { places = old.ledger.places + 1 } → reply ≡ Painted (old.ledger.places + 1) changed → Does old c reply new
@@ -142,7 +142,7 @@ draw_done old new c changed reply draws by passed drew home entered said k log t
     replies s l Collect changed reply draws said count places = absurd draws
     replies s l Checkpoint changed reply draws said count places = absurd draws
 
--- a revert is done
+-- a revert of the grid does what its reply says
 pub revert_done : (old new : Holding) (reply : Reply) → refused_by_ledger old.ledger Revert ≡ None → Reverts old.grid old.arena.free new.grid new.arena.free → new.arena.home ≡ old.arena.home
     → new.ledger ≡ record old.ledger { places = old.ledger.places + 1 } → reply ≡ Reverted (old.ledger.places + 1) → Does old Revert reply new
 unfolding told moved newest bitmap_of directory_of
@@ -163,7 +163,7 @@ revert_done old new reply by reverted home entered said k log tells =
           (holds_draft k s (told s Revert reply) m (moved s Revert reply m) old new tells.holds reverted.others home summary refl refl (λ v. refl) refl),
     )
 
--- a checkpoint is done
+-- a checkpoint of the ledger does what its reply says
 pub checkpoint_done : (old new : Holding) (ledger : Ledger) (reply : Reply) → refused_by_ledger old.ledger Checkpoint ≡ None → new ≡ record old { ledger = ledger }
     → ledger ≡ record old.ledger { places = old.ledger.places + 1; base = old.ledger.places + 1 } → reply ≡ Checkpointed (old.ledger.places + 1) → Does old Checkpoint reply new
 unfolding told moved newest bitmap_of directory_of

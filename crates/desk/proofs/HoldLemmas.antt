@@ -1,4 +1,4 @@
--- What is held goes with one more entry of the log.
+-- What is held changes as the log has one more entry.
 use Rattle.std.proofs.Common.{◌≡◌, ℕ, ◌<◌, ◌&&◌, Bool, true, false, if◌then◌else◌, List, [], ◌∷◌, ◌++◌, length, get_or, ap, subst, sym, ◌∙◌, arith}
 use Rattle.std.specs.Prelude.{Some, None, nat_le}
 use Rattle.std.proofs.lemmas.Bool.Decides.{nat_tests}
@@ -25,11 +25,11 @@ use Rattle.grid.specs.Grids.{Tiled, draft, bitmap_at, own_blocks, newest_blocks,
 use Rattle.desk.specs.declared.holding.Holding.{Holding}
 use Rattle.desk.specs.Holdings.{summary_of, Holds, IsTold}
 
--- what holds of the map and its blocks
+-- the map of a log that is told, and its blocks, are tidy
 pub tidy_told : (k : Base) (log : List Entry) (h : Holding) → IsTold k log h → IsTidy k (story k log) (blocks k log)
 tidy_told k log h tells = IsTidy-legal k log tells.ready tells.legal
 
--- the log with one more answer tells what is held after it
+-- what is held after one more entry is told by the log with that entry
 pub told_more : (k : Base) (log : List Entry) (old new : Holding) (c : Command) (reply : Reply) → IsTold k log old → IsAnswer k.setting (story k log) c reply
     → Holds k (told (story k log) c reply) (moved (story k log) c reply (blocks k log)) new → IsTold k (log ++ record { command = c; reply = reply } ∷ []) new
 unfolding story
@@ -48,12 +48,12 @@ same_versions : (g new : Tiled) → new ≡ record g { own = new.own } → (v : 
 unfolding bitmap_at
 same_versions g new others v = ap (λ (x : Tiled). bitmap_at x v) others
 
--- and so newest's bitmap
+-- a grid in which only the draft's own tiles differ has the same newest bitmap
 same_published : (g new : Tiled) → new ≡ record g { own = new.own } → bitmap_at new new.newest ≡ bitmap_at g g.newest
 unfolding bitmap_at
 same_published g new others = ap (λ (x : Tiled). bitmap_at x x.newest) others
 
--- what is held where only the draft has changed, and the log's versions are the same
+-- what is held is what the log says where only the draft has changed, in both
 pub holds_draft : (k : Base) (s t : Story) (m n : Blocks) (old new : Holding) → Holds k s m old → new.grid ≡ record old.grid { own = new.grid.own } → new.arena.home ≡ old.arena.home
     → IsSummary k t n record (summary_of old) { ledger = new.ledger; draft = draft new.grid; own = own_blocks new.grid; free = new.arena.free }
     → newest t ≡ newest s → t.kept ≡ s.kept → ((v : ℕ) → bitmap_of t v ≡ bitmap_of s v) → directory_of n (newest t) ≡ directory_of m (newest s) → Holds k t n new
@@ -94,6 +94,6 @@ slot_of_ledger l balanced by =
     from_test : (versions n : ℕ) → nat_le versions n ≡ false → n < versions
     from_test versions n is = grind (arith, nat_tests)
 
--- so does a command that is one
+-- a command that is a publish, and that a ledger doesn't refuse, finds a slot
 pub publish_room : (l : Ledger) (c : Command) → IsBalanced l → c ≡ Publish → refused_by_ledger l c ≡ None → length (members l.kept.slots) < 64
 publish_room l c balanced publish by = slot_of_ledger l balanced (sym (ap (refused_by_ledger l) publish) ∙ by)

@@ -40,7 +40,7 @@ pub record IsNew (g : Setting) (b : Cells) (h : Holding) : Type 0 where
   pub count_is : h.arena.home.count ≡ g.blocks
   pub room_is : h.grid.room ≡ g.blocks
 
--- a range in two parts
+-- where a range is two lists, one after the other, each of them is a range
 range_parts : (xs ys : List ℕ) (a m : ℕ) → range_with_len a (length xs + m) ≡ xs ++ ys → (xs ≡ range_with_len a (length xs)) × (ys ≡ range_with_len (a + length xs) m)
 range_parts [] ys a m is =
     let none : m ≡ 0 + m = omega arith in
@@ -88,12 +88,12 @@ told_new g b h new =
       };
     }
 
--- how many tiles newest has
+-- the newest version has one piece for each tile of the map
 pieces_counted : (k : Base) (log : List Entry) (h : Holding) → IsTold k log h → length h.grid.pieces ≡ tiles k
 pieces_counted k log h tells =
     sym (length-map h.grid.pieces (λ p. p.block)) ∙ (ap length tells.holds.mapped ∙ (tidy_told k log h tells).shape.directory (newest (story k log)) (omega arith))
 
--- all blocks, counted by where they stand
+-- the free blocks, the draft's own, newest's and the retired are all blocks of the setting
 all_counted : (k : Base) (log : List Entry) (h : Holding) → IsTold k log h
     → length h.arena.free + (length (own_list (own_blocks h.grid)) + (length h.grid.pieces + length h.grid.retired)) ≡ k.setting.blocks
 all_counted k log h tells =
@@ -105,12 +105,12 @@ all_counted k log h tells =
     let retired = sym (length-map h.grid.retired retired_of) ∙ ap length kept.retired_is in
     omega arith
 
--- what is held can be given back
+-- the free blocks, the draft's own, newest's and the retired are all blocks of the arena
 pub all_back : (k : Base) (log : List Entry) (h : Holding) → IsTold k log h
     → length h.arena.free + (length (own_list (own_blocks h.grid)) + (length h.grid.pieces + length h.grid.retired)) ≡ h.arena.home.count
 all_back k log h tells = all_counted k log h tells ∙ sym tells.holds.count_is
 
--- and commands can be answered
+-- where what is held is what a log tells, commands can be answered
 pub can_answer : (k : Base) (log : List Entry) (h : Holding) → IsTold k log h → CanAnswer h
 can_answer k log h tells =
     let all = all_counted k log h tells in

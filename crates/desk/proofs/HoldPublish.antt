@@ -25,7 +25,7 @@ use Rattle.desk.specs.declared.holding.Holding.{Holding}
 use Rattle.desk.specs.Holdings.{summary_of, Holds, Does}
 use Rattle.desk.proofs.HoldLemmas.{tidy_told, told_more}
 
--- the bitmap of each version that is kept then
+-- after a publish the grid has the bitmap of each version that is kept
 versions_published : (k : Base) (s : Story) (m : Blocks) (old new : Holding) (reply : Reply) → IsTidy k s m → Holds k s m old → Seals old.grid new.grid
     → (v : ℕ) → IsKept (told s Publish reply) v → bitmap_at new.grid v ≡ bitmap_of (told s Publish reply) v
 unfolding told IsKept
@@ -40,7 +40,7 @@ versions_published k s m old new reply tidy holds seals v is_kept =
       | inl old_one ↦ let low = tidy.slots.published v old_one in seals.versions v (omega arith) ∙ (holds.versions v old_one ∙ sym (bitmap_of-publish k s m shape v low))
     ]
 
--- what is kept then
+-- after a publish the summary of what is held is the summary of the log
 summary_sealed : (k : Base) (s : Story) (m : Blocks) (old new : Holding) (reply : Reply) → IsTidy k s m → Holds k s m old → Seals old.grid new.grid → new.arena ≡ old.arena
     → new.ledger ≡ record old.ledger { places = old.ledger.places + 1; newest = old.ledger.newest + 1; slot = first_free old.ledger.kept.slots; kept = with_version old.ledger.kept (old.ledger.newest + 1) } → IsSummary k (told s Publish reply) (moved s Publish reply m) (summary_of new)
 summary_sealed k s m old new reply tidy holds seals arena entered =
@@ -65,7 +65,7 @@ summary_sealed k s m old new reply tidy holds seals arena entered =
       retired_is = sealed.retired_is;
     }
 
--- what is held then
+-- after a publish what is held is what the log says
 holds_sealed : (k : Base) (s : Story) (m : Blocks) (old new : Holding) (reply : Reply) → IsTidy k s m → Holds k s m old → Seals old.grid new.grid → new.arena ≡ old.arena
     → new.ledger ≡ record old.ledger { places = old.ledger.places + 1; newest = old.ledger.newest + 1; slot = first_free old.ledger.kept.slots; kept = with_version old.ledger.kept (old.ledger.newest + 1) } → Holds k (told s Publish reply) (moved s Publish reply m) new
 unfolding told moved
@@ -82,7 +82,7 @@ holds_sealed k s m old new reply tidy holds seals arena entered =
       room_is = seals.room_is ∙ holds.room_is;
     }
 
--- a publish is done
+-- a publish of the grid does what its reply says
 pub publish_done : (old new : Holding) (reply : Reply) → refused_by_ledger old.ledger Publish ≡ None → Seals old.grid new.grid → new.arena ≡ old.arena
     → new.ledger ≡ record old.ledger { places = old.ledger.places + 1; newest = old.ledger.newest + 1; slot = first_free old.ledger.kept.slots; kept = with_version old.ledger.kept (old.ledger.newest + 1) } → reply ≡ Published (old.ledger.places + 1) (old.ledger.newest + 1) → Does old Publish reply new
 publish_done old new reply by seals arena entered said k log tells =

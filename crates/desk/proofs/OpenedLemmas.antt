@@ -10,7 +10,7 @@ use Rattle.desk.specs.Holdings.{IsTold}
 use Rattle.desk.specs.Desks.{IsDesk, base_place}
 use Rattle.std.proofs.lemmas.List.{drop_all}
 
--- the desk of a store with a name is that of the store without
+-- a desk that was opened before its store had a name is a desk of the store with that name
 pub desk_named : (z y : StoreId) (k : KeeperView) (h : Holding) (log : List Signed) (announced : List (Option Seen)) → y ≡ z → IsTold y.base [] h → log ≡ []
     → length announced ≡ readers_of y → k ≡ resting (readers_of z) [] → IsDesk z record { log = k.log } k h log announced
 desk_named z y k h log announced same told log_is place_each keeper_is =

@@ -41,7 +41,7 @@ next_tile z k h by index p block n words told in_hand count there shows = (
   shows ∙ ap (λ (b : Cells). tile_words b p) told.holds.summary.draft_is,
 )
 
--- how many own tiles there are up to a position and with it
+-- the own tiles up to a position, and that position's, are the own tiles up to the next one
 pub one_more : (z : Base) (k : KeeperView) (h : Holding) (index p more : ℕ) (o : Option ℕ) → IsTold z (entries k.log) h → p < tiles z
     → index ≡ length (own_list (take p (blocks z (entries k.log)).own)) → get_or (own_blocks h.grid) p None ≡ o → more ≡ one_own o
     → index + more ≡ length (own_list (take (p + 1) (blocks z (entries k.log)).own))
@@ -50,20 +50,20 @@ one_more z k h index p more o told inside count there more_is =
     let long = (tidy_told z (entries k.log) h told).shape.own in
     (λ i. count i + (more_is ∙ ap one_own (sym there ∙ ap (λ (os : List (Option ℕ)). get_or os p None) told.holds.summary.own_is)) i) ∙ sym (own_more own p (omega arith))
 
--- as many as there are in all, at the last position
+-- the own tiles up to the last position are all own tiles
 pub all_own : (z : Base) (k : KeeperView) (h : Holding) (n count : ℕ) → IsTold z (entries k.log) h → n ≡ tiles z → count ≡ length (own_list (take n (blocks z (entries k.log)).own))
     → count ≡ length (own_list (blocks z (entries k.log)).own)
 all_own z k h n count told all is =
     let long = (tidy_told z (entries k.log) h told).shape.own in
     is ∙ ap (λ (os : List (Option ℕ)). length (own_list os)) (take_all n (blocks z (entries k.log)).own (omega arith))
 
--- a block of the next directory
+-- the block at a position of the next directory, by what is held, is the one by the log
 pub next_block : (z : Base) (k : KeeperView) (h : Holding) (p block : ℕ) → IsTold z (entries k.log) h → block ≡ get_or (mapped (own_blocks h.grid) (newest_blocks h.grid)) p 0
     → block ≡ get_or (mapped (blocks z (entries k.log)).own (directory_of (blocks z (entries k.log)) (newest (story z (entries k.log))))) p 0
 next_block z k h p block told is =
     is ∙ (λ i. get_or (mapped (told.holds.summary.own_is i) (told.holds.mapped i)) p 0)
 
--- the next slot, by what is held
+-- the first free slot of what is held is the next slot of the log
 pub next_slot_is : (z : Base) (k : KeeperView) (h : Holding) (slot : ℕ) → IsTold z (entries k.log) h → slot ≡ first_free h.ledger.kept.slots → slot ≡ next_slot z (story z (entries k.log))
 unfolding next_slot
 next_slot_is z k h slot told is = is ∙ ap (λ (q : Kept). first_free q.slots) told.holds.summary.ledger_is.kept_is
@@ -74,7 +74,7 @@ publish_begun k u by c is publish =
     let begun : u ≡ writing k by 0 = is ∙ ap (ordered k by) publish in
     begun ∙ sym (ap (λ (q : KeeperView). writing q by 0) begun)
 
--- what is held is still told
+-- what is held is still told once the keeper has taken a command in hand
 pub told_ordered : (z : Base) (k u : KeeperView) (h : Holding) (by : ℕ) (c : Command) → u ≡ ordered k by c → IsTold z (entries k.log) h → IsTold z (entries u.log) h
 told_ordered z k u h by c is told = subst (λ (q : KeeperView). IsTold z (entries q.log) h) (sym is) told
 
@@ -83,7 +83,7 @@ pub record IsWritten (z : Base) (k u : KeeperView) (by stored : ℕ) : Type 0 wh
   pub keeper_is : u ≡ writing k by (64 * stored + tiles z)
   pub count : stored ≡ length (own_list (blocks z (entries k.log)).own)
 
--- from its steps
+-- a publish that has stored the rows of its own tiles, and then the directory, has stored all its words
 pub written : (z : Base) (k a b u : KeeperView) (by stored : ℕ) (c : Command) → a ≡ ordered k by c → b ≡ writing a by (64 * stored) → stored ≡ length (own_list (blocks z (entries a.log)).own)
     → u ≡ writing b by (64 * stored + tiles z) → IsWritten z k u by stored
 written z k a b u by stored c order rows count directory = record {
@@ -91,17 +91,17 @@ written z k a b u by stored c order rows count directory = record {
   count = count ∙ ap (λ (q : KeeperView). length (own_list (blocks z (entries q.log)).own)) order;
 }
 
--- a publish all of whose words are stored may be committed
+-- a keeper that has stored all words of a publish may commit it
 pub may_commit_written : (z : StoreId) (k u : KeeperView) (h : Holding) (by stored : ℕ) → CanCarry z k h → by < readers_of z → IsWritten z.base k u by stored → MayCommit z.base u
 may_commit_written z k u h by stored able caller done =
     may_publish z.base k u by (64 * stored + tiles z.base) done.keeper_is (ap (λ (n : ℕ). 64 * n + tiles z.base) done.count) (is_dealt z k h by able caller) (all_met z k h able)
 
--- the slot that the keeper is told
+-- the slot that the keeper is told for a publish is the slot of the new version
 pub slot_published : (z : StoreId) (k u : KeeperView) (h new : Holding) (by stored : ℕ) (reply : Reply) → CanCarry z k h → IsWritten z.base k u by stored → Does h Publish reply new
     → (t : Task) → u.task ≡ Some t → new.ledger.slot ≡ newest_slot z.base (committed z.base u t).log
 slot_published z k u h new by stored reply able done does = slot_told z k u h new by (64 * stored + tiles z.base) Publish [] reply able.told does tt done.keeper_is
 
--- a publish is carried out then
+-- a publish that has stored all its words is carried out once it is committed
 pub publish_carried : (z : StoreId) (k u l : KeeperView) (h new : Holding) (by stored : ℕ) (c : Command) (reply : Reply) → CanCarry z k h → c ≡ Publish → IsWritten z.base k u by stored
     → Does h Publish reply new → ((t : Task) → u.task ≡ Some t → l ≡ committed z.base u t) → IsCarried k h by c reply l new
 publish_carried z k u l h new by stored c reply able publish done does step =

@@ -28,17 +28,17 @@ use Rattle.map_core.specs.Ledger.{refused_by_ledger}
 use Rattle.desk.proofs.CarryLemmas.{next_version, all_met, is_dealt, carried_is}
 use Rattle.desk.proofs.HoldLemmas.{tidy_told}
 
--- so many readers' words are seen
+-- a scan up to a reader has seen as many words as that reader's number
 pub seen_long : (seen : List (Option Seen)) (reader : ℕ) → reader ≤ length seen → length (map pin_word (take reader seen)) ≡ reader
 seen_long seen reader few = omega (arith, length-map (take reader seen) pin_word, length-take reader seen)
 
--- one word more
+-- once one reader more is scanned, the words that are seen have that reader's at their end
 pub scan_grows : (seen : List (Option Seen)) (reader word : ℕ) (o : Option Seen) → reader < length seen → word ≡ pin_word o
     → map pin_word (take (reader + 1) (set seen reader o)) ≡ map pin_word (take reader seen) ++ word ∷ []
 scan_grows seen reader word o inside is =
     ap (map pin_word) (take_more_set seen reader o inside) ∙ (map-append pin_word (take reader seen) (o ∷ []) ∙ ap (λ (w : ℕ). map pin_word (take reader seen) ++ w ∷ []) (sym is))
 
--- what some words announce
+-- what is read in the words by which readers announce is what they have announced
 words_seen : (seen : List (Option Seen)) → map seen_in (map pin_word seen) ≡ seen
 words_seen [] = refl
 words_seen (o ∷ os) = λ i. seen_in-pin_word o i ∷ words_seen os i
@@ -51,14 +51,14 @@ kept_computed z k h kept seen as' tells is same =
     let ledger = tells.holds.summary.ledger_is in
     is ∙ ((λ i. kept_after (ledger.kept_is i) (ledger.newest_is i) (same i)) ∙ sym (ap (kept_after (story z (entries k.log)).kept (newest (story z (entries k.log)))) (words_seen seen)))
 
--- newest is kept by the ledger
+-- the ledger keeps newest
 pub newest_kept : (z : Base) (k : KeeperView) (h : Holding) → IsTold z (entries k.log) h → IsIn h.ledger.kept h.ledger.newest
 unfolding IsKept
 newest_kept z k h tells =
     let ledger = tells.holds.summary.ledger_is in
     subst (λ (q : Kept × ℕ). IsIn q.0 q.1) (λ j. (sym ledger.kept_is j, sym ledger.newest_is j)) (tidy_told z (entries k.log) h tells).slots.newest_in
 
--- and those of the collect's reply
+-- the versions that the ledger keeps after a collect are those of the collect's reply
 kept_replied : (z : Base) (k : KeeperView) (h new : Holding) (reply : Reply) (kept : Kept) → IsTold z (entries k.log) h → Does h Collect reply new → new.ledger.kept ≡ kept
     → kept_told (story z (entries k.log)) reply ≡ kept
 unfolding told
@@ -73,11 +73,11 @@ collect_begun k u by c is collect =
     let begun : u ≡ scanning k by [] = is ∙ ap (ordered k by) collect in
     begun ∙ sym (ap (λ (q : KeeperView). scanning q by []) begun)
 
--- the words of all readers are loaded
+-- a keeper that has scanned all words since the order of a collect is the keeper before the order, with that scan in hand
 pub scanned_all : (k a u : KeeperView) (by : ℕ) (c : Command) (seen : List (Option Seen)) → a ≡ ordered k by c → u ≡ scanning a by (map pin_word seen) → u ≡ scanning k by (map pin_word seen)
 scanned_all k a u by c seen order is = is ∙ ap (λ (q : KeeperView). scanning q by (map pin_word seen)) order
 
--- one more version can be counted
+-- where the ledger doesn't refuse the command in hand, one version more can be counted
 pub few_versions : (z : Base) (k u : KeeperView) (h : Holding) (by : ℕ) (c : Command) → u ≡ ordered k by c → IsTold z (entries k.log) h → refused_by_ledger h.ledger c ≡ None → newest (story z (entries u.log)) + 1 < 2 ^ 32
 few_versions z k u h by c is tells judged =
     let few = next_version z k h c tells judged in
@@ -89,12 +89,12 @@ pub may_commit_scanned : (z : StoreId) (k u : KeeperView) (h : Holding) (by : �
 may_commit_scanned z k u h by seen able caller is all =
     may_collect z.base k u by (map pin_word seen) is (length-map seen pin_word ∙ all) (is_dealt z k h by able caller) (all_met z k h able)
 
--- the reply has what the scan keeps
+-- the reply of a collect has the versions that its scan keeps
 pub kept_of_reply : (z : StoreId) (k : KeeperView) (h new : Holding) (kept : Kept) (seen : List (Option Seen)) (reply : Reply) → CanCarry z k h → Does h Collect reply new → new.ledger.kept ≡ kept
     → kept ≡ kept_scanned (story z.base (entries k.log)) (map pin_word seen) → HasKept (story z.base (entries k.log)) Collect reply (map pin_word seen)
 kept_of_reply z k h new kept seen reply able does kept_is of_scan = kept_replied z.base k h new reply kept able.told does kept_is ∙ of_scan
 
--- a collect is carried out then
+-- a collect that has seen each reader's word is carried out once it is committed
 pub collect_carried : (z : StoreId) (k l : KeeperView) (h new : Holding) (by : ℕ) (kept : Kept) (seen : List (Option Seen)) (c : Command) (reply : Reply) → CanCarry z k h → c ≡ Collect
     → Does h Collect reply new → new.ledger.kept ≡ kept → kept ≡ kept_scanned (story z.base (entries k.log)) (map pin_word seen) → l ≡ collected z.base k by (map pin_word seen) → IsCarried k h by c reply l new
 collect_carried z k l h new by kept seen c reply able collect does kept_is of_scan is =

@@ -29,7 +29,7 @@ story_told store log = story store.base (entries log)
 abbrev pub base_place : StoreId → List Signed → ℕ
 base_place store log = (story_told store log).base
 
--- the entries of a log that are kept: those behind its last checkpoint
+-- the entries of a log that are kept: those after its last checkpoint
 abbrev pub kept_part : StoreId → List Signed → List Signed
 kept_part store log = drop (base_place store log) log
 
@@ -37,7 +37,8 @@ kept_part store log = drop (base_place store log) log
 abbrev pub kept_after : List Signed → Signed → List Signed
 kept_after kept e = if takes_room e.entry.command then kept ++ e ∷ [] else []
 
--- the keeper's seat rests at the desk's log, what is held is what the log tells, its last part is kept, and there is a place for what each reader announces
+-- the keeper's seat rests at the desk's log, what is held is what the log tells, and the log's last part is kept,
+-- with a place for what each reader announces
 pub record IsDesk (store : StoreId) (d : DeskView) (keeper : KeeperView) (h : Holding) (kept : List Signed) (announced : List (Option Seen)) : Type 0 where
   pub keeper_is : keeper ≡ resting (readers_of store) d.log
   pub told : IsTold store.base (entries d.log) h
@@ -48,12 +49,12 @@ pub record IsDesk (store : StoreId) (d : DeskView) (keeper : KeeperView) (h : Ho
 abbrev pub IsSteady : ReaderView → Type 0
 IsSteady x = (x.announced ≡ None) ⊎ ((version : ℕ) × (x.holds ≡ Some version))
 
--- a command is accepted: the log has one more entry, which is by the seat's session, and the seat has seen the whole log and counts the entry
+-- a command is accepted: the log has one more entry, by the seat's session, and the seat has seen the whole log and counts the entry
 pub record IsAccepted (store : StoreId) (old : DeskView) (seat : ReaderView) (c : Command) (reply : Reply) (new : DeskView) (seat_after : ReaderView) : Type 0 where
   pub answer : IsAnswer store.base.setting (story_told store old.log) c reply
   pub log : new.log ≡ old.log ++ record { by = seat.number; entry = record { command = c; reply = reply } } ∷ []
   pub seat_is : seat_after ≡ record seat { seen = new.log; made = seat.made + 1 }
-  -- the entry is kept behind the others; a checkpoint leaves none, and its place is the base place then
+  -- the entry is kept after the others; a checkpoint leaves none, and its place is the base place then
   pub kept : kept_part store new.log ≡ kept_after (kept_part store old.log) record { by = seat.number; entry = record { command = c; reply = reply } }
   pub base : base_place store new.log ≡ (if takes_room c then base_place store old.log else length new.log)
 
@@ -68,7 +69,7 @@ pub record IsRefused (store : StoreId) (old : DeskView) (seat : ReaderView) (c :
   pub same : new ≡ old
   pub seat_is : seat_after ≡ record seat { seen = old.log }
 
--- what a command is answered, whatever is handed back where it is refused
+-- what a command is answered, whatever is returned with it where it is refused
 abbrev pub answer_of : {Back : Type 0} → Result Reply (Back × Refusal) → Result Reply Refusal
 answer_of (Ok reply) = Ok reply
 answer_of (Err back) = Err back.1
@@ -79,7 +80,7 @@ pub record IsApplied (store : StoreId) (old : DeskView) (seat : ReaderView) (c :
   pub refused : IfErr answer (λ refusal. IsRefused store old seat c refusal new seat_after)
   -- a checkpoint is refused for want of a place alone
   pub places : takes_room c ≡ false → IfErr answer (λ refusal. refusal ≡ PlacesUsed)
-  -- of the seat what it has seen and what it counts change alone
+  -- of the seat nothing changes but what it has seen and what it counts
   pub stays : seat_after ≡ record seat { seen = seat_after.seen; made = seat_after.made }
   pub seen : seat_after.seen ≡ new.log
   pub began : IsPrefix seat.seen old.log

@@ -29,7 +29,7 @@ abbrev pub drawing_of : Result Stroke Refusal → Result Judged Refusal
 drawing_of (Ok stroke) = Ok (kinds.Draw stroke)
 drawing_of (Err refusal) = Err refusal
 
--- its only step is its last
+-- what is judged is done in one step, which is its last
 abbrev pub IsAtOnce : Judged → Type 0
 IsAtOnce kinds.Publish = ⊥
 IsAtOnce kinds.Collect = ⊥

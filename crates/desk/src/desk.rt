@@ -1,4 +1,4 @@
-//! The desk of a store: the value behind the writers' lock.
+//! The desk of a store: the value that the writers' lock guards.
 
 mod answers;
 mod close;
@@ -12,7 +12,9 @@ use map_core::Seen;
 use shelf::{KeeperSeat, Signed, StoreName};
 use std::marker::Model;
 
-/// The value behind the writers' lock of a store. Contracts see it as the whole log, of which it keeps the entries behind the last checkpoint.
+/// The value that the writers' lock of a store guards.
+///
+/// Contracts see it as the whole log, of which it keeps the entries after the last checkpoint.
 ///
 /// The type keeps that the log is legal, that ledger, draft, kept versions and blocks are what the log tells, and that the keeper's seat
 /// rests at the log.

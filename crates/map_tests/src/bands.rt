@@ -1,4 +1,4 @@
-//! Rows worked in bands: that each band enters the gate once and beside the others, and that each number of workers answers what one does.
+//! Rows worked in bands: each band enters the gate once, at the same time as others, and each number of workers answers what one does.
 
 use crate::compare::{holds, same};
 use crate::draws::Draws;

@@ -68,7 +68,7 @@ fn the_largest_images_are_read(rt: HostRuntime) -> Result<(), Fail> {
     Ok(())
 }
 
-/// The digits of one row of 140 pixels, every third of them black, with these bytes behind the first `before`.
+/// The digits of one row of 140 pixels, every third of them black, with these bytes after the first `before`.
 fn digits_with(alloc: Global, gap: &[u8], before: usize) -> Result<Vec<u8>, Fail> {
     let mut text = Vec::new(alloc);
     text.extend_from_slice(b"P1 140 1 ")?;

@@ -18,7 +18,7 @@ type Place = (u16, u16);
 /// The path round the obstacle (2, 1) of a bitmap of 6 columns and 4 rows.
 const ROUND: [Place; 3] = [(0, 0), (5, 0), (5, 3)];
 
-/// Paths on that bitmap, and the cell of the least distance by steps to the four cells beside with that distance, or the refusal.
+/// Paths on that bitmap, and the cell of the least distance, in steps to four neighbours, with that distance, or the refusal.
 const PATHS: [(&[Place], Result<(Place, u32), Refusal>); 10] = [
     (&ROUND, Ok(((2, 0), 1))),
     (&[(0, 0), (0, 0)], Ok(((0, 0), 3))),

@@ -1,4 +1,4 @@
-//! Rows that are worked from bands of 64 rows with carried lines, beside rows of a table of the whole bitmap, and beside the plain minimum.
+//! Rows worked from bands of 64 rows with carried lines, compared with rows of a table of the whole bitmap, and with the plain minimum.
 
 use crate::compare::same;
 use crate::draws::Draws;

@@ -1,4 +1,4 @@
-//! Maps whose border is a wall: worked rows and answers, and all cells of small maps beside the plain minimum.
+//! Maps whose border is a wall: worked rows and answers, and all cells of small maps compared with the plain minimum.
 
 use crate::compare::same;
 use crate::draws::Draws;

@@ -2,7 +2,7 @@
 use Rattle.std.proofs.Common.{◌≡◌, ℕ, ◌<◌, ◌≤◌, ◌⊎◌, inl, inr, ◌∙◌, arith}
 use Rattle.metric.specs.Cellwise.{Key, IsAtMost}
 
--- what comes first before a number that comes first before another does so before that
+-- an order by a number, and by the rest where numbers are equal, is transitive where the order of the rest is
 first_transitive : {R S T : Type 0} (a b c : ℕ) → (R → S → T) → ((a < b) ⊎ ((a ≡ b) × R)) → ((b < c) ⊎ ((b ≡ c) × S)) → (a < c) ⊎ ((a ≡ c) × T)
 first_transitive a b c rest (inl low) (inl high) = inl (omega arith)
 first_transitive a b c rest (inl low) (inr high) = let same = high.0 in inl (omega arith)

@@ -9,15 +9,15 @@ use Rattle.metric.specs.Crossing.{AreColumns, IsRightNearer, StaysNearer}
 beside : (a g : ℕ) → a < 4097 → g ≤ 4097 → AreColumns a g (a + 1) g
 beside a g column row = record { order = omega arith; within = omega arith; left = row; right = row }
 
--- what is strictly nearer at a cell so far from the two columns
+-- where its distance is less, the right one of two neighbouring columns is strictly nearer
 right_nearer : (distance : ℕ → ℕ → ℕ) (a g x m n : ℕ) → abs_diff x (a + 1) ≡ m → abs_diff x a ≡ n → distance m g < distance n g → IsRightNearer distance a g (a + 1) g x
 right_nearer distance a g x m n right left less = record { less = rw (right, left) less }
 
--- the same, said of the distances
+-- where the right one of two neighbouring columns is strictly nearer, its distance is less
 nearer_right : (distance : ℕ → ℕ → ℕ) (a g x m n : ℕ) → abs_diff x (a + 1) ≡ m → abs_diff x a ≡ n → IsRightNearer distance a g (a + 1) g x → distance m g < distance n g
 nearer_right distance a g x m n right left nearer = let less = nearer.less in rw (right, left) at less
 
--- one column more isn't nearer, where both columns can be mirrored within the largest map
+-- a distance doesn't fall by one column more, where both columns can be mirrored within the largest map
 grows_near : (distance : ℕ → ℕ → ℕ) → StaysNearer distance → (a g : ℕ) → 2 * a + 1 ≤ 4097 → g ≤ 4097 → distance a g ≤ distance (a + 1) g
 grows_near distance stays a g mirrored row = elim (cases_lt (distance (a + 1) g) (distance a g)) [
   | inl less ↦
@@ -28,7 +28,7 @@ grows_near distance stays a g mirrored row = elim (cases_lt (distance (a + 1) g)
   | inr grown ↦ grown
 ]
 
--- one column more isn't nearer
+-- a distance doesn't fall by one column more
 grows_step : (distance : ℕ → ℕ → ℕ) → StaysNearer distance → (a g : ℕ) → a < 4097 → g ≤ 4097 → distance a g ≤ distance (a + 1) g
 grows_step distance stays a g column row = elim (cases_lt (distance (a + 1) g) (distance a g)) [
   | inl less ↦
@@ -41,7 +41,7 @@ grows_step distance stays a g column row = elim (cases_lt (distance (a + 1) g) (
   | inr grown ↦ grown
 ]
 
--- so many columns more aren't nearer
+-- a distance doesn't fall as the column difference grows by so many columns
 grows_by : (distance : ℕ → ℕ → ℕ) → StaysNearer distance → (k a g : ℕ) → a + k ≤ 4097 → g ≤ 4097 → distance a g ≤ distance (a + k) g
 grows_by distance stays zero a g column row = let same : a + 0 ≡ a = omega arith in rw same (omega arith)
 grows_by distance stays (suc k) a g column row =

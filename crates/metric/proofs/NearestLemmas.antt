@@ -5,21 +5,21 @@ use Rattle.std.proofs.lemmas.Int.{ints}
 use Rattle.metric.specs.declared.near.Near.{Near}
 use Rattle.metric.specs.Nearest.{SpotKey, spot_key, IsLeastDistance, IsNoGreater, IsNear}
 
--- two numbers of which each comes first before the other are equal, and the rest decides nothing
+-- two natural numbers of which each comes first before the other are equal, and what decides further holds both ways
 first_both : {R S : Type 0} (a b : ℕ) → ((a < b) ⊎ ((a ≡ b) × R)) → ((b < a) ⊎ ((b ≡ a) × S)) → (a ≡ b) × R × S
 first_both a b (inl less) (inl more) = absurd (omega arith)
 first_both a b (inl less) (inr back) = let same = back.0 in absurd (omega arith)
 first_both a b (inr there) (inl more) = let same = there.0 in absurd (omega arith)
 first_both a b (inr there) (inr back) = (there.0, there.1, back.1)
 
--- the same of whole numbers
+-- two whole numbers of which each comes first before the other are equal, and what decides further holds both ways
 whole_both : {R S : Type 0} (a b : ℤ) → ((a <ℤ b) ⊎ ((a ≡ b) × R)) → ((b <ℤ a) ⊎ ((b ≡ a) × S)) → (a ≡ b) × R × S
 whole_both a b (inl less) (inl more) = absurd (omega (arith, ints))
 whole_both a b (inl less) (inr back) = let same = back.0 in absurd (omega (arith, ints))
 whole_both a b (inr there) (inl more) = let same = there.0 in absurd (omega (arith, ints))
 whole_both a b (inr there) (inr back) = (there.0, there.1, back.1)
 
--- two keys of which each is at most the other are those of one spot, at one distance
+-- two keys have the same distance, column and row
 pub record AreSame (p q : SpotKey) : Type 0 where
   pub distance : p.distance ≡ q.distance
   pub column : p.column ≡ q.column

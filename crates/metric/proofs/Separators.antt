@@ -5,14 +5,14 @@ use Rattle.std.proofs.lemmas.Bool.{cases_lt}
 use Rattle.metric.specs.Distance.{euclid2}
 use Rattle.metric.specs.Crossing.{IsRightNearer, IsLastNotWorse, at_column, euclid2_right_nearer}
 
--- the right column is strictly nearer where the left one, with twice the columns between so many times, exceeds it
+-- the right column is nearer at x where, from the row's first cell, the left distance plus 2x(u - i) exceeds the right one
 nearer_beyond : (i gi u gu x : ℕ) → i < u → euclid2 u gu < euclid2 i gi + x * (2 * (u - i)) → IsRightNearer euclid2 i gi u gu x
 nearer_beyond i gi u gu x order beyond =
     let sum : i + (u - i) ≡ u = omega arith in
     let less : (i + (u - i)) * (i + (u - i)) + gu * gu < i * i + gi * gi + 2 * (x * (u - i)) = rw sum (omega (arith, beyond)) in
     rw sum at ((euclid2_right_nearer i gi (u - i) gu x).1 less)
 
--- the left column isn't worse where it doesn't
+-- the left column isn't worse at x where, from the row's first cell, its distance plus 2x(u - i) is at most the right one
 not_worse_within : (i gi u gu x : ℕ) → i < u → euclid2 i gi + x * (2 * (u - i)) ≤ euclid2 u gu → at_column euclid2 i gi x ≤ at_column euclid2 u gu x
 not_worse_within i gi u gu x order within =
     elim (cases_lt (at_column euclid2 u gu x) (at_column euclid2 i gi x)) [
@@ -24,11 +24,11 @@ not_worse_within i gi u gu x order within =
       | inr not_worse ↦ not_worse
     ]
 
--- a column that is behind at the row's first cell is strictly nearer everywhere
+-- where the right one of two columns is strictly nearer at the row's first cell, it is strictly nearer at every cell
 pub euclid2_behind : (i gi u gu x : ℕ) → i < u → euclid2 u gu < euclid2 i gi → IsRightNearer euclid2 i gi u gu x
 euclid2_behind i gi u gu x order behind = nearer_beyond i gi u gu x order (omega arith)
 
--- otherwise the quotient is the last cell at which the left column isn't worse
+-- where the left column isn't worse at the first cell, the quotient is the last cell at which it isn't worse
 pub euclid2_last : (i gi u gu : ℕ) → i < u → euclid2 i gi ≤ euclid2 u gu → IsLastNotWorse euclid2 i gi u gu (pos (min ((euclid2 u gu - euclid2 i gi) / (2 * (u - i))) 4097))
 euclid2_last i gi u gu order front =
     let ahead = euclid2 u gu - euclid2 i gi in

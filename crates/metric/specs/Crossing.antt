@@ -70,10 +70,10 @@ euclid2_stays_nearer i gi u gu x z columns before within nearer =
     let there : IsRightNearer euclid2 i gi (i + (u - i)) gu z = (euclid2_right_nearer i gi (u - i) gu z).1 (omega (arith, less, grown)) in
     rw sum at there
 
--- by the steps to the four cells beside, the right one of two columns stays nearer
+-- by steps to four neighbours, the right one of two columns stays nearer
 pub city_stays_nearer : StaysNearer city
 city_stays_nearer i gi u gu x z columns before within nearer = let less = nearer.less in let order = columns.order in record { less = omega arith }
 
--- by the steps to the eight cells round, the right one of two columns stays nearer
+-- by steps to eight neighbours, the right one of two columns stays nearer
 pub chess_stays_nearer : StaysNearer chess
 chess_stays_nearer i gi u gu x z columns before within nearer = let less = nearer.less in let order = columns.order in record { less = omega arith }

@@ -22,18 +22,18 @@ Grows distance = (dx g h : ℕ) → dx ≤ 4097 → g ≤ h → h ≤ 4097 → d
 pub euclid2_grows : Grows euclid2
 euclid2_grows dx g h columns up rows = let squares : g * g ≤ h * h = mul-le-mul up up in omega arith
 
--- the steps from a cell to the four cells beside it, over dx columns and dy rows
+-- the number of steps, each to one of a cell's four neighbours, over dx columns and dy rows
 abbrev pub city : ℕ → ℕ → ℕ
 city dx dy = dx + dy
 
--- the steps from a cell to the eight cells round it, over dx columns and dy rows
+-- the number of steps, each to one of a cell's eight neighbours, over dx columns and dy rows
 abbrev pub chess : ℕ → ℕ → ℕ
 chess dx dy = max dx dy
 
--- the steps to the four cells beside don't fall as the row difference grows
+-- the distance by steps to four neighbours doesn't fall as the row difference grows
 pub city_grows : Grows city
 city_grows dx g h columns up rows = omega arith
 
--- the steps to the eight cells round don't fall as the row difference grows
+-- the distance by steps to eight neighbours doesn't fall as the row difference grows
 pub chess_grows : Grows chess
 chess_grows dx g h columns up rows = omega arith

@@ -38,7 +38,7 @@ added p r = p + r
 abbrev pub larger : ℕ → ℕ → ℕ
 larger p r = max p r
 
--- the square of the straight distance is put together so
+-- in 16 bits the square of the straight distance is the sum of its row difference's part and its reach
 pub euclid2_small : IsSmall euclid2 square_part added
 euclid2_small = record {
   few = λ g. let cut : min g 180 ≤ 180 = omega arith in let squares : min g 180 * min g 180 ≤ 180 * 180 = mul-le-mul cut cut in omega arith;
@@ -55,7 +55,7 @@ euclid2_small = record {
   reach = λ dx near. let squares : dx * dx ≤ 97 * 97 = mul-le-mul near near in omega arith;
 }
 
--- the steps to the four cells beside are put together so
+-- in 16 bits the distance by steps to four neighbours is the sum of its row difference's part and its reach
 pub city_small : IsSmall city plain_part added
 city_small = record {
   few = λ g. omega arith;
@@ -66,7 +66,7 @@ city_small = record {
   reach = λ dx near. omega arith;
 }
 
--- the steps to the eight cells round are put together so
+-- in 16 bits the distance by steps to eight neighbours is the larger of its row difference's part and its reach
 pub chess_small : IsSmall chess plain_part larger
 chess_small = record {
   few = λ g. omega arith;

@@ -8,12 +8,12 @@ TakesByte None byte rest = rest ≡ None
 TakesByte (Some []) byte rest = (byte ≡ None) × (rest ≡ Some [])
 TakesByte (Some (b ∷ bytes)) byte rest = (byte ≡ Some b) × (rest ≡ Some bytes)
 
--- the bytes are written behind those before
+-- the bytes are written after those before
 abbrev pub Appends : Option (List ℕ) → List ℕ → Option (List ℕ) → Type 0
 Appends None bytes after = after ≡ None
 Appends (Some before) bytes after = after ≡ Some (before ++ bytes)
 
--- a beginning of the bytes is written behind those before
+-- a beginning of the bytes is written after those before
 pub record AppendsFront (before : Option (List ℕ)) (bytes : List ℕ) (after : Option (List ℕ)) : Type 0 where
   pub front : List ℕ
   pub back : List ℕ

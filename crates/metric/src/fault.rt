@@ -14,7 +14,7 @@ pub enum PbmFault {
     MissingSpace,
     /// A comment stands where none is read.
     BadComment,
-    /// A number doesn't begin with a digit.
+    /// A number doesn't start with a digit.
     BadNumber,
     /// The width or the height is 0.
     ZeroSize,

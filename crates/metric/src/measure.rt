@@ -129,7 +129,7 @@ fn half_quotient(ahead: u32, apart: u16) -> u32
     }
 }
 
-/// Steps to the four cells beside: `dx + dy`, at most 8194.
+/// Steps to the four cells next to a cell: `dx + dy`, at most 8194.
 #[derive(Clone, Copy, Debug, PartialEq, Eq)]
 pub struct City;
 
@@ -179,7 +179,7 @@ impl Metric for City {
     ghost stays_nearer = { city_stays_nearer };
 }
 
-/// Steps to the eight cells round: the larger of `dx` and `dy`, at most 4097.
+/// Steps to the eight cells round a cell: the larger of `dx` and `dy`, at most 4097.
 #[derive(Clone, Copy, Debug, PartialEq, Eq)]
 pub struct Chess;
 

@@ -16,19 +16,19 @@ use Rattle.shelf.specs.Rule.{Fits, Knows, HasReader, HasKeeper, IsSeated, AreSea
 use Rattle.atomic_table.proofs.Lists.{at_set, set_else, at_longer, at_last}
 use Rattle.std.proofs.Common.{⊎_elim}
 
--- a list with an element written over by itself
+-- a list stays the same where an element is written over by itself
 pub set_get : (l : List ℕ) (i : ℕ) → set l i (get_or l i 0) ≡ l
 set_get [] i = refl
 set_get (x ∷ xs) zero = refl
 set_get (x ∷ xs) (suc i) = ap (λ (t : List ℕ). x ∷ t) (set_get xs i)
 
--- what was written is there
+-- a reader that is written at a number that has one is there
 pub there_set : (xs : List Reader) (i : ℕ) (x y : Reader) → slice_get xs i ≡ Some x → slice_get (set xs i y) i ≡ Some y
 there_set [] i x y is = absurd (cc)
 there_set (z ∷ zs) zero x y is = refl
 there_set (z ∷ zs) (suc i) x y is = there_set zs i x y is
 
--- at another place all is as it was
+-- a reader that is written at a number leaves those at other numbers as they were
 pub there_else : (xs : List Reader) (i j : ℕ) (y : Reader) → j ≢ i → slice_get (set xs i y) j ≡ slice_get xs j
 there_else [] i j y apart = refl
 there_else (z ∷ zs) zero zero y apart = absurd (apart refl)
@@ -36,14 +36,14 @@ there_else (z ∷ zs) zero (suc j) y apart = refl
 there_else (z ∷ zs) (suc i) zero y apart = refl
 there_else (z ∷ zs) (suc i) (suc j) y apart = there_else zs i j y (λ e. apart (ap suc e))
 
--- where one seat has another view, the others' facts stay
+-- a fact that holds of each seat still does where one seat has another view that it holds of
 pub one_seat : (K : ℕ → Role → Type 0) (views : List Role) (id : ℕ) (w : Role) → K id w → ((j : ℕ) (v : Role) → j ≢ id → get_elem? views j ≡ some v → K j v)
     → (j : ℕ) (v : Role) → get_elem? (set views id w) j ≡ some v → K j v
 one_seat K views id w mine others j v e =
     ⊎_elim (λ (t : (j ≡ id) × (w ≡ v)). subst (λ (x : ℕ × Role). K x.0 x.1) (λ i. (sym t.0 i, t.1 i)) mine)
     (λ (t : (j ≢ id) × (get_elem? views j ≡ some v)). others j v t.0 t.1) (at_set views id j w v e)
 
--- a reader fits still where another reader of the core has changed
+-- a reader still fits the keeper where another reader of the core has changed
 pub fits_else : (z : Base) (k : KeeperView) (readers : List Reader) (n : ℕ) (y : Reader) (x : ReaderView) → x.number ≢ n → Fits z k readers x → Fits z k (set readers n y) x
 fits_else z k readers n y x apart f = record {
   dealt = f.dealt;
@@ -55,11 +55,11 @@ fits_else z k readers n y x apart f = record {
   counted = f.counted;
 }
 
--- two seats with other numbers
+-- two readers whose seats differ have different numbers
 pub apart : (owner : ℕ → ℕ) (n m seat : ℕ) → owner m ≡ seat → owner n ≢ seat → n ≢ m
 apart owner n m seat is else e = else (ap owner e ∙ is)
 
--- what another seat knows where one reader of the core has changed
+-- what another seat knows stays so where one reader of the core has changed
 reader_else : (z : Base) (k : KeeperView) (readers : List Reader) (keeper : ℕ) (owner : ℕ → ℕ) (n id : ℕ) (y : Reader) (j : ℕ) (v : Role) → owner n ≡ id → j ≢ id
     → Knows z k readers keeper owner j v → Knows z k (set readers n y) keeper owner j v
 reader_else z k readers keeper owner n id y j idle own else knows = tt
@@ -89,15 +89,15 @@ seated_set views id v w seat Kind at same it =
     })
     (λ else. record { role = it.role; at = set_else views id seat w else ∙ it.at; is = it.is })
 
--- and where one more seat is there
+-- a seat of a kind stays one where another seat is added at the end
 pub seated_longer : (views : List Role) (w : Role) (seat : ℕ) (Kind : Role → Type 0) → IsSeated Kind views seat → IsSeated Kind (views ++ w ∷ []) seat
 seated_longer views w seat Kind it = record { role = it.role; at = at_longer views (w ∷ []) seat it.role it.at; is = it.is }
 
--- the new seat is of its view's kind
+-- a seat that is added at the end is of its view's kind
 pub seated_last : (views : List Role) (w : Role) (Kind : Role → Type 0) → Kind w → IsSeated Kind (views ++ w ∷ []) (length views)
 seated_last views w Kind is = record { role = w; at = at_last views w (length views) refl; is = is }
 
--- a reader's seat has another view, and the core another reader of that number
+-- the seats agree again where a reader's seat has another view, and the core another reader of that number
 pub seats_reader : (z : Base) (k : KeeperView) (readers : List Reader) (views : List Role) (r : AreSeats z k readers views) (id : ℕ) (x : ReaderView) (y : Reader) (v w : Role)
     → get_elem? views id ≡ some v → ((q : ℕ) → HasReader q v → HasReader q w) → (HasKeeper v → HasKeeper w) → r.owner x.number ≡ id → Fits z k readers x → Knows z k (set readers x.number y) r.keeper r.owner id w
     → AreSeats z k (set readers x.number y) (set views id w)
@@ -117,7 +117,7 @@ seats_reader z k readers views r id x y v w at same kept own fits mine =
           (λ j v else there. reader_else z k readers r.keeper r.owner x.number id y j v own else (r.each_seat j v there));
     }
 
--- what another seat than the keeper's knows where the keeper's view has changed, and the readers in other seats fit it
+-- what another seat than the keeper's knows stays so where the keeper's view has changed, and the readers in other seats fit it
 keeper_else : (z : Base) (k u : KeeperView) (readers after : List Reader) (keeper : ℕ) (owner : ℕ → ℕ) (j : ℕ) (v : Role) → j ≢ keeper
     → ((x : ReaderView) → owner x.number ≢ keeper → Fits z k readers x → Fits z u after x) → ((seen : List Signed) → IsPrefix seen k.log → IsPrefix seen u.log)
     → Knows z k readers keeper owner j v → Knows z u after keeper owner j v
@@ -128,7 +128,7 @@ keeper_else z k u readers after keeper owner j (meeting y x) else fit grown know
 keeper_else z k u readers after keeper owner j (ticket seen) else fit grown knows = grown seen knows
 keeper_else z k u readers after keeper owner j (learning x seen) else fit grown knows = (knows.0, fit x (λ e. else (sym knows.0 ∙ e)) knows.1, grown seen knows.2)
 
--- the keeper's seat has another view, which the readers in other seats fit
+-- the seats agree again where the keeper's seat has another view, which the readers in other seats fit
 pub seats_keeper : (z : Base) (k u : KeeperView) (readers after : List Reader) (views : List Role) (r : AreSeats z k readers views) (id : ℕ) (w : Role) → id ≡ r.keeper
     → u.dealt ≤ z.setting.sessions → All (λ e. e.by < u.dealt) u.log
     → ((q : ℕ) → u.dealt ≤ q → q < z.setting.sessions → slice_get after q ≡ Some fresh_reader)

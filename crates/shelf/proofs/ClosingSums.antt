@@ -13,30 +13,30 @@ use Rattle.shelf.specs.Close.{IsClosing}
 abbrev one_if : ℕ → ℕ → ℕ
 one_if n m = cond (n == m) 1 0
 
--- where they are
+-- where two numbers are equal, one_if of them is 1
 equal : (n m : ℕ) → n ≡ m → one_if n m ≡ 1
 equal n m is = ap (λ (b : Bool). let one : ℕ = cond b 1 0 in one) (eq-eqb n m is)
 
--- where they aren't
+-- where two numbers differ, one_if of them is 0
 other : (n m : ℕ) → n ≢ m → one_if n m ≡ 0
 other n m else = ap (λ (b : Bool). let one : ℕ = cond b 1 0 in one) (ne_eqb n m else)
 
--- the numbers below d, each by a function
+-- the sum of a function over the numbers below d
 abbrev sum_below : ℕ → (ℕ → ℕ) → ℕ
 sum_below zero f = 0
 sum_below (suc d) f = f d + sum_below d f
 
--- of two functions
+-- the sum below d of f plus g is the sum of f plus the sum of g
 sum_below-plus : (d : ℕ) (f g : ℕ → ℕ) → sum_below d (λ n. f n + g n) ≡ sum_below d f + sum_below d g
 sum_below-plus zero f g = refl
 sum_below-plus (suc d) f g = let rest = sum_below-plus d f g in omega arith
 
--- of none
+-- the sum below d of zeros is 0
 sum_below-none : (d : ℕ) → sum_below d (λ n. 0) ≡ 0
 sum_below-none zero = refl
 sum_below-none (suc d) = let rest = sum_below-none d in omega arith
 
--- a number that isn't below d counts for nothing
+-- where m isn't below d, no number below d equals it: one_if sums to 0
 sum_below-past : (d m : ℕ) → d ≤ m → sum_below d (λ n. one_if n m) ≡ 0
 sum_below-past zero m le = refl
 sum_below-past (suc d) m le =
@@ -44,7 +44,7 @@ sum_below-past (suc d) m le =
     let here = other d m (λ is. absurd (omega arith)) in
     omega arith
 
--- and one that is counts once
+-- where m is below d, one number below d equals it: one_if sums to 1
 sum_below-once : (d m : ℕ) → m < d → sum_below d (λ n. one_if n m) ≡ 1
 sum_below-once zero m below = absurd (omega arith)
 sum_below-once (suc d) m below =
@@ -52,7 +52,7 @@ sum_below-once (suc d) m below =
     (λ is. let here = equal d m is in let rest = sum_below-past d m (omega arith) in omega arith)
     (λ else. let here = other d m else in let rest = sum_below-once d m (omega arith) in omega arith)
 
--- a list of numbers below d has as many as these stand in it
+-- where a list has numbers below d alone, how often each of these stands in it adds up to its length
 all_counted : (d : ℕ) (ns : List ℕ) → ((n : ℕ) → d ≤ n → times n ns ≡ 0) → sum_below d (λ n. times n ns) ≡ length ns
 all_counted d [] below = sum_below-none d
 all_counted d (m ∷ ms) below =
@@ -65,12 +65,12 @@ all_counted d (m ∷ ms) below =
     is_below (yes le) = let none_of = below m le in let one = equal m m refl in absurd (omega arith)
     is_below (no less) = omega arith
 
--- terms of at most 1 add up to no more than their number
+-- d terms of at most 1 add up to at most d
 at_most : (d : ℕ) (f : ℕ → ℕ) → ((n : ℕ) → f n ≤ 1) → sum_below d f ≤ d
 at_most zero f small = omega arith
 at_most (suc d) f small = let rest = at_most d f small in let last = small d in omega arith
 
--- and where they add up to it, each is 1
+-- where d terms of at most 1 add up to d, each of them is 1
 each_one : (d : ℕ) (f : ℕ → ℕ) → ((n : ℕ) → f n ≤ 1) → sum_below d f ≡ d → (n : ℕ) → n < d → f n ≡ 1
 each_one zero f small all n below = absurd (omega arith)
 each_one (suc d) f small all n below =
@@ -79,17 +79,17 @@ each_one (suc d) f small all n below =
     dite (ℕ_discrete n d) (λ is. subst (λ m. f m ≡ 1) (sym is) (let here : f d ≡ 1 = omega arith in here))
     (λ else. each_one d f small (omega arith) n (omega arith))
 
--- what is summed over a list, of two functions
+-- the sum over a list of f plus g is the sum of f plus the sum of g
 sum_by-plus : (f g : ℕ → ℕ) (ns : List ℕ) → sum_by (λ n. f n + g n) ns ≡ sum_by f ns + sum_by g ns
 sum_by-plus f g [] = refl
 sum_by-plus f g (n ∷ ns) = let rest = sum_by-plus f g ns in omega (arith, sum_by-cons (λ m. f m + g m) n ns, sum_by-cons f n ns, sum_by-cons g n ns)
 
--- of none
+-- the sum over a list of zeros is 0
 sum_by-none : (ns : List ℕ) → sum_by (λ n. 0) ns ≡ 0
 sum_by-none [] = refl
 sum_by-none (n ∷ ns) = let rest = sum_by-none ns in omega (arith, sum_by-cons (λ m. 0) n ns)
 
--- how often a number stands in a list, summed over the list
+-- how many elements of a list equal m is how often m stands in it
 sum_by-times : (m : ℕ) (ns : List ℕ) → sum_by (λ n. one_if n m) ns ≡ times m ns
 sum_by-times m [] = refl
 sum_by-times m (n ∷ ns) = let rest = sum_by-times m ns in let same = turned n m in omega (arith, sum_by-cons (λ k. one_if k m) n ns)
@@ -97,7 +97,7 @@ sum_by-times m (n ∷ ns) = let rest = sum_by-times m ns in let same = turned n 
     turned : (n m : ℕ) → one_if n m ≡ one_if m n
     turned n m = dite (ℕ_discrete n m) (λ is. equal n m is ∙ sym (equal m n (sym is))) (λ else. other n m else ∙ sym (other m n (λ e. else (sym e))))
 
--- where each caller stands once in a list, the numbers of the list have made all entries
+-- where each caller of a log stands once in a list, the numbers in the list have made all its entries
 made_by_all : (ns : List ℕ) (log : List Signed) → All (λ e. times e.by ns ≡ 1) log → sum_by (λ n. made_by n log) ns ≡ length log
 made_by_all ns [] once = sum_by-none ns
 made_by_all ns (e ∷ es) once =

@@ -18,7 +18,7 @@ use Rattle.shelf.specs.Steps.{Ends, ends}
 use Rattle.shelf.proofs.KeeperSteps.{keeper_knows}
 use Rattle.shelf.proofs.LookSteps.{nothing_moves}
 
--- the keeper's last load
+-- the keeper's last load of NOW keeps the rule, and leaves the keeper's view as it was
 pub ends_it : (z : Base) (slots id : ℕ) (me : Me Asked Role) (k : KeeperView) → me.0 ≡ keeping k
     → Allows (Agrees z) slots id me now_at (λ n. n) (ends z (step slots now_at 0 0 none) me)
 ends_it z slots id me k role s r homes at fits =
@@ -32,17 +32,17 @@ ends_it z slots id me k role s r homes at fits =
           (refl, subst (λ (q : KeeperView). Ends z q) same record { legal = r.whole.keeper.legal; callers = r.seats.callers }),
     )
 
--- what the keeper's seat says at the opening
+-- what the keeper's seat keeps at the opening is what its view says: zeros, no publish, and no unmet commit
 pub keeper_fresh : (z : Base) (dealt : ℕ) → KeeperSays z (resting dealt []) 0 0 0 false false
 unfolding story opened newest slot_of
 keeper_fresh z dealt = record { legal = tt; place_is = refl; version_is = refl; slot_is = refl; publishes_is = λ t none_there. absurd (cc); accepted = λ t none_there. absurd (cc); unmet_is = refl }
 
--- what a reader's seat says at the opening
+-- what a reader's seat keeps at the opening is what its view says: its number, no entry, and version 0
 pub reader_fresh : (z : Base) (number : ℕ) → number < z.setting.sessions → ReaderSays z (fresh_reader number) number 0 0
 unfolding story opened newest
 reader_fresh z number below = record { below = below; number_is = refl; made_is = refl; version_is = refl }
 
--- a seat of a table as it is made, with the sizes of its store
+-- a seat of a table as it is made is its store's, and has the store's sizes
 pub is_of_new : (table seat : TableId) (key : Basis) (plan : Plan) (z : Base) (words : List ℕ) → table ≡ seat → base_of key ≡ z → table.words ≡ length words → AreOpeningWords z words
     → IsReady z → IsPlan z plan → IsOf (store_at seat key) table key seat plan
 is_of_new table seat key plan z words at told count opening ready sizes = record {

@@ -40,7 +40,7 @@ use Rattle.shelf.proofs.ReaderSteps.{reader_knows, seats_loaded}
 use Rattle.shelf.proofs.MeetingSteps.{met_seats}
 use Rattle.shelf.proofs.KeeperSteps.{keeper_knows, fits-task, fits-committed}
 
--- an event after which words and seats agree again
+-- where the core does an event, and the seats agree after it, the step of the table is that event
 event_at : (z : Base) (s : State Asked Role) (r : Agrees z s) (e : Event) (answer : StepReply) (stored : Option ℕ) (words : List ℕ) (views : List Role) (k : KeeperView) (readers : List Reader)
     → does (core_of z s.words r.k r.readers) e ≡ Some record { state = core_of z words k readers; answer = answer; stored = stored } → AreSeats z k readers views
     → IsEvent z s r record { words = words; homes = s.homes; views = views } e answer
@@ -55,7 +55,7 @@ event_at z s r e answer stored words views k readers done seats =
       spares = keeps.spares;
     }
 
--- an announcement
+-- a reader's store of what it announces is the core's event Announce
 announce_event : (z : Base) (s : State Asked Role) (r : Agrees z s) (id : ℕ) (x : ReaderView) → get_elem? s.views id ≡ some (reading x) → x.announced ≡ None
     → IsEvent z s r (after_step s (pin_at x.number) (pin_word (Some (From (newest_seen z (as_reader x))))) id (reading (announcing z x))) (Announce x.number) (says.Announced (newest_seen z (as_reader x)))
 announce_event z s r id x at quiet =
@@ -67,7 +67,7 @@ announce_event z s r id x at quiet =
     (seats_reader z r.k r.readers s.views r.seats id x (as_reader y) (reading x) (reading y) at (λ q e. e) (λ e. e) mine.0 f
     (mine.0, record { dealt = f.dealt; here = f.here; there = there_set r.readers x.number (as_reader x) (as_reader y) f.there; began = f.began; held = f.held; all_seen = f.all_seen; counted = f.counted }))
 
--- an exact announcement
+-- a reader's store of the one version that it holds is the core's event Confirm
 confirm_event : (z : Base) (s : State Asked Role) (r : Agrees z s) (id : ℕ) (x : ReaderView) (v : ℕ) → get_elem? s.views id ≡ some (reading x) → to_confirm x.announced x.holds ≡ Some v
     → IsEvent z s r (after_step s (pin_at x.number) (pin_word (Some (Exact v))) id (reading (confirming v x))) (Confirm x.number) (says.Confirmed v)
 confirm_event z s r id x v at held =
@@ -79,7 +79,7 @@ confirm_event z s r id x v at held =
     (seats_reader z r.k r.readers s.views r.seats id x (as_reader y) (reading x) (reading y) at (λ q e. e) (λ e. e) mine.0 f
     (mine.0, record { dealt = f.dealt; here = f.here; there = there_set r.readers x.number (as_reader x) (as_reader y) f.there; began = f.began; held = f.held; all_seen = f.all_seen; counted = f.counted }))
 
--- a leave
+-- a reader's store of 0 is the core's event Leave
 leave_event : (z : Base) (s : State Asked Role) (r : Agrees z s) (id : ℕ) (x : ReaderView) → get_elem? s.views id ≡ some (reading x) → is_some x.announced ≡ true
     → IsEvent z s r (after_step s (pin_at x.number) (pin_word None) id (reading (leaving x))) (Leave x.number) says.Left
 leave_event z s r id x at there =
@@ -91,7 +91,7 @@ leave_event z s r id x at there =
     (seats_reader z r.k r.readers s.views r.seats id x (as_reader y) (reading x) (reading y) at (λ q e. e) (λ e. e) mine.0 f
     (mine.0, record { dealt = f.dealt; here = f.here; there = there_set r.readers x.number (as_reader x) (as_reader y) f.there; began = f.began; held = λ v held. absurd (cc); all_seen = f.all_seen; counted = f.counted }))
 
--- a step of a scan
+-- the keeper's load of a reader's word, for a collect, is the core's event Keep
 scan_event : (z : Base) (s : State Asked Role) (r : Agrees z s) (id : ℕ) (t : Task) → get_elem? s.views id ≡ some (keeping r.k) → r.k.task ≡ Some t → t.hand.command ≡ Collect → t.hand.done < z.setting.sessions
     → IsEvent z s r (after_step s (pin_at t.hand.done) (get_or s.words (pin_at t.hand.done) 0) id (keeping (scanned r.k t (get_or s.words (pin_at t.hand.done) 0)))) Keep
     (says.Scanned t.hand.done (get_or s.words (pin_at t.hand.done) 0))
@@ -109,7 +109,7 @@ scan_event z s r id t at task collect more =
     (λ q below none. seated_set s.views id (keeping r.k) (keeping u) (r.seats.owner q) (HasReader q) at (λ e. absurd e) (r.seats.seated q below none)) tt (mine.0, refl)
     (λ x else f. fits-task z r.k r.readers u.task x f) (λ seen p. p)))
 
--- a commit
+-- the keeper's store of NOW, which commits the command in hand, is the core's event Keep
 commit_event : (z : Base) (s : State Asked Role) (r : Agrees z s) (id : ℕ) (may : MayCommit z r.k) → get_elem? s.views id ≡ some (keeping r.k)
     → IsEvent z s r (after_step s now_at (now_of (story z (entries (committed z r.k may.task).log))) id (keeping (committed z r.k may.task))) Keep (says.Committed (signed_of z r.k may.task).entry.reply)
 commit_event z s r id may at =
@@ -128,7 +128,7 @@ commit_event z s r id may at =
     (λ q below none. seated_set s.views id (keeping r.k) (keeping u) (r.seats.owner q) (HasReader q) at (λ e. absurd e) (r.seats.seated q below none))
     tt (mine.0, refl) (λ x else f. fits-committed z r.k r.readers t x may.met f) (λ seen p. prefix-push seen r.k.log (signed_of z r.k t) p))
 
--- what a reader's load does in the core
+-- the core's event Load makes a reader one that has seen the log, and answers what NOW tells
 load_does : (z : Base) (s : State Asked Role) (r : Agrees z s) (x : ReaderView) → Fits z r.k r.readers x
     → let n = get_or s.words now_at 0 in does (core_of z s.words r.k r.readers) (Load x.number)
     ≡ Some record { state = core_of z s.words r.k (set r.readers x.number (as_reader (loaded z r.k.log x))); answer = says.Now (place_told n) (version_told n); stored = None }
@@ -139,7 +139,7 @@ load_does z s r x f =
     subst (λ (v : ℕ). does w (Load x.number) ≡ Some record { state = core_of z s.words r.k (set r.readers x.number record { seen = entries r.k.log; announced = x.announced; holds = next_hold (as_reader x) v }); answer = says.Now (place_told n) (version_told n); stored = None })
     version (does_load w x.number (as_reader x) f.there)
 
--- a load, whatever else stands in the reader's seat
+-- a reader's load of NOW is the core's event Load, whatever else stands in its seat
 load_event : (z : Base) (s : State Asked Role) (r : Agrees z s) (id : ℕ) (x : ReaderView) (old : Role) → get_elem? s.views id ≡ some old → ((q : ℕ) → HasReader q old → x.number ≡ q) → (HasKeeper old → ⊥)
     → r.seats.owner x.number ≡ id → Fits z r.k r.readers x
     → IsEvent z s r (after_step s now_at (get_or s.words now_at 0) id (reading (loaded z r.k.log x))) (Load x.number) (says.Now (place_told (get_or s.words now_at 0)) (version_told (get_or s.words now_at 0)))
@@ -150,7 +150,7 @@ load_event z s r id x old at same other own f =
     (event_at z s r (Load x.number) (says.Now (place_told n) (version_told n)) None s.words (set s.views id (reading y)) r.k (set r.readers x.number (as_reader y))
     (load_does z s r x f) (seats_loaded z s r id x old at same other own f))
 
--- the load of a meeting
+-- the load of NOW at a meeting is the core's event Load of the reader that meets the keeper
 meet_event : (z : Base) (s : State Asked Role) (r : Agrees z s) (id : ℕ) (x : ReaderView) → get_elem? s.views id ≡ some (meeting r.k x) → (r.k.unmet ≡ None) ⊎ (r.k.unmet ≡ Some x.number)
     → IsEvent z s r (after_step s now_at (get_or s.words now_at 0) id (meeting (met r.k) (met_by z r.k x))) (Load x.number) (says.Now (place_told (get_or s.words now_at 0)) (version_told (get_or s.words now_at 0)))
 meet_event z s r id x at unmet =
@@ -161,7 +161,7 @@ meet_event z s r id x at unmet =
     (event_at z s r (Load x.number) (says.Now (place_told n) (version_told n)) None s.words (set s.views id u) (met r.k) (set r.readers x.number (as_reader (loaded z r.k.log x)))
     (load_does z s r x mine.3) (met_seats z s r id x at unmet))
 
--- an event that leaves words and seats as they are, where a word is loaded
+-- a reader's load is an event that changes nothing, where the core does that event so
 look_event : (z : Base) (s : State Asked Role) (r : Agrees z s) (id i : ℕ) (x : ReaderView) (e : Event) (answer : StepReply) → get_elem? s.views id ≡ some (reading x)
     → does (core_of z s.words r.k r.readers) e ≡ Some record { state = core_of z s.words r.k r.readers; answer = answer; stored = None }
     → IsEvent z s r (after_step s i (get_or s.words i 0) id (reading x)) e answer
@@ -169,7 +169,7 @@ look_event z s r id i x e answer at done =
     subst (λ (q : List ℕ × List Role). IsEvent z s r record { words = q.0; homes = s.homes; views = q.1 } e answer) (λ j. (sym (set_get s.words i) j, sym (set_again s.views id (reading x) at) j))
     (event_at z s r e answer None s.words s.views r.k r.readers done r.seats)
 
--- a look at a position
+-- a reader's load of a directory's word, of the version that it holds, is the core's event LookMap
 map_event : (z : Base) (s : State Asked Role) (r : Agrees z s) (id : ℕ) (x : ReaderView) (v p : ℕ) → get_elem? s.views id ≡ some (reading x) → x.holds ≡ Some v → p < tiles z
     → let i = map_at z (slot_of z (story z (entries x.seen)) v) p in IsEvent z s r (after_step s i (get_or s.words i 0) id (reading x)) (LookMap x.number p) (says.Block (get_or s.words i 0))
 map_event z s r id x v p at held inside =
@@ -179,7 +179,7 @@ map_event z s r id x v p at held inside =
     look_event z s r id i x (LookMap x.number p) (says.Block (get_or s.words i 0)) at
     (look_map_does (core_of z s.words r.k r.readers) x.number p v (get_or s.words i 0) (Some v) (sym (ap hold_of f.there ∙ held)) refl inside (ap (λ (n : ℕ). get_or s.words (map_at z n p) 0) (sym slot)))
 
--- a look at a row
+-- a reader's load of a row of a block, of the version that it holds, is the core's event LookTile
 tile_event : (z : Base) (s : State Asked Role) (r : Agrees z s) (id : ℕ) (x : ReaderView) (v p b i : ℕ) → get_elem? s.views id ≡ some (reading x) → x.holds ≡ Some v → p < tiles z
     → b ≡ get_or (directory_of (blocks z (entries x.seen)) v) p 0 → i < 64
     → IsEvent z s r (after_step s (tile_at z b i) (get_or s.words (tile_at z b i) 0) id (reading x)) (LookTile x.number b i) (says.Word (get_or s.words (tile_at z b i) 0))
@@ -198,7 +198,7 @@ tile_event z s r id x v p b i at held inside is row =
     below : (n : ℕ) → n < 64 → nat_lt n 64 ≡ true
     below n h = grind (arith, nat_tests)
 
--- an order
+-- the keeper's order of a command that isn't refused is the core's event Order
 order_event : (z : Base) (s : State Asked Role) (r : Agrees z s) (id by : ℕ) (c : Command) → get_elem? s.views id ≡ some (keeping r.k) → r.k.task ≡ None → refused z.setting (story z (entries r.k.log)) c ≡ None
     → IsEvent z s r (after_step s now_at (get_or s.words now_at 0) id (keeping (ordered r.k by c))) (Order c) (says.Ordered (steps_before z (blocks z (entries r.k.log)) c + 1))
 order_event z s r id by c at none accepted =
@@ -212,7 +212,7 @@ order_event z s r id by c at none accepted =
     (λ q below e. seated_set s.views id (keeping r.k) (keeping u) (r.seats.owner q) (HasReader q) at (λ e. absurd e) (r.seats.seated q below e)) tt (mine.0, refl)
     (λ y else f. fits-task z r.k r.readers u.task y f) (λ seen p. p)))
 
--- a step of a publish
+-- the keeper's store of the next word of a publish is the core's event Keep
 write_event : (z : Base) (s : State Asked Role) (r : Agrees z s) (id : ℕ) (t : Task) → get_elem? s.views id ≡ some (keeping r.k) → r.k.task ≡ Some t → t.hand.command ≡ Publish
     → t.hand.done < steps_before z (blocks z (entries r.k.log)) Publish
     → let next = write_of z (story z (entries r.k.log)) (blocks z (entries r.k.log)) t.hand.done in IsEvent z s r (after_step s next.at next.word id (keeping (wrote r.k t))) Keep says.Written
@@ -226,7 +226,7 @@ write_event z s r id t at task publish more =
     (λ q below none. seated_set s.views id (keeping r.k) (keeping u) (r.seats.owner q) (HasReader q) at (λ e. absurd e) (r.seats.seated q below none)) tt (mine.0, refl)
     (λ y else f. fits-task z r.k r.readers u.task y f) (λ seen p. p))
 
--- each step
+-- each step of a seat is the core's event of its kind
 pub steps_are_events : (z : Base) (s : State Asked Role) (id : ℕ) (r : Agrees z s) → StepsAreEvents z s r id
 steps_are_events z s id r = record {
   announce = λ x at quiet. announce_event z s r id x at quiet;

@@ -1,4 +1,4 @@
--- What seats hand to one another, and the last loads of a store, are no events.
+-- What seats give one another, and the last loads of a store, are no events.
 use Rattle.std.proofs.Common.{◌≡◌, ℕ, ◌+◌, List, [], get_or, set, refl, ap, sym, subst}
 use mathlib.Core.Option.{some}
 use lib.ListN.{get_elem?}
@@ -19,7 +19,7 @@ use Rattle.shelf.proofs.TicketSteps.{cut_seats, handed_seats}
 use Rattle.shelf.proofs.MeetingSteps.{together_seats, apart_seats, without_seats}
 use Rattle.shelf.proofs.OpeningSteps.{dealt_seats}
 
--- the seats have other views, and another view of the keeper's may stand for the same keeper of the core
+-- other views of the seats are no event, also where the keeper's view is another that stands for the same keeper of the core
 handed : (z : Base) (s : State Asked Role) (r : Agrees z s) (views : List Role) (u : KeeperView) → as_keeper u ≡ as_keeper r.k → AreSeats z u r.readers views → IsNoEvent z s r (with_views s views)
 handed z s r views u same seats =
     let t = with_views s views in
@@ -32,11 +32,11 @@ handed z s r views u same seats =
     core_of_parts : (z : Base) (words : List ℕ) (c : Keeper) (readers : List Reader) → core.State
     core_of_parts z words c readers = record { base = z; words = words; keeper = c; readers = readers }
 
--- the same where a word is loaded besides
+-- a load by a seat that gets another view is no event, where the other view alone is none
 loaded_too : (z : Base) (s : State Asked Role) (r : Agrees z s) (i id : ℕ) (v : Role) → IsNoEvent z s r (with_views s (set s.views id v)) → IsNoEvent z s r (after_step s i (get_or s.words i 0) id v)
 loaded_too z s r i id v none = subst (λ (ws : List ℕ). IsNoEvent z s r record { words = ws; homes = s.homes; views = set s.views id v }) (sym (set_get s.words i)) none
 
--- each handing
+-- what seats give one another, and each last load of a store, is no event
 pub handings_are_none : (z : Base) (s : State Asked Role) (id other : ℕ) (r : Agrees z s) → HandingsAreNone z s r id other
 handings_are_none z s id other r = record {
   together = λ k x at else there. handed z s r _ r.k refl (together_seats z s r id other k x at else there);

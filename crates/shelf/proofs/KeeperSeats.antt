@@ -18,7 +18,7 @@ use Rattle.shelf.specs.declared.asked.Asked.{Asked}
 use Rattle.shelf.specs.Roles.{Task, KeeperView, Role, keeping, entries, keeper_in}
 use Rattle.shelf.specs.Steps.{ordered, wrote, scanned, IsNextWrite, MayCommit, signed_of, committed, newest_slot}
 
--- the keeper's role in its seat, which holds no slot
+-- the keeper's seat has the keeper's role and no slot after a step that leaves its slots
 pub keeper_role : (old new : Me Asked Role) (k : KeeperView) → old ≡ (keeping (keeper_in old.0), []) → new ≡ (keeping k, old.1) → new ≡ (keeping (keeper_in new.0), [])
 keeper_role old new k was is =
     is ∙ (λ i. (keeping (keeper_in (is_role i)), (ap (λ (m : Me Asked Role). m.1) was) i))
@@ -26,15 +26,15 @@ keeper_role old new k was is =
     is_role : ◌≡◌ {A = Role} (keeping k) new.0
     is_role = sym (ap (λ (m : Me Asked Role). m.0) is)
 
--- the keeper's view in its seat
+-- the keeper's view in a seat is the one that the last step gave it
 pub keeper_now : (old new : Me Asked Role) (k : KeeperView) → new ≡ (keeping k, old.1) → keeper_in new.0 ≡ k
 keeper_now old new k is = ap (λ (m : Me Asked Role). keeper_in m.0) is
 
--- the command in hand is one
+-- one option has one task: where two tasks make one option, they are equal
 pub the_task : {a b : Task} → Some a ≡ Some b → a ≡ b
 the_task e = cc
 
--- what the seat says with a command in hand
+-- once a command is in hand, what the keeper's seat keeps is what its view says, with a flag for a publish
 pub says_ordered : (z : Base) (k : KeeperView) (place version slot : ℕ) (publishes unmet : Bool) (a : Asked) → KeeperSays z k place version slot publishes unmet
     → refused z.setting (story z (entries k.log)) a.command ≡ None → KeeperSays z (ordered k a.by a.command) place version slot (is_publish a.command) unmet
 says_ordered z k place version slot publishes unmet a says accepted =
@@ -48,7 +48,7 @@ says_ordered z k place version slot publishes unmet a says accepted =
       unmet_is = says.unmet_is;
     }
 
--- with one more step of it done
+-- once one more step of the command in hand is done, what the keeper's seat keeps is still what its view says
 pub says_wrote : (z : Base) (k : KeeperView) (place version slot : ℕ) (publishes unmet : Bool) (t : Task) → KeeperSays z k place version slot publishes unmet → k.task ≡ Some t
     → KeeperSays z (wrote k t) place version slot publishes unmet
 says_wrote z k place version slot publishes unmet t says task =
@@ -62,7 +62,7 @@ says_wrote z k place version slot publishes unmet t says task =
       unmet_is = says.unmet_is;
     }
 
--- with one more word scanned
+-- once one more reader's word is scanned, what the keeper's seat keeps is still what its view says
 pub says_scanned : (z : Base) (k : KeeperView) (place version slot : ℕ) (publishes unmet : Bool) (t : Task) (word : ℕ) → KeeperSays z k place version slot publishes unmet → k.task ≡ Some t
     → KeeperSays z (scanned k t word) place version slot publishes unmet
 says_scanned z k place version slot publishes unmet t word says task =
@@ -113,7 +113,7 @@ module _ (z : Base) (ready : IsReady z) (k : KeeperView) (place version slot ste
       let answer = reply_is_answer z (story z (entries k.log)) (blocks z (entries k.log)) (IsTidy-legal z (entries k.log) ready says.legal) may.task.hand.command may.task.hand.scanned accepted in
       rw (entries-push k.log (signed_of z k may.task)) (IsLegal-push z.setting (opened z.opening) (entries k.log) (signed_of z k may.task).entry says.legal answer)
 
-  -- what the seat says after a commit
+  -- after a commit what the keeper's seat keeps is what its view says, and the commit is unmet
   pub says_committed : KeeperSays z (committed z k may.task) (place + 1) (version + step) next publishes true
   says_committed =
       let e = signed_of z k may.task in
@@ -133,7 +133,7 @@ module _ (z : Base) (ready : IsReady z) (k : KeeperView) (place version slot ste
         unmet_is = refl;
       }
 
-  -- the word that a commit stores
+  -- the word that a commit stores is NOW of the log after it
   pub word_committed : now_word (place + 1) (version + step) next ≡ now_of (story z (entries (committed z k may.task).log))
   word_committed =
       let then = says_committed in

@@ -25,7 +25,7 @@ use Rattle.shelf.specs.Rule.{Fits, Knows, HasReader, Agrees}
 use Rattle.shelf.specs.Steps.{ordered, wrote, scanned, signed_of, committed, orders, writes, scans, MayCommit, commits}
 use Rattle.shelf.proofs.Bridge.{set_get, seated_set, seats_keeper}
 
--- what the keeper's seat knows
+-- a seat with a keeper's view is the rule's keeper's seat, and its view is the rule's keeper
 pub keeper_knows : (z : Base) (s : State Asked Role) (r : Agrees z s) (id : ℕ) (v : Role) (k : KeeperView) → get_elem? s.views id ≡ some v → v ≡ keeping k
     → (id ≡ r.seats.keeper) × (k ≡ r.k)
 keeper_knows z s r id v k at role = subst (Knows z r.k r.readers r.seats.keeper r.seats.owner id) role (r.seats.each_seat id v at)
@@ -34,7 +34,7 @@ keeper_knows z s r id v k at role = subst (Knows z r.k r.readers r.seats.keeper 
 pub fits-task : (z : Base) (k : KeeperView) (readers : List Reader) (task : Option Task) (x : ReaderView) → Fits z k readers x → Fits z record k { task = task } readers x
 fits-task z k readers task x f = record { dealt = f.dealt; here = f.here; there = f.there; began = f.began; held = f.held; all_seen = f.all_seen; counted = f.counted }
 
--- the command in hand becomes another, or more of it is done
+-- the rule holds still where the command in hand becomes another, or more of it is done
 pub task_moves : (z : Base) (s : State Asked Role) (r : Agrees z s) (id : ℕ) (words : List ℕ) (l : KeeperView) (task : Option Task) → get_elem? s.views id ≡ some (keeping l) → id ≡ r.seats.keeper
     → IsWhole (core_of z words record r.k { task = task } r.readers)
     → Agrees z record { words = words; homes = s.homes; views = set s.views id (keeping record r.k { task = task }) }
@@ -47,17 +47,17 @@ task_moves z s r id words l task at here whole = record {
       tt (here, refl) (λ x else f. fits-task z r.k r.readers task x f) (λ seen p. p);
 }
 
--- the core with the keeper's command in hand
+-- the core's state is whole with the command in hand that the keeper's view has
 pub whole_in_hand : (z : Base) (words : List ℕ) (k : KeeperView) (readers : List Reader) (t : Task) → k.task ≡ Some t → IsWhole (core_of z words k readers)
     → IsWhole (in_hand (core_of z words k readers) (Some t.hand))
 whole_in_hand z words k readers t is whole = subst (λ (o : Option Task). IsWhole (in_hand (core_of z words k readers) (option_map (λ u. u.hand) o))) is whole
 
--- a word written over by itself
+-- the core's state stays whole where a word is written over by itself
 pub whole_same : (z : Base) (words : List ℕ) (k : KeeperView) (readers : List Reader) (i n : ℕ) → n ≡ get_or words i 0 → IsWhole (core_of z words k readers)
     → IsWhole (core_of z (set words i n) k readers)
 whole_same z words k readers i n is whole = subst (λ (ws : List ℕ). IsWhole (core_of z ws k readers)) (sym (ap (set words i) is ∙ set_get words i)) whole
 
--- the keeper takes a command in hand: an exchange of NOW by its own value
+-- the keeper's order of a command, an exchange of NOW by its own value, keeps the rule
 pub orders_it : (z : Base) (slots id word : ℕ) (me : Me Asked Role) (k : KeeperView) (a : Asked) → me.0 ≡ keeping k → refused z.setting (story z (entries k.log)) a.command ≡ None
     → Allows (Agrees z) slots id me now_at (λ n. either (n == word) word n) (orders (step slots now_at word word (some a)) me)
 orders_it z slots id word me k a role accepted s r homes at small =
@@ -76,11 +76,11 @@ orders_it z slots id word me k a role accepted s r homes at small =
           ap (λ (q : KeeperView × Asked). (keeping (ordered q.0 q.1.by q.1.command), me.1)) (λ i. (same i, one i)),
     )
 
--- the command in hand is one
+-- equal options of tasks have equal tasks
 the_same : {a b : Task} → Some a ≡ Some b → a ≡ b
 the_same e = cc
 
--- the keeper stores the next word of a publish
+-- the keeper's store of the next word of a publish keeps the rule
 pub writes_it : (z : Base) (slots id i word : ℕ) (me : Me Asked Role) (k : KeeperView) (t : Task) → me.0 ≡ keeping k → k.task ≡ Some t → t.hand.command ≡ Publish
     → t.hand.done < steps_before z (blocks z (entries k.log)) Publish
     → i ≡ (write_of z (story z (entries k.log)) (blocks z (entries k.log)) t.hand.done).at → word ≡ (write_of z (story z (entries k.log)) (blocks z (entries k.log)) t.hand.done).word
@@ -103,7 +103,7 @@ writes_it z slots id i word me k t role task publish more place value s r homes 
           ap (λ (q : KeeperView × Task). (keeping (wrote q.0 q.1), me.1)) (λ j. (same j, one j)),
     )
 
--- a reader of the core there is for each number
+-- the core has a reader for each number below their count
 pub some_reader : (xs : List Reader) (i : ℕ) → i < length xs → (y : Reader) × (slice_get xs i ≡ Some y)
 some_reader [] i h = absurd (omega arith)
 some_reader (x ∷ xs) zero h = (x, refl)
@@ -126,7 +126,7 @@ announced_bounded z words k readers i whole inside =
     bounded (Some (From a)) word is first held = let below = first a refl in omega arith
     bounded (Some (Exact v)) word is first held = let below = held v refl in omega arith
 
--- the keeper loads the next reader's word
+-- the keeper's load of the next reader's word keeps the rule
 pub scans_it : (z : Base) (slots id : ℕ) (me : Me Asked Role) (k : KeeperView) (t : Task) → me.0 ≡ keeping k → k.task ≡ Some t → t.hand.command ≡ Collect
     → t.hand.done < z.setting.sessions
     → Allows (Agrees z) slots id me (pin_at t.hand.done) (λ n. n) (scans z (step slots (pin_at t.hand.done) 0 0 none) me)
@@ -157,7 +157,7 @@ fits-committed z k readers t x no_unmet f =
     let before : unmet_by x.number k.unmet ≡ 0 = ap (unmet_by x.number) no_unmet in
     record { dealt = f.dealt; here = f.here; there = f.there; began = prefix-push x.seen k.log (signed_of z k t) f.began; held = f.held; all_seen = f.all_seen; counted = omega arith }
 
--- the core after a commit
+-- the core's state is whole after a commit
 pub whole-committed : (z : Base) (words : List ℕ) (k : KeeperView) (readers : List Reader) (t : Task) (word : ℕ) → IsWhole (core_of z words k readers) → k.task ≡ Some t
     → t.hand.done ≡ steps_before z (blocks z (entries k.log)) t.hand.command → word ≡ now_of (story z (entries (committed z k t).log))
     → IsWhole (core_of z (set words now_at word) (committed z k t) readers)
@@ -168,7 +168,7 @@ whole-committed z words k readers t word whole task all is =
     subst (λ (q : ℕ × List Entry). IsWhole record { base = z; words = set words now_at q.0; keeper = record { log = q.1; hand = None }; readers = readers }) (λ j. (sym now j, sym grown j))
     (keeps-commit (core_of z words k readers) t.hand (whole_in_hand z words k readers t task whole) all).whole
 
--- the keeper stores NOW
+-- the keeper's store of NOW, which commits the command in hand, keeps the rule
 pub commits_it : (z : Base) (slots id word : ℕ) (me : Me Asked Role) (k : KeeperView) → me.0 ≡ keeping k → (may : MayCommit z k)
     → word ≡ now_of (story z (entries (committed z k may.task).log))
     → Allows (Agrees z) slots id me now_at (λ _. word) (λ _. commits z (step slots now_at word 0 none) me word)

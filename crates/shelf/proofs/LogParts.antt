@@ -9,27 +9,27 @@ use Rattle.map_core.proofs.TimesLemmas.{times-append}
 use Rattle.shelf.specs.declared.signed.Signed.{Signed}
 use Rattle.shelf.specs.Roles.{entries, made_by}
 
--- a log begins with itself
+-- a log is a beginning of itself
 pub prefix-itself : (log : List Signed) → IsPrefix log log
 prefix-itself log = ([], append-nil log)
 
--- a beginning of a log begins it with one more entry too
+-- a beginning of a log is also a beginning of the log with one more entry
 pub prefix-push : (seen log : List Signed) (e : Signed) → IsPrefix seen log → IsPrefix seen (log ++ e ∷ [])
 prefix-push seen log e p = (p.0 ++ e ∷ [], sym (append_assoc seen p.0 (e ∷ [])) ∙ ap (λ (l : List Signed). l ++ e ∷ []) p.1)
 
--- without callers too it is a beginning
+-- a beginning of a log, without its callers, is a beginning of the log without callers
 pub prefix-entries : (seen log : List Signed) → IsPrefix seen log → IsBeginning (entries seen) (entries log)
 prefix-entries seen log p = record { rest = entries p.0; whole = sym (map-append (λ (e : Signed). e.entry) seen p.0) ∙ ap entries p.1 }
 
--- one more entry
+-- a log with one more entry has, without callers, that entry's command and reply at its end
 pub entries-push : (log : List Signed) (e : Signed) → entries (log ++ e ∷ []) ≡ entries log ++ e.entry ∷ []
 entries-push log e = map-append (λ (f : Signed). f.entry) log (e ∷ [])
 
--- a log without its callers is as long
+-- a log without its callers has as many entries
 pub length-entries : (log : List Signed) → length (entries log) ≡ length log
 length-entries log = length-map log (λ (e : Signed). e.entry)
 
--- the entries of a reader in two parts of a log
+-- in two logs, one after the other, a reader has as many entries as in each of them together
 pub made_by-append : (n : ℕ) (log more : List Signed) → made_by n (log ++ more) ≡ made_by n log + made_by n more
 made_by-append n log more = ap (times n) (map-append (λ (e : Signed). e.by) log more) ∙ times-append n (map (λ (e : Signed). e.by) log) (map (λ (e : Signed). e.by) more)
 
@@ -49,7 +49,7 @@ made_by-fits n (e ∷ es) = let rest = made_by-fits n es in let one = at_most_on
     at_most_one true = omega arith
     at_most_one false = omega arith
 
--- the callers of a log with one more entry
+-- where all callers of a log are below d, and a new entry's too, all callers of the longer log are
 pub callers-push : (d : ℕ) (log : List Signed) (e : Signed) → All (λ f. f.by < d) log → e.by < d → All (λ f. f.by < d) (log ++ e ∷ [])
 callers-push d log e all one = All-append (λ (f : Signed). f.by < d) log (e ∷ []) all (λ k x h. only k x e d h one)
   where

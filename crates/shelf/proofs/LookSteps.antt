@@ -24,7 +24,7 @@ use Rattle.shelf.proofs.Bridge.{set_get}
 use Rattle.shelf.proofs.ReaderSteps.{reader_knows}
 use Rattle.map_core.proofs.SeenBlocks.{directory-beginning}
 
--- a load that leaves its seat's view
+-- a load that leaves its seat's view keeps the rule
 pub nothing_moves : (z : Base) (s : State Asked Role) (r : Agrees z s) (id i : ℕ) (v : Role) → get_elem? s.views id ≡ some v
     → Agrees z record { words = set s.words i (get_or s.words i 0); homes = s.homes; views = set s.views id v }
 nothing_moves z s r id i v at = record {
@@ -39,7 +39,7 @@ held_shown : (z : Base) (s : State Asked Role) (r : Agrees z s) (x : ReaderView)
     → Shows z (story z (entries r.k.log)) (blocks z (entries r.k.log)) s.words v
 held_shown z s r x f v held = r.whole.keeper.shows v ((r.whole.reader x.number (as_reader x) f.there).holds v held).kept
 
--- the block of a position, as the reader has seen it
+-- a position's word in the directory of the version that a reader holds is the block that it has seen there
 pub block_seen : (z : Base) (s : State Asked Role) (r : Agrees z s) (x : ReaderView) → Fits z r.k r.readers x → (v : ℕ) → x.holds ≡ Some v → (p : ℕ) → p < tiles z
     → get_or s.words (map_at z (slot_of z (story z (entries x.seen)) v) p) 0 ≡ get_or (directory_of (blocks z (entries x.seen)) v) p 0
 block_seen z s r x f v held p inside =
@@ -48,7 +48,7 @@ block_seen z s r x f v held p inside =
     ∙ ap (λ (d : List ℕ). get_or d p 0)
     (directory-beginning z (entries x.seen) (entries r.k.log) r.whole.ready r.whole.keeper.legal (prefix-entries x.seen r.k.log f.began) v (f.held v held)))
 
--- it is one of the setting's
+-- the block at a position of the version that a reader holds is one of the setting's
 pub block_fits : (z : Base) (s : State Asked Role) (r : Agrees z s) (x : ReaderView) → Fits z r.k r.readers x → (v : ℕ) → x.holds ≡ Some v → (p : ℕ) → p < tiles z
     → get_or (directory_of (blocks z (entries x.seen)) v) p 0 < z.setting.blocks
 block_fits z s r x f v held p inside =
@@ -57,7 +57,7 @@ block_fits z s r x f v held p inside =
     let same = directory-beginning z (entries x.seen) (entries r.k.log) r.whole.ready r.whole.keeper.legal (prefix-entries x.seen r.k.log f.began) v (f.held v held) in
     subst (λ (d : List ℕ). get_or d p 0 < z.setting.blocks) same (block_within z (story z (entries r.k.log)) (blocks z (entries r.k.log)) tidy v p kept inside)
 
--- a row of it
+-- a row's word in the version that a reader holds is that row of the version's bitmap
 pub row_seen : (z : Base) (s : State Asked Role) (r : Agrees z s) (x : ReaderView) → Fits z r.k r.readers x → (v : ℕ) → x.holds ≡ Some v → (p i : ℕ) → p < tiles z → i < 64
     → get_or s.words (tile_at z (get_or (directory_of (blocks z (entries x.seen)) v) p 0) i) 0 ≡ row_word (bitmap_of (story z (entries x.seen)) v) p i
 row_seen z s r x f v held p i inside row =
@@ -67,7 +67,7 @@ row_seen z s r x f v held p i inside row =
     ∙ ((held_shown z s r x f v held).rows p i inside row
     ∙ ap (λ (b : Cells). row_word b p i) (bitmap-beginning z (entries x.seen) (entries r.k.log) began v (f.held v held)))
 
--- a look at a word: any load leaves the rule, and a word of the version that is held tells
+-- a load of any word by a reader keeps the rule, and a word of the version that it holds tells what it has seen
 pub looks_it : (z : Base) (slots id i : ℕ) (me : Me Asked Role) (x : ReaderView) → me.0 ≡ reading x
     → Allows (Agrees z) slots id me i (λ n. n) (looks z (step slots i 0 0 none) me)
 looks_it z slots id i me x role s r homes at small =

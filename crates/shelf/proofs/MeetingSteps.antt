@@ -21,7 +21,7 @@ use Rattle.shelf.proofs.Bridge.{there_else, fits_else, apart, one_seat, set_ther
 use Rattle.shelf.proofs.ReaderSteps.{fits-loaded, whole-loaded}
 use Rattle.shelf.proofs.KeeperSteps.{keeper_knows, whole_same}
 
--- a reader's view is laid in the keeper's seat
+-- the seats agree again once a reader's view is laid in the keeper's seat
 pub together_seats : (z : Base) (s : State Asked Role) (r : Agrees z s) (id other : ℕ) (k : KeeperView) (x : ReaderView) → get_elem? s.views id ≡ some (keeping k) → other ≢ id
     → get_elem? (set s.views id (meeting k x)) other ≡ some (reading x) → AreSeats z r.k r.readers (set (set s.views id (meeting k x)) other idle)
 together_seats z s r id other k x at else there =
@@ -45,11 +45,11 @@ together_seats z s r id other k x at else there =
     (two_seats (Knows z r.k r.readers r.seats.keeper owner) s.views id (meeting k x) other idle (mine.0, mine.1, moved-here r.seats.owner x.number id, its.1) tt
     (λ j v not_id not_it at_j. stays_moved z r.k r.readers r.seats.keeper r.seats.owner x.number id j v (λ e. not_it (e ∙ its.0)) (r.seats.each_seat j v at_j)))
 
--- that keeps the rule
+-- laying a reader's view in the keeper's seat keeps the rule
 pub joins : (z : Base) (id other : ℕ) (k : KeeperView) (x : ReaderView) → Joins (Agrees z) id (keeping k) other (reading x) (meeting k x) idle
 joins z id other k x s r at else there = same_rule z s r _ (together_seats z s r id other k x at else there)
 
--- the reader gets its view back, in a seat of its own
+-- the seats agree again once the reader has its view back, in a seat of its own
 pub apart_seats : (z : Base) (s : State Asked Role) (r : Agrees z s) (id : ℕ) (k : KeeperView) (x : ReaderView) → get_elem? s.views id ≡ some (meeting k x)
     → AreSeats z r.k r.readers (set s.views id (keeping k) ++ reading x ∷ [])
 apart_seats z s r id k x at =
@@ -75,16 +75,16 @@ apart_seats z s r id k x at =
           subst (λ (q : ℕ × Role). Knows z r.k r.readers r.seats.keeper owner q.0 q.1) (λ i. (sym last.0 i, last.1 i)) (moved-here r.seats.owner x.number new, mine.3)
     ])
 
--- that keeps the rule
+-- taking a reader's view out of the keeper's seat keeps the rule
 pub parts : (z : Base) (id : ℕ) (k : KeeperView) (x : ReaderView) → Splits (Agrees z) id (meeting k x) (keeping k) (reading x)
 parts z id k x s r at = same_rule z s r _ (apart_seats z s r id k x at)
 
--- another reader has no entry that is unmet, where this one's is
+-- a reader has no unmet entry where no entry is unmet, or another reader's is
 none_unmet : (unmet : Option ℕ) (n m : ℕ) → n ≢ m → (unmet ≡ None) ⊎ (unmet ≡ Some m) → unmet_by n unmet ≡ 0
 none_unmet unmet n m else (inl is) = ap (unmet_by n) is
 none_unmet unmet n m else (inr is) = ap (unmet_by n) is ∙ ap (λ (b : Bool). let one : ℕ = cond b 1 0 in one) (ne_eqb n m else)
 
--- another reader fits the keeper once this one has met it
+-- a reader that fits the keeper fits it also once another one has met it
 fits-met : (z : Base) (k : KeeperView) (readers : List Reader) (y x : ReaderView) → y.number ≢ x.number → (k.unmet ≡ None) ⊎ (k.unmet ≡ Some x.number) → Fits z k readers y
     → Fits z (met k) readers y
 fits-met z k readers y x else unmet f =
@@ -92,7 +92,7 @@ fits-met z k readers y x else unmet f =
     let counted : made_by y.number k.log ≡ y.made + unmet_by y.number k.unmet = f.counted in
     record { dealt = f.dealt; here = f.here; there = f.there; began = f.began; held = f.held; all_seen = f.all_seen; counted = omega arith }
 
--- and so does this one
+-- a reader that fits the keeper fits it also once it has met it
 met_by-fits : (z : Base) (k : KeeperView) (readers : List Reader) (x : ReaderView) → Fits z k readers x
     → Fits z (met k) (set readers x.number (as_reader (loaded z k.log x))) (met_by z k x)
 met_by-fits z k readers x f =
@@ -100,7 +100,7 @@ met_by-fits z k readers x f =
     let g = fits-loaded z k readers x f in
     record { dealt = f.dealt; here = f.here; there = g.there; began = g.began; held = g.held; all_seen = omega arith; counted = omega arith }
 
--- the seats once a reader has met the keeper
+-- the seats agree again once a reader has met the keeper
 pub met_seats : (z : Base) (s : State Asked Role) (r : Agrees z s) (id : ℕ) (x : ReaderView) → get_elem? s.views id ≡ some (meeting r.k x) → (r.k.unmet ≡ None) ⊎ (r.k.unmet ≡ Some x.number)
     → AreSeats z (met r.k) (set r.readers x.number (as_reader (loaded z r.k.log x))) (set s.views id (meeting (met r.k) (met_by z r.k x)))
 met_seats z s r id x at unmet =
@@ -118,7 +118,7 @@ met_seats z s r id x at unmet =
     fits-met z r.k (set r.readers x.number y) v x other unmet (fits_else z r.k r.readers x.number y v other g))
     (λ seen p. p)
 
--- the load of a meeting
+-- the load of a meeting keeps the rule, and after it the reader has met the keeper
 pub meets_it : (z : Base) (slots id : ℕ) (me : Me Asked Role) (k : KeeperView) (x : ReaderView) → me.0 ≡ meeting k x
     → (k.unmet ≡ None) ⊎ (k.unmet ≡ Some x.number) → Allows (Agrees z) slots id me now_at (λ n. n) (meets z (step slots now_at 0 0 none) me)
 meets_it z slots id me k x role unmet s r homes at small =
@@ -143,14 +143,14 @@ meets_it z slots id me k x role unmet s r homes at small =
           ),
     )
 
--- another reader fits the keeper once this one is given up
+-- a reader that fits the keeper fits it also once another one is given up
 fits-without : (z : Base) (k : KeeperView) (readers : List Reader) (y x : ReaderView) → y.number ≢ x.number → Fits z k readers y → Fits z (without k x) readers y
 fits-without z k readers y x else f =
     let test = ne_eqb y.number x.number else in
     let here : times y.number k.gone ≡ 0 = f.here in
     record { dealt = f.dealt; here = rw test (omega arith); there = f.there; began = f.began; held = f.held; all_seen = f.all_seen; counted = f.counted }
 
--- the seats once a reader is given up, which has announced nothing
+-- the seats agree again once a reader that has announced nothing is given up
 pub without_seats : (z : Base) (s : State Asked Role) (r : Agrees z s) (id : ℕ) (x : ReaderView) → get_elem? s.views id ≡ some (meeting r.k x) → x.announced ≡ None
     → AreSeats z (without r.k x) r.readers (set s.views id (keeping (without r.k x)))
 without_seats z s r id x at quiet =
@@ -172,7 +172,7 @@ without_seats z s r id x at quiet =
     one_value : {a b : Reader} → Some a ≡ Some b → a ≡ b
     one_value e = cc
 
--- the load after which a reader is given up, which has announced nothing
+-- the load after which a reader that has announced nothing is given up keeps the rule
 pub gives_it_up : (z : Base) (slots id : ℕ) (me : Me Asked Role) (k : KeeperView) (x : ReaderView) → me.0 ≡ meeting k x → x.announced ≡ None
     → Allows (Agrees z) slots id me now_at (λ n. n) (gives_up z (step slots now_at 0 0 none) me)
 gives_it_up z slots id me k x role quiet s r homes at small =

@@ -11,7 +11,7 @@ pick (no _) a b = b
 pub moved : (ℕ → ℕ) → ℕ → ℕ → ℕ → ℕ
 moved owner r seat n = pick (ℕ_discrete n r) seat (owner n)
 
--- the reader that moved
+-- the reader that moved is in its new seat
 pub moved-here : (owner : ℕ → ℕ) (r seat : ℕ) → moved owner r seat r ≡ seat
 unfolding moved
 moved-here owner r seat = go (ℕ_discrete r r)
@@ -20,7 +20,7 @@ moved-here owner r seat = go (ℕ_discrete r r)
     go (yes _) = refl
     go (no n) = absurd (n refl)
 
--- another reader
+-- another reader than the one that moved is in its old seat
 pub moved-else : (owner : ℕ → ℕ) (r seat n : ℕ) → n ≢ r → moved owner r seat n ≡ owner n
 unfolding moved
 moved-else owner r seat n other = go (ℕ_discrete n r)

@@ -29,7 +29,7 @@ quiet_words z words k readers views whole seats q inside (inr gone) =
     let there = some_reader readers q (omega arith) in
     (whole.reader q there.0 there.1).word ∙ ap pin_word (seats.left q there.0 gone there.1)
 
--- one value
+-- equal options of readers have equal readers
 one_value : {a b : Reader} → Some a ≡ Some b → a ≡ b
 one_value e = cc
 
@@ -92,6 +92,6 @@ core_at z s k readers whole seats = record {
   one_keeper = λ i j u v at_i at_j here there. keepers_one z k readers s.views seats i j u v at_i at_j here there;
 }
 
--- the rule is that there is one
+-- where the rule holds of a table, there is a state of the core that is the table's
 pub one_core : (z : Base) (s : State Asked Role) → Agrees z s → IsAState z s
 one_core z s r = record { w = core_of z s.words r.k r.readers; is = core_at z s r.k r.readers r.whole r.seats }

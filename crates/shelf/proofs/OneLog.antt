@@ -11,12 +11,12 @@ use Rattle.shelf.proofs.Owners.{readers_apart, keepers_one}
 use Rattle.shelf.proofs.LogParts.{prefix-entries, made_by-prefix}
 use Rattle.shelf.proofs.NowLemmas.{now_of_log, room}
 
--- a reader has no entry unmet where another's is, or none
+-- a reader has no unmet entry where none is unmet, or one of another reader's
 none_unmet : (reader : ℕ) (unmet : Option ℕ) → unmet ≢ Some reader → unmet_by reader unmet ≡ 0
 none_unmet reader None other = refl
 none_unmet reader (Some named) other = ap (λ (b : Bool). let one : ℕ = cond b 1 0 in one) (ne_eqb reader named (λ is. other (ap (λ (n : ℕ). Some n) (sym is))))
 
--- a reader that fits the keeper is behind its log
+-- a reader that fits the keeper has seen a beginning of its log, and counts its own entries but for an unmet one
 fits-behind : (z : Base) (k : KeeperView) (readers : List Reader) (x : ReaderView) → Fits z k readers x → IsBehind k.log k.unmet x
 fits-behind z k readers x f =
     let counted : made_by x.number k.log ≡ x.made + unmet_by x.number k.unmet = f.counted in
@@ -39,7 +39,7 @@ known_by z k readers keeper owner j (reading x) knows is = absurd is
 known_by z k readers keeper owner j (meeting u x) knows is = (ap (λ (l : KeeperView). l.log) knows.1, ap (λ (l : KeeperView). l.unmet) knows.1)
 known_by z k readers keeper owner j (learning x seen) knows is = absurd is
 
--- the words and the seats have the keeper's log
+-- where the rule holds of a table, its words and its seats have one log: the keeper's
 pub one_log : (z : Base) (s : State Asked Role) → Agrees z s → HasOneLog z s
 one_log z s r =
     let most = room z r.k.log r.whole.ready r.whole.keeper.legal in

@@ -23,17 +23,17 @@ use Rattle.shelf.proofs.Bridge.{one_seat, seated_set, seated_longer, seated_last
 use Rattle.shelf.proofs.KeeperSteps.{keeper_knows}
 use Rattle.shelf.proofs.HandedSeats.{one_more}
 
--- no entry, no caller
+-- each caller of the empty log is below d, since it has none
 no_callers : (d : ℕ) → All (λ (e : Signed). e.by < d) []
 no_callers d k e h = absurd (omega arith)
 
--- a list of one thing has it at each place
+-- a list of one reader again and again has it at each place
 get_replicate : (n i : ℕ) (x : Reader) → i < n → slice_get (replicate n x) i ≡ Some x
 get_replicate zero i x h = absurd (omega arith)
 get_replicate (suc n) zero x h = refl
 get_replicate (suc n) (suc i) x h = get_replicate n i x (omega arith)
 
--- a table at its opening
+-- the rule holds of a table at its opening
 pub rule_at_first : (z : Base) (words : List ℕ) → IsReady z → AreOpeningWords z words → Agrees z (opening words [] (keeping (resting 0 [])))
 rule_at_first z words ready opening = record {
   k = resting 0 [];
@@ -62,7 +62,7 @@ fits-dealt z n readers x f =
     let dealt = f.dealt in
     record { dealt = omega arith; here = f.here; there = f.there; began = f.began; held = f.held; all_seen = f.all_seen; counted = f.counted }
 
--- what another seat than the keeper's knows once reader n is dealt
+-- what another seat than the keeper's knows stays so once reader n is dealt
 stays_dealt : (z : Base) (n : ℕ) (readers : List Reader) (keeper : ℕ) (owner : ℕ → ℕ) (to j : ℕ) (v : Role) → (j ≡ keeper → ⊥) → Knows z (resting n []) readers keeper owner j v
     → Knows z (resting (n + 1) []) readers keeper (moved owner n to) j v
 stays_dealt z n readers keeper owner to j idle else knows = tt
@@ -74,7 +74,7 @@ stays_dealt z n readers keeper owner to j (ticket seen) else knows = knows
 stays_dealt z n readers keeper owner to j (learning x seen) else knows =
     let below = knows.1.dealt in (moved-else owner n to x.number (λ e. absurd (omega arith)) ∙ knows.0, fits-dealt z n readers x knows.1, knows.2)
 
--- the seats once the next reader is dealt
+-- the seats agree again once the next reader is dealt
 pub dealt_seats : (z : Base) (s : State Asked Role) (r : Agrees z s) (id n : ℕ) → n < z.setting.sessions → get_elem? s.views id ≡ some (keeping (resting n []))
     → AreSeats z (resting (n + 1) []) r.readers (set s.views id (keeping (resting (n + 1) [])) ++ reading (fresh_reader n) ∷ [])
 dealt_seats z s r id n below at =
@@ -123,7 +123,7 @@ dealt_seats z s r id n below at =
           ];
     }
 
--- that keeps the rule
+-- dealing the next reader keeps the rule
 pub deals : (z : Base) (id n : ℕ) → n < z.setting.sessions → Splits (Agrees z) id (keeping (resting n [])) (keeping (resting (n + 1) [])) (reading (fresh_reader n))
 deals z id n below s r at =
     let mine = keeper_knows z s r id (keeping (resting n [])) (resting n []) at refl in

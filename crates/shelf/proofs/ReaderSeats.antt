@@ -25,11 +25,11 @@ use Rattle.shelf.specs.Steps.{confirming, loaded, Sees, newest_slot}
 pub still_of : (store : StoreId) (table : TableId) (basis : Basis) (seat new : TableId) (plan : Plan) → IsOf store table basis seat plan → new ≡ seat → IsOf store table basis new plan
 still_of store table basis seat new plan is same = record { table_is = is.table_is; basis_is = is.basis_is; seat_is = same ∙ is.seat_is; sized = is.sized; ready = is.ready; plan_is = is.plan_is }
 
--- the one view of a seat
+-- a seat whose only view is a reader's has the view that reader_on finds
 pub one_view : (views : List Role) (x : ReaderView) → views ≡ reading x ∷ [] → views ≡ reading (reader_on views) ∷ []
 one_view views x is = is ∙ ap (λ (y : ReaderView). reading y ∷ []) (sym (ap reader_on is))
 
--- what NOW says of the log that a reader has then seen: its length, its newest version, and that version's slot
+-- NOW tells of the log that a reader has then seen its length, its newest version, and that version's slot
 pub now_says : (z : Base) (x : ReaderView) (word : ℕ) (log : List Signed) → Sees z x word log
     → (place_told word ≡ length log) × (version_told word ≡ newest (story z (entries log))) × (slot_told word ≡ newest_slot z log)
 unfolding slot_of
@@ -48,7 +48,7 @@ slot_in z x word log sees =
     let is = (now_says z x word log sees).2 in
     omega arith
 
--- what a seat keeps beside its view, after it has loaded NOW
+-- after a load of NOW, what a reader's seat keeps next to its view is what the view says
 pub says_loaded : (z : Base) (x y : ReaderView) (number made version word v : ℕ) (log : List Signed)
     → ReaderSays z x number made version → Sees z x word log → v ≡ version_told word → y ≡ loaded z log x
     → ReaderSays z y number made v
@@ -61,7 +61,7 @@ says_loaded z x y number made version word v log says sees told is =
       version_is = newest_is;
     }
 
--- what a seat keeps beside its view, after it has announced a version exactly
+-- after an announcement of one version, what a reader's seat keeps next to its view is what the view says
 pub says_confirmed : (z : Base) (x y : ReaderView) (number made version v : ℕ) → ReaderSays z x number made version → y ≡ confirming v x → ReaderSays z y number made version
 says_confirmed z x y number made version v says is = rw is record { below = says.below; number_is = says.number_is; made_is = says.made_is; version_is = says.version_is }
 

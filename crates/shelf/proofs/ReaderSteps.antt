@@ -22,7 +22,7 @@ use Rattle.shelf.specs.Rule.{Fits, Knows, HasReader, HasKeeper, AreSeats, Agrees
 use Rattle.shelf.specs.Steps.{announcing, confirming, loaded, leaving, announces, confirms, leaves, Sees, taken}
 use Rattle.shelf.proofs.Bridge.{set_get, there_set, seats_reader}
 
--- a reader's view becomes another, and so does the core's reader of its number
+-- the rule holds still where a reader's view becomes another, and the core's reader of its number too
 pub reader_moves : (z : Base) (s : State Asked Role) (r : Agrees z s) (id : ℕ) (words : List ℕ) (x y : ReaderView) → get_elem? s.views id ≡ some (reading x) → Knows z r.k r.readers r.seats.keeper r.seats.owner id (reading x)
     → y.number ≡ x.number → Fits z r.k (set r.readers x.number (as_reader y)) y → IsWhole (core_of z words r.k (set r.readers x.number (as_reader y)))
     → Agrees z record { words = words; homes = s.homes; views = set s.views id (reading y) }
@@ -33,12 +33,12 @@ reader_moves z s r id words x y at mine same fits whole = record {
   seats = seats_reader z r.k r.readers s.views r.seats id x (as_reader y) (reading x) (reading y) at (λ q e. same ∙ e) (λ e. e) mine.0 mine.1 (ap r.seats.owner same ∙ mine.0, fits);
 }
 
--- what a reader's seat knows
+-- a seat with a reader's view is that reader's seat, and the reader fits the keeper
 pub reader_knows : (z : Base) (s : State Asked Role) (r : Agrees z s) (id : ℕ) (v : Role) (x : ReaderView) → get_elem? s.views id ≡ some v → v ≡ reading x
     → (r.seats.owner x.number ≡ id) × Fits z r.k r.readers x
 reader_knows z s r id v x at role = subst (Knows z r.k r.readers r.seats.keeper r.seats.owner id) role (r.seats.each_seat id v at)
 
--- a reader stores what it announces
+-- a reader's store of what it announces keeps the rule
 pub announces_it : (z : Base) (slots id word : ℕ) (me : Me Asked Role) (x : ReaderView) → me.0 ≡ reading x → x.announced ≡ None
     → word ≡ pin_word (Some (From (newest_seen z (as_reader x))))
     → Allows (Agrees z) slots id me (pin_at x.number) (λ _. word) (λ _. announces z (step slots (pin_at x.number) word 0 none) me word)
@@ -56,13 +56,13 @@ announces_it z slots id word me x role quiet is s r homes at small =
       λ v said. let same : x ≡ v = ap reader_in (sym role ∙ said) in ap (λ (q : ReaderView). (reading (announcing z q), me.1)) same,
     )
 
--- what is confirmed is held
+-- the version that a reader is to confirm is the one that it holds
 pub confirmed_held : (announced : Option Seen) (holds : Option ℕ) (v : ℕ) → to_confirm announced holds ≡ Some v → holds ≡ Some v
 confirmed_held None holds v is = absurd (cc)
 confirmed_held (Some (From a)) holds v is = is
 confirmed_held (Some (Exact e)) holds v is = absurd (cc)
 
--- a reader stores the version that it holds
+-- a reader's store of the one version that it holds keeps the rule
 pub confirms_it : (z : Base) (slots id word : ℕ) (me : Me Asked Role) (x : ReaderView) (v : ℕ) → me.0 ≡ reading x → x.holds ≡ Some v → word ≡ pin_word (Some (Exact v))
     → Allows (Agrees z) slots id me (pin_at x.number) (λ _. word) (λ _. confirms (step slots (pin_at x.number) word 0 none) me word)
 confirms_it z slots id word me x v role held is s r homes at small =
@@ -85,7 +85,7 @@ confirms_it z slots id word me x v role held is s r homes at small =
     one_version : {a b : ℕ} → Some a ≡ Some b → a ≡ b
     one_version e = cc
 
--- a reader stores 0
+-- a reader's store of 0 keeps the rule
 pub leaves_it : (z : Base) (slots id word : ℕ) (me : Me Asked Role) (x : ReaderView) → me.0 ≡ reading x → word ≡ pin_word None
     → Allows (Agrees z) slots id me (pin_at x.number) (λ _. word) (λ _. leaves (step slots (pin_at x.number) word 0 none) me word)
 leaves_it z slots id word me x role is s r homes at small =
@@ -102,7 +102,7 @@ leaves_it z slots id word me x role is s r homes at small =
       λ v said. let same : x ≡ v = ap reader_in (sym role ∙ said) in ap (λ (q : ReaderView). (reading (leaving q), me.1)) same,
     )
 
--- a reader that has loaded NOW fits
+-- a reader that fits the keeper fits it also after it has loaded NOW
 pub fits-loaded : (z : Base) (k : KeeperView) (readers : List Reader) (x : ReaderView) → Fits z k readers x
     → Fits z k (set readers x.number (as_reader (loaded z k.log x))) (loaded z k.log x)
 fits-loaded z k readers x f =
@@ -122,14 +122,14 @@ fits-loaded z k readers x f =
       counted = f.counted;
     }
 
--- the seats once a reader has loaded NOW, whatever else stood in its seat
+-- the seats agree again once a reader has loaded NOW, whatever else stood in its seat
 pub seats_loaded : (z : Base) (s : State Asked Role) (r : Agrees z s) (id : ℕ) (x : ReaderView) (old : Role) → get_elem? s.views id ≡ some old → ((q : ℕ) → HasReader q old → x.number ≡ q) → (HasKeeper old → ⊥)
     → r.seats.owner x.number ≡ id → Fits z r.k r.readers x
     → AreSeats z r.k (set r.readers x.number (as_reader (loaded z r.k.log x))) (set s.views id (reading (loaded z r.k.log x)))
 seats_loaded z s r id x old at same other own f =
     seats_reader z r.k r.readers s.views r.seats id x (as_reader (loaded z r.k.log x)) old (reading (loaded z r.k.log x)) at same other own f (own, fits-loaded z r.k r.readers x f)
 
--- the core after a load of a reader's
+-- the core's state is whole after a load by which a reader sees the whole log
 pub whole-loaded : (z : Base) (words : List ℕ) (k : KeeperView) (readers : List Reader) (x : ReaderView) (i : ℕ) → IsWhole (core_of z words k readers) → Fits z k readers x
     → IsWhole (core_of z (set words i (get_or words i 0)) k (set readers x.number (as_reader (loaded z k.log x))))
 whole-loaded z words k readers x i whole f =
@@ -138,7 +138,7 @@ whole-loaded z words k readers x i whole f =
     (λ j. (sym (set_get words i) j, version j))
     (keeps-load (core_of z words k readers) x.number (as_reader x) whole f.there)
 
--- a reader loads NOW
+-- a reader's load of NOW keeps the rule, and shows it the whole log
 pub takes_it : (z : Base) (slots id : ℕ) (me : Me Asked Role) (x : ReaderView) → me.0 ≡ reading x
     → Allows (Agrees z) slots id me now_at (λ n. n) (taken z (step slots now_at 0 0 none) me)
 takes_it z slots id me x role s r homes at small =
@@ -158,17 +158,17 @@ takes_it z slots id me x role s r homes at small =
           ),
     )
 
--- the word of an announcement, from the version that a seat keeps
+-- where v is the newest version that a reader has seen, 2v + 1 is the word that announces it and those after it
 pub announced_word : (z : Base) (x : ReaderView) (version v : ℕ) → v ≡ version → version ≡ newest (story z (entries x.seen)) → 2 * v + 1 ≡ pin_word (Some (From (newest_seen z (as_reader x))))
 unfolding pin_word
 announced_word z x version v is newest_is = omega arith
 
--- the word of an exact announcement
+-- 2v + 2 is the word that announces version v alone
 pub confirmed_word : (version v : ℕ) → v ≡ version → 2 * v + 2 ≡ pin_word (Some (Exact version))
 unfolding pin_word
 confirmed_word version v is = omega arith
 
--- the word of a leave
+-- 0 is the word that announces nothing
 pub left_word : 0 ≡ pin_word None
 unfolding pin_word
 left_word = refl

@@ -18,7 +18,7 @@ use Rattle.shelf.proofs.Bridge.{one_seat, seated_set, seated_longer}
 use Rattle.shelf.proofs.ReaderSteps.{fits-loaded, whole-loaded, seats_loaded}
 use Rattle.shelf.proofs.KeeperSteps.{keeper_knows}
 
--- a ticket is cut from the keeper's seat
+-- the seats agree again once a ticket is cut from the keeper's seat
 pub cut_seats : (z : Base) (s : State Asked Role) (r : Agrees z s) (id : ℕ) (k : KeeperView) → get_elem? s.views id ≡ some (keeping k)
     → AreSeats z r.k r.readers (set s.views id (keeping k) ++ ticket k.log ∷ [])
 cut_seats z s r id k at =
@@ -34,11 +34,11 @@ cut_seats z s r id k at =
           subst (Knows z r.k r.readers r.seats.keeper r.seats.owner j) last.1 (subst (λ (l : KeeperView). IsPrefix l.log r.k.log) (sym mine.1) (prefix-itself r.k.log))
     ])
 
--- that keeps the rule
+-- cutting a ticket from the keeper's seat keeps the rule
 pub cuts_ticket : (z : Base) (id : ℕ) (k : KeeperView) → Splits (Agrees z) id (keeping k) (keeping k) (ticket k.log)
 cuts_ticket z id k s r at = same_rule z s r _ (cut_seats z s r id k at)
 
--- a ticket's view is laid in a reader's seat
+-- the seats agree again once a ticket's view is laid in a reader's seat
 pub handed_seats : (z : Base) (s : State Asked Role) (r : Agrees z s) (id other : ℕ) (x : ReaderView) (seen : List Signed) → get_elem? s.views id ≡ some (reading x) → other ≢ id
     → get_elem? (set s.views id (learning x seen)) other ≡ some (ticket seen) → AreSeats z r.k r.readers (set (set s.views id (learning x seen)) other idle)
 handed_seats z s r id other x seen at else there =
@@ -51,11 +51,11 @@ handed_seats z s r id other x seen at else there =
     (two_seats (Knows z r.k r.readers r.seats.keeper r.seats.owner) s.views id (learning x seen) other idle (mine.0, mine.1, its) tt
     (λ j v not_id not_it at_j. r.seats.each_seat j v at_j))
 
--- that keeps the rule
+-- laying a ticket's view in a reader's seat keeps the rule
 pub joins_ticket : (z : Base) (id other : ℕ) (x : ReaderView) (seen : List Signed) → Joins (Agrees z) id (reading x) other (ticket seen) (learning x seen) idle
 joins_ticket z id other x seen s r at else there = same_rule z s r _ (handed_seats z s r id other x seen at else there)
 
--- the load after which a reader has seen all that a ticket had
+-- the load after which a reader has seen all that a ticket had keeps the rule
 pub learns_it : (z : Base) (slots id : ℕ) (me : Me Asked Role) (x : ReaderView) (seen : List Signed) → me.0 ≡ learning x seen
     → Allows (Agrees z) slots id me now_at (λ n. n) (learns z (step slots now_at 0 0 none) me)
 learns_it z slots id me x seen role s r homes at small =

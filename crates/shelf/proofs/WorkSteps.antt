@@ -6,7 +6,7 @@ use Rattle.map_core.specs.Steps.{steps_before}
 use Rattle.shelf.specs.Roles.{Task, KeeperView}
 use Rattle.shelf.specs.Steps.{scanned, scanning, committed, collected, IsNextScan, MayCommit}
 
--- the next reader's word
+-- where a collect's scan has loaded n words, the word of reader n is the next to load
 pub next_scan : (z : Base) (k0 k : KeeperView) (by : ℕ) (words : List ℕ) (reader sessions : ℕ) → k ≡ scanning k0 by words → length words ≡ reader → reader < sessions → sessions ≡ z.setting.sessions
     → IsNextScan z k reader
 next_scan z k0 k by words reader sessions is count below all = record {
@@ -17,7 +17,7 @@ next_scan z k0 k by words reader sessions is count below all = record {
   inside = omega arith;
 }
 
--- one more word
+-- once one more word is loaded, a collect's scan has seen that word too
 pub scan_more : (k0 k l : KeeperView) (by : ℕ) (words : List ℕ) (word : ℕ) (items : List ℕ) → k ≡ scanning k0 by words → ((t : Task) → k.task ≡ Some t → l ≡ scanned k t word)
     → items ≡ words ++ word ∷ [] → l ≡ scanning k0 by items
 scan_more k0 k l by words word items is step grown =
@@ -34,7 +34,7 @@ may_collect z k0 k by words is all caller met =
     subst (λ (q : KeeperView). MayCommit z q) (sym is)
     record { task = record { by = by; hand = record { command = Collect; done = length words; scanned = words } }; in_hand = refl; all_done = all; caller = caller; met = met }
 
--- what it becomes then
+-- committing a collect makes the keeper the one that `collected` says, by the words that its scan saw
 pub collect_done : (z : Base) (k0 k l : KeeperView) (by : ℕ) (words : List ℕ) → k ≡ scanning k0 by words → ((t : Task) → k.task ≡ Some t → l ≡ committed z k t) → l ≡ collected z k0 by words
 collect_done z k0 k l by words is step =
     let t : Task = record { by = by; hand = record { command = Collect; done = length words; scanned = words } } in

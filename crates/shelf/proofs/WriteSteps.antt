@@ -11,7 +11,7 @@ use Rattle.map_core.proofs.PublishWords.{write_of-tile, write_of-map, own_at}
 use Rattle.shelf.specs.Roles.{Task, KeeperView, entries}
 use Rattle.shelf.specs.Steps.{writing, committed, IsOwn, IsNextWrite, MayCommit}
 
--- the next word, where it is the word of this number
+-- where a publish has stored n words, its n-th word is the next to store
 next_write : (z : Base) (k0 k : KeeperView) (by n : ℕ) (at word : ℕ) → k ≡ writing k0 by n → n < steps_before z (blocks z (entries k0.log)) Publish
     → at ≡ (write_of z (story z (entries k0.log)) (blocks z (entries k0.log)) n).at → word ≡ (write_of z (story z (entries k0.log)) (blocks z (entries k0.log)) n).word
     → IsNextWrite z k at word
@@ -19,7 +19,7 @@ next_write z k0 k by n at word is more place value =
     let t : Task = record { by = by; hand = record { command = Publish; done = n; scanned = [] } } in
     subst (λ (q : KeeperView). IsNextWrite z q at word) (sym is) record { task = t; in_hand = refl; publish = refl; more = more; at_is = place; word_is = value }
 
--- the next row of a block
+-- where a publish has stored the rows before it, a row of an own block is the next word to store
 pub next_row : (z : Base) (k0 k : KeeperView) (by j block position i at word n : ℕ) → k ≡ writing k0 by n → n ≡ 64 * j + i → IsOwn z k0 j block position → i < 64
     → at ≡ tile_at z block i → word ≡ row_word (story z (entries k0.log)).draft position i → IsNextWrite z k at word
 unfolding steps_before
@@ -32,7 +32,7 @@ next_row z k0 k by j block position i at word n is count own row place value =
     (place ∙ (ap (λ (b : ℕ). tile_at z b i) own.block_is ∙ sym (ap (λ (w : Write). w.at) same)))
     (value ∙ (ap (λ (p : ℕ). row_word s.draft p i) own.position_is ∙ sym (ap (λ (w : Write). w.word) same)))
 
--- the next word of the directory
+-- where a publish has stored all rows, and the positions before it, a position's word is the next to store
 pub next_position : (z : Base) (k0 k : KeeperView) (by p at word n slot : ℕ) → k ≡ writing k0 by n → n ≡ 64 * length (own_list (blocks z (entries k0.log)).own) + p → p < tiles z
     → slot ≡ next_slot z (story z (entries k0.log)) → at ≡ map_at z slot p
     → word ≡ get_or (mapped (blocks z (entries k0.log)).own (directory_of (blocks z (entries k0.log)) (newest (story z (entries k0.log))))) p 0 → IsNextWrite z k at word
@@ -45,7 +45,7 @@ next_position z k0 k by p at word n slot is count inside slot_is place value =
     (place ∙ (ap (λ (i : ℕ). map_at z i p) slot_is ∙ sym (ap (λ (w : Write). w.at) same)))
     (value ∙ sym (ap (λ (w : Write). w.word) same))
 
--- a position that has an own block, with the publish in hand
+-- a position with an own block has it at the place that own blocks before it count, also with the publish in hand
 pub is_own : (z : Base) (k0 k : KeeperView) (by n : ℕ) (own : List (Option ℕ)) (p j b : ℕ) → k ≡ writing k0 by n → own ≡ (blocks z (entries k0.log)).own → j ≡ length (own_list (take p own))
     → get_or own p None ≡ Some b → IsOwn z k j b p
 is_own z k0 k by n own p j b is own_is count there =
@@ -60,7 +60,7 @@ is_own z k0 k by n own p j b is own_is count there =
     zero_up : (p : ℕ) → 0 + p ≡ p
     zero_up p = omega arith
 
--- a publish all of whose words are stored may be committed
+-- the keeper may commit a publish all of whose words are stored
 pub may_publish : (z : Base) (k0 k : KeeperView) (by n : ℕ) → k ≡ writing k0 by n → n ≡ 64 * length (own_list (blocks z (entries k0.log)).own) + tiles z → by < k0.dealt → k0.unmet ≡ None → MayCommit z k
 unfolding steps_before
 may_publish z k0 k by n is all caller met =
@@ -71,7 +71,7 @@ may_publish z k0 k by n is all caller met =
 abbrev pub published_by : Base → KeeperView → ℕ → ℕ → KeeperView
 published_by z k by n = committed z (writing k by n) record { by = by; hand = record { command = Publish; done = n; scanned = [] } }
 
--- what it becomes then
+-- committing a publish makes the keeper the one that `published_by` says
 pub publish_done : (z : Base) (k0 k l : KeeperView) (by n : ℕ) → k ≡ writing k0 by n → ((t : Task) → k.task ≡ Some t → l ≡ committed z k t) → l ≡ published_by z k0 by n
 publish_done z k0 k l by n is step =
     let t : Task = record { by = by; hand = record { command = Publish; done = n; scanned = [] } } in

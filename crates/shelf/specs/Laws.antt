@@ -37,7 +37,7 @@ ShowsKeeper y (keeping k) = y ≡ as_keeper k
 ShowsKeeper y (meeting k x) = y ≡ as_keeper k
 ShowsKeeper y role = ⊥
 
--- this state of the core is whole and safe, its words are the table's, its keeper is the keeper's view, and its readers are the readers' views
+-- this state of the core is whole and safe, its words are the table's, its keeper is the keeper's view, and its readers are the readers'
 pub record IsStateOf (z : Base) (s : State Asked Role) (w : core.State) : Type 0 where
   pub whole : IsWhole w
   pub safe : IsSafe w
@@ -119,7 +119,7 @@ pub record StepsAreEvents (z : Base) (s : State Asked Role) (r : Agrees z s) (id
       → IsEvent z s r (after_step s now_at (now_of (story z (entries (committed z k may.task).log))) id (keeping (committed z k may.task))) Keep
       (says.Committed (signed_of z k may.task).entry.reply)
 
--- what seats hand to one another, and the last loads of a store that is closed, are no events
+-- what seats give one another, and the last loads of a store that is closed, are no events
 pub record HandingsAreNone (z : Base) (s : State Asked Role) (r : Agrees z s) (id other : ℕ) : Type 0 where
   -- a reader's view is laid in the keeper's seat, and parted from it again
   pub together : (k : KeeperView) (x : ReaderView) → get_elem? s.views id ≡ maybe.some (keeping k) → other ≢ id → get_elem? (slice_set s.views id (meeting k x)) other ≡ maybe.some (reading x)
@@ -146,7 +146,7 @@ abbrev pub IsSchedule : Base → State Asked Role → List (State Asked Role) �
 IsSchedule z s [] = Unit {0}
 IsSchedule z s (t ∷ ts) = Moves z s t × IsSchedule z t ts
 
--- the last of them
+-- the last table of a schedule, which is the first where it has no step
 abbrev pub last_table : State Asked Role → List (State Asked Role) → State Asked Role
 last_table s [] = s
 last_table s (t ∷ ts) = last_table t ts

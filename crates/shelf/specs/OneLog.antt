@@ -43,14 +43,16 @@ pub record HasOneLog (z : Base) (s : State Asked Role) : Type 0 where
   pub now : slice_index s.words now_at ≡ now_word (length log) (newest (story z (entries log))) (newest_slot z log)
   -- the keeper's view is some seat's
   pub kept : IsSomeSeat (KnowsLog log unmet) s.views
-  -- its seat knows both, each reader's seat is behind them, also where its view stands in the keeper's, and no two seats have one reader's view
+  -- the keeper's seat knows both
   pub keeper : (j : ℕ) (k : KeeperView) → get_elem? s.views j ≡ maybe.some (keeping k) → (k.log ≡ log) × (k.unmet ≡ unmet)
+  -- each reader's seat has seen a beginning of the log, and counts its entries, also where its view stands in the keeper's seat
   pub reader : (j : ℕ) (x : ReaderView) → get_elem? s.views j ≡ maybe.some (reading x) → IsBehind log unmet x
-  -- also while a ticket's view stands in it
+  -- a reader's seat has seen so much too while a ticket's view stands in it
   pub taught : (j : ℕ) (x : ReaderView) (seen : List Signed) → get_elem? s.views j ≡ maybe.some (learning x seen) → IsBehind log unmet x × IsPrefix seen log
   pub together : (j : ℕ) (k : KeeperView) (x : ReaderView) → get_elem? s.views j ≡ maybe.some (meeting k x) → (k.log ≡ log) × (k.unmet ≡ unmet) × IsBehind log unmet x
-  -- a ticket has seen a beginning of it
+  -- a ticket has seen a beginning of the log
   pub tickets : (j : ℕ) (seen : List Signed) → get_elem? s.views j ≡ maybe.some (ticket seen) → IsPrefix seen log
+  -- no two seats have one reader's view
   pub apart : (i j r : ℕ) (u v : Role) → get_elem? s.views i ≡ maybe.some u → get_elem? s.views j ≡ maybe.some v → HasReader r u → HasReader r v → i ≡ j
   -- one seat at most has the keeper's view
   pub one_keeper : (i j : ℕ) (u v : Role) → get_elem? s.views i ≡ maybe.some u → get_elem? s.views j ≡ maybe.some v → HasKeeper u → HasKeeper v → i ≡ j

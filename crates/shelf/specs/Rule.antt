@@ -56,7 +56,7 @@ pub record IsSeated (Kind : Role → Type 0) (views : List Role) (seat : ℕ) : 
   pub at : get_elem? views seat ≡ maybe.some role
   pub is : Kind role
 
--- some seat has one
+-- some seat has a role of this kind
 pub record IsSomeSeat (Kind : Role → Type 0) (views : List Role) : Type 0 where
   pub seat : ℕ
   pub seated : IsSeated Kind views seat
@@ -74,13 +74,13 @@ pub record AreSeats (z : Base) (k : KeeperView) (readers : List Reader) (views :
   pub left : (r : ℕ) (y : Reader) → 1 ≤ times r k.gone → slice_get readers r ≡ Some y → y.announced ≡ None
   -- a reader that is dealt and not given up has a seat
   pub seated : (r : ℕ) → r < k.dealt → times r k.gone ≡ 0 → IsSeated (HasReader r) views (owner r)
-  -- and the keeper's view has one
+  -- the keeper's view has a seat
   pub kept : IsSeated HasKeeper views keeper
   -- what each seat knows is so
   pub each_seat : (j : ℕ) (v : Role) → get_elem? views j ≡ maybe.some v → Knows z k readers keeper owner j v
 
--- the rule of the table of a store with this setting and opening bitmap: there is a state of the core whose words are the table's, and whose keeper and
--- readers are what the seats know
+-- the rule of the table of a store with this setting and opening bitmap: there is a state of the core whose words are the table's,
+-- and whose keeper and readers are what the seats know
 pub record Agrees (z : Base) (s : State Asked Role) : Type 0 where
   pub k : KeeperView
   pub readers : List Reader

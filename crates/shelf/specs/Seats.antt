@@ -1,4 +1,4 @@
--- What ties a seat to its store, and what it keeps beside its view: this project's own rule.
+-- What ties a seat to its store, and what it keeps next to its view: this project's own rule.
 use Rattle.std.specs.Prelude.{◌≡◌, ℕ, ◌<◌, Bool, true, false, List, [], ◌∷◌, length, Some, None, is_some}
 use Rattle.atomic_table.specs.Seated.{TableId}
 use Rattle.atomic_table.specs.Table.{Me}
@@ -41,7 +41,7 @@ pub record IsOf (store : StoreId) (table : TableId) (basis : Basis) (seat : Tabl
   pub ready : IsReady store.base
   pub plan_is : IsPlan store.base plan
 
--- what a reader's seat keeps beside its view is what the view says
+-- what a reader's seat keeps next to its view is what the view says
 pub record ReaderSays (k : Base) (x : ReaderView) (number made version : ℕ) : Type 0 where
   pub below : x.number < k.setting.sessions
   pub number_is : number ≡ x.number
@@ -53,7 +53,7 @@ abbrev pub IsReaderSeat : StoreId → TableId → Basis → TableId → Plan →
 IsReaderSeat store table basis seat plan views number made version =
     IsOf store table basis seat plan × (views ≡ reading (reader_on views) ∷ []) × ReaderSays store.base (reader_on views) number made version
 
--- what the keeper's seat keeps beside its view is what the view says, and the command in hand was accepted
+-- what the keeper's seat keeps next to its view is what the view says, and the command in hand was accepted
 pub record KeeperSays (z : Base) (k : KeeperView) (place version slot : ℕ) (publishes unmet : Bool) : Type 0 where
   pub legal : IsLegal z.setting z.opening (entries k.log)
   pub place_is : place ≡ length k.log

@@ -83,7 +83,7 @@ confirms st m word m' = (x : ReaderView) (v : ℕ) → m.0 ≡ reading x → x.h
 abbrev pub leaves : At → Sat → ℕ → Sat → Type 0
 leaves st m word m' = (x : ReaderView) → m.0 ≡ reading x → m' ≡ (reading (leaving x), m.1)
 
--- what a load of a reader's tells: NOW is that of this log, which begins with what the reader had seen
+-- what a load of a reader's tells: NOW is that of this log, which starts with what the reader had seen
 pub record Sees (z : Base) (x : ReaderView) (word : ℕ) (log : List Signed) : Type 0 where
   pub ready : IsReady z
   pub began : IsPrefix x.seen log
@@ -103,7 +103,7 @@ pub record HasBlock (z : Base) (x : ReaderView) (block : ℕ) : Type 0 where
   pub inside : position < tiles z
   pub block_is : block ≡ slice_index (directory_of (blocks z (entries x.seen)) version) position
 
--- a reader's load of a word of the version that it holds, which tells what it has seen: of a directory's word the block, of a row's word the row
+-- a reader's load of a word of the version that it holds tells what it has seen: of a directory's word the block, of a row's word the row
 abbrev pub looks : Base → At → Sat → ℕ → Sat → Type 0
 looks z st m word m' =
     (m' ≡ m)
@@ -142,7 +142,7 @@ abbrev pub scans : Base → At → Sat → ℕ → Sat → Type 0
 scans z st m word m' = (k : KeeperView) (t : Task) → m.0 ≡ keeping k → k.task ≡ Some t
     → (m' ≡ (keeping (scanned k t word), m.1)) × (word ≤ 2 * newest (story z (entries k.log)) + 2)
 
--- the keeper may commit: all steps of the command in hand but this are done, a reader asked for it, and the reader of the last commit has met the keeper
+-- the keeper may commit: all steps of the command in hand but this are done, a reader asked for it, and each commit before was met
 pub record MayCommit (z : Base) (k : KeeperView) : Type 0 where
   pub task : Task
   pub in_hand : k.task ≡ Some task

@@ -20,7 +20,8 @@ pub fn seats_do_events()
     ensures { (z : Base) (s : State Asked Role) (id : ℕ) (r : Agrees z s) → StepsAreEvents z s r id }
 {}
 
-/// Where seats hand views to one another, and at the loads of a store that is closed, no event happens: one state of the core is that of the table before and behind.
+/// Where seats give one another views, and at the loads of a store that is closed, no event happens: one state of the core is that
+/// of the table before and after.
 pub fn handings_are_no_events()
     ensures { (z : Base) (s : State Asked Role) (id other : ℕ) (r : Agrees z s) → HandingsAreNone z s r id other }
 {}

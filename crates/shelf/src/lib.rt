@@ -6,8 +6,8 @@
 //!
 //! The rule of the table is that between any two steps there is a state of the core: its words are the table's, its keeper is what the
 //! keeper's seat knows, and its readers are what the readers' seats know. Each step below is one load or one store of one word, or
-//! the order of a command, the core's event of its kind in that state. Views that seats hand to one another are no event. A reader's seat has seen a beginning of the log, which grows
-//! to the whole at each load of NOW.
+//! the order of a command, the core's event of its kind in that state. Views that seats give one another are no event. A reader's seat has
+//! seen a beginning of the log, which grows to the whole at each load of NOW.
 //!
 //! Two seats in hand know nothing of each other. So `meet` lays the reader's view in the keeper's seat, loads NOW, and gives it back:
 //! the reader has then seen all, and counts the entry that was committed for it. A ticket is cut from the keeper's seat, and a reader

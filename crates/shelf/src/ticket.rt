@@ -1,4 +1,4 @@
-//! Tickets: what the keeper knew, handed from one reader to another.
+//! Tickets: what the keeper knew, passed from one reader to another.
 
 ghost use Rattle.std.specs.Prelude.{◌≡◌, ◌<◌, [], ◌∷◌, length};
 ghost use mathlib.Core.List.{IsPrefix};

@@ -84,7 +84,7 @@ fn write_tiles<Id: StoreName>(
     stored
 }
 
-/// Stores the directory of the next version, behind the rows of so many tiles.
+/// Stores the directory of the next version, after the rows of so many tiles.
 fn write_directory<Id: StoreName>(
     keeper: &mut KeeperSeat<Id>,
     plan: Plan,

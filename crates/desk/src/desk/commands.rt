@@ -42,7 +42,7 @@ fn admit<'a>(
     Ok(judged)
 }
 
-/// Keeps an entry behind the others. A checkpoint drops them all, and isn't kept itself; the room stays.
+/// Keeps an entry after the others. A checkpoint drops them all, and isn't kept itself; the room stays.
 fn keep(log: &mut Vec<Signed>, signed: Signed)
     requires { takes_room signed.entry.command ≡ true → vec_len log.old < vec_capacity log.old }
     ensures { log.new.items ≡ kept_after log.old.items signed }
@@ -175,7 +175,7 @@ impl<Id: StoreName> Desk<Id> {
         self.log.as_slice()
     }
 
-    /// The place of the last checkpoint, 0 where there is none: the entries that are kept have the places behind it.
+    /// The place of the last checkpoint, 0 where there is none: the entries that are kept have the places after it.
     pub fn base_place(&self) -> u32
         ensures { result ≡ base_place Id.store self.now.log }
     {

@@ -1,4 +1,4 @@
-//! The search beside the plain program, on maps drawn at random.
+//! The search compared with the plain program, on maps drawn at random.
 
 use super::slow::{Answers, cells_of_path, cells_of_rect};
 use crate::compare::same;

@@ -85,7 +85,7 @@ pub fn cells_of_path(alloc: Global, points: &[Cell]) -> Result<Vec<Cell>, AllocE
     Ok(cells)
 }
 
-/// Adds the cells behind a point, up to another: that one alone where the point is repeated.
+/// Adds the cells after a point, up to another: that one alone where the point is repeated.
 fn push_piece(cells: &mut Vec<Cell>, from: Cell, to: Cell) -> Result<(), AllocError> {
     let steps = from.x.abs_diff(to.x).max(from.y.abs_diff(to.y)).max(1);
     let mut cell = from;

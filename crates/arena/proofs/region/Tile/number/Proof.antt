@@ -1,4 +1,4 @@
--- `number` reads the field behind a `&`. Assumes `Logic`.
+-- `number` reads the field of the tile that a `&` refers to. Assumes `Logic`.
 use Rattle.std.proofs.Common.{◌≡◌, ◌+◌, ◌*◌, ◌^◌, List, [], ◌∷◌, refl}
 use mir.Syntax.{Fn, named}
 use mir.Val.{Val, vptr, vint}

@@ -1,4 +1,4 @@
--- `words` hands on the `&` to the words that a `&` to the tile holds. Assumes `Logic`.
+-- `words` returns the `&` to the words that a `&` to the tile holds. Assumes `Logic`.
 use Rattle.std.proofs.Common.{◌≡◌, ◌+◌, ◌*◌, List, [], ◌∷◌, refl}
 use mir.Syntax.{Fn, named}
 use mir.Val.{Val, vptr}
@@ -51,7 +51,7 @@ words_spec 𝓤 𝓛 𝓜 𝓡 wired =
     move ! (1 ∷ []) $ drop ! $ split ! $ split ! $ move ! (2 ∷ []) $ fsplit ! $ fsplit ! $ drop ! $
     use1 𝓛 (‵ (hidden_shr RawPtr κ t.at rb (ro + 0)) ⊛ ‵ (lent_at block_row t.at t.words κ)) (shown 𝓛 κ t rb ro) $ split ! $ move ! (1 ∷ []) $
     rewrite ! 0 (λ (p : Ptr). ‵ (lent_at block_row p t.words κ)) here refl $ fsplit ! $ drop ! $
-    -- [the words behind a `&`; the pointer behind one; ..]
+    -- [the words that a `&` refers to; the pointer that one refers to; ..]
     keep ! (1 ∷ 3 ∷ 0 ∷ []) $
     enter ! C Λ fn (vptr rb ro ∷ []) Post $ alloc_all ! (λ l. pass_all ! refl ((tt, tt), tt) $ let En : Env 𝓤 𝓛.H = env fn.locals l in
     first ! $ blocks ! $ pointer_in ! tt t.at b o here rb (ro + 0) (λ q'.

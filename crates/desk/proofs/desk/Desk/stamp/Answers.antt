@@ -1,4 +1,4 @@
--- What was stamped is handed back.
+-- What was stamped is returned.
 use Rattle.desk.proofs.desk.Desk.stamp.Goals as goal
 
 pub returns-clause-back : goal.returns-clause-back
