@@ -14,7 +14,7 @@ ask_first() {
 ask_first 'PIN'
 ask_first 'AT chess 6 4'
 
-# The painter puts a box beside that cell, and publishes it.
+# The painter puts a box next to that cell, and publishes it.
 printf 'PAINT 7 4 9 6\nPUBLISH\nQUIT\n' | clearmap ask --port "$port" | sed 's/^/painter: /'
 
 # The second planner pins the new version; the first one still has its own, until it pins again.

@@ -2,7 +2,7 @@
 """Keeps 16 clients of `clearmap serve` busy with every kind of line, kills some in the middle of lines and stamps, and then counts.
 
 Each accepted command has a place in the log, which is short: it is full now and then, until the next checkpoint. In the end one more connection asks what was left: the places from 1 to the last
-are each answered once, or belong to a client that was killed before its reply; the next command has the place behind the last;
+are each answered once, or belong to a client that was killed before its reply; the next command has the place after the last;
 and the least version that a collect keeps is the newest one, so that no pin of a killed client is left.
 
     tools/busy_clients.py [SECONDS]

@@ -1,5 +1,5 @@
 #!/bin/sh
-# Runs each transcript of examples/ with the built program (or that of CLEARMAP), and compares what it prints with the file beside it.
+# Runs each transcript of examples/ with the built program (or that of CLEARMAP), and compares what it prints with the file next to it.
 # With --write it writes those files instead: look at what changed before you commit it.
 # Each has a minute. A transcript that says "# Needs netpbm: TOOL .." or "# Needs the header: HEADER" is left out, and counted, where one of these isn't installed.
 set -u

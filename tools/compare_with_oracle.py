@@ -53,7 +53,7 @@ def table(width, height, cells, metric, tell):
 
 
 def gap(data, at):
-    """The place behind a gap that begins here: whitespace, then whitespace and comments."""
+    """The place after a gap that begins here: whitespace, then whitespace and comments."""
     if at == len(data):
         raise Fault("Truncated")
     if data[at] == ord("#"):
@@ -64,7 +64,7 @@ def gap(data, at):
 
 
 def filling(data, at):
-    """The place behind any mix of whitespace and comments."""
+    """The place after any mix of whitespace and comments."""
     while at < len(data):
         if data[at] in SPACE:
             at += 1
@@ -79,7 +79,7 @@ def filling(data, at):
 
 
 def side(data, at):
-    """A side of the map, and the place behind it."""
+    """A side of the map, and the place after it."""
     if not data[at:at + 1].isdigit():
         raise Fault("BadNumber")
     end = at

@@ -34,7 +34,7 @@ def heading(name, section, title):
 
 
 class Help:
-    """A --help: what it is about, its usage, its options as pairs of words and text, and the paragraphs behind them."""
+    """A --help: what it is about, its usage, its options as pairs of words and text, and the paragraphs after them."""
 
     def __init__(self, *words):
         text = subprocess.run([PROGRAM, *words, "--help"], capture_output=True, text=True, check=True).stdout.rstrip("\n")
@@ -46,7 +46,7 @@ class Help:
 
 
 def paragraphs(after):
-    """The paragraphs behind the options; examples and lists keep their lines."""
+    """The paragraphs after the options; examples and lists keep their lines."""
     page = []
     for paragraph in after:
         lines = paragraph.split("\n")
@@ -88,7 +88,7 @@ def rows_of(block):
 
 
 def table(block):
-    """A table as a list: the first cell of each row, and then each other cell behind its column's name."""
+    """A table as a list: the first cell of each row, and then each other cell after its column's name."""
     names, *rows = rows_of(block)
     page = []
     for row in rows:

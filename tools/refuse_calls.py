@@ -13,7 +13,7 @@ COMMANDS = [f"{owner}::{name}" for owner in ("Session", "Pinned") for name in ("
 ASKING = [
     "Blank::of", "Store::open", "proto::pool", "proto::pool's stream", "proto::serve_stream", *COMMANDS, "Session::pin",
     "field::rows", "field::rows_with of 1 worker", "field::rows_with of 2 workers", "field::rows_with of 16 workers",
-    "pbm::read_image", "pbm::write_plain", "pbm::write_raw",
+    "pbm::read_image", "pbm::read_source", "pbm::write_plain", "pbm::write_raw",
 ]
 # Commands that are refused for blocks: they may ask for room before they are judged, and answer the same with it and without.
 JUDGED = ["Session::paint of too many tiles", "Pinned::paint of too many tiles"]

@@ -148,7 +148,7 @@ inline std::string points(const Path& path) {
     return text;
 }
 
-/// The name of a refusal, and how many numbers stand behind it.
+/// The name of a refusal, and how many numbers stand after it.
 inline std::optional<std::pair<std::string, std::size_t>> refusal(std::uint32_t number) {
     static const std::map<std::uint32_t, std::pair<std::string, std::size_t>> known = {
         {OutOfRange, {"OutOfRange", 0}},     {BlocksFull, {"BlocksFull", 2}},       {VersionsFull, {"VersionsFull", 0}},
@@ -554,15 +554,15 @@ struct Frame {
     int width, height;
     double resolution, origin_x, origin_y;
 
-    /// The cell of a point in metres; nothing beside the map. A point within a billionth of a cell of an edge counts as on it.
+    /// The cell of a point in metres; nothing outside the map. A point within a billionth of a cell of an edge counts as on it.
     std::optional<Cell> cell(double x, double y) const {
         double u = std::floor(across(x)), t = std::floor(up(y));
         if (!(0 <= u && u < width && 0 <= t && t < height)) return std::nullopt;
         return Cell{static_cast<int>(u), height - 1 - static_cast<int>(t)};
     }
 
-    /// The path through the cells that a plan's segments cross; through a corner it goes by one of the cells beside it. Nothing where the plan
-    /// has no point, or one beside the map. The middle of each cell of it is less than one cell from the plan.
+    /// The path through the cells that a plan's segments cross; through a corner it goes by one of the cells next to it. Nothing where the plan
+    /// has no point, or one outside the map. The middle of each cell of it is less than one cell from the plan.
     std::optional<Path> staircase(const std::vector<Point>& plan) const {
         Path path;
         for (std::size_t i = 0; i < plan.size(); ++i) {
@@ -609,7 +609,7 @@ private:
             found.push_back({std::round(((step > 0 ? at + 1 : at) - from) / (to - from) * 1e12), step > 0 ? dx : -dx, step > 0 ? dy : -dy});
     }
 
-    /// Adds the cells that a segment enters behind its first.
+    /// Adds the cells that a segment enters after its first.
     void cross(Point start, Point end, Path& path) const {
         std::vector<Crossing> found;
         edges(across(start.x), across(end.x), 1, 0, found);

@@ -1,5 +1,5 @@
 #!/usr/bin/env python3
-"""Measures `clearmap dist` beside scipy's exact distance transform, on the same maps and with the same text at the end.
+"""Measures `clearmap dist` next to scipy's exact distance transform, on the same maps and with the same text at the end.
 
 Six maps (one obstacle; 0.1, 1 and 20 per cent of the cells at random; obstacles alone; a floor plan of rooms with doors) in
 several sizes, each with a fixed seed, are written as raw PBM. For each map the programs run in turn, round by round: `dist`,
@@ -8,7 +8,7 @@ write to files in memory. What four workers write is compared byte by byte with 
 compared, and each obstacle that `--nearest` names is looked up in the map.
 
 Printed is a Markdown table: the least and the median time of each program and of its processors, how many times as
-fast `dist` is as the script (the least of each), and the time of four workers beside that of one. The program has to be built before.
+fast `dist` is as the script (the least of each), and the time of four workers next to that of one. The program has to be built before.
 """
 import argparse
 import datetime
@@ -159,7 +159,7 @@ def cell(times):
 
 
 def ratios(times):
-    """How many times as fast `dist` is as the script, and the time of four workers beside that of one."""
+    """How many times as fast `dist` is as the script, and the time of four workers next to that of one."""
     return f"{min(times['scipy']) / min(times['dist']):.1f} | {min(times['dist --workers 4']) / min(times['dist']):.2f}"
 
 

@@ -1,8 +1,8 @@
 #!/usr/bin/env python3
-"""Measures how often a second planners of `clearmap serve` pin, ask and unpin over loopback, beside one that paints and publishes.
+"""Measures how often a second planners of `clearmap serve` pin, ask and unpin over loopback, next to one that paints and publishes.
 
-The map is a floor plan of 4096 by 4096 cells. Each planner has a connection of its own, and waits for each reply; the query of a fresh pin reads
-its version. Printed is a Markdown table: the least cycles a second of a planner, and percentiles of a cycle in microseconds.
+The map is a floor plan of 4096 by 4096 cells. Each planner has a connection of its own, and waits for each reply, or sends the lines of five cycles at once and waits for
+their replies. Printed is a Markdown table: the cycles a second of all planners, and percentiles of a cycle, or of five, in microseconds.
 
 The program has to be built before; `rustc` builds the clients (`cycles.rs`).
 """
@@ -16,15 +16,17 @@ import tempfile
 from bench import PROGRAM, SEED, floor_plan
 from program import HERE
 
+BATCH = 5
 
-def figures(client, plan, side, planners, seconds):
+
+def figures(client, plan, side, planners, seconds, batch):
     server = subprocess.Popen(
         [str(PROGRAM), "serve", "--connections", str(planners + 1), "--workers", str(planners + 1), "--log", "1000000", "--versions", "64"],
         stdin=open(plan, "rb"), stdout=subprocess.PIPE, text=True,
     )
     try:
         port = server.stdout.readline().split()[1]
-        told = subprocess.run([str(client), port, str(side), str(planners), str(seconds)], capture_output=True, text=True)
+        told = subprocess.run([str(client), port, str(side), str(planners), str(seconds), str(batch)], capture_output=True, text=True)
         if told.returncode != 0:
             sys.exit(told.stderr)
         server.communicate(timeout=60)
@@ -44,12 +46,11 @@ def main():
         plan, client = pathlib.Path(name) / "plan.pbm", pathlib.Path(name) / "cycles"
         floor_plan(asked.side, random.Random(SEED)).write(plan)
         subprocess.run(["rustc", "--edition", "2021", "-C", "opt-level=3", "-o", str(client), str(HERE / "cycles.rs")], check=True)
-        print("| Planners | cycles a second of each | p50 us | p99 us | versions published |")
-        print("|---|---|---|---|---|")
-        for planners in (1, 3):
-            rounds = [figures(client, plan, asked.side, planners, asked.seconds) for _ in range(asked.rounds)]
-            best = max(rounds)
-            print(f"| {planners} | " + " | ".join(f"{number:,}" for number in best) + " |", flush=True)
+        print("| Planners | lines a write | cycles a second | p50 us | p99 us | versions published |")
+        print("|---|---|---|---|---|---|")
+        for planners, batch in ((1, 0), (3, 0), (1, BATCH), (3, BATCH)):
+            rounds = [figures(client, plan, asked.side, planners, asked.seconds, batch) for _ in range(asked.rounds)]
+            print(f"| {planners} | {max(1, 3 * batch)} | " + " | ".join(f"{number:,}" for number in max(rounds)) + " |", flush=True)
 
 
 if __name__ == "__main__":

@@ -1,24 +1,32 @@
 #!/usr/bin/env python3
-"""Measures how many pins a second a store's sessions make beside one that publishes, and LMDB's read transactions beside one that commits.
+"""Measures how many pins a second a store's sessions make next to one that publishes, and LMDB's read transactions next to one that commits.
 
-A program over `session` (`pins/main.rt.in`) is proved and built in a scratch copy of the crates, and one over LMDB (`pins/lmdb_pins.cpp`) by g++; LMDB's headers
-are Debian's liblmdb-dev. They run in turn, in several rounds, with one reader and with three. The best round of each is printed as a Markdown table: pins a
+A program over `session` (`pins/main.rt.in`) is proved and built in a scratch copy of the crates, one over LMDB (`pins/lmdb_pins.cpp`) by g++; LMDB's headers
+are Debian's liblmdb-dev. A third, by rustc, makes the loads and stores of a pin and nothing else (`pins/words.rs`). They run in turn, in several rounds, with one reader and with three. The best round of each is printed as a Markdown table: pins a
 second of all readers together, and percentiles of the slowest reader in nanoseconds, among which reading the clock is counted; and the microseconds of a
-pin's first query on 4096 by 4096 cells.
+pin's first query, and cycles of a pin, a query and an unpin a second, on a floor plan of 4096 by 4096 cells.
 """
 import argparse
 import pathlib
+import random
 import subprocess
 import sys
 import tempfile
 
-from program import HERE, build_over_sessions
+from bench import SEED, floor_plan
+from program import HERE, STORE_NAME, build
 
 
 def build_lmdb(folder):
     program = pathlib.Path(folder) / "lmdb_pins"
     source = HERE / "pins" / "lmdb_pins.cpp"
     subprocess.run(["g++", "-O2", "-std=c++17", str(source), "-o", str(program), "-llmdb", "-lpthread"], check=True)
+    return program
+
+
+def build_words(folder):
+    program = pathlib.Path(folder) / "words"
+    subprocess.run(["rustc", "--edition", "2021", "-C", "opt-level=3", str(HERE / "pins" / "words.rs"), "-o", str(program)], check=True)
     return program
 
 
@@ -46,23 +54,30 @@ def main():
     parser.add_argument("--seconds", type=int, default=2)
     given = parser.parse_args()
     with tempfile.TemporaryDirectory() as work:
-        own = build_over_sessions(work, HERE / "pins" / "main.rt.in")
+        uses = ["session", "shelf", "map_core", "pbm", "bits", "metric"]
+        own = build(work, (HERE / "pins" / "main.rt.in").read_text(), uses, answers=STORE_NAME)
+        plan = pathlib.Path(work) / "plan.pbm"
+        floor_plan(4096, random.Random(SEED)).write(plan)
         peer = build_lmdb(work)
+        words = build_words(work)
         print("| Readers | who | pins a second | 50 % | 99 % | 99.99 % |")
         print("|---|---|---|---|---|---|")
-        queries = []
+        queries, cycles = [], []
         for readers in (1, 3):
-            ours, theirs = [], []
+            ours, theirs, alone = [], [], []
             for turn in range(given.rounds):
-                *each, query = figures([str(own), "4096", str(readers), str(given.seconds)])
+                *each, query, (cycle,) = figures([str(own), str(plan), str(readers), str(given.seconds)])
+                cycles.append(cycle)
                 ours.append(together(each))
                 queries.append(query)
                 folder = pathlib.Path(work) / f"lmdb-{readers}-{turn}"
                 folder.mkdir()
                 theirs.append(together(figures([str(peer), str(folder), str(readers), str(given.seconds)])))
-            for who, rounds in (("clearmap", ours), ("LMDB", theirs)):
+                alone.append(together(figures([str(words), str(readers), str(given.seconds)])))
+            for who, rounds in (("clearmap", ours), ("LMDB", theirs), ("the loads and stores alone", alone)):
                 print(f"| {readers} | {who} | " + " | ".join(f"{figure:,}" for figure in best(rounds)) + " |")
             print(f"| {readers} | ratio | {best(ours)[0] / best(theirs)[0]:.2f} | | | {best(ours)[3] / max(best(theirs)[3], 1):.2f} |")
+        print(f"Cycles of a pin, a query and an unpin by one session: {max(cycles):,} a second.")
         print(f"First query at 4096 by 4096: {min(each[0] for each in queries)} us at least, {min(each[1] for each in queries)} us in the median.")
 
 

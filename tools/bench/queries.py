@@ -2,11 +2,11 @@
 """Measures queries and the reading of images at 4096 by 4096, on the six maps of `bench.py`.
 
 In a copy of the crates that are wanted, a program (`queries/main.rt.in`) is proved and built that times each kind of query inside one
-process. Beside it stands a twin in Rust of the very same loops: the sources of `clearance` and the raw raster of `pbm` without
+process. Next to it stands a twin in Rust of the very same loops: the sources of `clearance` and the raw raster of `pbm` without
 their clauses, between `queries/twin_head.rs` and `queries/twin_tail.rs`, compiled by `rustc -O`. Both draw the same queries, and the sums of their
 answers are compared. Each map is timed in several runs, in turn; the least of each figure is printed as a Markdown table.
 
-With `--program`, `dist --query` is timed whole, on raw and plain images, and beside it netpbm's `pamtopnm` where it is installed.
+With `--program`, `dist --query` is timed whole, on raw and plain images, and next to it netpbm's `pamtopnm` where it is installed.
 """
 import argparse
 import os
@@ -22,7 +22,7 @@ import time
 import bench
 from program import HERE, ROOT, build
 
-LOOPS = ["metric/src/edge"] + ["clearance/src/" + name for name in "bit row rows words search nearest found frame border bound segment strip area walk".split()] + ["pbm/src/raw_raster"]
+LOOPS = ["metric/src/edge"] + ["clearance/src/" + name for name in "bit band row rows words search nearest found frame border bound segment strip area walk".split()] + ["pbm/src/raw_raster"]
 SIDE = 4096
 
 

@@ -1,13 +1,13 @@
 #!/usr/bin/env python3
-"""Measures the rows of nearest obstacles inside one process, and the table that keeps only where these are, by each metric and with 1, 2 and 4 workers, on the maps of `bench.py`, beside OpenCV's distance transforms on one thread.
+"""Measures the rows of nearest obstacles inside one process, and the table that keeps only where these are, by each metric and with 1, 2 and 4 workers, on the maps of `bench.py`, next to OpenCV's distance transforms on one thread.
 
 Each map is worked by the program and by OpenCV in turn, and the least time of all rounds counts. Printed are Markdown tables: milliseconds and the ratio to OpenCV's time
-for each map, then the ratios' geometric means and largest values beside the aims, and how the time a cell grows from the smallest to the largest maps. The sums of
-the answers have to be the same for each number of workers and for the table. With `--before CLONE` the one-worker times of another clone of this repository stand beside them.
+for each map, then the ratios' geometric means and largest values next to the aims, and how the time a cell grows from the smallest to the largest maps. The sums of
+the answers have to be the same for each number of workers and for the table. With `--before CLONE` the one-worker times of another clone of this repository stand next to them.
 
-With `--wall` each time where the border is open stands beside the same where it is a wall, in place of OpenCV's.
+With `--wall` each time where the border is open stands next to the same where it is a wall, in place of OpenCV's.
 
-With `--hard` the maps are those of `hard_maps.py` besides, without OpenCV, and each map's nanoseconds a cell stand beside the most that one of the others takes: no map should take over 2.5 times as much.
+With `--hard` the maps are those of `hard_maps.py` besides, without OpenCV, and each map's nanoseconds a cell stand next to the most that one of the others takes: no map should take over 2.5 times as much.
 
 OpenCV is Debian's `python3-opencv`.
 """
@@ -125,7 +125,7 @@ def print_map(name, side, metric, now, peer, old):
 
 
 def print_walls(program, sides, rounds, source):
-    """The times where the border is a wall, beside those where it is open, on maps with obstacles."""
+    """The times where the border is a wall, next to those where it is open, on maps with obstacles."""
     print("| Map | Cells a side | Metric | rows, open, ms | rows, wall, ms | ratio | table, open, ms | table, wall, ms | ratio (aim: 1.1) |")
     print("|" + "---|" * 9)
     for side in sides:
@@ -154,7 +154,7 @@ def hard_map(make):
 
 
 def print_hard(programs, sides, rounds, source):
-    """Nanoseconds a cell of the table on hard maps, beside the most that one of the other maps takes."""
+    """Nanoseconds a cell of the table on hard maps, next to the most that one of the other maps takes."""
     print("| Map | Cells a side | Metric | " + " | ".join(f"{name}, ns a cell | beside the worst" for name in programs) + " |")
     print("|" + "---|" * (3 + 2 * len(programs)))
     for side in sides:

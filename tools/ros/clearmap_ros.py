@@ -29,7 +29,7 @@ class RosError(Exception):
 
 
 def exact(number: Number) -> Fraction:
-    """A number as the fraction that its decimals say: 0.05 is 1/20, and not the double beside it."""
+    """A number as the fraction that its decimals say: 0.05 is 1/20, and not the double next to it."""
     if isinstance(number, Fraction):
         return number
     word = str(number).strip()
@@ -139,7 +139,7 @@ class Gray:
 
 
 def header_number(data: bytes, at: int) -> Tuple[int, int]:
-    """The number behind blanks and comments, and where it ends."""
+    """The number after blanks and comments, and where it ends."""
     while at < len(data) and (data[at : at + 1].isspace() or data[at : at + 1] == b"#"):
         if data[at : at + 1] == b"#":
             while at < len(data) and data[at] not in b"\r\n":
@@ -268,7 +268,7 @@ class Frame:
     def staircase(self, plan: Sequence[Point]) -> List[Cell]:
         """A path for clearmap along a plan of points in metres: its corners, each in the row or column of the one before.
 
-        The path goes through exactly the cells that the plan's segments cross, and where one goes through a corner, through one of the two beside it.
+        The path goes through exactly the cells that the plan's segments cross, and where one goes through a corner, through one of the two next to it.
         So each point of the plan lies in a cell of the path, and the middle of each such cell is less than one cell from the plan.
         """
         if not plan:
@@ -281,7 +281,7 @@ class Frame:
 
 
 def crossed(start: Tuple[Fraction, Fraction], end: Tuple[Fraction, Fraction]) -> Iterator[Cell]:
-    """The cells that a segment enters behind the cell that it begins in, in their order; each is beside the one before."""
+    """The cells that a segment enters after the cell that it begins in, in their order; each is next to the one before."""
     x, y = math.floor(start[0]), math.floor(start[1])
     crossings = []
     for axis in (0, 1):
@@ -359,7 +359,7 @@ class Map:
 
 
 def read_map(path: Union[str, pathlib.Path]) -> Map:
-    """The map that a `map.yaml` names; its image stands beside it, where its path isn't absolute."""
+    """The map that a `map.yaml` names; its image stands next to it, where its path isn't absolute."""
     yaml = pathlib.Path(path)
     try:
         settings = read_settings(yaml.read_text(encoding="utf-8"))

@@ -50,7 +50,7 @@ def until(holds, what):
 
 
 def map_message(walls=(), width=WIDTH, height=HEIGHT, frame_id="map"):
-    """A free map with a border, and walls of cells as column, row, and the first column and row behind, counted from the lower left."""
+    """A free map with a border, and walls of cells as column, row, and the first column and row after it, counted from the lower left."""
     cells = bytearray(width * height)
     for x0, y0, x1, y1 in ((0, 0, width, 1), (0, height - 1, width, height), (0, 0, 1, height), (width - 1, 0, width, height), *walls):
         for y in range(y0, y1):

@@ -229,7 +229,7 @@ class Plans(unittest.TestCase):
                 wide.staircase(plan)
 
     def test_never_further_than_a_cell(self):
-        """Plans drawn by a fixed rule: each cell's middle is within a cell of its plan, neighbours are beside one another, and each point is in a cell."""
+        """Plans drawn by a fixed rule: each cell's middle is within a cell of its plan, neighbours are next to one another, and each point is in a cell."""
         frame = ros.Frame(40, 40, Fraction("0.05"), Fraction(-1), Fraction(-1))
         state = 7
         for _ in range(60):

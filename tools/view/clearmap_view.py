@@ -21,7 +21,7 @@ import clearmap_ros as ros
 
 
 def program() -> Optional[str]:
-    """The program that works distances out: the one that CLEARMAP names, this repository's, the one beside an installed clearmap-view, or that on the path."""
+    """The program that works distances out: the one that CLEARMAP names, this repository's, the one next to an installed clearmap-view, or that on the path."""
     built = (TOP / "crates/clearmap/out/clearmap", HERE.parent.parent.parent / "bin/clearmap")
     found = [str(path) for path in built if os.access(path, os.X_OK)]
     return os.environ.get("CLEARMAP") or (found[0] if found else shutil.which("clearmap"))

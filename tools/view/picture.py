@@ -1,6 +1,6 @@
-"""A picture of distances: one byte a cell, worked out by `clearmap dist`, and handed out in pieces, each a PNG image of one level of detail.
+"""A picture of distances: one byte a cell, worked out by `clearmap dist`, and given in pieces, each a PNG image of one level of detail.
 
-Byte 0 is an obstacle, 1 to 254 a distance from none to the farthest, and 255 lies beside the map. A level has half the columns and rows of the one
+Byte 0 is an obstacle, 1 to 254 a distance from none to the farthest, and 255 lies outside the map. A level has half the columns and rows of the one
 below it, and of four cells the least byte, so that a wall of one cell is still seen from far away.
 """
 import contextlib

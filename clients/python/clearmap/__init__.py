@@ -57,7 +57,7 @@ class WrongAnswer(ClearmapError):
 class Refused(ClearmapError):
     """A line that the server refused. Nothing has changed, and the connection goes on.
 
-    `number` and `name` are the refusal's, and `details` are the words behind them: numbers, or the name of an image's fault.
+    `number` and `name` are the refusal's, and `details` are the words after them: numbers, or the name of an image's fault.
     """
 
     def __init__(self, number: int, name: str, details: Tuple[Union[int, str], ...], line: str) -> None:
@@ -151,7 +151,7 @@ REFUSALS: Dict[int, Tuple[str, Type[Refused]]] = {
     17: ("PlacesUsed", PlacesUsed),
 }
 DETAILS = {2: r" \d{1,10} \d{1,10}", 9: r" \d{1,10}", 15: r" [A-Za-z]+"}
-ENDING = (13, 14)  # the server ends the connection behind these
+ENDING = (13, 14)  # the server ends the connection after these
 
 
 class Near(NamedTuple):
@@ -281,7 +281,7 @@ def _metric(metric: str) -> str:
 
 
 def _points(points: Iterable[Cell]) -> str:
-    """The coordinates of a path, each behind a blank. One that is longer than a line can be is refused here, as the server would."""
+    """The coordinates of a path, each after a blank. One that is longer than a line can be is refused here, as the server would."""
     words = [f" {x:d} {y:d}" for x, y in points]
     if len(words) > LONGEST_PATH:
         raise BadPath(8, "BadPath", (), f"a path of {len(words)} points")

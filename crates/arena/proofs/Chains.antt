@@ -1,9 +1,9 @@
--- The free list when a block goes gone and comes in.
+-- The free list when a block goes out and when one comes in.
 use Rattle.std.proofs.Common.{◌≡◌, ◌≢◌, ℕ, zero, suc, ◌+◌, ◌-◌, ◌^◌, ◌<◌, ◌≤◌, Bool, true, false, List, [], ◌∷◌, length, get_or, set, refl, sym, ap, subst, ◌∙◌, arith}
-use Rattle.std.proofs.lemmas.List.{get_or-set_same, get_or-set_other, length-replicate, get_or-replicate}
+use Rattle.std.proofs.lemmas.List.{get_or-set_same, get_or-set_other}
 use Rattle.std.proofs.Math.Nat.{not-suc-le-zero}
 use Rattle.std.specs.List.{range_with_len, All}
-use Rattle.std.specs.Prelude.{◌⊎◌, replicate}
+use Rattle.std.specs.Prelude.{◌⊎◌}
 use Rattle.std.proofs.Common.{inl, inr, ⊎_elim}
 use Rattle.std.proofs.Math.ListN.{length-set}
 use Rattle.arena.specs.Blocks.{Content, out, bare, held, IsHeld}
@@ -168,14 +168,6 @@ either zero zero l = inl refl
 either zero (suc d) l = inr (omega arith)
 either (suc k) zero l = absurd (let no : suc k < 1 = l in omega arith)
 either (suc k) (suc d) l = ⊎_elim (λ e. inl (ap suc e)) (λ lt. inr (let below : k < d = lt in omega arith)) (either k d (let up : suc k < suc (suc d) = l in omega arith))
-
--- where every block holds nothing yet, none is filled
-pub none_filled : (count : ℕ) (bs : List Content) → bs ≡ replicate count bare → Filled bs 0 count
-none_filled count bs e = record {
-  long = ap (λ (cs : List Content). length cs) e ∙ length-replicate count bare;
-  below = λ k l. absurd (not-suc-le-zero l);
-  above = λ k l l'. ap (λ (cs : List Content). get_or cs k out) e ∙ get_or-replicate count k bare out l';
-}
 
 module _ (bs : List Content) (done count : ℕ) (f : Filled bs done count) (under : done < count) where
   -- the first block that isn't filled yet holds nothing

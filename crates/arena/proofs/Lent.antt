@@ -21,7 +21,7 @@ use Rattle.arena.specs.Ownership.{block_row}
 use Rattle.arena.specs.declared.region.Tile.{Tile}
 use Rattle.arena.specs.contracts.region.Tile as C
 
--- the fields of a tile, as a type of their own
+-- the fields of a tile are a type of their own
 abbrev Words : RattleType
 Words = Struct (shape C.the_type)
 

@@ -1,4 +1,4 @@
-pub mod Chains
+mod Chains
 mod Lent
 mod Parts
 mod Sends

@@ -17,7 +17,7 @@ use denote.Steps.{peeks}
 use denote.Memory.{part_at}
 use borrow.Table.OneValue.{part_out}
 use mir.Syntax.{ty_array}
-use Rattle.arena.specs.Ownership.{block_ty, block_row, block_at, blocks_at}
+use Rattle.arena.specs.Ownership.{block_ty, block_row, block_at, blocks_from}
 
 -- a block that is out isn't one with words
 none_some : {ws : List ℕ} → out ≡ held ws → ⊥
@@ -49,10 +49,10 @@ bare_inside [] k e = absurd (out_bare e)
 bare_inside (c ∷ cs) zero e = omega arith
 bare_inside (c ∷ cs) (suc k) e = let below = bare_inside cs k e in omega arith
 
--- the row without its k-th block
+-- all blocks of the row but its k-th are owned
 abbrev pub besides : ℕ → ℕ → List Content → ℕ → Fml
 besides b o [] k = ftrue
-besides b o (c ∷ cs) zero = blocks_at b (o + 512) cs
+besides b o (c ∷ cs) zero = blocks_from b (o + 512) cs
 besides b o (c ∷ cs) (suc k) = fsep (block_at b o c) (besides b (o + 512) cs k)
 
 module _ {M : Type 1} {𝓤 : Ura M} (𝓛 : Logic 𝓤) (b : ℕ) where
@@ -70,20 +70,20 @@ module _ {M : Type 1} {𝓤 : Ura M} (𝓛 : Logic 𝓤) (b : ℕ) where
   infix 26 ◌⊢◌
   infixr 35 ◌∗◌
   -- a row of blocks splits into its k-th block and the others
-  takes : (cs : List Content) (k o : ℕ) → k < length cs → ⟦ blocks_at b o cs ⟧ ⊢ ⟦ block_at b (place 512 o k) (get_or cs k out) ⟧ ∗ ⟦ besides b o cs k ⟧
+  takes : (cs : List Content) (k o : ℕ) → k < length cs → ⟦ blocks_from b o cs ⟧ ⊢ ⟦ block_at b (place 512 o k) (get_or cs k out) ⟧ ∗ ⟦ besides b o cs k ⟧
   takes [] k o l = absurd (not-suc-le-zero l)
-  takes (c ∷ cs) zero o l = qed 𝓛 (‵ (blocks_at b o (c ∷ cs)) ∷ []) ∵ fsplit ! $ done !
+  takes (c ∷ cs) zero o l = qed 𝓛 (‵ (blocks_from b o (c ∷ cs)) ∷ []) ∵ fsplit ! $ done !
   takes (c ∷ cs) (suc k) o l =
-      qed 𝓛 (‵ (blocks_at b o (c ∷ cs)) ∷ []) ∵ fsplit ! $ move ! (1 ∷ []) $
+      qed 𝓛 (‵ (blocks_from b o (c ∷ cs)) ∷ []) ∵ fsplit ! $ move ! (1 ∷ []) $
       use1 𝓛 (‵ (block_at b (place 512 (o + 512) k) (get_or cs k out)) ⊛ ‵ (besides b (o + 512) cs k)) (takes cs k (o + 512) (le_of_suc-le-suc l)) $ split ! $ frame ! $ move ! (1 ∷ 0 ∷ []) $ done !
 
   -- a block that is put at its place among the others makes a row of blocks
-  puts : (cs : List Content) (k : ℕ) (c : Content) (o : ℕ) → k < length cs → ⟦ block_at b (place 512 o k) c ⟧ ∗ ⟦ besides b o cs k ⟧ ⊢ ⟦ blocks_at b o (set cs k c) ⟧
+  puts : (cs : List Content) (k : ℕ) (c : Content) (o : ℕ) → k < length cs → ⟦ block_at b (place 512 o k) c ⟧ ∗ ⟦ besides b o cs k ⟧ ⊢ ⟦ blocks_from b o (set cs k c) ⟧
   puts [] k c o l = absurd (not-suc-le-zero l)
-  puts (d ∷ cs) zero c o l = qed 𝓛 (‵ (block_at b o c) ∷ ‵ (blocks_at b (o + 512) cs) ∷ []) ∵ done !
+  puts (d ∷ cs) zero c o l = qed 𝓛 (‵ (block_at b o c) ∷ ‵ (blocks_from b (o + 512) cs) ∷ []) ∵ done !
   puts (d ∷ cs) (suc k) c o l =
       qed 𝓛 (‵ (block_at b (place 512 (o + 512) k) c) ∷ ‵ (besides b o (d ∷ cs) (suc k)) ∷ []) ∵ move ! (1 ∷ []) $ fsplit ! $ move ! (2 ∷ 1 ∷ []) $
-      use2 𝓛 (‵ (blocks_at b (o + 512) (set cs k c))) (puts cs k c (o + 512) (le_of_suc-le-suc l)) $ move ! (1 ∷ 0 ∷ []) $ done !
+      use2 𝓛 (‵ (blocks_from b (o + 512) (set cs k c))) (puts cs k c (o + 512) (le_of_suc-le-suc l)) $ move ! (1 ∷ 0 ∷ []) $ done !
 
   -- what owns a block's words is room for a block
   roomy : (ws : List ℕ) (o : ℕ) → ⟦ part_at block_row full_share ws b o ⟧ ⊢ H.room block_ty b o
@@ -109,47 +109,47 @@ module _ {M : Type 1} {𝓤 : Ura M} (𝓛 : Logic 𝓤) (b : ℕ) where
 
   module _ (cs : List Content) (k o : ℕ) (l : k < length cs) where
     -- a block with words comes out of the row, and its place is marked as out
-    pub block_out : (ws : List ℕ) → get_or cs k out ≡ held ws → ⟦ blocks_at b o cs ⟧ ⊢ ⟦ part_at block_row full_share ws b (k * 512 + o) ⟧ ∗ ⟦ blocks_at b o (set cs k out) ⟧
-    block_out ws is = qed 𝓛 (‵ (blocks_at b o cs) ∷ []) ∵
+    pub block_out : (ws : List ℕ) → get_or cs k out ≡ held ws → ⟦ blocks_from b o cs ⟧ ⊢ ⟦ part_at block_row full_share ws b (k * 512 + o) ⟧ ∗ ⟦ blocks_from b o (set cs k out) ⟧
+    block_out ws is = qed 𝓛 (‵ (blocks_from b o cs) ∷ []) ∵
         use1 𝓛 (‵ (block_at b (place 512 o k) (get_or cs k out)) ⊛ ‵ (besides b o cs k)) (takes cs k o l) $ split ! $
         rewrite ! 0 (λ (c : Content). ‵ (block_at b (place 512 o k) c)) is refl $ rewrite ! 0 (λ (d : ℕ). ‵ (part_at block_row full_share ws b d)) (place_is 512 o k) refl $ frame ! $
         use1 𝓛 (‵ ftrue ⊛ ‵ (besides b o cs k)) (emp∗ 𝓤 _) $ split ! $ by ! (puts cs k out o l)
 
     -- a block that holds nothing yet comes out of the row as room, and the others stay
-    pub bare_out : get_or cs k out ≡ bare → ⟦ blocks_at b o cs ⟧ ⊢ ⟦ froom block_ty b (k * 512 + o) ⟧ ∗ ⟦ besides b o cs k ⟧
-    bare_out is = qed 𝓛 (‵ (blocks_at b o cs) ∷ []) ∵
+    pub bare_out : get_or cs k out ≡ bare → ⟦ blocks_from b o cs ⟧ ⊢ ⟦ froom block_ty b (k * 512 + o) ⟧ ∗ ⟦ besides b o cs k ⟧
+    bare_out is = qed 𝓛 (‵ (blocks_from b o cs) ∷ []) ∵
         use1 𝓛 (‵ (block_at b (place 512 o k) (get_or cs k out)) ⊛ ‵ (besides b o cs k)) (takes cs k o l) $ split ! $
         rewrite ! 0 (λ (c : Content). ‵ (block_at b (place 512 o k) c)) is refl $ rewrite ! 0 (λ (d : ℕ). ‵ (froom block_ty b d)) (place_is 512 o k) refl $ done !
 
     -- a block with words that is put at its place among the others makes a row of blocks
-    pub filled : (ws : List ℕ) → ⟦ part_at block_row full_share ws b (k * 512 + o) ⟧ ∗ ⟦ besides b o cs k ⟧ ⊢ ⟦ blocks_at b o (set cs k (held ws)) ⟧
+    pub filled : (ws : List ℕ) → ⟦ part_at block_row full_share ws b (k * 512 + o) ⟧ ∗ ⟦ besides b o cs k ⟧ ⊢ ⟦ blocks_from b o (set cs k (held ws)) ⟧
     filled ws = qed 𝓛 (‵ (part_at block_row full_share ws b (k * 512 + o)) ∷ ‵ (besides b o cs k) ∷ []) ∵
         rewrite ! 0 (λ (d : ℕ). ‵ (part_at block_row full_share ws b d)) (sym (place_is 512 o k)) refl $ by ! (puts cs k (held ws) o l)
 
     -- a block with words goes back into the row
-    pub block_in : (ws : List ℕ) → ⟦ part_at block_row full_share ws b (k * 512 + o) ⟧ ∗ ⟦ blocks_at b o cs ⟧ ⊢ ⟦ blocks_at b o (set cs k (held ws)) ⟧
-    block_in ws = qed 𝓛 (‵ (part_at block_row full_share ws b (k * 512 + o)) ∷ ‵ (blocks_at b o cs) ∷ []) ∵ move ! (1 ∷ []) $
+    pub block_in : (ws : List ℕ) → ⟦ part_at block_row full_share ws b (k * 512 + o) ⟧ ∗ ⟦ blocks_from b o cs ⟧ ⊢ ⟦ blocks_from b o (set cs k (held ws)) ⟧
+    block_in ws = qed 𝓛 (‵ (part_at block_row full_share ws b (k * 512 + o)) ∷ ‵ (blocks_from b o cs) ∷ []) ∵ move ! (1 ∷ []) $
         use1 𝓛 (‵ (block_at b (place 512 o k) (get_or cs k out)) ⊛ ‵ (besides b o cs k)) (takes cs k o l) $ split ! $ drop ! $ move ! (1 ∷ 0 ∷ []) $
         rewrite ! 0 (λ (d : ℕ). ‵ (part_at block_row full_share ws b d)) (sym (place_is 512 o k)) refl $ by ! (puts cs k (held ws) o l)
 
     -- a block that is owned next to the row is out of the row
-    pub was_out : Model 𝓤 H → (ws : List ℕ) → ⟦ part_at block_row full_share ws b (k * 512 + o) ⟧ ∗ ⟦ blocks_at b o cs ⟧ ⊢ fact 𝓤 (get_or cs k out ≡ out)
-    was_out 𝓜 ws = qed 𝓛 (‵ (part_at block_row full_share ws b (k * 512 + o)) ∷ ‵ (blocks_at b o cs) ∷ []) ∵ move ! (1 ∷ []) $
+    pub was_out : Model 𝓤 H → (ws : List ℕ) → ⟦ part_at block_row full_share ws b (k * 512 + o) ⟧ ∗ ⟦ blocks_from b o cs ⟧ ⊢ fact 𝓤 (get_or cs k out ≡ out)
+    was_out 𝓜 ws = qed 𝓛 (‵ (part_at block_row full_share ws b (k * 512 + o)) ∷ ‵ (blocks_from b o cs) ∷ []) ∵ move ! (1 ∷ []) $
         use1 𝓛 (‵ (block_at b (place 512 o k) (get_or cs k out)) ⊛ ‵ (besides b o cs k)) (takes cs k o l) $ split ! $ keep ! (2 ∷ 0 ∷ []) $
         rewrite ! 0 (λ (d : ℕ). ‵ (part_at block_row full_share ws b d)) (sym (place_is 512 o k)) refl $ by ! (out_of 𝓜 (get_or cs k out) ws (place 512 o k))
 
   -- the room that an allocator gives is a row of blocks that hold nothing yet
-  pub all_bare : (n o : ℕ) → H.room (ty_array block_ty n) b o ⊢ ⟦ blocks_at b o (replicate n bare) ⟧
+  pub all_bare : (n o : ℕ) → H.room (ty_array block_ty n) b o ⊢ ⟦ blocks_from b o (replicate n bare) ⟧
   all_bare zero o = qed 𝓛 (‵ (froom (ty_array block_ty 0) b o) ∷ []) ∵ keep ! [] $ done !
   all_bare (suc n) o = qed 𝓛 (‵ (froom (ty_array block_ty (suc n)) b o) ∷ []) ∵
       use1 𝓛 (‵ (froom block_ty b o) ⊛ ‵ (froom (ty_array block_ty n) b (o + 512))) (𝓛.laws.room_uncons block_ty n b o) $ split ! $ frame ! $ by ! (all_bare n (o + 512))
 
   -- a row of blocks of which each is in is room for that many blocks
-  pub all_room : (cs : List Content) (o : ℕ) → ((k : ℕ) (d : Content) → k < length cs → IsHeld (get_or cs k d)) → ⟦ blocks_at b o cs ⟧ ⊢ H.room (ty_array block_ty (length cs)) b o
+  pub all_room : (cs : List Content) (o : ℕ) → ((k : ℕ) (d : Content) → k < length cs → IsHeld (get_or cs k d)) → ⟦ blocks_from b o cs ⟧ ⊢ H.room (ty_array block_ty (length cs)) b o
   all_room [] o all = 𝓛.laws.room_nil block_ty b o
   all_room (out ∷ cs) o all = absurd (all 0 out (let up : 0 < suc (length cs) = omega arith in up))
-  all_room (bare ∷ cs) o all = qed 𝓛 (‵ (froom block_ty b o) ∷ ‵ (blocks_at b (o + 512) cs) ∷ []) ∵ move ! (1 ∷ []) $
+  all_room (bare ∷ cs) o all = qed 𝓛 (‵ (froom block_ty b o) ∷ ‵ (blocks_from b (o + 512) cs) ∷ []) ∵ move ! (1 ∷ []) $
       use1 𝓛 (‵ (froom (ty_array block_ty (length cs)) b (o + 512))) (all_room cs (o + 512) (λ k d l. all (suc k) d (let up : suc k < suc (length cs) = omega arith in up))) $ move ! (1 ∷ []) $ by ! (𝓛.laws.room_cons block_ty (length cs) b o)
-  all_room (held ws ∷ cs) o all = qed 𝓛 (‵ (part_at block_row full_share ws b o) ∷ ‵ (blocks_at b (o + 512) cs) ∷ []) ∵
+  all_room (held ws ∷ cs) o all = qed 𝓛 (‵ (part_at block_row full_share ws b o) ∷ ‵ (blocks_from b (o + 512) cs) ∷ []) ∵
       use1 𝓛 (‵ (froom block_ty b o)) (roomy ws o) $ move ! (1 ∷ []) $
       use1 𝓛 (‵ (froom (ty_array block_ty (length cs)) b (o + 512))) (all_room cs (o + 512) (λ k d l. all (suc k) d (let up : suc k < suc (length cs) = omega arith in up))) $ move ! (1 ∷ []) $ by ! (𝓛.laws.room_cons block_ty (length cs) b o)

@@ -10,7 +10,7 @@ use denote.Struct.Struct.{exits_of}
 use denote.Struct.Owning.{shape, fields, to}
 use denote.Param.Send.{IsSend, Quiet, Frees, AllSend, part_keyless, owning_send, struct_send, sendable}
 use Rattle.arena.specs.Blocks.{Content, out, bare, held}
-use Rattle.arena.specs.Ownership.{block_row, block_at, blocks_at, region_ty}
+use Rattle.arena.specs.Ownership.{block_row, block_at, blocks_from, region_ty}
 use Rattle.arena.specs.contracts.region.Tile as Tile
 use Rattle.arena.specs.contracts.region.Region as Region
 use Rattle.arena.specs.contracts.region.Lease as Lease
@@ -45,7 +45,7 @@ one_block b o bare = tt
 one_block b o (held ws) = part_keyless block_row words full_share ws b o
 
 -- what a region owns of its blocks holds no thread's token
-each_block : (b o : ℕ) (cs : List Content) → Keyless (blocks_at b o cs)
+each_block : (b o : ℕ) (cs : List Content) → Keyless (blocks_from b o cs)
 each_block b o [] = tt
 each_block b o (c ∷ cs) = (one_block b o c, each_block b (o + 512) cs)
 

@@ -1,4 +1,4 @@
--- The machine values of the two structs: what is owned tells them, and is made of nothing.
+-- The machine values of a region, a tile and a lease: what their fields own tells each, and is made of nothing.
 use Rattle.std.proofs.Common.{◌≡◌, ℕ, ◌^◌, ◌<◌, List, [], ◌∷◌, ◌++◌, refl, ◌∙◌, w32}
 use seplogic.Ra.Ura.{Ura}
 use mir.Val.{Val, vint, vstruct, vcons, vnil, of_list}
@@ -11,7 +11,7 @@ use denote.RawPtr.{Ptr, RawPtr, ptr_val}
 use denote.Shadow.{shadow, makes_shadow}
 use denote.Struct.Struct.{Struct}
 
--- a struct by its fields alone: what it owns does not read its name
+-- a struct is taken by its fields alone, since what it owns doesn't read its name
 abbrev pub plainly : List RattleType → RattleType
 plainly Rs = Struct (record { name = []; args = []; types = []; fields = Rs })
 
@@ -19,7 +19,7 @@ plainly Rs = Struct (record { name = []; args = []; types = []; fields = Rs })
 abbrev pub region_val : Ptr → Val
 region_val p0 = vstruct (vcons (ptr_val p0) vnil)
 
--- what a region's fields own, at these machine values
+-- a region's fields own this at these machine values
 abbrev pub region_own : Ptr → List Val → Fml
 region_own p0 = (plainly (RawPtr ∷ [])).own_val (p0, tt)
 
@@ -35,7 +35,7 @@ region_made 𝓛 p0 = makes_shadow 𝓛 (region_own p0 (region_val p0 ∷ [])) (
 abbrev pub tile_val : Ptr → ℕ → Val
 tile_val p0 n1 = vstruct (vcons (ptr_val p0) (vcons (vint w32 n1) vnil))
 
--- what a tile's fields own, at these machine values
+-- a tile's fields own this at these machine values
 abbrev pub tile_own : Ptr → ℕ → List Val → Fml
 tile_own p0 n1 = (plainly (RawPtr ∷ u32 ∷ [])).own_val (p0, (n1, tt))
 
@@ -51,7 +51,7 @@ tile_made 𝓛 p0 n1 f = makes_shadow 𝓛 (tile_own p0 n1 (tile_val p0 n1 ∷ [
 abbrev pub lease_val : Val
 lease_val = vstruct (vcons (vstruct vnil) vnil)
 
--- what a lease's fields own, at these machine values
+-- a lease's fields own this at these machine values
 abbrev pub lease_own : List Val → Fml
 lease_own = (plainly (plainly [] ∷ [])).own_val (tt, tt)
 

@@ -1,4 +1,4 @@
--- What the walks share.
+-- What the proofs of the functions over raw memory share.
 use Rattle.std.proofs.Common.{ℕ, zero, suc, List, [], ◌∷◌, take, drop, take-append-drop, subst}
 use seplogic.Ra.Ura.{Ura}
 use base.Logic.{ent, via, fst∗}
@@ -10,7 +10,7 @@ use contract.Monad.{fact, fact_use}
 use denote.Builtin.{unit}
 use denote.Signature.{Slot, plain}
 
--- the slot at place k of some slots, or a plain one where there is none
+-- the slot at place k is given, or a plain one where there is none
 abbrev pub slot_at : {n : ℕ} → ℕ → List (Slot n) → Slot n
 slot_at k [] = plain (λ _. unit)
 slot_at zero (s ∷ ss) = s

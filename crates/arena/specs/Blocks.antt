@@ -2,13 +2,13 @@
 use Rattle.std.specs.Prelude.{◌≡◌, ℕ, ◌+◌, ◌*◌, ◌<◌, ◌≤◌, List}
 use denote.RawPtr.{Ptr, block_ptr}
 
--- the region of an arena: its memory object, where it begins, and how many blocks it has
+-- an arena's region has a memory object, starts at a place in it, and has so many blocks
 pub record Home : Type 0 where
   pub block : ℕ
   pub start : ℕ
   pub count : ℕ
 
--- a block of a region: lent out, room that holds nothing yet, or in with these words
+-- a block of a region is lent out, is room that holds nothing yet, or is in with these words
 pub data Content : Type 0 where
   out : Content
   bare : Content

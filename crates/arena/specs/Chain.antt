@@ -2,27 +2,27 @@
 use Rattle.std.specs.Prelude.{◌≡◌, ◌≢◌, ℕ, zero, suc, ◌<◌, ◌≤◌, Bool, true, false, List, [], ◌∷◌, length, slice_index_or, ⊤}
 use Rattle.arena.specs.Blocks.{Home, Content, out, bare, held}
 
--- what a caller sees of an arena
+-- a caller sees this of an arena
 pub record Pool : Type 0 where
   pub home : Home
   pub free : List ℕ
 
--- the number in a block's first word, or 0 where it has no words
+-- a block links to the number in its first word, or to 0 where it has no words
 abbrev pub link_of : Content → ℕ
 link_of out = 0
 link_of bare = 0
 link_of (held ws) = slice_index_or ws 0 0
 
--- the number of the block that block k links to
+-- block k links to the block of this number
 abbrev pub next : List Content → ℕ → ℕ
 next bs k = link_of (slice_index_or bs k out)
 
--- n blocks from block f on
+-- the chain from block f on has n blocks, each of which links to the next
 abbrev pub chain : List Content → ℕ → ℕ → List ℕ
 chain bs f zero = []
 chain bs f (suc n) = f ∷ chain bs (next bs f) n
 
--- whether a block is in, with words
+-- the test says whether a block is in, with words
 abbrev pub here : Content → Bool
 here out = false
 here bare = false
@@ -38,7 +38,7 @@ abbrev pub Linked : List Content → ℕ → ℕ → Type 0
 Linked bs f zero = f ≤ 16384
 Linked bs f (suc n) = (here (slice_index_or bs f out) ≡ true) × NotIn f (chain bs (next bs f) n) × Linked bs (next bs f) n
 
--- how many blocks are in
+-- so many blocks are in
 abbrev pub in_count : List Content → ℕ
 in_count [] = 0
 in_count (out ∷ bs) = in_count bs

@@ -1,10 +1,11 @@
+-- What a borrow of a tile's words leaves in the tile: this project's own rule.
 use Rattle.std.specs.Prelude.{ℕ, List}
 use Rattle.std.specs.Borrow.{Lends, MutBor, Fml}
 use Rattle.arena.specs.Ownership.{block_row}
 use Rattle.arena.specs.declared.region.Tile.{Tile}
 use Rattle.arena.specs.contracts.region.Tile.{the_row}
 
--- t with the words ws
+-- t has the words ws in place of its own
 abbrev pub with_words : Tile → List ℕ → Tile
 with_words t ws = record t { words = ws }
 

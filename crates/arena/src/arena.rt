@@ -1,4 +1,6 @@
-//! The arena: a region and the free list, which is kept in the free blocks. The first word of a free block is the number of the next.
+//! The arena, from which tiles are taken: a region of memory in equal blocks, and the list of the free ones.
+//!
+//! The list is kept in the free blocks themselves: the first word of a free block is the number of the next.
 
 ghost use Rattle.std.specs.Prelude.{◌≡◌, ℕ, ◌<◌, ◌≤◌, List, [], ◌∷◌, length, MatchOption, IfOk, IfErr};
 ghost use Rattle.metric.specs.declared.refusal.Refusal.TheVariants.{Memory};
@@ -81,7 +83,8 @@ impl Arena {
 
     /// The front of the free list, which leaves it; `None` where no block is free. Its words hold any values. It takes no memory.
     pub fn take(&mut self) -> Option<Tile>
-        ensures { MatchOption result ((self.old.free ≡ []) × (self.new ≡ self.old)) (λ t. (t.home ≡ self.old.home) × (self.new.home ≡ self.old.home) × (self.old.free ≡ t.number ∷ self.new.free)) }
+        ensures { MatchOption result ((self.old.free ≡ []) × (self.new ≡ self.old))
+            (λ t. (t.home ≡ self.old.home) × (self.new.home ≡ self.old.home) × (self.old.free ≡ t.number ∷ self.new.free)) }
     {
         if self.free == 0 {
             return None;

@@ -8,7 +8,7 @@ ghost use Rattle.std.specs.List.{All};
 ghost use Rattle.std.specs.Ptr.{lies_at};
 ghost use denote.RawPtr.{block_ptr};
 ghost use Rattle.arena.specs.Blocks.{Content, out, bare, held, IsHeld, Home, IsHome, IsBlock};
-ghost use Rattle.arena.specs.Ownership.{block_row, blocks_at, region_ty};
+ghost use Rattle.arena.specs.Ownership.{block_row, blocks_from, region_ty};
 
 use std::alloc::Allocator;
 use std::marker::{Model, PhantomData};
@@ -80,7 +80,7 @@ pub struct Region {
 }
 
 impl Model for Region {
-    ghost also_owns = { λ r. blocks_at r.home.block r.home.start r.blocks };
+    ghost also_owns = { λ r. blocks_from r.home.block r.home.start r.blocks };
 }
 
 unsafe impl Send for Region {}
@@ -135,7 +135,8 @@ impl Region {
     /// A region of so many blocks that hold nothing yet; `None` where there is no memory.
     pub fn new<A: Allocator>(alloc: &A, count: u32) -> Option<(Region, Lease<A>)>
         requires { count ≤ 16384 }
-        ensures { IfSome result (λ m. (m.0.blocks ≡ replicate count bare) × (m.0.home.count ≡ count) × (m.1.alloc ≡ alloc.now) × (m.1.home ≡ m.0.home)) }
+        ensures { IfSome result (λ m. (m.0.blocks ≡ replicate count bare) × (m.0.home.count ≡ count) × (m.1.alloc ≡ alloc.now)
+            × (m.1.home ≡ m.0.home)) }
     {
         match alloc.allocate(count as usize * 512, 8) {
             Ok(ptr) => {

@@ -6,7 +6,7 @@ use Rattle.std.proofs.Math.ListN.{get_or-eq_default}
 use Rattle.std.proofs.lemmas.Bool.{cases_lt}
 use Rattle.std.proofs.lemmas.Bool.Decides.{nat_tests}
 use mathlib.Core.Logic.{inl, inr}
-use Rattle.bits.specs.Cells.{Cells, has, rows_where, cells_where, with_cell, with_rect, is_within, IsSide, IsBitmap, IsInside}
+use Rattle.bits.specs.Cells.{Cells, has, rows_where, cells_where, with_cell, IsSide, IsBitmap, IsInside}
 
 -- a cell inside is an obstacle exactly if it passes the test
 pub has-cells_where : (width height : ℕ) (test : ℕ → ℕ → Bool) (x y : ℕ) → x < width → y < height
@@ -17,7 +17,7 @@ has-cells_where width height test x y hx hy =
     (get_or-map-range_with_len (λ b. map (λ a. test a b) (range_with_len 0 width)) 0 height y y [] hy (omega arith))
     ∙ get_or-map-range_with_len (λ a. test a y) 0 width x x false hx (omega arith)
 
--- no cell below the last row is an obstacle
+-- a bitmap of given cells has no obstacle below its last row
 pub has-cells_where_below : (width height : ℕ) (test : ℕ → ℕ → Bool) (x y : ℕ) → height ≤ y
     → has (cells_where width height test) x y ≡ false
 unfolding has rows_where
@@ -41,11 +41,11 @@ has-cells_where_right width height test x y hx =
       | inr hy ↦ has-cells_where_below width height test x y hy
     ]
 
--- a test of one cell, at that cell
+-- a choice by one cell gives the first value at that cell
 if_here : (x y : ℕ) (value other : Bool) → (if x == x && y == y then value else other) ≡ value
 if_here x y value other = grind (arith, nat_tests)
 
--- a test of one cell, at another one
+-- a choice by one cell gives the other value at each other cell
 if_apart : (x y a b : ℕ) (value other : Bool) → (a ≡ x → b ≢ y) → (if a == x && b == y then value else other) ≡ other
 if_apart x y a b value other apart = grind (arith, nat_tests)
 
@@ -95,37 +95,21 @@ has-outside cells h x y is =
       row = elim (cases_lt y cells.height) [ inl hy ↦ hy | inr hy ↦ let no = has-cells_where_below cells.width cells.height (has cells) x y hy in cc ];
     }
 
--- two bitmaps of one size with the same obstacles are equal
-pub same_bitmap : (a b : Cells) → IsBitmap a → IsBitmap b → a.width ≡ b.width → a.height ≡ b.height
-    → ((x y : ℕ) → IsInside a x y → has a x y ≡ has b x y) → a ≡ b
-same_bitmap a b ha hb width_same height_same same =
-    cells_where-has a ha
-    ∙ cells_where-same a.width a.height (has a) (has b) (λ x y hx hy. same x y record { column = hx; row = hy })
-    ∙ ap (λ (width : ℕ). cells_where width a.height (has b)) width_same
-    ∙ ap (λ (height : ℕ). cells_where b.width height (has b)) height_same
-    ∙ sym (cells_where-has b hb)
-
--- each cell of a bitmap with one cell written
-pub has-with_cell : (cells : Cells) (x y : ℕ) (value : Bool) (a b : ℕ) → a < cells.width → b < cells.height
+-- a bitmap with one cell written has the new value there, and the old one elsewhere
+has-with_cell : (cells : Cells) (x y : ℕ) (value : Bool) (a b : ℕ) → a < cells.width → b < cells.height
     → has (with_cell cells x y value) a b ≡ (if a == x && b == y then value else has cells a b)
 has-with_cell cells x y value a b ha hb =
     has-cells_where cells.width cells.height (λ c d. if c == x && d == y then value else has cells c d) a b ha hb
 
--- the cell that is written has the new value
+-- a bitmap with one cell written has the new value there
 pub has-with_cell_same : (cells : Cells) (x y : ℕ) (value : Bool) → x < cells.width → y < cells.height
     → has (with_cell cells x y value) x y ≡ value
 has-with_cell_same cells x y value hx hy = has-with_cell cells x y value x y hx hy ∙ if_here x y value (has cells x y)
 
--- each other cell keeps its value
+-- a bitmap with one cell written keeps each other cell
 pub has-with_cell_other : (cells : Cells) (x y : ℕ) (value : Bool) (a b : ℕ) → a < cells.width → b < cells.height
     → (a ≡ x → b ≢ y) → has (with_cell cells x y value) a b ≡ has cells a b
 has-with_cell_other cells x y value a b ha hb apart = has-with_cell cells x y value a b ha hb ∙ if_apart x y a b value (has cells a b) apart
-
--- each cell of a bitmap with a rectangle written
-pub has-with_rect : (cells : Cells) (x0 y0 x1 y1 : ℕ) (value : Bool) (a b : ℕ) → a < cells.width → b < cells.height
-    → has (with_rect cells x0 y0 x1 y1 value) a b ≡ (if is_within x0 y0 x1 y1 a b then value else has cells a b)
-has-with_rect cells x0 y0 x1 y1 value a b ha hb =
-    has-cells_where cells.width cells.height (λ c d. if is_within x0 y0 x1 y1 c d then value else has cells c d) a b ha hb
 
 -- to write the value that a cell has changes nothing
 pub with_cell-same : (cells : Cells) → IsBitmap cells → (x y : ℕ) (value : Bool) → has cells x y ≡ value

@@ -57,7 +57,7 @@ differs-self true = refl
 differs-self false = refl
 
 -- two values that are not equal differ
-pub differs-other : (a b : Bool) → a ≢ b → differs a b ≡ true
+differs-other : (a b : Bool) → a ≢ b → differs a b ≡ true
 differs-other true true apart = absurd (apart refl)
 differs-other true false apart = refl
 differs-other false true apart = refl
@@ -89,7 +89,7 @@ changes-le old now =
     omega (arith, sum_by-le_range (changes_in_row old now) old.width 0 old.height (λ y. changes_in_row-le old now y))
 
 -- after one cell is written: the changes and what that cell counted before are the changes before and what it counts now
-pub changes-with_cell : (old now : Cells) (x y : ℕ) (black : Bool) → now.width ≡ old.width → now.height ≡ old.height
+changes-with_cell : (old now : Cells) (x y : ℕ) (black : Bool) → now.width ≡ old.width → now.height ≡ old.height
     → x < old.width → y < old.height
     → changes old (with_cell now x y black) + one (differs (has old x y) (has now x y)) ≡ changes old now + one (differs (has old x y) black)
 unfolding changes

@@ -20,14 +20,14 @@ filled_cell old x0 y0 x1 y x value a b = if is_filled x0 y0 x1 y x a b then valu
 abbrev pub filled : Cells → ℕ → ℕ → ℕ → ℕ → ℕ → (ℕ → ℕ → Bool) → Cells
 filled old x0 y0 x1 y x value = cells_where old.width old.height (filled_cell old x0 y0 x1 y x value)
 
--- a test that two values are unequal, where it is true
+-- where the test that two values are unequal is true, they differ
 pub other_value : (a b : Bool) → not (beq a b) ≡ true → a ≢ b
 other_value true true h = λ e. cc
 other_value true false h = λ e. cc
 other_value false true h = λ e. cc
 other_value false false h = λ e. cc
 
--- the same test, where it is false
+-- where the test that two values are unequal is false, they are equal
 pub same_value : (a b : Bool) → not (beq a b) ≡ false → a ≡ b
 same_value true true h = refl
 same_value true false h = cc
@@ -54,7 +54,7 @@ row_more : (x0 y0 x1 y x a b : ℕ) (value other : Bool) → y0 ≤ y → x ≡ 
     ≡ (if is_filled x0 y0 x1 (y + 1) x0 a b then value else other)
 row_more x0 y0 x1 y x a b value other hy end = grind (arith, nat_tests)
 
--- after the last row the rectangle is filled
+-- after the last row a cell is filled exactly where the rectangle has it
 all_filled : (x0 y0 x1 y1 y a b : ℕ) (value other : Bool) → y ≡ y1
     → (if is_filled x0 y0 x1 y x0 a b then value else other) ≡ (if is_within x0 y0 x1 y1 a b then value else other)
 all_filled x0 y0 x1 y1 y a b value other end = grind (arith, nat_tests)

@@ -1,5 +1,5 @@
 -- From a map with its frame, counted by natural numbers, to spots.
-use Rattle.std.proofs.Common.{◌≡◌, ℕ, zero, suc, ◌+◌, ◌-◌, ◌*◌, ◌<◌, ◌≤◌, ◌⊎◌, ℤ, pos, negsuc, ◌<ℤ◌, ◌≤ℤ◌, ◌==◌, ◌||◌, Bool, true, false, inl, inr, refl, sym, ap, subst, ◌∙◌, arith}
+use Rattle.std.proofs.Common.{◌≡◌, ℕ, zero, suc, ◌+◌, ◌-◌, ◌*◌, ◌<◌, ◌≤◌, ◌⊎◌, ℤ, pos, negsuc, ◌<ℤ◌, ◌≤ℤ◌, ◌==◌, ◌||◌, Bool, true, inl, inr, refl, sym, ap, subst, ◌∙◌, arith}
 use Rattle.std.specs.Int.{abs_diff}
 use Rattle.std.proofs.lemmas.Bool.{cases_lt}
 use Rattle.std.proofs.lemmas.Bool.Decides.{nat_tests}
@@ -9,7 +9,7 @@ use Rattle.metric.specs.Cellwise.{key_of, IsAtMost, IsNearestCell}
 use Rattle.metric.specs.Distance.{distance_between}
 use Rattle.metric.specs.Nearest.{apart, spot_distance, spot_key, IsNearest, IsNoGreater}
 use Rattle.metric.specs.declared.edge.Edge.TheVariants.{Open, Wall}
-use Rattle.bits.specs.Cells.{Cells, IsBitmap, IsInside, IsObstacle, cells_where, has}
+use Rattle.bits.specs.Cells.{Cells, IsBitmap, IsObstacle, has}
 use Rattle.bits.proofs.CellsLemmas.{has-cells_where, has-cells_where_below, has-cells_where_right, has-outside}
 use Rattle.bits.specs.Edges.{IsBlocked, IsFrame, IsFrameCell, IsFramed, IsMap, framed, less_one, shift, spot_of}
 
@@ -22,7 +22,7 @@ pub apart_less : (x a : ℕ) → apart x (less_one a) ≡ abs_diff (x + 1) a
 apart_less x zero = omega arith
 apart_less x (suc a) = omega arith
 
--- the distance of a spot, counted with the frame
+-- the distance to a spot is the one counted with the frame
 pub distance_less : (d : ℕ → ℕ → ℕ) (x y a b : ℕ) → spot_distance d x y (less_one a) (less_one b) ≡ distance_between d (x + 1) (y + 1) a b
 distance_less d x y a b = same_distance d (apart x (less_one a)) (abs_diff (x + 1) a) (apart y (less_one b)) (abs_diff (y + 1) b) (apart_less x a) (apart_less y b)
 
@@ -33,7 +33,7 @@ less_less zero (suc b) less = omega (arith, ints)
 less_less (suc a) zero less = absurd (omega arith)
 less_less (suc a) (suc b) less = omega (arith, ints)
 
--- the same where they may be equal
+-- a count that is at most another is that of a spot that is at most the other
 pub less_most : (a b : ℕ) → a ≤ b → less_one a ≤ℤ less_one b
 less_most zero zero most = omega (arith, ints)
 less_most zero (suc b) most = omega (arith, ints)
@@ -137,7 +137,7 @@ frame_edge cells c e frame =
       ]
     ]
 
--- a spot of the frame, counted with it
+-- a spot of the frame is one of its cells, counted with it
 pub frame_cell : (cells : Cells) (c e : ℤ) → IsFrame cells c e → IsFrameCell (cells.width + 1) (cells.height + 1) (count c) (count e)
 frame_cell cells c e frame = record { column = count_most c cells.width frame.right; row = count_most e cells.height frame.bottom; edge = frame_edge cells c e frame }
 
@@ -193,13 +193,13 @@ open_least d cells x y a b least (pos c) (negsuc e) none = absurd none
 open_least d cells x y a b least (negsuc c) e none = absurd none
 
 -- where no cell is an obstacle, no spot of an open map is one
-pub open_none : (cells : Cells) → ((a b : ℕ) → IsObstacle cells a b → ⊥) → (a b : ℤ) → IsBlocked cells Open a b → ⊥
+open_none : (cells : Cells) → ((a b : ℕ) → IsObstacle cells a b → ⊥) → (a b : ℤ) → IsBlocked cells Open a b → ⊥
 open_none cells none (pos a) (pos b) obstacle = none a b obstacle
 open_none cells none (pos a) (negsuc b) impossible = impossible
 open_none cells none (negsuc a) b impossible = impossible
 
 -- where the border is open, the nearest cell is the nearest spot
-pub open_nearest : (d : ℕ → ℕ → ℕ) (cells : Cells) (x y dist a b : ℕ) → IsNearestCell d (IsObstacle cells) x y dist a b
+open_nearest : (d : ℕ → ℕ → ℕ) (cells : Cells) (x y dist a b : ℕ) → IsNearestCell d (IsObstacle cells) x y dist a b
     → IsNearest d (IsBlocked cells Open) x y (record { dist = dist; cell = spot_of Open a b })
 open_nearest d cells x y dist a b nearest = record {
   obstacle = nearest.obstacle;
@@ -224,7 +224,7 @@ framed_small cells a b bitmap (inr (left, top, black)) =
     (omega arith, omega arith)
 
 -- whether a cell of a map with its frame is an obstacle
-abbrev wall_test : Cells → ℕ → ℕ → Bool
+abbrev pub wall_test : Cells → ℕ → ℕ → Bool
 wall_test cells x y = ((x == 0 || y == 0) || (x == cells.width + 1 || y == cells.height + 1)) || has cells (x - 1) (y - 1)
 
 -- what the test says of a cell
@@ -258,7 +258,7 @@ wall_framed cells a b obstacle =
       | inr own ↦ inr own
     ]
 
--- and back
+-- the frame and the own obstacles of the map are obstacles of the walled one
 pub framed_wall : (cells : Cells) (a b : ℕ) → IsBitmap cells → IsFramed cells a b → IsObstacle (framed Wall cells) a b
 framed_wall cells a b bitmap (inl frame) =
     let column = frame.column in
@@ -285,7 +285,7 @@ framed_map Wall cells bitmap =
       inside = λ x y obstacle. let inside = wall_inside cells x y obstacle in record { column = inside.0; row = inside.1 };
     }
 
--- the size of a map with its border
+-- a map with its border has two columns and two rows more where the border is a wall
 pub framed_size : (edge : Edge) (cells : Cells) → ((framed edge cells).width ≡ cells.width + 2 * shift edge) × ((framed edge cells).height ≡ cells.height + 2 * shift edge)
 framed_size Open cells = (omega arith, omega arith)
 framed_size Wall cells = (omega arith, omega arith)

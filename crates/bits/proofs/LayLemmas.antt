@@ -13,6 +13,7 @@ use Rattle.bits.specs.TileWords.{is_bit, filled_word}
 use Rattle.bits.proofs.TileLemmas.{word_where-lt, bit_at-word_where}
 use Rattle.bits.proofs.TileBitsLemmas.{IsMask}
 use Rattle.bits.proofs.TileDrawLemmas.{out_of}
+use Rattle.bits.proofs.StoredLemmas.{test_of_bit}
 
 -- the bits of a word that is shifted to the right
 bit_at-right : (n s j : ℕ) → bit_at (n / 2 ^ s) j ≡ bit_at n (s + j)
@@ -25,23 +26,26 @@ bit_at-right n s j =
 bit_at-rest : (n k j : ℕ) → j < k → bit_at (n % 2 ^ k) j ≡ bit_at n j
 bit_at-rest n k j h = sym (ap (λ (m : ℕ). bit_at m j) (sym (div-add-mod' n (2 ^ k))) ∙ bit_at_cat_low (n / 2 ^ k) k (n % 2 ^ k) j h)
 
--- the bits of a word that is shifted to the left
+-- a word that is shifted to the left has zeros at its low end
 left_low : (n s j : ℕ) → j < s → j < 64 → bit_at (n * 2 ^ s % 2 ^ 64) j ≡ 0
 left_low n s j low h =
     bit_at-rest (n * 2 ^ s) 64 j h ∙ (ap (λ (m : ℕ). bit_at m j) (let plain : n * 2 ^ s ≡ n * 2 ^ s + 0 = omega arith in plain) ∙ (bit_at_cat_low n s 0 j low ∙ bit_at-zero j))
 
+-- the bits of a word that is shifted to the left lie so much higher
 pub left_high : (n s j : ℕ) → s ≤ j → j < 64 → bit_at (n * 2 ^ s % 2 ^ 64) j ≡ bit_at n (j - s)
 left_high n s j high h =
     bit_at-rest (n * 2 ^ s) 64 j h
     ∙ (ap (λ (m : ℕ). bit_at m j) (let plain : n * 2 ^ s ≡ n * 2 ^ s + 0 = omega arith in plain) ∙ bit_at_cat_high n s 0 j (pow_pos s) high)
 
+-- of two bits joined by or, the one from the left word counts while its place is in that word
 pick_left : (s j a b x y : ℕ) → s + j < 64 → a ≡ x → b ≡ 0 → max a b ≡ (if nat_lt (s + j) 64 then x else y)
 pick_left s j a b x y h l r = grind (arith, nat_tests)
 
+-- of two bits joined by or, the one from the right word counts where its place is past the left word
 pick_right : (s j a b x y : ℕ) → 64 ≤ s + j → a ≡ 0 → b ≡ y → max a b ≡ (if nat_lt (s + j) 64 then x else y)
 pick_right s j a b x y h l r = grind (arith, nat_tests)
 
--- two words beside one another, from a column on
+-- two words next to one another, joined from a column on, have the bits of the left one and then of the right one
 pub joined_bits : (left right s j : ℕ) → left < 2 ^ 64 → s < 64 → 0 < s → j < 64
     → bit_at (bit_or (left / 2 ^ s) (right * 2 ^ (64 - s) % 2 ^ 64)) j ≡ (if nat_lt (s + j) 64 then bit_at left (s + j) else bit_at right (s + j - 64))
 joined_bits left right s j fits small some h =
@@ -52,33 +56,25 @@ joined_bits left right s j fits small some h =
           (left_high right (64 - s) j (omega arith) h ∙ ap (bit_at right) (let same : j - (64 - s) ≡ s + j - 64 = omega arith in same))
     ]
 
-pub joined_none : (left right j : ℕ) → j < 64 → bit_at left j ≡ (if nat_lt (0 + j) 64 then bit_at left (0 + j) else bit_at right (0 + j - 64))
-joined_none left right j h = pick j _ _ h ∙ (let same : j ≡ 0 + j = omega arith in ap (λ (k : ℕ). if nat_lt (0 + j) 64 then bit_at left k else bit_at right (0 + j - 64)) same)
-  where
-    pick : (j x y : ℕ) → j < 64 → x ≡ (if nat_lt (0 + j) 64 then x else y)
-    pick j x y h = grind (arith, nat_tests)
-
-again : (test : Bool) → (cond test 1 0 == 1) ≡ test
-again true = refl
-again false = refl
-
--- the cells of a row, also past its words
+-- the words of a row tell its cells, also past its words
 row_cell : (cells : Cells) (y : ℕ) (words : List ℕ) → IsBitmap cells → IsRowOf cells y words → (k i : ℕ) → i < 64 → is_bit (get_or words k 0) i ≡ has cells (64 * k + i) y
 row_cell cells y words is row k i h =
     elim (cases_lt k (words_across cells.width)) [
-      | inl inside ↦ ap (λ (n : ℕ). n == 1) (row.bits k i inside h) ∙ again (has cells (64 * k + i) y)
+      | inl inside ↦ ap (λ (n : ℕ). n == 1) (row.bits k i inside h) ∙ test_of_bit _ (has cells (64 * k + i) y) refl
       | inr past ↦
           ap (λ (w : ℕ). is_bit w i) (get_or-eq_default words 0 (let many = row.as_many in omega arith))
           ∙ (ap (λ (n : ℕ). n == 1) (bit_at-zero i) ∙ sym (out_of cells is (64 * k + i) y (λ no. absurd (omega arith))))
     ]
 
+-- a choice by a place in the left word is the left value
 from_left : (s j a b : ℕ) → s + j < 64 → (if nat_lt (s + j) 64 then a else b) ≡ a
 from_left s j a b h = grind (arith, nat_tests)
 
+-- a choice by a place past the left word is the right value
 from_right : (s j a b : ℕ) → 64 ≤ s + j → (if nat_lt (s + j) 64 then a else b) ≡ b
 from_right s j a b h = grind (arith, nat_tests)
 
--- the cells of a row from a column on
+-- a word joined from two of a row tells its cells from a column on
 pub row_from_bits : (cells : Cells) (x y place shift left right word : ℕ) (words : List ℕ) → IsBitmap cells → IsRowOf cells y words → place ≡ x / 64 → shift ≡ x % 64
     → left ≡ get_or words place 0 → right ≡ get_or words (place + 1) 0
     → ((j : ℕ) → j < 64 → bit_at word j ≡ (if nat_lt (shift + j) 64 then bit_at left (shift + j) else bit_at right (shift + j - 64)))
@@ -104,10 +100,11 @@ bit_laid true a b m true ha hb is same = grind (arith, nat_tests)
 bit_laid true a b m false ha hb is same = grind (arith, nat_tests)
 bit_laid false a b m value ha hb is same = grind (arith, nat_tests)
 
+-- a number that passes the test of a range is at least its start
 inside_range : (from to j : ℕ) → (nat_le from j && nat_lt j to) ≡ true → from ≤ j
 inside_range from to j h = grind (arith, nat_tests)
 
--- a row with the columns of a mask taken from another word
+-- a row whose columns of a mask are taken from another word is filled with those
 pub laid_word : (old word from to mask : ℕ) (value : ℕ → Bool) → old < 2 ^ 64 → word < 2 ^ 64 → mask < 2 ^ 64 → IsMask from to mask → ((j : ℕ) → from ≤ j → j < 64 → is_bit word j ≡ value j)
     → bit_or (bit_and old (2 ^ 64 - 1 - mask)) (bit_and word mask) ≡ filled_word old from to value
 unfolding filled_word

@@ -1,12 +1,15 @@
 pub mod CellsLemmas
 pub mod ChangesLemmas
-pub mod FillLemmas
+mod FillLemmas
 pub mod Framing
 pub mod StoredLemmas
 pub mod TileLemmas
 pub mod WriteLemmas
-pub mod LayLemmas
-pub mod PutLemmas
+mod PutLemmas
+pub mod BandLemmas
+mod LayLemmas
 pub mod RegroupLemmas
+mod RowLemmas
 pub mod TileBitsLemmas
 pub mod TileDrawLemmas
+pub mod WordBits

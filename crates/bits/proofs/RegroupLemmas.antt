@@ -16,7 +16,7 @@ use Rattle.bits.proofs.ChangesLemmas.{sum_by-same, sum_by-zero, one}
 abbrev pub total : (ℕ → ℕ) → ℕ → ℕ
 total f n = sum_by f (range_with_len 0 n)
 
--- a range in two parts
+-- a sum over a range is the sum of those over its two parts
 split_range : (f : ℕ → ℕ) (a n m : ℕ) → sum_by f (range_with_len a (n + m)) ≡ sum_by f (range_with_len a n) + sum_by f (range_with_len (a + n) m)
 split_range f a zero m =
     let start : a + 0 ≡ a = omega arith in
@@ -40,7 +40,7 @@ moved_range f s a (suc n) =
     let tail = ap (λ (k : ℕ). sum_by f (range_with_len k n)) start in
     omega (arith, tail, moved_range f s (a + 1) n, sum_by-cons f (s + a) (range_with_len (s + a + 1) n), sum_by-cons (λ j. f (s + j)) a (range_with_len (a + 1) n))
 
--- one value more
+-- one number more adds its value to a total
 pub total-suc : (f : ℕ → ℕ) (n : ℕ) → total f (suc n) ≡ total f n + f n
 total-suc f n =
     let longer : suc n ≡ n + 1 = omega arith in
@@ -50,14 +50,14 @@ total-suc f n =
     omega (arith, whole, last, split_range f 0 n 1, sum_by-cons f n [])
 
 -- past a bound all values are 0
-pub total_wider : (f : ℕ → ℕ) (n m : ℕ) → n ≤ m → ((j : ℕ) → n ≤ j → f j ≡ 0) → total f n ≡ total f m
+total_wider : (f : ℕ → ℕ) (n m : ℕ) → n ≤ m → ((j : ℕ) → n ≤ j → f j ≡ 0) → total f n ≡ total f m
 total_wider f n m up none =
     let parts : n + (m - n) ≡ m = omega arith in
     let whole = ap (total f) parts in
     omega (arith, whole, split_range f 0 n (m - n), sum_by-zero f (0 + n) (m - n) (λ j low high. none j (omega arith)))
 
--- a range of so many blocks, block by block
-pub total_blocks : (f : ℕ → ℕ) (size n : ℕ) → total f (size * n) ≡ total (λ a. total (λ j. f (size * a + j)) size) n
+-- a total over blocks of one size is the total of the blocks
+total_blocks : (f : ℕ → ℕ) (size n : ℕ) → total f (size * n) ≡ total (λ a. total (λ j. f (size * a + j)) size) n
 total_blocks f size zero = ap (total f) (let none : size * 0 ≡ 0 = omega arith in none)
 total_blocks f size (suc n) =
     let longer : size * suc n ≡ size * n + size = omega arith in
@@ -66,13 +66,13 @@ total_blocks f size (suc n) =
     let last = ap (λ (k : ℕ). sum_by f (range_with_len k size)) start ∙ moved_range f (size * n) 0 size in
     omega (arith, whole, split_range f 0 (size * n) size, last, total_blocks f size n, total-suc (λ a. total (λ j. f (size * a + j)) size) n)
 
--- a sum of sums
+-- a total of sums is the sum of the totals
 total_both : (f g : ℕ → ℕ) (n : ℕ) → total (λ a. f a + g a) n ≡ total f n + total g n
 total_both f g zero = refl
 total_both f g (suc n) = omega (arith, total-suc (λ a. f a + g a) n, total-suc f n, total-suc g n, total_both f g n)
 
--- rows first or columns first
-pub total_turned : (f : ℕ → ℕ → ℕ) (n m : ℕ) → total (λ a. total (f a) m) n ≡ total (λ b. total (λ a. f a b) n) m
+-- a total of totals is the same taken by rows first or by columns first
+total_turned : (f : ℕ → ℕ → ℕ) (n m : ℕ) → total (λ a. total (f a) m) n ≡ total (λ b. total (λ a. f a b) n) m
 total_turned f zero m = sym (sum_by-zero (λ b. 0) 0 m (λ j low high. refl))
 total_turned f (suc n) m =
     total-suc (λ a. total (f a) m) n
@@ -81,7 +81,7 @@ total_turned f (suc n) m =
     ∙ sum_by-same (λ b. total (λ a. f a b) n + f n b) (λ b. total (λ a. f a b) (suc n)) 0 m (λ b low high. sym (total-suc (λ a. f a b) n))))
 
 -- sums of equal terms
-pub total_same : (f g : ℕ → ℕ) (n : ℕ) → ((j : ℕ) → j < n → f j ≡ g j) → total f n ≡ total g n
+total_same : (f g : ℕ → ℕ) (n : ℕ) → ((j : ℕ) → j < n → f j ≡ g j) → total f n ≡ total g n
 total_same f g n same = sum_by-same f g 0 n (λ j low high. same j (omega arith))
 
 -- 1 where a cell differs

@@ -31,8 +31,8 @@ has-cells_stored width height words stored x y hx hy =
 pub room : (width x : ℕ) → x < width → x < 64 * words_across width
 room width x h = omega arith
 
--- the test of a bit, as the bit
-pub bit_of_test : (n : ℕ) → n < 2 → n ≡ cond (n == 1) 1 0
+-- a bit is 1 where the test against 1 is true, and otherwise 0
+bit_of_test : (n : ℕ) → n < 2 → n ≡ cond (n == 1) 1 0
 bit_of_test n h = grind (arith, nat_tests)
 
 -- a bit that is written as a test says so when it is read
@@ -41,20 +41,20 @@ test_of_bit n true h = grind (arith, nat_tests)
 test_of_bit n false h = grind (arith, nat_tests)
 
 -- a test that is true exactly where the bit is 1
-pub test_is : (n : ℕ) (test : Bool) → IsTrue test ↔ (n ≡ 1) → test ≡ (n == 1)
+test_is : (n : ℕ) (test : Bool) → IsTrue test ↔ (n ≡ 1) → test ≡ (n == 1)
 test_is n true h = grind (arith, nat_tests)
 test_is n false h = grind (arith, nat_tests)
 
--- the cell that is written has the new value
-pub is_stored-set_same : (across : ℕ) (words : List ℕ) (x y word : ℕ) (black : Bool)
+-- the words with one set have the new value at its cell
+is_stored-set_same : (across : ℕ) (words : List ℕ) (x y word : ℕ) (black : Bool)
     → y * across + x / 64 < length words → bit_at word (x % 64) ≡ cond black 1 0
     → is_stored across (set words (y * across + x / 64) word) x y ≡ black
 is_stored-set_same across words x y word black within here =
     ap (λ (w : ℕ). bit_at w (x % 64) == 1) (get_or-set_same words (y * across + x / 64) word 0 within)
     ∙ test_of_bit (bit_at word (x % 64)) black here
 
--- each other cell keeps its value
-pub is_stored-set_other : (across : ℕ) (words : List ℕ) (x y word : ℕ) → y * across + x / 64 < length words
+-- the words with one set keep each other cell
+is_stored-set_other : (across : ℕ) (words : List ℕ) (x y word : ℕ) → y * across + x / 64 < length words
     → x < 64 * across
     → ((other : ℕ) → other < 64 → other ≢ x % 64 → bit_at word other ≡ bit_at (get_or words (y * across + x / 64) 0) other)
     → (a b : ℕ) → a < 64 * across → ((a ≡ x → b ≢ y))
@@ -73,8 +73,8 @@ is_stored-set_other across words x y word within hx others a b ha differ =
       | inr apart ↦ ap (λ (w : ℕ). bit_at w (a % 64) == 1) (get_or-set_other words (y * across + x / 64) (b * across + a / 64) word 0 apart)
     ]
 
--- a value at one cell, and another at each other one
-pub at_cell : (x y a b : ℕ) (result value other : Bool) → (a ≡ x → b ≡ y → result ≡ value)
+-- a value that is told at one cell and at each other is a choice by that cell
+at_cell : (x y a b : ℕ) (result value other : Bool) → (a ≡ x → b ≡ y → result ≡ value)
     → ((a ≡ x → b ≢ y) → result ≡ other) → result ≡ (if a == x && b == y then value else other)
 at_cell x y a b result value other here there = grind (arith, nat_tests)
 
@@ -99,7 +99,7 @@ past_edge : (width x a b y : ℕ) (black old : Bool) → x < width → width ≤
 past_edge width x a b y black old hx past = grind (arith, nat_tests)
 
 -- the word of a cell is one of the bitmap's words
-pub place_within : (width height : ℕ) (words : List ℕ) → IsStored width height words → (x y : ℕ) → x < width
+place_within : (width height : ℕ) (words : List ℕ) → IsStored width height words → (x y : ℕ) → x < width
     → y < height → y * words_across width + x / 64 < length words
 place_within width height words stored x y hx hy = grind (arith, rows, stored.as_many, room width x hx)
 
@@ -190,8 +190,8 @@ has_read width height words cells stored view_is x y index place word test insid
     ∙ (sym (has-cells_stored width height words stored x y (room width x within.0) within.1)
     ∙ ap (λ (c : Cells). has c x y) view_is)))
 
--- the words of one row of a bitmap
-pub IsRowOf-take-drop : (width height : ℕ) (words : List ℕ) → IsStored width height words → (y : ℕ) → y < height
+-- the words from the start of a row on tell the row of the bitmap
+IsRowOf-take-drop : (width height : ℕ) (words : List ℕ) → IsStored width height words → (y : ℕ) → y < height
     → IsRowOf (cells_stored width height words) y (take (words_across width) (drop (y * words_across width) words))
 IsRowOf-take-drop width height words stored y hy =
     let across = words_across width in
@@ -213,7 +213,7 @@ IsRowOf-take-drop width height words stored y hy =
           ∙ ap (λ (test : Bool). cond test 1 0) (sym (has-cells_stored width height words stored column y wide hy))));
     }
 
--- the same, of the words as a slice of them is taken
+-- the words of a row, as a slice of all takes them, tell that row
 pub IsRowOf_read : (width height : ℕ) (words : List ℕ) (cells : Cells) → IsStored width height words
     → cells_stored width height words ≡ cells
     → (y from across : ℕ) (items : List ℕ) → y < cells.height → from ≡ y → across ≡ words_across cells.width → items ≡ words

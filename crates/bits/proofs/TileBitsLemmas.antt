@@ -19,12 +19,12 @@ use Rattle.bits.specs.TileWords.{is_bit, filled_word, filled_words, bits_changed
 use Rattle.bits.proofs.TileLemmas.{word_where-lt, bit_at-word_where}
 use Rattle.bits.proofs.ChangesLemmas.{sum_by-same, sum_by-zero, sum_but_one, one, differs-self}
 
--- two bits of a mask, below its start, inside, and past its end
+-- the lesser of two bits is 1 exactly between the start of the one and the end of the other
 both_bits : (from to j m n : ℕ) → (j < from → m ≡ 0) → (from ≤ j → m ≡ 1) → (j < to → n ≡ 1) → (to ≤ j → n ≡ 0)
     → min m n ≡ cond (nat_le from j && nat_lt j to) 1 0
 both_bits from to j m n low high inside past = grind (arith, nat_tests)
 
--- the bits of the columns from one up to another
+-- the mask of two shifts has the bits of the columns from one up to another
 pub columns_bits : (from to : ℕ) → from < to → to ≤ 64 → (j : ℕ) → j < 64
     → bit_at (bit_and ((2 ^ 64 - 1) * 2 ^ from % 2 ^ 64) ((2 ^ 64 - 1) / 2 ^ (64 - to))) j ≡ cond (nat_le from j && nat_lt j to) 1 0
 columns_bits from to some within j h =
@@ -43,7 +43,7 @@ bit_set : (b : ℕ) (inside : Bool) → b < 2 → max b (cond inside 1 0) ≡ co
 bit_set b true few = grind (arith, nat_tests)
 bit_set b false few = grind (arith, nat_tests)
 
--- a bit with the mask's bit cleared
+-- a bit with the bit of the mask cleared is the bit outside the mask
 bit_clear : (b : ℕ) (inside : Bool) → b < 2 → min b (1 - cond inside 1 0) ≡ cond (if inside then false else (b == 1)) 1 0
 bit_clear b true few = grind (arith, nat_tests)
 bit_clear b false few = grind (arith, nat_tests)
@@ -62,7 +62,7 @@ filled_black word from to mask fits mask_fits is =
     ∙ (bit_set (bit_at word j) (nat_le from j && nat_lt j to) (bit_at-lt word j)
     ∙ sym (bit_at-word_where (λ j. if nat_le from j && nat_lt j to then true else is_bit word j) 64 j h))))
 
--- a word with the columns of a mask cleared
+-- a word with the columns of a mask cleared is filled with white there
 pub filled_white : (word from to mask : ℕ) → word < 2 ^ 64 → mask < 2 ^ 64 → IsMask from to mask
     → bit_and word (2 ^ 64 - 1 - mask) ≡ filled_word word from to (λ j. false)
 unfolding filled_word
@@ -80,6 +80,7 @@ shifted n a (suc k) =
     let here : bit_at n (a + 1) ≡ bit_at (n / 2) a = ap (bit_at n) (let next : a + 1 ≡ suc a = omega arith in next) ∙ bit_at-suc n a in
     omega (arith, sum_by-cons (bit_at n) (a + 1) (range_with_len (a + 1 + 1) k), sum_by-cons (bit_at (n / 2)) a (range_with_len (a + 1) k), here, shifted n (a + 1) k)
 
+-- 0 and 1 have as many ones as they are
 ones_small : (r : ℕ) → r < 2 → ones r ≡ r
 unfolding ones
 ones_small zero l = refl
@@ -87,7 +88,7 @@ ones_small (suc zero) l = refl
 ones_small (suc (suc r)) l = absurd (let no : suc (suc r) < 2 = l in omega arith)
 
 -- a number's ones are its bits, added up
-pub ones_bits : (k n : ℕ) → n < 2 ^ k → ones n ≡ sum_by (bit_at n) (range_with_len 0 k)
+ones_bits : (k n : ℕ) → n < 2 ^ k → ones n ≡ sum_by (bit_at n) (range_with_len 0 k)
 ones_bits zero n l = ap ones (let small : n < 1 = l in let none : n ≡ 0 = omega arith in none) ∙ ones_small 0 (omega arith)
 ones_bits (suc k) n l =
     let cut : n ≡ n / 2 * 2 ^ 1 + n % 2 = omega arith in
@@ -123,47 +124,54 @@ pub record IsTileFilling (old now : List ℕ) (x0 y0 x1 y : ℕ) (value : ℕ �
   pub count : changed ≡ words_changed old now
   pub few : changed ≤ 64 * y
 
--- row i by then
+-- a row of a filled tile is filled where the filling has reached it, and otherwise as it was
 pub filled_words-row : (old : List ℕ) (x0 y0 x1 y : ℕ) (value : ℕ → ℕ → Bool) (i : ℕ) → i < 64
     → get_or (filled_words old x0 y0 x1 y value) i 0 ≡ (if nat_le y0 i && nat_lt i y then filled_word (get_or old i 0) x0 x1 (λ j. value j i) else get_or old i 0)
 unfolding filled_words
 filled_words-row old x0 y0 x1 y value i h =
     get_or-map-range_with_len (λ i. if nat_le y0 i && nat_lt i y then filled_word (get_or old i 0) x0 x1 (λ j. value j i) else get_or old i 0) 0 64 i i 0 h (omega arith)
 
+-- a filled tile has 64 rows
 pub filled_words-length : (old : List ℕ) (x0 y0 x1 y : ℕ) (value : ℕ → ℕ → Bool) → length (filled_words old x0 y0 x1 y value) ≡ 64
 unfolding filled_words
 filled_words-length old x0 y0 x1 y value = length-map-range_with_len (λ i. if nat_le y0 i && nat_lt i y then filled_word (get_or old i 0) x0 x1 (λ j. value j i) else get_or old i 0) 0 64
 
 -- words with these rows are the filled ones
-pub filled_words_is : (old now : List ℕ) (x0 y0 x1 y : ℕ) (value : ℕ → ℕ → Bool) → length now ≡ 64
+filled_words_is : (old now : List ℕ) (x0 y0 x1 y : ℕ) (value : ℕ → ℕ → Bool) → length now ≡ 64
     → ((i : ℕ) → i < 64 → get_or now i 0 ≡ (if nat_le y0 i && nat_lt i y then filled_word (get_or old i 0) x0 x1 (λ j. value j i) else get_or old i 0))
     → now ≡ filled_words old x0 y0 x1 y value
 unfolding filled_words
 filled_words_is old now x0 y0 x1 y value long rows =
     fill_by_all (λ i. if nat_le y0 i && nat_lt i y then filled_word (get_or old i 0) x0 x1 (λ j. value j i) else get_or old i 0) now 64 0 long rows
 
+-- a choice by an empty range is the second value
 no_row : (y0 i : ℕ) (a b : ℕ) → b ≡ (if nat_le y0 i && nat_lt i y0 then a else b)
 no_row y0 i a b = grind (arith, nat_tests)
 
+-- a choice by a range that ends at a row is the second value at this row
 next_row : (y0 y : ℕ) (a b : ℕ) → (if nat_le y0 y && nat_lt y y then a else b) ≡ b
 next_row y0 y a b = grind (arith, nat_tests)
 
+-- a choice by a range that has its last row at this row is the first value
 last_row : (y0 y i : ℕ) (a b : ℕ) → y0 ≤ y → i ≡ y → a ≡ (if nat_le y0 i && nat_lt i (y + 1) then a else b)
 last_row y0 y i a b up here = grind (arith, nat_tests)
 
+-- a choice by a range with one row more is the same at each other row
 other_row : (y0 y i : ℕ) (a b : ℕ) → i ≢ y → (if nat_le y0 i && nat_lt i y then a else b) ≡ (if nat_le y0 i && nat_lt i (y + 1) then a else b)
 other_row y0 y i a b apart = grind (arith, nat_tests)
 
-pub bits_changed-self : (a : ℕ) → bits_changed a a ≡ 0
+-- a word differs from itself in no bit
+bits_changed-self : (a : ℕ) → bits_changed a a ≡ 0
 unfolding bits_changed
 bits_changed-self a = sum_by-zero (λ j. one (differs (is_bit a j) (is_bit a j))) 0 64 (λ j lo hi. ap one (differs-self (is_bit a j)))
 
+-- a tile differs from itself in no cell
 pub words_changed-self : (words : List ℕ) → words_changed words words ≡ 0
 unfolding words_changed
 words_changed-self words = sum_by-zero (λ i. bits_changed (get_or words i 0) (get_or words i 0)) 0 64 (λ i lo hi. bits_changed-self (get_or words i 0))
 
 -- one row that was as at first is written
-pub words_changed-set : (old now : List ℕ) (i word : ℕ) → i < 64 → length now ≡ 64 → get_or now i 0 ≡ get_or old i 0
+words_changed-set : (old now : List ℕ) (i word : ℕ) → i < 64 → length now ≡ 64 → get_or now i 0 ≡ get_or old i 0
     → words_changed old (set now i word) ≡ words_changed old now + bits_changed (get_or old i 0) word
 unfolding words_changed
 words_changed-set old now i word h long same =
@@ -174,6 +182,7 @@ words_changed-set old now i word h long same =
     let is : bits_changed (get_or old i 0) (get_or (set now i word) i 0) ≡ bits_changed (get_or old i 0) word = ap (bits_changed (get_or old i 0)) here in
     omega (arith, parts, was, is)
 
+-- at first no row is filled, and nothing is counted
 pub tile_filling_none : (old : List ℕ) (x0 y0 x1 : ℕ) (value : ℕ → ℕ → Bool) → length old ≡ 64 → IsTileFilling old old x0 y0 x1 y0 value 0
 tile_filling_none old x0 y0 x1 value long = record {
   is = filled_words_is old old x0 y0 x1 y0 value long (λ i h. no_row y0 i _ _);
@@ -182,11 +191,12 @@ tile_filling_none old x0 y0 x1 value long = record {
 }
 
 -- the next row is as at first
-pub tile_filling_read : (old now : List ℕ) (x0 y0 x1 y : ℕ) (value : ℕ → ℕ → Bool) (changed : ℕ) → IsTileFilling old now x0 y0 x1 y value changed → y < 64
+tile_filling_read : (old now : List ℕ) (x0 y0 x1 y : ℕ) (value : ℕ → ℕ → Bool) (changed : ℕ) → IsTileFilling old now x0 y0 x1 y value changed → y < 64
     → get_or now y 0 ≡ get_or old y 0
 tile_filling_read old now x0 y0 x1 y value changed so_far h =
     ap (λ (ws : List ℕ). get_or ws y 0) so_far.is ∙ (filled_words-row old x0 y0 x1 y value y h ∙ next_row y0 y _ _)
 
+-- with one row more the filling has come to the next row, and has counted its changes
 pub tile_filling_more : (old now : List ℕ) (x0 y0 x1 y : ℕ) (value : ℕ → ℕ → Bool) (changed : ℕ) (read word more : ℕ) → IsTileFilling old now x0 y0 x1 y value changed
     → y0 ≤ y → y < 64 → read ≡ get_or now y 0 → word ≡ filled_word read x0 x1 (λ j. value j y) → more ≡ bits_changed read word → more ≤ 64
     → IsTileFilling old (set now y word) x0 y0 x1 (y + 1) value (changed + more)
@@ -218,34 +228,39 @@ tile_filling_more old now x0 y0 x1 y value changed read word more so_far up h re
       few = omega (arith, few, small);
     }
 
+-- a number added to 0 is itself
 plain : (i : ℕ) → 0 + i ≡ i
 plain i = omega arith
 
--- one number of a range settles the test
-pub any_in_range : (p : ℕ → Bool) (n i : ℕ) → i < n → p i ≡ true → list_any p (range_with_len 0 n) ≡ true
+-- where one number of a range passes a test, some number passes
+any_in_range : (p : ℕ → Bool) (n i : ℕ) → i < n → p i ≡ true → list_any p (range_with_len 0 n) ≡ true
 any_in_range p n i h passes =
     list_any_at p (range_with_len 0 n) i 0 (omega (arith, length-range_with_len 0 n)) (ap p (get_or-range_with_len 0 n i 0 h ∙ plain i) ∙ passes)
 
 -- no number of a range passes
-pub none_in_range : (p : ℕ → Bool) (n : ℕ) → ((i : ℕ) → i < n → p i ≡ false) → list_any p (range_with_len 0 n) ≡ false
+none_in_range : (p : ℕ → Bool) (n : ℕ) → ((i : ℕ) → i < n → p i ≡ false) → list_any p (range_with_len 0 n) ≡ false
 none_in_range p n fails =
     list_any_none p (range_with_len 0 n) (λ i d h.
     let low : i < n = omega (arith, length-range_with_len 0 n) in
     ap p (get_or-range_with_len 0 n i d low ∙ plain i) ∙ fails i low)
 
+-- the test that two numbers are unequal is true where they differ
 unequal : (a b : ℕ) → a ≢ b → not (a == b) ≡ true
 unequal a b apart = grind (arith, nat_tests)
 
+-- the test that two numbers are unequal is false where they are equal
 equal : (a b : ℕ) → a ≡ b → not (a == b) ≡ false
 equal a b same = grind (arith, nat_tests)
 
+-- a choice by a range is the second value where the values are equal within the range
 filled_row : (y0 y1 i a b : ℕ) → (y0 ≤ i → i < y1 → a ≡ b) → b ≡ (if nat_le y0 i && nat_lt i y1 then a else b)
 filled_row y0 y1 i a b same = grind (arith, nat_tests)
 
+-- a choice by a range is the first value within the range
 inside_row : (y0 y1 i a b : ℕ) → y0 ≤ i → i < y1 → (if nat_le y0 i && nat_lt i y1 then a else b) ≡ a
 inside_row y0 y1 i a b low high = grind (arith, nat_tests)
 
--- a row that the filling changes
+-- a row that the filling changes tells that the tile would change
 pub row_would_change : (words : List ℕ) (x0 y0 x1 y1 y : ℕ) (value : ℕ → ℕ → Bool) (old : ℕ) → y0 ≤ y → y < y1 → y1 ≤ 64 → old ≡ get_or words y 0
     → filled_word old x0 x1 (λ j. value j y) ≢ old → true ≡ words_differ words (filled_words words x0 y0 x1 y1 value)
 unfolding words_differ
@@ -258,20 +273,14 @@ row_would_change words x0 y0 x1 y1 y value old low high within read other =
 abbrev pub StaysTo : List ℕ → ℕ → ℕ → ℕ → (ℕ → ℕ → Bool) → ℕ → Type 0
 StaysTo words x0 x1 y0 value y = (i : ℕ) → y0 ≤ i → i < y → filled_word (get_or words i 0) x0 x1 (λ j. value j i) ≡ get_or words i 0
 
-pub stays_more : (words : List ℕ) (x0 x1 y0 : ℕ) (value : ℕ → ℕ → Bool) (y old : ℕ) → StaysTo words x0 x1 y0 value y → old ≡ get_or words y 0
-    → filled_word old x0 x1 (λ j. value j y) ≡ old → StaysTo words x0 x1 y0 value (y + 1)
-stays_more words x0 x1 y0 value y old so_far read same i low high =
-    elim (cases_eq i y) [
-      | inl here ↦ ap (λ (k : ℕ). filled_word (get_or words k 0) x0 x1 (λ j. value j k)) here ∙ (ap (λ (w : ℕ). filled_word w x0 x1 (λ j. value j y)) (sym read) ∙ (same ∙ (read ∙ ap (λ (k : ℕ). get_or words k 0) (sym here))))
-      | inr apart ↦ so_far i low (omega arith)
-    ]
-
+-- where all rows of the filling stay, the tile stays
 pub nothing_would_change : (words : List ℕ) (x0 y0 x1 y1 y : ℕ) (value : ℕ → ℕ → Bool) → StaysTo words x0 x1 y0 value y → y1 ≤ y
     → false ≡ words_differ words (filled_words words x0 y0 x1 y1 value)
 unfolding words_differ
 nothing_would_change words x0 y0 x1 y1 y value so_far end =
     sym (none_in_range (λ i. not (get_or words i 0 == get_or (filled_words words x0 y0 x1 y1 value) i 0)) 64 (λ i h. equal _ _ (filled_row y0 y1 i _ _ (λ low high. so_far i low (omega arith)) ∙ sym (filled_words-row words x0 y0 x1 y1 value i h))))
 
+-- where the test that two numbers are unequal is false, they are equal
 told_same : (a b : ℕ) → not (a == b) ≡ false → a ≡ b
 told_same a b same = grind (arith, nat_tests)
 

@@ -14,11 +14,14 @@ use Rattle.bits.proofs.CellsLemmas.{has-cells_where, has-outside, IsBitmap-cells
 use Rattle.bits.proofs.ChangesLemmas.{sum_by-same, one}
 use Rattle.bits.proofs.TileLemmas.{bit_at-row_word, bit_at-word_where, word_where-lt, row_word-lt, row_word_is}
 use Rattle.bits.proofs.TileBitsLemmas.{filled_words-row, filled_words-length}
+use Rattle.bits.proofs.StoredLemmas.{test_of_bit}
 
+-- word i of a tile is row i of it
 pub tile_words-row : (cells : Cells) (k i : ℕ) → i < 64 → get_or (tile_words cells k) i 0 ≡ row_word cells k i
 unfolding tile_words
 tile_words-row cells k i h = get_or-map-range_with_len (row_word cells k) 0 64 i i 0 h (omega arith)
 
+-- a tile has 64 words
 pub tile_words-length : (cells : Cells) (k : ℕ) → length (tile_words cells k) ≡ 64
 unfolding tile_words
 tile_words-length cells k = length-map-range_with_len (row_word cells k) 0 64
@@ -29,14 +32,11 @@ pub tile_words_is : (cells : Cells) (k : ℕ) (words : List ℕ) → length word
 unfolding tile_words
 tile_words_is cells k words long rows = fill_by_all (row_word cells k) words 64 0 long rows
 
-test_again : (test : Bool) → (cond test 1 0 == 1) ≡ test
-test_again true = refl
-test_again false = refl
-
 -- a bit of a row is the cell
 pub is_bit-row_word : (cells : Cells) (k i j : ℕ) → j < 64 → is_bit (row_word cells k i) j ≡ tile_has cells k i j
-is_bit-row_word cells k i j h = ap (λ (n : ℕ). n == 1) (bit_at-row_word cells k i j h) ∙ test_again (tile_has cells k i j)
+is_bit-row_word cells k i j h = ap (λ (n : ℕ). n == 1) (bit_at-row_word cells k i j h) ∙ test_of_bit _ (tile_has cells k i j) refl
 
+-- the changes of a tile are those of its words
 pub tile_changes_words : (old new : Cells) (k : ℕ) → tile_changes old new k ≡ words_changed (tile_words old k) (tile_words new k)
 unfolding tile_changes words_changed bits_changed
 tile_changes_words old new k =
@@ -46,7 +46,7 @@ tile_changes_words old new k =
     (sym (ap (λ (w : ℕ). is_bit w j) (tile_words-row old k i (omega arith)) ∙ is_bit-row_word old k i j (omega arith)) i')
     (sym (ap (λ (w : ℕ). is_bit w j) (tile_words-row new k i (omega arith)) ∙ is_bit-row_word new k i j (omega arith)) i')))))
 
--- a cell of a tile, by the part of the rectangle in the tile and by the rectangle
+-- a cell of a tile is written alike by the rectangle and by the part of it in the tile
 in_part : (a b x0 y0 x1 y1 i j : ℕ) (value part old : Bool) → i < 64 → j < 64
     → (x0 ≤ 64 * a + j → y0 ≤ 64 * b + i → value ≡ part)
     → (if is_within x0 y0 x1 y1 (64 * a + j) (64 * b + i) then value else old)
@@ -73,7 +73,7 @@ out_of cells is x y outside =
       | false ↦ λ e. refl
     ] refl
 
--- each cell, also past the edge, of a bitmap with a picture in it
+-- a bitmap with a picture in it has the cells of the picture in its rectangle, and its own elsewhere, also past the edge
 pub has-with_values_all : (cells : Cells) (x0 y0 x1 y1 : ℕ) (value : ℕ → ℕ → Bool) (x y : ℕ) → IsBitmap cells → x1 ≤ cells.width → y1 ≤ cells.height
     → has (with_values cells x0 y0 x1 y1 value) x y ≡ (if is_within x0 y0 x1 y1 x y then value (x - x0) (y - y0) else has cells x y)
 has-with_values_all cells x0 y0 x1 y1 value x y is hx hy =

@@ -100,7 +100,7 @@ tile_row_read cells k i across y words word some across_is y_is row read fits =
     ∙ (ap (λ (r : ℕ). cond (has cells (64 * (k % across) + j) r) 1 0) y_is
     ∙ ap (λ (a : ℕ). cond (has cells (64 * (k % a) + j) (64 * (k / a) + i)) 1 0) across_is)))
 
--- no cell below the last row is an obstacle
+-- no bitmap has an obstacle below its last row
 has-below : (cells : Cells) → IsBitmap cells → (x y : ℕ) → cells.height ≤ y → has cells x y ≡ false
 has-below cells bitmap x y past =
     elim (has cells x y) as (λ test. has cells x y ≡ test → test ≡ false) [

@@ -1,3 +1,4 @@
+pub mod Bands
 pub mod Cells
 pub mod Changes
 pub mod Edges

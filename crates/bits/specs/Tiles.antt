@@ -3,7 +3,7 @@ use Rattle.std.specs.Prelude.{ℕ, zero, suc, ◌+◌, ◌*◌, ◌/◌, ◌%◌
 use Rattle.bits.specs.Cells.{Cells, has}
 use Rattle.bits.specs.Words.{words_across}
 
--- how many tiles lie below one another; as many lie beside one another as a row takes words
+-- how many tiles lie below one another; as many lie next to one another as a row takes words
 abbrev pub tiles_down : ℕ → ℕ
 tiles_down height = (height + 63) / 64
 

@@ -2,23 +2,28 @@
 
 ghost use Rattle.std.specs.Prelude.{◌≡◌, ℕ, ◌+◌, ◌*◌, ◌/◌, ◌%◌, ◌<◌, ◌≤◌, ◌↔◌, IsTrue, IfOk, IfErr, false};
 ghost use Rattle.bits.specs.Cells.{has, cells_where, with_cell, IsSide, IsBitmap, IsInside};
+ghost use Rattle.bits.specs.Bands.{IsBanded};
 ghost use Rattle.bits.specs.Words.{words_across, IsRowOf};
-ghost use Rattle.bits.specs.Writes.{with_word};
+ghost use Rattle.bits.specs.Writes.{with_row, with_word};
 ghost use Rattle.metric.specs.declared.refusal.Refusal.TheVariants.{Memory};
 
-use crate::word::{WORD_BITS, has_bit, low_bits, with_bit};
-use metric::{Cell, Rect, Refusal};
+use crate::band::{marked, marked_by};
+use crate::word::{has_bit, with_bit};
+use crate::write::{write_row, write_word};
+use metric::{Cell, Rect, Refusal, WORD_BITS};
 use std::alloc::Global;
 use std::marker::Model;
 
 /// A bitmap. Contracts see it as its size and its set of obstacles.
 ///
 /// Its rows lie one after another, each in as many words as it needs; bit i of a row's word k is the cell of column 64 k + i.
+/// Bit k of the bands is 1 where the rows 64 k to 64 k + 63 may have an obstacle.
 #[derive(Debug, Drop)]
 pub struct Bitmap {
-    width: u16,
-    height: u16,
-    words: Vec<u64>,
+    pub(crate) width: u16,
+    pub(crate) height: u16,
+    pub(crate) words: Vec<u64>,
+    pub(crate) bands: u64,
 }
 
 impl Model for Bitmap {
@@ -26,11 +31,12 @@ impl Model for Bitmap {
 
     ghost Value = { Cells };
 
-    ghost use Rattle.bits.specs.Stored.{cells_stored, IsStored};
+    ghost use Rattle.bits.specs.Stored.{cells_stored};
+    ghost use Rattle.bits.specs.Bands.{AreBandsKept};
 
     ghost view = { λ b. cells_stored b.width b.height b.words.items };
 
-    ghost invariant = { λ b. IsStored b.width b.height b.words.items };
+    ghost invariant = { λ b. AreBandsKept b.width b.height b.words.items b.bands };
 }
 
 impl Bitmap {
@@ -47,6 +53,7 @@ impl Bitmap {
                 width,
                 height,
                 words,
+                bands: 0,
             }),
             Err(_) => Err(Refusal::Memory),
         }
@@ -119,6 +126,7 @@ impl Bitmap {
     {
         let (index, place) = self.place_of(cell);
         self.words[index] = with_bit(self.words[index], place, black);
+        self.bands = marked(self.bands, cell.y, u64::from(black));
     }
 
     /// Writes the cells of row `y` that word `index` of it holds: bit i is the cell of column 64 `index` + i. Bits past the edge are left out.
@@ -128,8 +136,20 @@ impl Bitmap {
         ensures written { self.new ≡ with_word self.old y index word }
         ensures bitmap { IsBitmap self.new }
     {
-        let place = usize::from(y) * self.words_across() + usize::from(index);
-        self.words[place] = low_bits(word, self.width - 64 * index);
+        let words = self.words.as_mut_slice();
+        write_word(words, self.width, self.height, y, index, word);
+        self.bands = marked(self.bands, y, word);
+    }
+
+    /// Writes the row `y`, as `set_word` does each word of it: as many of these as it needs.
+    pub fn set_row(&mut self, y: u16, row: &[u64; 64])
+        requires { y < self.old.height }
+        ensures written { self.new ≡ with_row self.old y row.now }
+        ensures bitmap { IsBitmap self.new }
+    {
+        let words = self.words.as_mut_slice();
+        write_row(words, self.width, self.height, y, row);
+        self.bands = marked_by(self.bands, y, row);
     }
 
     /// The words of row `y`, as many as it needs. Bits past the edge are 0.
@@ -142,6 +162,16 @@ impl Bitmap {
         &self.words[start..start + across]
     }
 
+    /// Which bands of 64 rows may have an obstacle: where bit k is 0, the rows 64 k to 64 k + 63 are blank.
+    ///
+    /// A band in which an obstacle was written keeps its bit until the bitmap is cleared, or becomes a copy of another.
+    #[inline(always)]
+    pub fn bands(&self) -> u64
+        ensures { IsBanded self.now result }
+    {
+        self.bands
+    }
+
     /// A copy. Refused for want of memory alone.
     pub fn try_copy(&self, alloc: Global) -> Result<Self, Refusal>
         ensures copy { IfOk result (λ copy. copy ≡ self.now) }
@@ -152,6 +182,7 @@ impl Bitmap {
                 width: self.width,
                 height: self.height,
                 words,
+                bands: self.bands,
             }),
             Err(_) => Err(Refusal::Memory),
         }
@@ -166,5 +197,14 @@ impl Bitmap {
         self.words
             .as_mut_slice()
             .copy_from_slice(other.words.as_slice());
+        self.bands = other.bands;
+    }
+
+    /// Frees each cell, and with them all bands. It takes no memory.
+    pub fn clear(&mut self)
+        ensures { self.new ≡ cells_where self.old.width self.old.height (λ x y. false) }
+    {
+        self.words.fill(0);
+        self.bands = 0;
     }
 }

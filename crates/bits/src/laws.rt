@@ -9,7 +9,8 @@ ghost use Rattle.bits.specs.TileWords.{tile_words, tile_changes, changes_by_tile
 
 /// Counted row by row or tile by tile, as many cells differ between two bitmaps of one size.
 pub fn tiles_count_all_changes()
-    ensures { (old new : Cells) → IsBitmap old → IsBitmap new → new.width ≡ old.width → new.height ≡ old.height → changes old new ≡ changes_by_tile old new }
+    ensures { (old new : Cells) → IsBitmap old → IsBitmap new → new.width ≡ old.width → new.height ≡ old.height
+        → changes old new ≡ changes_by_tile old new }
 {}
 
 /// Counted on the words of its tile, as many cells differ.
@@ -20,7 +21,9 @@ pub fn words_count_changes()
 /// To fill the part of a picture that lies in a tile, on the words of the tile, is to lay the picture.
 pub fn tiles_fill_their_part()
     ensures { (cells : Cells) (x0 y0 x1 y1 k : ℕ) (value : ℕ → ℕ → Bool) → IsBitmap cells → x1 ≤ cells.width → y1 ≤ cells.height
-        → filled_words (tile_words cells k) (within_column cells k x0) (within_row cells k y0) (within_column cells k x1) (within_row cells k y1)
-        (laid value (64 * (k % words_across cells.width) - x0) (64 * (k / words_across cells.width) - y0) (within_column cells k x0) (within_row cells k y0))
+        → filled_words (tile_words cells k) (within_column cells k x0) (within_row cells k y0) (within_column cells k x1)
+        (within_row cells k y1)
+        (laid value (64 * (k % words_across cells.width) - x0) (64 * (k / words_across cells.width) - y0)
+        (within_column cells k x0) (within_row cells k y0))
         ≡ tile_words (with_values cells x0 y0 x1 y1 value) k }
 {}

@@ -7,15 +7,16 @@ ghost use Rattle.bits.specs.TileWords.{is_bit, laid, filled_word, filled_words, 
 
 use crate::bitmap::Bitmap;
 use crate::tile_bits::{TileBits, changes, columns};
-use metric::{Cell, Rect};
+use metric::{Cell, MOST_SIDE, Rect, TILE_SIDE};
 
 impl TileBits {
     /// Lays a bitmap on the rectangle, so that its cell `from` comes upon the rectangle's first cell, and answers how many cells became another. What lies past the bitmap's edge is free.
     pub fn lay(words: &mut [u64; 64], rect: Rect, stamp: &Bitmap, from: Cell) -> u32
-        requires columns { rect.x1 ≤ 64 }
-        requires rows { rect.y1 ≤ 64 }
-        requires from { from.y ≤ 4096 }
-        ensures filled { words.new ≡ filled_words words.old rect.x0 rect.y0 rect.x1 rect.y1 (laid (has stamp.now) from.x from.y rect.x0 rect.y0) }
+        requires columns { rect.x1 ≤ TILE_SIDE }
+        requires rows { rect.y1 ≤ TILE_SIDE }
+        requires from { from.y ≤ MOST_SIDE }
+        ensures filled { words.new ≡ filled_words words.old rect.x0 rect.y0 rect.x1 rect.y1
+            (laid (has stamp.now) from.x from.y rect.x0 rect.y0) }
         ensures changed { result ≡ words_changed words.old words.new }
     {
         let mut changed = 0;
@@ -31,10 +32,11 @@ impl TileBits {
 
     /// Whether `lay` would change a cell.
     pub fn would_lay(words: &[u64; 64], rect: Rect, stamp: &Bitmap, from: Cell) -> bool
-        requires columns { rect.x1 ≤ 64 }
-        requires rows { rect.y1 ≤ 64 }
-        requires from { from.y ≤ 4096 }
-        ensures { result ≡ words_differ words.now (filled_words words.now rect.x0 rect.y0 rect.x1 rect.y1 (laid (has stamp.now) from.x from.y rect.x0 rect.y0)) }
+        requires columns { rect.x1 ≤ TILE_SIDE }
+        requires rows { rect.y1 ≤ TILE_SIDE }
+        requires from { from.y ≤ MOST_SIDE }
+        ensures { result ≡ words_differ words.now (filled_words words.now rect.x0 rect.y0 rect.x1 rect.y1
+            (laid (has stamp.now) from.x from.y rect.x0 rect.y0)) }
     {
         'rows: for y in rect.y0..rect.y1 {
             let old = words[usize::from(y)];
@@ -48,10 +50,10 @@ impl TileBits {
 
 /// The row `y` of a tile once the bitmap is laid on the rectangle.
 fn laid_row(old: u64, y: u16, rect: Rect, stamp: &Bitmap, from: Cell) -> u64
-    requires columns { rect.x1 ≤ 64 }
+    requires columns { rect.x1 ≤ TILE_SIDE }
     requires above { rect.y0 ≤ y }
-    requires row { y < 64 }
-    requires from { from.y ≤ 4096 }
+    requires row { y < TILE_SIDE }
+    requires from { from.y ≤ MOST_SIDE }
     ensures { result ≡ filled_word old rect.x0 rect.x1 (λ j. laid (has stamp.now) from.x from.y rect.x0 rect.y0 j y) }
 {
     let cells = row_from(stamp, from.x, from.y + (y - rect.y0));
@@ -83,10 +85,11 @@ fn word_at(row: &[u64], place: usize) -> u64
     if place < row.len() { row[place] } else { 0 }
 }
 
-/// The 64 columns from `shift` on of two words that lie beside one another.
+/// The 64 columns from `shift` on of two words that lie next to one another.
 fn joined(left: u64, right: u64, shift: u32) -> u64
     requires { shift < 64 }
-    ensures { (j : ℕ) → j < 64 → bit_at result j ≡ (if nat_lt (shift + j) 64 then bit_at left (shift + j) else bit_at right (shift + j - 64)) }
+    ensures { (j : ℕ) → j < 64 → bit_at result j ≡ (if nat_lt (shift + j) 64 then bit_at left (shift + j)
+        else bit_at right (shift + j - 64)) }
 {
     if shift == 0 {
         left

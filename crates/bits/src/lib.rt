@@ -1,6 +1,7 @@
 //! Bitmaps: a size and a set of cells, kept as words of 64 bits.
 #![tactic(auto)]
 
+mod band;
 mod bitmap;
 mod fill;
 mod laws;
@@ -9,6 +10,7 @@ mod stamp;
 mod tile;
 mod tile_bits;
 mod word;
+mod write;
 
 pub use bitmap::Bitmap;
 pub use laws::{tiles_count_all_changes, tiles_fill_their_part, words_count_changes};

@@ -6,26 +6,26 @@ ghost use Rattle.bits.specs.Cells.{IsBitmap};
 ghost use Rattle.bits.specs.Words.{words_across};
 ghost use Rattle.bits.specs.Writes.{with_tile};
 
+use crate::band::marked_by;
 use crate::bitmap::Bitmap;
-
-/// How many cells a tile has across and down.
-const TILE_SIDE: u16 = 64;
+use crate::write::write_tile;
+use metric::{MOST_TILES, TILE_SIDE};
 
 impl Bitmap {
     /// How many tiles of 64 by 64 cells the bitmap has, the tiles at its edge with them: 1 to 4096.
     pub fn tiles(&self) -> u16
         ensures tiles { result ≡ tile_count self.now }
-        ensures few { result ≤ 4096 }
+        ensures few { result ≤ MOST_TILES }
         ensures bitmap { IsBitmap self.now }
     {
         self.tiles_across() * self.height().div_ceil(TILE_SIDE)
     }
 
-    /// How many tiles lie beside one another.
+    /// How many tiles lie next to one another.
     fn tiles_across(&self) -> u16
         ensures across { result ≡ words_across self.now.width }
         ensures some { 1 ≤ result }
-        ensures few { result ≤ 64 }
+        ensures few { result ≤ TILE_SIDE }
     {
         self.width().div_ceil(TILE_SIDE)
     }
@@ -33,7 +33,7 @@ impl Bitmap {
     /// The row of the tile at this position, from 0 to 63, as a word: bit j is column j, and 0 past the bitmap's edge.
     pub fn tile_row(&self, position: u16, row: u16) -> u64
         requires position { position < tile_count self.now }
-        requires row { row < 64 }
+        requires row { row < TILE_SIDE }
         ensures { result ≡ row_word self.now position row }
     {
         let height = self.height();
@@ -52,11 +52,9 @@ impl Bitmap {
         ensures written { self.new ≡ with_tile self.old position words.now }
         ensures bitmap { IsBitmap self.new }
     {
-        let height = self.height();
-        let across = self.tiles_across();
-        let top = TILE_SIDE * (position / across);
-        'rows: for y in top..(top + TILE_SIDE).min(height) {
-            self.set_word(y, position % across, words[usize::from(y - top)]);
-        }
+        let top = TILE_SIDE * (position / self.tiles_across());
+        let cells = self.words.as_mut_slice();
+        write_tile(cells, self.width, self.height, position, words);
+        self.bands = marked_by(self.bands, top, words);
     }
 }

@@ -3,12 +3,11 @@
 ghost use Rattle.std.specs.Prelude.{◌≡◌, ◌≢◌, ℕ, ◌<◌, ◌≤◌, Bool, IsTrue, ◌↔◌, cond};
 ghost use Rattle.std.specs.Int.{bit_at};
 
-/// How many cells a word holds.
-pub const WORD_BITS: usize = 64;
+use metric::WORD_BITS;
 
 /// Whether the bit at this place is 1.
 pub fn has_bit(word: u64, place: u32) -> bool
-    requires { place < 64 }
+    requires { place < WORD_BITS }
     ensures { IsTrue result ↔ (bit_at word place ≡ 1) }
 {
     (word >> place) & 1 == 1
@@ -16,9 +15,9 @@ pub fn has_bit(word: u64, place: u32) -> bool
 
 /// The word with the bit at this place written anew.
 pub fn with_bit(word: u64, place: u32, bit: bool) -> u64
-    requires { place < 64 }
+    requires { place < WORD_BITS }
     ensures here { bit_at result place ≡ cond bit 1 0 }
-    ensures others { (other : ℕ) → other < 64 → other ≢ place → bit_at result other ≡ bit_at word other }
+    ensures others { (other : ℕ) → other < WORD_BITS → other ≢ place → bit_at result other ≡ bit_at word other }
 {
     if bit {
         word | (1 << place)
@@ -29,8 +28,8 @@ pub fn with_bit(word: u64, place: u32, bit: bool) -> u64
 
 /// The word with its bits from the place `count` on made 0.
 pub fn low_bits(word: u64, count: u16) -> u64
-    ensures kept { (i : ℕ) → i < count → i < 64 → bit_at result i ≡ bit_at word i }
-    ensures cleared { (i : ℕ) → count ≤ i → i < 64 → bit_at result i ≡ 0 }
+    ensures kept { (i : ℕ) → i < count → i < WORD_BITS → bit_at result i ≡ bit_at word i }
+    ensures cleared { (i : ℕ) → count ≤ i → i < WORD_BITS → bit_at result i ≡ 0 }
 {
     if count < 64 {
         word & ((1 << count) - 1)

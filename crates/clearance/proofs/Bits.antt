@@ -3,10 +3,9 @@ use Rattle.std.proofs.Common.{◌≡◌, ℕ, suc, ◌-◌, ◌*◌, ◌/◌, �
 use Rattle.std.specs.Int.{bit_at}
 use Rattle.std.specs.Int.Count.{count_leading_zeros}
 use lib.Bits.{bit_and}
-use Rattle.std.specs.Int.RustNames.{bit_or}
 use Rattle.std.proofs.Math.Nat.{div-lt_iff_lt-mul, le-div_iff_mul-le}
 use Rattle.std.proofs.lemmas.Nat.{leading_top}
-use Rattle.std.proofs.lemmas.Nat.Bits.{bit_at_and, bit_at_above, bit_at-lt, bit_at_or, bit_at-zero, same_from_bits, bit_at_mask_inside, bit_at_mask_below}
+use Rattle.std.proofs.lemmas.Nat.Bits.{bit_at_and, bit_at_above, bit_at-lt, bit_at_mask_inside, bit_at_mask_below}
 
 -- a number from 2 ^ j to below twice that has the bit j
 top_bit : (n j : ℕ) → 2 ^ j ≤ n → n < 2 ^ suc j → bit_at n j ≡ 1
@@ -38,18 +37,3 @@ pub bit_at-and_from_below : (n k i : ℕ) → i < k → bit_at (bit_and n (2 ^ 6
 bit_at-and_from_below n k i below =
     let outside = bit_at_mask_below k 64 i below in
     bit_at_and n (2 ^ 64 - 2 ^ k) i ∙ rw outside (omega arith)
-
--- a bit that the one number has, the joined number has
-pub joined_more : (new word i : ℕ) → bit_at word i ≤ bit_at (bit_or new word) i
-joined_more new word i = rw (bit_at_or new word i) (omega arith)
-
--- and a bit that was joined before
-pub joined_before : (new word bit i : ℕ) → bit ≤ bit_at new i → bit ≤ bit_at (bit_or new word) i
-joined_before new word bit i before = rw (bit_at_or new word i) (omega arith)
-
--- where nothing was joined, each number was 0
-pub joined_none : (word new : ℕ) → new ≡ 0 → ((i : ℕ) → bit_at word i ≤ bit_at new i) → word ≡ 0
-joined_none word new none less = same_from_bits word 0 (λ i.
-    let zero = bit_at-zero i in
-    let less_here : bit_at word i ≤ bit_at 0 i = rw (← none) (less i) in
-    rw zero (omega (arith, less_here, zero)))

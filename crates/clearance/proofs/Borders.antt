@@ -15,10 +15,10 @@ use Rattle.bits.specs.Edges.{IsBlocked, IsFrame, IsFrameCell, IsFramed, less_one
 use Rattle.bits.proofs.CellsLemmas.{has-outside}
 use Rattle.bits.proofs.Framing.{count, count_back, distance_less, frame_cell, framed_blocked, same_distance}
 use Rattle.clearance.specs.declared.found.Found.{Found}
-use Rattle.clearance.specs.Nearest.{IsFound, IsNearCell}
+use Rattle.clearance.specs.Nearest.{IsFound}
 use Rattle.clearance.specs.Rows.{IsFar}
 use Rattle.clearance.specs.Search.{IsInRect, IsLeastBelow, IsLeastInBits, IsReachedFrom}
-use Rattle.clearance.specs.Frames.{IsBetter, IsFoundBelow, IsLoweredByFrame, key_found, moved}
+use Rattle.clearance.specs.Frames.{IsBetterOfBoth, IsFoundBelow, IsLoweredByFrame, key_found, counted_with_frame}
 
 -- a key by its parts
 abbrev key_with : ℕ → ℕ → ℕ → ℕ → Key
@@ -31,11 +31,11 @@ at_most_found d x y p q p_is q_is most =
     subst (λ (n : ℕ). IsAtMost (key_of d x y p.cell.x p.cell.y) (key_with n q.cell.x (abs_diff y q.cell.y) q.cell.y)) q_is
     (subst (λ (n : ℕ). IsAtMost (key_with n p.cell.x (abs_diff y p.cell.y) p.cell.y) (key_found y q)) p_is most)
 
--- the distance of two cells, counted with the frame
+-- the distance of two cells is the same counted with the frame
 moved_distance : (d : ℕ → ℕ → ℕ) (x y a b : ℕ) → distance_between d x y a b ≡ distance_between d (x + 1) (y + 1) (a + 1) (b + 1)
 moved_distance d x y a b = same_distance d (abs_diff x a) (abs_diff (x + 1) (a + 1)) (abs_diff y b) (abs_diff (y + 1) (b + 1)) (omega arith) (omega arith)
 
--- the order of two cells, counted with the frame
+-- the order of two cells is the same counted with the frame
 moved_at_most : (d : ℕ → ℕ → ℕ) (x y a b c e : ℕ) → IsAtMost (key_of d x y a b) (key_of d x y c e) → IsAtMost (key_of d (x + 1) (y + 1) (a + 1) (b + 1)) (key_of d (x + 1) (y + 1) (c + 1) (e + 1))
 moved_at_most d x y a b c e most =
     let here = moved_distance d x y a b in
@@ -75,7 +75,7 @@ own_least d cells x y own found c e black = moved_at_most d x y own.cell.x own.c
 
 -- the better of the frame's and the map's own nearest is the nearest of the map with its frame
 pub best_framed : (d : ℕ → ℕ → ℕ) (cells : Cells) (x y : ℕ) (frame : Found) (own : Option Found) (best : Found) → IsFound d (IsFrameCell (cells.width + 1) (cells.height + 1)) (x + 1) (y + 1) frame
-    → IsFoundBelow d (IsObstacle cells) x y (frame.dist + 1) own → IsBetter (y + 1) frame own best → IsFound d (IsFramed cells) (x + 1) (y + 1) best
+    → IsFoundBelow d (IsObstacle cells) x y (frame.dist + 1) own → IsBetterOfBoth (y + 1) frame own best → IsFound d (IsFramed cells) (x + 1) (y + 1) best
 best_framed d cells x y frame None best of_frame none is = subst (λ (f : Found). IsFound d (IsFramed cells) (x + 1) (y + 1) f) (sym is) (record {
   obstacle = inl of_frame.obstacle;
   distance_is = of_frame.distance_is;
@@ -90,7 +90,7 @@ best_framed d cells x y frame None best of_frame none is = subst (λ (f : Found)
 })
 best_framed d cells x y frame (Some own) best of_frame found (inl (is, most)) =
     let dist : own.dist ≡ distance_between d (x + 1) (y + 1) (own.cell.x + 1) (own.cell.y + 1) = found.distance_is ∙ moved_distance d x y own.cell.x own.cell.y in
-    let ahead = at_most_found d (x + 1) (y + 1) (moved own) frame dist of_frame.distance_is most in
+    let ahead = at_most_found d (x + 1) (y + 1) (counted_with_frame own) frame dist of_frame.distance_is most in
     subst (λ (f : Found). IsFound d (IsFramed cells) (x + 1) (y + 1) f) (sym is) (record {
       obstacle = own_framed cells own.cell.x own.cell.y found.obstacle;
       distance_is = dist;
@@ -101,7 +101,7 @@ best_framed d cells x y frame (Some own) best of_frame found (inl (is, most)) =
     })
 best_framed d cells x y frame (Some own) best of_frame found (inr (is, most)) =
     let dist : own.dist ≡ distance_between d (x + 1) (y + 1) (own.cell.x + 1) (own.cell.y + 1) = found.distance_is ∙ moved_distance d x y own.cell.x own.cell.y in
-    let ahead = at_most_found d (x + 1) (y + 1) frame (moved own) of_frame.distance_is dist most in
+    let ahead = at_most_found d (x + 1) (y + 1) frame (counted_with_frame own) of_frame.distance_is dist most in
     subst (λ (f : Found). IsFound d (IsFramed cells) (x + 1) (y + 1) f) (sym is) (record {
       obstacle = inl of_frame.obstacle;
       distance_is = of_frame.distance_is;
@@ -112,7 +112,7 @@ best_framed d cells x y frame (Some own) best of_frame found (inr (is, most)) =
     })
 
 -- what is found in a bitmap lies in it
-pub found_small : (d : ℕ → ℕ → ℕ) (cells : Cells) (x y limit : ℕ) (own : Option Found) → IsBitmap cells → IsFoundBelow d (IsObstacle cells) x y limit own → IfSome own (λ found. (found.cell.x ≤ 4095) × (found.cell.y ≤ 4095))
+pub found_small : (d : ℕ → ℕ → ℕ) (cells : Cells) (x y limit : ℕ) (own : Option Found) → IsBitmap cells → IsFoundBelow d (IsObstacle cells) x y limit own → IfSome own (λ found. (found.cell.x < 4096) × (found.cell.y < 4096))
 found_small d cells x y limit None bitmap none = tt
 found_small d cells x y limit (Some own) bitmap found =
     let inside = has-outside cells bitmap own.cell.x own.cell.y found.obstacle in
@@ -172,7 +172,7 @@ side_reached d cells rect limit least columns rows low less =
       | inr (inr (inr end)) ↦ frame_reached d cells rect least rect.x0 (rect.y1 - 1) (rect.x0 + 1) (cells.height + 1) 0 (cells.height - (rect.y1 - 1)) lower_corner (record { column = omega arith; row = omega arith; edge = inr (inr (inr refl)) }) (omega arith) (omega arith) end
     ]
 
--- the least among the bitmap's obstacles, reached by their spots
+-- the least among the obstacles of the bitmap is reached by their spots
 cells_reached : (d : ℕ → ℕ → ℕ) (cells : Cells) (rect : Rect) (limit least : ℕ) → IsLeastInBits d (IsObstacle cells) rect limit least → least < limit → IsReachedFrom d (IsBlocked cells Wall) (IsInRect rect) least
 cells_reached d cells rect limit least is less =
     let reached = is.reached less in
@@ -206,7 +206,7 @@ walled_far d grows stays cells rect limit middle least bitmap columns rows low i
     let here : spot_distance d x y a b ≡ spot_distance d x y (less_one counted.a) (less_one counted.b) = ap (λ (s : ℤ). spot_distance d x y s b) counted.column ∙ ap (λ (s : ℤ). spot_distance d x y (less_one counted.a) s) counted.row in
     record { not_below = omega arith; is_limit = omega arith }
 
--- the least of the frame and of the map's own obstacles
+-- the least of the frame and then of the own obstacles of a map is that of the walled map
 pub IsLeastBelow-wall : (d : ℕ → ℕ → ℕ) → Grows d → StaysNearer d → (cells : Cells) (rect : Rect) (limit middle least : ℕ) → IsBitmap cells → rect.x1 ≤ cells.width → rect.y1 ≤ cells.height
     → IsLoweredByFrame d cells.width cells.height rect limit middle → IsLeastInBits d (IsObstacle cells) rect middle least → IsLeastBelow d (IsBlocked cells Wall) rect limit least
 IsLeastBelow-wall d grows stays cells rect limit middle least bitmap columns rows low is = record {
@@ -237,12 +237,3 @@ IsLeastBelow-open d cells rect limit least is = record {
       let reached = is.reached less in
       record { x = reached.x; y = reached.y; cell = reached.cell; a = pos reached.a; b = pos reached.b; obstacle = reached.obstacle; distance_is = reached.distance_is };
 }
-
--- the nearest of all, where some obstacle is below a limit
-pub IsFoundBelow-all : (d : ℕ → ℕ → ℕ) (Obstacle : ℕ → ℕ → Type 0) (x y limit : ℕ) (found : Option Found) → IsNearCell d Obstacle x y found → IsFoundBelow d Obstacle x y limit found
-IsFoundBelow-all d Obstacle x y limit None none = λ a b obstacle. absurd (none a b obstacle)
-IsFoundBelow-all d Obstacle x y limit (Some found) is = is
-
--- a rectangle of one cell whose least isn't below the limit
-pub IsFoundBelow-none : (d : ℕ → ℕ → ℕ) (Obstacle : ℕ → ℕ → Type 0) (rect : Rect) (x y limit least : ℕ) → IsInRect rect x y → IsLeastInBits d Obstacle rect limit least → limit ≤ least → IsFoundBelow d Obstacle x y limit None
-IsFoundBelow-none d Obstacle rect x y limit least cell is no_less = λ a b obstacle. let far = (is.far x y a b cell obstacle).not_below in omega arith

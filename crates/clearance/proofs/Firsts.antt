@@ -6,18 +6,18 @@ use Rattle.metric.specs.declared.near.Near.{Near}
 use Rattle.metric.specs.Nearest.{spot_distance, spot_key, IsNearest}
 use Rattle.metric.proofs.NearestLemmas.{IsNoGreater-distance}
 use Rattle.clearance.specs.Answers.{IsNearestAt, IsLeastOf, IsClearOf}
-use Rattle.clearance.specs.Firsts.{IsCellNear, IsCellWithNear, origin, cell_in, distance_at, AreFarBefore, IsFirstOrNone}
+use Rattle.clearance.specs.Firsts.{IsCellNear, IsCellWithNear, origin, cell_of_list, distance_at, AreFarBefore, IsFirstOrNone}
 
 -- the nearest obstacle is no farther than any
-pub nearest-least : (distance : ℕ → ℕ → ℕ) (Obstacle : ℤ → ℤ → Type 0) (x y : ℕ) (near : Near) (a b : ℤ) → IsNearest distance Obstacle x y near → Obstacle a b → near.dist ≤ spot_distance distance x y a b
+nearest-least : (distance : ℕ → ℕ → ℕ) (Obstacle : ℤ → ℤ → Type 0) (x y : ℕ) (near : Near) (a b : ℤ) → IsNearest distance Obstacle x y near → Obstacle a b → near.dist ≤ spot_distance distance x y a b
 nearest-least distance Obstacle x y near a b is obstacle =
     let most = IsNoGreater-distance (spot_key distance x y near.cell.x near.cell.y) (spot_key distance x y a b) (is.least a b obstacle) in
     let dist = is.distance_is in
     omega arith
 
--- the cell of the list behind cells that are far, with its nearest obstacle
+-- a cell of the list after cells that are far is the first one that is near, with its nearest obstacle
 pub IsFirstOrNone-at : (distance : ℕ → ℕ → ℕ) (Obstacle : ℤ → ℤ → Type 0) (cells : List Cell) (limit place : ℕ) (cell : Cell) (found : Option (Cell × Near))
-    → place < length cells → cell_in cells place ≡ cell → IsCellNear distance Obstacle limit cell.x cell.y → AreFarBefore distance Obstacle cells limit place
+    → place < length cells → cell_of_list cells place ≡ cell → IsCellNear distance Obstacle limit cell.x cell.y → AreFarBefore distance Obstacle cells limit place
     → IsCellWithNear distance Obstacle cell found → IsFirstOrNone distance Obstacle cells limit found
 IsFirstOrNone-at distance Obstacle cells limit place cell None within here near before none = λ i a b inside obstacle. absurd (none a b obstacle)
 IsFirstOrNone-at distance Obstacle cells limit place cell (Some found) within here near before with = record {
@@ -34,7 +34,7 @@ IsFirstOrNone-at distance Obstacle cells limit place cell (Some found) within he
 
 -- a cell of the list, whatever stands in for one past its end
 at_default : (distance : ℕ → ℕ → ℕ) (Obstacle : ℤ → ℤ → Type 0) (cells : List Cell) (i : ℕ) (cell : Cell) (other : Near) → i < length cells → IsNearestAt distance Obstacle cells i cell other
-    → IsNearest distance Obstacle (cell_in cells i).x (cell_in cells i).y other
+    → IsNearest distance Obstacle (cell_of_list cells i).x (cell_of_list cells i).y other
 at_default distance Obstacle cells i cell other within is =
     subst (λ (c : Cell). IsNearest distance Obstacle c.x c.y other) (get_or_default cells i cell origin within) is
 
@@ -64,7 +64,7 @@ IsClearOf-first distance Obstacle cells d (Some found) first = record {
 
 -- the first cell that has an obstacle at the least distance of all
 pub IsLeastOf-first : (distance : ℕ → ℕ → ℕ) (Obstacle : ℤ → ℤ → Type 0) (cells : List Cell) (least : ℕ) (found : Option (Cell × Near))
-    → AreFarBefore distance Obstacle cells least (length cells) → (place : ℕ) → place < length cells → IsCellNear distance Obstacle (least + 1) (cell_in cells place).x (cell_in cells place).y
+    → AreFarBefore distance Obstacle cells least (length cells) → (place : ℕ) → place < length cells → IsCellNear distance Obstacle (least + 1) (cell_of_list cells place).x (cell_of_list cells place).y
     → IsFirstOrNone distance Obstacle cells (least + 1) found → IsLeastOf distance Obstacle cells found
 IsLeastOf-first distance Obstacle cells least None all place within near far =
     let low = far place near.a near.b within near.obstacle in

@@ -39,7 +39,7 @@ abbrev pub IsInColumn : ℕ → ℕ → ℕ → ℕ → Type 0
 IsInColumn bottom column a b = (a ≡ column) × (b ≤ bottom)
 
 -- of the frame's first or last column the cell in the same row is the nearest
-pub IsFound-column : (d : ℕ → ℕ → ℕ) → Grows d → (right bottom x y column dist gap : ℕ) → IsFramedIn right bottom x y → column ≤ right → gap ≡ abs_diff x column → dist ≡ d gap 0
+IsFound-column : (d : ℕ → ℕ → ℕ) → Grows d → (right bottom x y column dist gap : ℕ) → IsFramedIn right bottom x y → column ≤ right → gap ≡ abs_diff x column → dist ≡ d gap 0
     → IsNearestCell d (IsInColumn bottom column) x y dist column y
 IsFound-column d grows right bottom x y column dist gap within inside gap_is dist_is =
     let x_before = within.before in
@@ -117,7 +117,7 @@ IsFound-along d grows stays right bottom x y column row gap dist within first ga
     }
 
 -- of what is found in two sets, of which the first lies further left, that with the lesser distance is the nearest of both, and the first where these are equal
-pub IsFound-nearer : (d : ℕ → ℕ → ℕ) (P Q : ℕ → ℕ → Type 0) (x y : ℕ) (p q r : Found) → p.cell.x < q.cell.x → (p.dist ≤ q.dist → r ≡ p) → (q.dist < p.dist → r ≡ q)
+IsFound-nearer : (d : ℕ → ℕ → ℕ) (P Q : ℕ → ℕ → Type 0) (x y : ℕ) (p q r : Found) → p.cell.x < q.cell.x → (p.dist ≤ q.dist → r ≡ p) → (q.dist < p.dist → r ≡ q)
     → IsFound d P x y p → IsFound d Q x y q → IsFound d (λ a b. P a b ⊎ Q a b) x y r
 IsFound-nearer d P Q x y p q r left first second found other =
     let p_is = found.distance_is in
@@ -148,8 +148,8 @@ IsFound-nearer d P Q x y p q r left first second found other =
           })
     ]
 
--- the same set, said otherwise
-pub IsFound-same : (d : ℕ → ℕ → ℕ) (P Q : ℕ → ℕ → Type 0) (x y : ℕ) (r : Found) → ((a b : ℕ) → P a b → Q a b) → ((a b : ℕ) → Q a b → P a b) → IsFound d P x y r → IsFound d Q x y r
+-- what is nearest among a set is nearest among another set of the same cells
+IsFound-same : (d : ℕ → ℕ → ℕ) (P Q : ℕ → ℕ → Type 0) (x y : ℕ) (r : Found) → ((a b : ℕ) → P a b → Q a b) → ((a b : ℕ) → Q a b → P a b) → IsFound d P x y r → IsFound d Q x y r
 IsFound-same d P Q x y r there back found = record {
   obstacle = there r.cell.x r.cell.y found.obstacle;
   distance_is = found.distance_is;
@@ -161,7 +161,7 @@ abbrev pub IsPart : ℕ → ℕ → ℕ → ℕ → Type 0
 IsPart right bottom a b = (IsInColumn bottom 0 a b ⊎ IsAlong right bottom a b) ⊎ IsInColumn bottom right a b
 
 -- a cell of a part is one of the frame
-pub part_frame : (right bottom a b : ℕ) → IsPart right bottom a b → IsFrameCell right bottom a b
+part_frame : (right bottom a b : ℕ) → IsPart right bottom a b → IsFrameCell right bottom a b
 part_frame right bottom a b (inl (inl first)) = let column = first.0 in let row = first.1 in record { column = omega arith; row = row; edge = inl column }
 part_frame right bottom a b (inl (inr along)) =
     let before = along.1 in
@@ -173,7 +173,7 @@ part_frame right bottom a b (inl (inr along)) =
 part_frame right bottom a b (inr last) = let column = last.0 in let row = last.1 in record { column = omega arith; row = row; edge = inr (inl column) }
 
 -- a cell of the frame is one of a part
-pub frame_part : (right bottom a b : ℕ) → IsFrameCell right bottom a b → IsPart right bottom a b
+frame_part : (right bottom a b : ℕ) → IsFrameCell right bottom a b → IsPart right bottom a b
 frame_part right bottom a b frame =
     let column = frame.column in
     elim (cases_lt 0 a) [
@@ -194,15 +194,6 @@ pub before_more : (d : ℕ → ℕ → ℕ) → StaysNearer d → (x gap low mid
 before_more d stays x gap low middle columns rows within far c some before =
     let grown = of_grows_with_dx d stays (x - middle) (x - c) gap (omega arith) (omega arith) rows in
     omega arith
-
--- the column itself is as near
-pub as_near_here : (d : ℕ → ℕ → ℕ) (x gap : ℕ) → d (x - x) gap ≤ d 0 gap
-as_near_here d x gap = let none : x - x ≡ 0 = omega arith in rw none (omega arith)
-
--- where the bounds meet, the first is found
-pub first_found : (d : ℕ → ℕ → ℕ) (x gap low high : ℕ) → 1 ≤ low → high ≤ x → low ≡ high → d (x - high) gap ≤ d 0 gap
-    → ((c : ℕ) → 1 ≤ c → c < low → d 0 gap < d (x - c) gap) → IsFirstAsNear d x gap low
-first_found d x gap low high some within same as_near before = record { some = some; within = omega arith; as_near = rw same as_near; before = before }
 
 -- what is found in the first column and along the rows, and then in the last column, is found in the frame
 pub IsFound-frame : (d : ℕ → ℕ → ℕ) → Grows d → (right bottom x y last : ℕ) (first along one both : Found) → IsFramedIn right bottom x y → first ≡ record { dist = first.dist; cell = record { x = 0; y = y } } → first.dist ≡ d x 0

@@ -1,15 +1,16 @@
-pub mod Bits
-pub mod Firsts
-pub mod FrameLemmas
-pub mod Borders
-pub mod NearestSearches
-pub mod PieceFirsts
-pub mod RectFirsts
-pub mod Rectangles
+mod BandRows
+mod Bits
+mod Firsts
+mod FrameLemmas
+mod Borders
+mod NearestSearches
+mod PieceFirsts
+mod RectFirsts
+mod Rectangles
 pub mod Refusals
-pub mod RowSearches
+mod RowSearches
 pub mod RowWords
-pub mod Searches
-pub mod Stretches
-pub mod StripLines
-pub mod Walks
+mod Searches
+mod Stretches
+mod StripLines
+mod Walks

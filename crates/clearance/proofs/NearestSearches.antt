@@ -11,7 +11,7 @@ use Rattle.bits.specs.Cells.{Cells, IsBitmap, IsObstacle}
 use Rattle.bits.specs.Words.{IsRowOf}
 use Rattle.clearance.specs.Rows.{IsFar, IsFirstMark, IsLastMark, IsNextNearer, IsLastNearer}
 use Rattle.clearance.specs.declared.found.Found.{Found}
-use Rattle.clearance.specs.Nearest.{IsFound, IsNearCell, IsNearAmong, limit_of, IsWithin, IsWithinOrAbove, IsRowBefore, IsRowUpTo, IsSeenInRow, IsAhead, IsBetter}
+use Rattle.clearance.specs.Nearest.{IsFound, IsNearCell, IsNearAmong, limit_of, IsWithin, IsWithinOrAbove, IsRowFirst, IsRowUpTo, IsSeenInRow, IsAhead, IsBetter}
 use Rattle.clearance.proofs.RowSearches.{mark_within}
 use Rattle.clearance.proofs.Searches.{marked_obstacle, obstacle_marked, obstacle_within, unmarked_row}
 
@@ -27,7 +27,7 @@ IsNearAmong-same distance Obstacle IsSeen IsNext x y (Some near) there back is =
 }
 
 -- obstacles that are far leave the best as it is
-pub IsNearAmong-far : (distance : ℕ → ℕ → ℕ) (Obstacle IsSeen IsNext : ℕ → ℕ → Type 0) (x y : ℕ) (best : Option Found)
+IsNearAmong-far : (distance : ℕ → ℕ → ℕ) (Obstacle IsSeen IsNext : ℕ → ℕ → Type 0) (x y : ℕ) (best : Option Found)
     → ((a b : ℕ) → Obstacle a b → IsSeen a b → IsNext a b)
     → ((a b : ℕ) → Obstacle a b → IsNext a b → IsSeen a b ⊎ IsFar (distance_between distance x y a b) (limit_of best))
     → IsNearAmong distance Obstacle IsSeen x y best → IsNearAmong distance Obstacle IsNext x y best
@@ -45,7 +45,7 @@ IsNearAmong-far distance Obstacle IsSeen IsNext x y (Some near) there back is = 
 }
 
 -- once all obstacles have been looked at, the best is the nearest
-pub IsNearAmong-all : (distance : ℕ → ℕ → ℕ) (Obstacle IsSeen : ℕ → ℕ → Type 0) (x y : ℕ) (best : Option Found)
+IsNearAmong-all : (distance : ℕ → ℕ → ℕ) (Obstacle IsSeen : ℕ → ℕ → Type 0) (x y : ℕ) (best : Option Found)
     → ((a b : ℕ) → Obstacle a b → IsSeen a b) → IsNearAmong distance Obstacle IsSeen x y best → IsNearCell distance Obstacle x y best
 IsNearAmong-all distance Obstacle IsSeen x y None all none = λ a b obstacle. none a b (obstacle, all a b obstacle)
 IsNearAmong-all distance Obstacle IsSeen x y (Some near) all is = record {
@@ -88,7 +88,7 @@ behind_at_most distance x y one other one_is other_is behind = elim (cases_lt ot
 ]
 
 -- one obstacle more, in a row that isn't before those that have been looked at
-pub IsNearAmong-more : (distance : ℕ → ℕ → ℕ) (Obstacle IsSeen IsNext : ℕ → ℕ → Type 0) (x y : ℕ) (best : Option Found) (next better : Found)
+IsNearAmong-more : (distance : ℕ → ℕ → ℕ) (Obstacle IsSeen IsNext : ℕ → ℕ → Type 0) (x y : ℕ) (best : Option Found) (next better : Found)
     → Obstacle next.cell.x next.cell.y → IsNext next.cell.x next.cell.y → next.dist ≡ distance_between distance x y next.cell.x next.cell.y
     → ((a b : ℕ) → IsSeen a b → IsNext a b)
     → ((a b : ℕ) → Obstacle a b → IsNext a b → IsSeen a b ⊎ IsAtMost (key_of distance x y next.cell.x next.cell.y) (key_of distance x y a b))
@@ -136,14 +136,14 @@ pub IsNearAmong-right : (distance : ℕ → ℕ → ℕ) → StaysNearer distanc
     → IsBitmap cells → x < cells.width → y < cells.height → row < cells.height → IsRowOf cells row words → length words ≤ 64 → gap ≡ abs_diff y row
     → IsFirstMark distance words x x gap limit column → dist ≡ distance (column - x) gap
     → IsBetter best (record { dist = dist; cell = record { x = column; y = row } }) better
-    → IsNearAmong distance (IsObstacle cells) (λ a b. IsRowBefore y row b) x y best
+    → IsNearAmong distance (IsObstacle cells) (λ a b. IsRowFirst y row b) x y best
     → IsFound distance (λ a b. IsObstacle cells a b × IsSeenInRow y row (λ a'. x ≤ a') a b) x y better
 IsNearAmong-right distance stays cells x y row gap limit dist column words best better bitmap inside_x inside_y inside_row is_row few gap_is mark dist_is is before =
     let order = mark.order in
     let across : column - x ≡ abs_diff x column = omega arith in
     let between : dist ≡ distance_between distance x y column row = dist_is ∙ (ap (λ (n : ℕ). distance n gap) across ∙ ap (distance (abs_diff x column)) gap_is) in
     let high = bitmap.height_is.few in
-    IsNearAmong-more distance (IsObstacle cells) (λ a b. IsRowBefore y row b) (IsSeenInRow y row (λ a'. x ≤ a')) x y best (record { dist = dist; cell = record { x = column; y = row } }) better
+    IsNearAmong-more distance (IsObstacle cells) (λ a b. IsRowFirst y row b) (IsSeenInRow y row (λ a'. x ≤ a')) x y best (record { dist = dist; cell = record { x = column; y = row } }) better
     (marked_obstacle cells row words column is_row mark.marked) (inr (refl, order)) between (λ a b seen. inl seen)
     (λ a b obstacle next. elim next [
       | inl seen ↦ inl seen
@@ -166,10 +166,10 @@ IsNearAmong-right distance stays cells x y row gap limit dist column words best 
 pub IsNearAmong-right_none : (distance : ℕ → ℕ → ℕ) (cells : Cells) (x y row gap limit : ℕ) (words : List ℕ) (best : Option Found)
     → IsBitmap cells → IsRowOf cells row words → gap ≡ abs_diff y row → limit ≡ limit_of best
     → IsNextNearer distance words x x gap limit None
-    → IsNearAmong distance (IsObstacle cells) (λ a b. IsRowBefore y row b) x y best
+    → IsNearAmong distance (IsObstacle cells) (λ a b. IsRowFirst y row b) x y best
     → IsNearAmong distance (IsObstacle cells) (IsSeenInRow y row (λ a. x ≤ a)) x y best
 IsNearAmong-right_none distance cells x y row gap limit words best bitmap is_row gap_is limit_is none before =
-    IsNearAmong-far distance (IsObstacle cells) (λ a b. IsRowBefore y row b) (IsSeenInRow y row (λ a. x ≤ a)) x y best (λ a b obstacle seen. inl seen)
+    IsNearAmong-far distance (IsObstacle cells) (λ a b. IsRowFirst y row b) (IsSeenInRow y row (λ a. x ≤ a)) x y best (λ a b obstacle seen. inl seen)
     (λ a b obstacle next. elim next [
       | inl seen ↦ inl seen
       | inr here ↦
@@ -248,9 +248,9 @@ IsNearAmong-left_none distance cells x y row gap limit end words best bitmap lef
 -- a row without an obstacle is done
 pub IsNearAmong-blank : (distance : ℕ → ℕ → ℕ) (cells : Cells) (x y row : ℕ) (words : List ℕ) (best : Option Found) → IsBitmap cells → IsRowOf cells row words
     → ((k : ℕ) → k < length words → get_or words k 0 ≡ 0)
-    → IsNearAmong distance (IsObstacle cells) (λ a b. IsRowBefore y row b) x y best → IsNearAmong distance (IsObstacle cells) (IsRowUpTo y row) x y best
+    → IsNearAmong distance (IsObstacle cells) (λ a b. IsRowFirst y row b) x y best → IsNearAmong distance (IsObstacle cells) (IsRowUpTo y row) x y best
 IsNearAmong-blank distance cells x y row words best bitmap is_row blank =
-    IsNearAmong-same distance (IsObstacle cells) (λ a b. IsRowBefore y row b) (IsRowUpTo y row) x y best (λ a b obstacle seen. inl seen)
+    IsNearAmong-same distance (IsObstacle cells) (λ a b. IsRowFirst y row b) (IsRowUpTo y row) x y best (λ a b obstacle seen. inl seen)
     (λ a b obstacle next. elim next [
       | inl seen ↦ seen
       | inr here ↦

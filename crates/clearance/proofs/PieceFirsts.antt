@@ -1,4 +1,4 @@
--- The cells behind a point, up to the next, as the lines of a strip, and as a piece of a path.
+-- The cells after a point, up to the next, as the lines of a strip, and as a piece of a path.
 use Rattle.std.proofs.Common.{◌≡◌, ℕ, ℤ, ◌+◌, ◌-◌, ◌^◌, ◌<◌, ◌≤◌, List, length, Option, refl, sym, subst, ◌∙◌, arith}
 use Rattle.metric.specs.declared.cell.Cell.{Cell}
 use Rattle.metric.specs.declared.near.Near.{Near}
@@ -8,7 +8,7 @@ use Rattle.clearance.specs.Paths.{towards, cells_up_to}
 use Rattle.clearance.specs.Rows.{IsFar}
 use Rattle.clearance.specs.Search.{IsInRect, IsLeastBelow}
 use Rattle.clearance.specs.Segments.{cell_count}
-use Rattle.clearance.specs.Firsts.{IsCellNear, IsCellWithNear, IsListNear, cell_in, AreFarBefore, IsFirstOrNone, IsLeastOver}
+use Rattle.clearance.specs.Firsts.{IsCellNear, IsCellWithNear, IsListNear, cell_of_list, IsFirstOrNone, IsLeastOver}
 use Rattle.clearance.specs.Answers.{IsLeastOf}
 use Rattle.clearance.specs.Strips.{IsOnLine, IsSomeNear, IsFirstNear}
 use Rattle.clearance.specs.declared.strip.Strip.{Strip}
@@ -21,12 +21,12 @@ pub record IsPieceStrip (from to : Cell) (strip : Strip) : Type 0 where
   pub to_is : strip.to ≡ to
   pub across : strip.across ≡ 1
 
--- a coordinate of a line
+-- a line of the strip of a piece starts at the coordinates of its step
 line_at : (strip : Strip) (from to : Cell) (k : ℕ) → IsPieceStrip from to strip → (towards strip.from.x strip.to.x k ≡ towards from.x to.x k) × (towards strip.from.y strip.to.y k ≡ towards from.y to.y k)
 line_at strip from to k is = (rw (is.from_is, is.to_is) refl, rw (is.from_is, is.to_is) refl)
 
 -- a cell of the piece is on the line of its step
-pub piece-line : (strip : Strip) (from to : Cell) (k : ℕ) → IsPieceStrip from to strip → IsOnLine strip (1 + k) (cell_of_step from to k).x (cell_of_step from to k).y
+piece-line : (strip : Strip) (from to : Cell) (k : ℕ) → IsPieceStrip from to strip → IsOnLine strip (1 + k) (cell_of_step from to k).x (cell_of_step from to k).y
 piece-line strip from to k is =
     let at = line_at strip from to (1 + k) is in
     let column = at.0 in
@@ -34,8 +34,8 @@ piece-line strip from to k is =
     let across = is.across in
     record { left = rw column (omega arith); right = rw (column, across) (omega arith); row = rw row refl }
 
--- and the line has no other cell
-pub line-piece : (strip : Strip) (from to : Cell) (k x y : ℕ) → IsPieceStrip from to strip → IsOnLine strip k x y → (towards from.x to.x k ≡ x) × (towards from.y to.y k ≡ y)
+-- a line of the strip of a piece has no cell but that of its step
+line-piece : (strip : Strip) (from to : Cell) (k x y : ℕ) → IsPieceStrip from to strip → IsOnLine strip k x y → (towards from.x to.x k ≡ x) × (towards from.y to.y k ≡ y)
 line-piece strip from to k x y is on_line =
     let at = line_at strip from to k is in
     let left = rw (at.0) at on_line.left in
@@ -44,7 +44,7 @@ line-piece strip from to k x y is on_line =
     (omega arith, sym row)
 
 -- a cell of the piece's list, as the end of a step
-pub cell_at : (from to : Cell) (i : ℕ) → i < length (cells_up_to from to) → (i < cell_count from to) × (cell_in (cells_up_to from to) i ≡ cell_of_step from to i)
+cell_at : (from to : Cell) (i : ℕ) → i < length (cells_up_to from to) → (i < cell_count from to) × (cell_of_list (cells_up_to from to) i ≡ cell_of_step from to i)
 cell_at from to i within =
     let size = length-cells_up_to from to in
     let step : i < cell_count from to = rw size at within in
@@ -72,7 +72,7 @@ IsLeastOver-piece distance Obstacle from to strip rect limit least count all onl
       let within : k - 1 < length (cells_up_to from to) = omega arith in
       let cell = cell_at from to (k - 1) within in
       let next : k ≡ 1 + (k - 1) = omega arith in
-      let here : cell_in (cells_up_to from to) (k - 1) ≡ record { x = reached.x; y = reached.y } = cell.1 ∙ rw (← next) (rw (at.0, at.1) refl) in
+      let here : cell_of_list (cells_up_to from to) (k - 1) ≡ record { x = reached.x; y = reached.y } = cell.1 ∙ rw (← next) (rw (at.0, at.1) refl) in
       (k - 1, within, reached.a, reached.b, reached.obstacle, subst (λ (c : Cell). spot_distance distance c.x c.y reached.a reached.b ≡ least) (sym here) reached.distance_is);
 }
 
@@ -102,7 +102,7 @@ IsFirstOrNone-piece distance Obstacle from to strip limit count step cell found 
     let at = line_at strip from to step is in
     let x : towards from.x to.x step ≡ cell.x = sym (x_is ∙ at.0) in
     let y : towards from.y to.y step ≡ cell.y = sym (y_is ∙ at.1) in
-    let cell_is : cell_in (cells_up_to from to) (step - 1) ≡ record { x = cell.x; y = cell.y } = here.1 ∙ rw (← next) (rw (x, y) refl) in
+    let cell_is : cell_of_list (cells_up_to from to) (step - 1) ≡ record { x = cell.x; y = cell.y } = here.1 ∙ rw (← next) (rw (x, y) refl) in
     let on = line-piece strip from to step first.near.x first.near.y is first.near.on_line in
     let near_x : first.near.x ≡ cell.x = sym on.0 ∙ x in
     let near_y : first.near.y ≡ cell.y = sym on.1 ∙ y in
@@ -116,11 +116,6 @@ IsFirstOrNone-piece distance Obstacle from to strip limit count step cell found 
     subst (λ (c : Cell). limit ≤ spot_distance distance c.x c.y a b) (sym before.1) far)
     with
 
--- a piece whose least isn't below the limit is far
-pub AreFarBefore-piece : (distance : ℕ → ℕ → ℕ) (Obstacle : ℤ → ℤ → Type 0) (cells : List Cell) (limit least : ℕ) → IsLeastOver distance Obstacle cells limit least → limit ≤ least
-    → AreFarBefore distance Obstacle cells limit (length cells)
-AreFarBefore-piece distance Obstacle cells limit least is no_less = λ i a b within obstacle. let far = (is.far i a b within obstacle).not_below in omega arith
-
 -- a piece whose least is below the limit has a cell that is near
 pub IsListNear-piece : (distance : ℕ → ℕ → ℕ) (Obstacle : ℤ → ℤ → Type 0) (cells : List Cell) (limit least : ℕ) → IsLeastOver distance Obstacle cells limit least → least < limit
     → IsListNear distance Obstacle cells limit
@@ -133,7 +128,7 @@ pub IsLeastOver-none : (distance : ℕ → ℕ → ℕ) (Obstacle : ℤ → ℤ 
     → (a b : ℤ) → Obstacle a b → ⊥
 IsLeastOver-none distance Obstacle cells limit least some is none a b obstacle = let small = (is.far 0 a b some obstacle).is_limit in absurd (omega arith)
 
--- the first cell at the least distance of all
+-- the first cell at the least distance of all is the nearest cell of a list
 pub IsLeastOf-over : (distance : ℕ → ℕ → ℕ) (Obstacle : ℤ → ℤ → Type 0) (cells : List Cell) (limit least : ℕ) (found : Option (Cell × Near)) → IsLeastOver distance Obstacle cells limit least → least < limit
     → IsFirstOrNone distance Obstacle cells (least + 1) found → IsLeastOf distance Obstacle cells found
 IsLeastOf-over distance Obstacle cells limit least found is less first =

@@ -10,18 +10,18 @@ use Rattle.metric.specs.Nearest.{spot_distance}
 use Rattle.clearance.specs.Answers.{cells_of_rect, IsLeastOf}
 use Rattle.clearance.specs.Paths.{towards}
 use Rattle.clearance.specs.Search.{IsInRect, IsLeastBelow}
-use Rattle.clearance.specs.Firsts.{IsCellNear, IsCellFar, IsRectNear, IsFirstRow, IsFirstColumn, IsCellWithNear, cell_in, IsFirstOrNone}
+use Rattle.clearance.specs.Firsts.{IsCellNear, IsCellFar, IsRectNear, IsFirstRow, IsFirstColumn, IsCellWithNear, cell_of_list, IsFirstOrNone}
 use Rattle.clearance.specs.Strips.{IsOnLine, IsSomeNear, IsFirstNear}
 use Rattle.clearance.specs.declared.strip.Strip.{Strip}
 use Rattle.clearance.proofs.Firsts.{IsFirstOrNone-at, IsLeastOf-first}
 use Rattle.clearance.proofs.Rectangles.{length-cells_of_rect, get_or-cells_of_rect, place_within}
 
 -- steps that stay before the end lead as far as they are many
-pub towards-within : (from to k : ℕ) → from + k ≤ to → towards from to k ≡ from + k
+towards-within : (from to k : ℕ) → from + k ≤ to → towards from to k ≡ from + k
 towards-within from to k within = grind (arith, nat_tests)
 
--- steps from a coordinate to itself lead nowhere
-pub towards-here : (n k : ℕ) → towards n n k ≡ n
+-- steps from a coordinate to itself end at it
+towards-here : (n k : ℕ) → towards n n k ≡ n
 towards-here n k = grind (arith, nat_tests)
 
 -- the strip of a rectangle's rows
@@ -32,7 +32,7 @@ pub record IsRowsStrip (rect : Rect) (strip : Strip) : Type 0 where
   pub to_y : strip.to.y ≡ rect.y1 - 1
   pub across : strip.across ≡ rect.x1 - rect.x0
 
--- where a line of it begins
+-- a line of the strip of rows begins at the first column of its row
 rows-at : (rect : Rect) (strip : Strip) (k : ℕ) → IsRowsStrip rect strip → rect.y0 + k < rect.y1
     → (towards strip.from.x strip.to.x k ≡ rect.x0) × (towards strip.from.y strip.to.y k ≡ rect.y0 + k)
 rows-at rect strip k is within =
@@ -53,7 +53,7 @@ rows-line rect strip x y is cell =
     let across = is.across in
     record { left = rw column left; right = rw (column, across) (omega arith); row = rw row (omega arith) }
 
--- and a cell of the line is one of the row
+-- a cell of a line of the strip of rows is one of its row in the rectangle
 line-rows : (rect : Rect) (strip : Strip) (k x y : ℕ) → IsRowsStrip rect strip → rect.y0 + k < rect.y1 → IsOnLine strip k x y → IsInRect rect x y × (y ≡ rect.y0 + k)
 line-rows rect strip k x y is within on_line =
     let at = rows-at rect strip k is within in
@@ -101,7 +101,7 @@ pub record IsColumnsStrip (rect : Rect) (y : ℕ) (strip : Strip) : Type 0 where
   pub to_y : strip.to.y ≡ y
   pub across : strip.across ≡ 1
 
--- where a line of it begins
+-- a line of the strip of columns begins at its column of the row
 columns-at : (rect : Rect) (strip : Strip) (y k : ℕ) → IsColumnsStrip rect y strip → rect.x0 + k < rect.x1
     → (towards strip.from.x strip.to.x k ≡ rect.x0 + k) × (towards strip.from.y strip.to.y k ≡ y)
 columns-at rect strip y k is within =
@@ -118,7 +118,7 @@ columns-line rect strip x y is left right =
     let across = is.across in
     record { left = rw column (omega arith); right = rw (column, across) (omega arith); row = rw row refl }
 
--- and the line has no other cell
+-- a line of the strip of columns has no cell but that of its column
 line-columns : (rect : Rect) (strip : Strip) (k x b y : ℕ) → IsColumnsStrip rect y strip → rect.x0 + k < rect.x1 → IsOnLine strip k x b → (x ≡ rect.x0 + k) × (b ≡ y)
 line-columns rect strip k x b y is within on_line =
     let at = columns-at rect strip y k is within in
@@ -155,9 +155,9 @@ IsFirstColumn-line distance Obstacle rect strip limit y k first is top bottom =
       before = λ x left earlier a b obstacle. first.before (x - rect.x0) (omega arith) (omega arith) x y a b (columns-line rect strip x y is left (omega arith)) obstacle;
     }
 
--- a place of the rectangle, as its row and its column
+-- a place of the rectangle is a row and a column of it, and its cell lies there
 place_cell : (rect : Rect) (i : ℕ) → i < (rect.y1 - rect.y0) * (rect.x1 - rect.x0)
-    → (i / (rect.x1 - rect.x0) < rect.y1 - rect.y0) × (i % (rect.x1 - rect.x0) < rect.x1 - rect.x0) × (cell_in (cells_of_rect rect.x0 rect.y0 rect.x1 rect.y1) i ≡ record { x = rect.x0 + i % (rect.x1 - rect.x0); y = rect.y0 + i / (rect.x1 - rect.x0) })
+    → (i / (rect.x1 - rect.x0) < rect.y1 - rect.y0) × (i % (rect.x1 - rect.x0) < rect.x1 - rect.x0) × (cell_of_list (cells_of_rect rect.x0 rect.y0 rect.x1 rect.y1) i ≡ record { x = rect.x0 + i % (rect.x1 - rect.x0); y = rect.y0 + i / (rect.x1 - rect.x0) })
 place_cell rect i within =
     let columns = rect.has_cells.columns in
     let width : ℕ = rect.x1 - rect.x0 in
@@ -167,11 +167,11 @@ place_cell rect i within =
     let place : i / (rect.x1 - rect.x0) * (rect.x1 - rect.x0) + i % (rect.x1 - rect.x0) ≡ i = omega (arith, some) in (
       row,
       column,
-      subst (λ (n : ℕ). cell_in (cells_of_rect rect.x0 rect.y0 rect.x1 rect.y1) n ≡ record { x = rect.x0 + i % (rect.x1 - rect.x0); y = rect.y0 + i / (rect.x1 - rect.x0) }) place
+      subst (λ (n : ℕ). cell_of_list (cells_of_rect rect.x0 rect.y0 rect.x1 rect.y1) n ≡ record { x = rect.x0 + i % (rect.x1 - rect.x0); y = rect.y0 + i / (rect.x1 - rect.x0) }) place
           (get_or-cells_of_rect rect.x0 rect.y0 rect.x1 rect.y1 (i / (rect.x1 - rect.x0)) (i % (rect.x1 - rect.x0)) row column),
     )
 
--- a row and a column of the rectangle, counted from its corner
+-- a row and a column counted from the corner of the rectangle are those of one of its cells
 cell_of_place : (rect : Rect) (row column : ℕ) → row < rect.y1 - rect.y0 → column < rect.x1 - rect.x0 → IsInRect rect (rect.x0 + column) (rect.y0 + row)
 cell_of_place rect row column below right = record { left = omega arith; right = omega arith; top = omega arith; bottom = omega arith }
 
@@ -245,7 +245,7 @@ IsLeastBelow-none distance Obstacle rect limit least is none a b obstacle =
     let small = (is.far rect.x0 rect.y0 a b (record { left = omega arith; right = columns; top = omega arith; bottom = rows }) obstacle).is_limit in
     absurd (omega arith)
 
--- the first cell at the least distance of the rectangle
+-- the first cell at the least distance of the rectangle is the nearest of its cells
 pub IsLeastOf-rect : (distance : ℕ → ℕ → ℕ) (Obstacle : ℤ → ℤ → Type 0) (rect : Rect) (limit least : ℕ) (found : Option (Cell × Near))
     → IsLeastBelow distance Obstacle rect limit least → least < limit
     → IsFirstOrNone distance Obstacle (cells_of_rect rect.x0 rect.y0 rect.x1 rect.y1) (least + 1) found → IsLeastOf distance Obstacle (cells_of_rect rect.x0 rect.y0 rect.x1 rect.y1) found
@@ -262,7 +262,7 @@ IsLeastOf-rect distance Obstacle rect limit least found is less first =
     let at = get_or-cells_of_rect rect.x0 rect.y0 rect.x1 rect.y1 (near.y - rect.y0) (near.x - rect.x0) (omega arith) (omega arith) in
     let x_is : rect.x0 + (near.x - rect.x0) ≡ near.x = omega arith in
     let y_is : rect.y0 + (near.y - rect.y0) ≡ near.y = omega arith in
-    let cell : cell_in cells place ≡ record { x = near.x; y = near.y } = at ∙ rw (x_is, y_is) refl in
+    let cell : cell_of_list cells place ≡ record { x = near.x; y = near.y } = at ∙ rw (x_is, y_is) refl in
     IsLeastOf-first distance Obstacle cells least found
     (λ i a b within obstacle.
     let here = place_cell rect i (rw size at within) in

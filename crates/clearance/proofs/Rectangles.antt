@@ -7,7 +7,7 @@ use Rattle.std.proofs.lemmas.List.Concat.{get_or-flat_map}
 use Rattle.std.proofs.lemmas.List.FromFn.{length-range_with_len, get_or-range_with_len, length-map-range_with_len, get_or-map-range_with_len}
 use Rattle.metric.specs.declared.cell.Cell.{Cell}
 use Rattle.clearance.specs.Answers.{cells_of_rect}
-use Rattle.clearance.specs.Firsts.{origin, cell_in}
+use Rattle.clearance.specs.Firsts.{origin, cell_of_list}
 
 -- the cells of one row of a rectangle
 abbrev row_of_rect : ℕ → ℕ → ℕ → List Cell
@@ -31,8 +31,8 @@ length-cells_of_rect x0 y0 x1 y1 =
     length-flat_map_same (row_of_rect x0 (x1 - x0)) (x1 - x0) (range_with_len y0 (y1 - y0)) (length-row_of_rect x0 (x1 - x0))
     ∙ ap (λ (n : ℕ). n * (x1 - x0)) (length-range_with_len y0 (y1 - y0))
 
--- the cell of a column and a row, counted from the corner
-pub get_or-cells_of_rect : (x0 y0 x1 y1 i j : ℕ) → i < y1 - y0 → j < x1 - x0 → cell_in (cells_of_rect x0 y0 x1 y1) (i * (x1 - x0) + j) ≡ record { x = x0 + j; y = y0 + i }
+-- the list of cells of a rectangle has each cell at its row and its column, counted from the corner
+pub get_or-cells_of_rect : (x0 y0 x1 y1 i j : ℕ) → i < y1 - y0 → j < x1 - x0 → cell_of_list (cells_of_rect x0 y0 x1 y1) (i * (x1 - x0) + j) ≡ record { x = x0 + j; y = y0 + i }
 get_or-cells_of_rect x0 y0 x1 y1 i j row column =
     let f = row_of_rect x0 (x1 - x0) in
     let ys = range_with_len y0 (y1 - y0) in

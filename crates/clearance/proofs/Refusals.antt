@@ -12,7 +12,7 @@ use Rattle.clearance.specs.Segments.{IsStraight, IsWalk}
 use Rattle.clearance.specs.Firsts.{origin}
 use Rattle.std.proofs.lemmas.Bool.{or_parts}
 
--- the test of a point in the row or column of another
+-- the test of a point is true where it lies in the row or the column of another
 straight_test : (a b c d : ℕ) → (a ≡ b) ⊎ (c ≡ d) → (eqb a b || eqb c d) ≡ true
 straight_test a b c d straight = grind (arith, nat_tests)
 
@@ -20,7 +20,7 @@ straight_test a b c d straight = grind (arith, nat_tests)
 crooked_test : (a b c d : ℕ) → (a ≡ b → ⊥) → (c ≡ d → ⊥) → (eqb a b || eqb c d) ≡ false
 crooked_test a b c d column row = grind (arith, nat_tests)
 
--- a path has its first crooked point behind its first point
+-- a path has its first crooked point after its first point
 pub crooked_point-start : (points : List Cell) → crooked_point points ≡ first_crooked 1 (get_or points 0 origin) (drop 1 points)
 crooked_point-start [] = refl
 crooked_point-start (first ∷ points) = refl

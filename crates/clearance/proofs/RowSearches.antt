@@ -17,13 +17,13 @@ pub AreUnmarked-none : (words : List ℕ) (start end : ℕ) → end ≤ start �
 AreUnmarked-none words start end empty = record { none = λ x from before marked. absurd (omega arith) }
 
 -- the bit of a word that stands for a column
-pub mark_bit : (words : List ℕ) (k x : ℕ) → 64 * k ≤ x → x < 64 * (k + 1) → IsMarked words x → bit_at (get_or words k 0) (x % 64) ≡ 1
+mark_bit : (words : List ℕ) (k x : ℕ) → 64 * k ≤ x → x < 64 * (k + 1) → IsMarked words x → bit_at (get_or words k 0) (x % 64) ≡ 1
 mark_bit words k x low high marked =
     let word : x / 64 ≡ k = omega arith in
     subst (λ (n : ℕ). bit_at (get_or words n 0) (x % 64) ≡ 1) word marked
 
 -- a bit of a word is a mark
-pub bit_mark : (words : List ℕ) (k i : ℕ) → i < 64 → bit_at (get_or words k 0) i ≡ 1 → IsMarked words (64 * k + i)
+bit_mark : (words : List ℕ) (k i : ℕ) → i < 64 → bit_at (get_or words k 0) i ≡ 1 → IsMarked words (64 * k + i)
 bit_mark words k i within is =
     let word : k ≡ (64 * k + i) / 64 = omega arith in
     let place : i ≡ (64 * k + i) % 64 = omega arith in
@@ -64,7 +64,7 @@ pub record IsFirst (words : List ℕ) (start column : ℕ) : Type 0 where
   pub marked : IsMarked words column
   pub first : (x : ℕ) → start ≤ x → x < column → IsMarked words x → ⊥
 
--- the lowest bit of a word's part, behind columns that have no mark, is the first mark
+-- the lowest bit of the part of a word after columns that have no mark is the first mark
 pub first_in_word : (words : List ℕ) (start k place front p column : ℕ) → ((i : ℕ) → place ≤ i → i < 64 → bit_at front i ≡ bit_at (get_or words k 0) i)
     → ((i : ℕ) → i < place → bit_at front i ≡ 0) → start ≤ 64 * k + place → AreUnmarked words start (64 * k + place)
     → p < 64 → bit_at front p ≡ 1 → ((i : ℕ) → i < p → bit_at front i ≡ 0) → column ≡ 64 * k + p → IsFirst words start column
@@ -115,7 +115,7 @@ IsNextNearer-far distance stays words start edge gap limit column few row before
           record { not_below = let low = far.not_below in omega arith; is_limit = far.is_limit }
     ]
 
--- where no column has a mark, none is near
+-- where no column from a start on has a mark, none of them is near
 pub IsNextNearer-none : (distance : ℕ → ℕ → ℕ) (words : List ℕ) (start edge gap limit end : ℕ) → 64 * length words ≤ end → AreUnmarked words start end
     → IsNextNearer distance words start edge gap limit None
 IsNextNearer-none distance words start edge gap limit end all before = λ x from marked.
@@ -162,7 +162,7 @@ last_in_word words end k place back p column few kept cleared finish after withi
 
 -- the last mark is the answer, where it's near enough
 pub IsLastNearer-last : (distance : ℕ → ℕ → ℕ) → StaysNearer distance → (words : List ℕ) (end edge gap limit column : ℕ) (found : Option ℕ)
-    → edge ≤ 4095 → gap ≤ 4097 → IsLast words end column → IsWhereNearer (distance (edge - column) gap) limit column found
+    → edge < 4096 → gap ≤ 4097 → IsLast words end column → IsWhereNearer (distance (edge - column) gap) limit column found
     → IsLastNearer distance words end edge gap limit found
 IsLastNearer-last distance stays words end edge gap limit column None within row is far = λ x before marked.
     elim (cases_lt column x) [
@@ -180,7 +180,7 @@ IsLastNearer-last distance stays words end edge gap limit column (Some found) wi
 
 -- where the columns from one on have no mark and the one before it is far, so are all marks
 pub IsLastNearer-far : (distance : ℕ → ℕ → ℕ) → StaysNearer distance → (words : List ℕ) (end edge gap limit column : ℕ)
-    → edge ≤ 4095 → gap ≤ 4097 → AreUnmarked words (column + 1) end → IsFar (distance (edge - column) gap) limit
+    → edge < 4096 → gap ≤ 4097 → AreUnmarked words (column + 1) end → IsFar (distance (edge - column) gap) limit
     → IsLastNearer distance words end edge gap limit None
 IsLastNearer-far distance stays words end edge gap limit column within row after far = λ x before marked.
     elim (cases_lt column x) [
@@ -190,7 +190,7 @@ IsLastNearer-far distance stays words end edge gap limit column within row after
           record { not_below = let low = far.not_below in omega arith; is_limit = far.is_limit }
     ]
 
--- where no column has a mark, none is near
+-- where no column before an end has a mark, none of them is near
 pub IsLastNearer-none : (distance : ℕ → ℕ → ℕ) (words : List ℕ) (end edge gap limit : ℕ) → AreUnmarked words 0 end
     → IsLastNearer distance words end edge gap limit None
 IsLastNearer-none distance words end edge gap limit all = λ x before marked. absurd (all.none x (omega arith) before marked)

@@ -10,12 +10,12 @@ use Rattle.bits.specs.Tiles.{word_where, row_word}
 use Rattle.bits.proofs.TileLemmas.{bit_at-word_where, word_where-lt}
 use Rattle.clearance.specs.Rows.{words_of_row, IsBlankRow}
 
--- as many as a row takes
+-- a row has as many words as its width takes
 pub length-words_of_row : (cells : Cells) (y : ℕ) → length (words_of_row cells y) ≡ words_across cells.width
 unfolding words_of_row
 length-words_of_row cells y = length-map-range_with_len (λ k. word_where (λ i. has cells (64 * k + i) y) 64) 0 (words_across cells.width)
 
--- one of them
+-- a word of a row has the bits of its cells
 pub word_in_row : (cells : Cells) (y k : ℕ) → k < words_across cells.width → get_or (words_of_row cells y) k 0 ≡ word_where (λ i. has cells (64 * k + i) y) 64
 unfolding words_of_row
 word_in_row cells y k within = get_or-map-range_with_len (λ n. word_where (λ i. has cells (64 * n + i) y) 64) 0 (words_across cells.width) k k 0 within (omega arith)

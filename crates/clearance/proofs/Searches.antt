@@ -19,10 +19,10 @@ pub IsFar-lower : (dist limit lower : ℕ) → lower ≤ limit → IsFar dist li
 IsFar-lower dist limit lower less far = record { not_below = let low = far.not_below in omega arith; is_limit = let small = far.is_limit in omega arith }
 
 -- what is far stays so for a greater distance
-pub IsFar-greater : (dist more limit : ℕ) → dist ≤ more → IsFar dist limit → IsFar more limit
+IsFar-greater : (dist more limit : ℕ) → dist ≤ more → IsFar dist limit → IsFar more limit
 IsFar-greater dist more limit grown far = record { not_below = let low = far.not_below in omega arith; is_limit = far.is_limit }
 
--- the first mark from the rectangle's first column on lowers the least
+-- with the first mark from the first column of the rectangle on the least is the lowered one
 pub IsLoweredRight-some : (distance : ℕ → ℕ → ℕ) → StaysNearer distance → (words : List ℕ) (rect : Rect) (gap before column least : ℕ)
     → length words ≤ 64 → gap ≤ 4097 → IsFirstMark distance words rect.x0 (rect.x1 - 1) gap before column → least ≡ distance (column - (rect.x1 - 1)) gap → least < 2 ^ 32
     → IsLoweredRight distance words rect gap before least
@@ -41,7 +41,7 @@ IsLoweredRight-some distance stays words rect gap before column least few row ma
       reached = λ less. (column, mark.marked, rw across (sym is));
     }
 
--- the last mark before the rectangle's first column lowers the least
+-- with the last mark before the first column of the rectangle the least is the lowered one
 pub IsLoweredLeft-some : (distance : ℕ → ℕ → ℕ) → StaysNearer distance → (words : List ℕ) (rect : Rect) (gap before column least : ℕ)
     → gap ≤ 4097 → IsLastMark distance words rect.x0 rect.x0 gap before column → least ≡ distance (rect.x0 - column) gap → least < 2 ^ 32
     → IsLoweredLeft distance words rect gap before least
@@ -107,7 +107,7 @@ unmarked_row words a blank marked = elim (cases_lt a (64 * length words)) [
   | inr past ↦ absurd (unmarked_past words a past marked)
 ]
 
--- a row without a mark lowers nothing
+-- where a row has no mark, the least stays
 pub IsLoweredBy-blank : (distance : ℕ → ℕ → ℕ) (cells : Cells) (rect : Rect) (y gap before : ℕ) (words : List ℕ) → IsBitmap cells → IsRowOf cells y words
     → ((k : ℕ) → k < length words → get_or words k 0 ≡ 0) → IsLoweredBy distance (IsObstacle cells) rect y gap before before
 IsLoweredBy-blank distance cells rect y gap before words bitmap row blank = record {
@@ -140,7 +140,7 @@ IsLoweredBy-both distance cells rect y gap before right least words bitmap row o
       ];
     }
 
--- one row more
+-- the least of some rows lowered by one row more is the least of all of them
 pub IsLeastAmong-more : (distance : ℕ → ℕ → ℕ) (Obstacle : ℕ → ℕ → Type 0) (rect : Rect) (IsRow IsNext : ℕ → Type 0) (y gap limit least next : ℕ)
     → row_gap rect y ≡ gap → ((b : ℕ) → IsNext b → IsRow b ⊎ (b ≡ y)) → IsLoweredBy distance Obstacle rect y gap least next
     → IsLeastAmong distance Obstacle rect IsRow limit least → IsLeastAmong distance Obstacle rect IsNext limit next
@@ -167,7 +167,7 @@ IsLeastAmong-more distance Obstacle rect IsRow IsNext y gap limit least next gap
       ];
     }
 
--- rows said otherwise
+-- the least of some rows is that of other rows which have no more obstacles
 pub IsLeastAmong-same : (distance : ℕ → ℕ → ℕ) (Obstacle : ℕ → ℕ → Type 0) (rect : Rect) (IsRow IsNext : ℕ → Type 0) (limit least next : ℕ)
     → next ≡ least → ((a b : ℕ) → Obstacle a b → IsNext b → IsRow b)
     → IsLeastAmong distance Obstacle rect IsRow limit least → IsLeastAmong distance Obstacle rect IsNext limit next

@@ -1,5 +1,5 @@
 -- The least distance and the first near cell of a list of cells, from those of its two parts.
-use Rattle.std.proofs.Common.{◌≡◌, ℕ, ℤ, ◌+◌, ◌-◌, ◌<◌, ◌≤◌, inl, inr, List, [], ◌++◌, length, Option, Some, None, true, false, refl, sym, subst, ◌∙◌, arith, length-append}
+use Rattle.std.proofs.Common.{◌≡◌, ℕ, ℤ, ◌+◌, ◌-◌, ◌<◌, ◌≤◌, inl, inr, List, ◌++◌, length, Option, Some, None, true, false, refl, sym, subst, ◌∙◌, arith, length-append}
 use Rattle.std.specs.Option.{is_some}
 use Rattle.std.proofs.lemmas.Bool.{cases_lt}
 use Rattle.std.proofs.lemmas.List.{get_or_append_left, get_or-append_right, get_or-append-add}
@@ -9,12 +9,12 @@ use Rattle.metric.specs.declared.rect.Rect.{Rect}
 use Rattle.metric.specs.Nearest.{spot_distance}
 use Rattle.clearance.specs.Rows.{IsFar}
 use Rattle.clearance.specs.Search.{IsInRect, IsLeastBelow}
-use Rattle.clearance.specs.Firsts.{origin, cell_in, distance_at, IsBoundOver, IsFirstOrNone, IsLeastOver}
+use Rattle.clearance.specs.Firsts.{origin, cell_of_list, distance_at, IsBoundOver, IsFirstOrNone, IsLeastOver}
 use Rattle.clearance.proofs.Searches.{IsFar-lower}
 
 -- what holds of each cell of both parts of a list holds of each of its cells
-each-append : (P : Cell → Type 0) (front back : List Cell) → ((i : ℕ) → i < length front → P (cell_in front i)) → ((i : ℕ) → i < length back → P (cell_in back i))
-    → (i : ℕ) → i < length (front ++ back) → P (cell_in (front ++ back) i)
+each-append : (P : Cell → Type 0) (front back : List Cell) → ((i : ℕ) → i < length front → P (cell_of_list front i)) → ((i : ℕ) → i < length back → P (cell_of_list back i))
+    → (i : ℕ) → i < length (front ++ back) → P (cell_of_list (front ++ back) i)
 each-append P front back one other i within =
     let size = length-append front back in
     elim (cases_lt i (length front)) [
@@ -32,20 +32,8 @@ IsLeastOver-bound distance Obstacle cells limit bound is most = record {
 
 -- a rectangle's least distance is a bound for a list whose cells all lie in it
 pub IsBoundOver-rect : (distance : ℕ → ℕ → ℕ) (Obstacle : ℤ → ℤ → Type 0) (cells : List Cell) (rect : Rect) (limit least : ℕ)
-    → ((i : ℕ) → i < length cells → IsInRect rect (cell_in cells i).x (cell_in cells i).y) → IsLeastBelow distance Obstacle rect limit least → IsBoundOver distance Obstacle cells least
-IsBoundOver-rect distance Obstacle cells rect limit least inside low = λ i a b within obstacle. low.far (cell_in cells i).x (cell_in cells i).y a b (inside i within) obstacle
-
--- the bound 0 is one for each list
-pub IsBoundOver-zero : (distance : ℕ → ℕ → ℕ) (Obstacle : ℤ → ℤ → Type 0) (cells : List Cell) → IsBoundOver distance Obstacle cells 0
-IsBoundOver-zero distance Obstacle cells = λ i a b within obstacle. record { not_below = omega arith; is_limit = omega arith }
-
--- the list of no cell has the limit as the least
-pub IsLeastOver-nothing : (distance : ℕ → ℕ → ℕ) (Obstacle : ℤ → ℤ → Type 0) (limit : ℕ) → IsLeastOver distance Obstacle [] limit limit
-IsLeastOver-nothing distance Obstacle limit = record {
-  within = omega arith;
-  far = λ i a b within obstacle. absurd (omega arith);
-  reached = λ less. absurd (omega arith);
-}
+    → ((i : ℕ) → i < length cells → IsInRect rect (cell_of_list cells i).x (cell_of_list cells i).y) → IsLeastBelow distance Obstacle rect limit least → IsBoundOver distance Obstacle cells least
+IsBoundOver-rect distance Obstacle cells rect limit least inside low = λ i a b within obstacle. low.far (cell_of_list cells i).x (cell_of_list cells i).y a b (inside i within) obstacle
 
 -- the least over the front, and then below it over the back, is the least over both
 pub IsLeastOver-front : (distance : ℕ → ℕ → ℕ) (Obstacle : ℤ → ℤ → Type 0) (front back : List Cell) (limit middle least : ℕ)
@@ -96,14 +84,6 @@ IsLeastOver-back distance Obstacle front back limit middle least one other =
             (length front + i, inside, a, b, obstacle, subst (λ (c : Cell). spot_distance distance c.x c.y a b ≡ least) (sym (get_or-append-add front back i origin)) (dist ∙ equal))
       ];
     }
-
--- a list of which no cell is in reach below the limit has no first near cell
-pub IsFirstOrNone-bound : (distance : ℕ → ℕ → ℕ) (Obstacle : ℤ → ℤ → Type 0) (cells : List Cell) (limit bound : ℕ) → IsBoundOver distance Obstacle cells bound → limit ≤ bound → IsFirstOrNone distance Obstacle cells limit None
-IsFirstOrNone-bound distance Obstacle cells limit bound is most = λ i a b within obstacle. let far = (is i a b within obstacle).not_below in omega arith
-
--- the list of no cell has no first near cell
-pub IsFirstOrNone-nothing : (distance : ℕ → ℕ → ℕ) (Obstacle : ℤ → ℤ → Type 0) (limit : ℕ) → IsFirstOrNone distance Obstacle [] limit None
-IsFirstOrNone-nothing distance Obstacle limit = λ i a b within obstacle. absurd (omega arith)
 
 -- the first near cell of the front is the first of both
 IsFirstOrNone-front : (distance : ℕ → ℕ → ℕ) (Obstacle : ℤ → ℤ → Type 0) (front back : List Cell) (limit : ℕ) (found : Cell × Near)

@@ -10,17 +10,17 @@ use Rattle.clearance.specs.Strips.{IsOnLine, IsLineNear, IsLineFar, IsSomeNear, 
 use Rattle.clearance.specs.declared.strip.Strip.{Strip}
 
 -- steps between two others lead between their ends
-pub towards-between : (from to low k high : ℕ) → low ≤ k → k ≤ high
+towards-between : (from to low k high : ℕ) → low ≤ k → k ≤ high
     → (min (towards from to low) (towards from to high) ≤ towards from to k) × (towards from to k ≤ max (towards from to low) (towards from to high))
 towards-between from to low k high first last = (grind (arith, nat_tests), grind (arith, nat_tests))
 
 -- what lies between the ends of two steps is the end of one between them
-pub towards-reaches : (from to low high n : ℕ) → low ≤ high → min (towards from to low) (towards from to high) ≤ n → n ≤ max (towards from to low) (towards from to high)
+towards-reaches : (from to low high n : ℕ) → low ≤ high → min (towards from to low) (towards from to high) ≤ n → n ≤ max (towards from to low) (towards from to high)
     → (low + abs_diff (towards from to low) n ≤ high) × (towards from to (low + abs_diff (towards from to low) n) ≡ n)
 towards-reaches from to low high n order first last = (grind (arith, nat_tests), grind (arith, nat_tests))
 
 -- a coordinate that stays
-pub towards-stays : (from to k : ℕ) → to ≡ from → towards from to k ≡ from
+towards-stays : (from to k : ℕ) → to ≡ from → towards from to k ≡ from
 towards-stays from to k same = grind (arith, nat_tests)
 
 -- the corners of the rectangle between two lines of a strip
@@ -30,24 +30,24 @@ pub record AreCorners (strip : Strip) (first last x0 y0 x1 y1 : ℕ) : Type 0 wh
   pub right : x1 ≡ max (towards strip.from.x strip.to.x first) (towards strip.from.x strip.to.x last) + strip.across
   pub bottom : y1 ≡ max (towards strip.from.y strip.to.y first) (towards strip.from.y strip.to.y last) + 1
 
--- a line's cell between the corners, in numbers
+-- a cell on a line that lies between two others is between the corners of both
 within_corners : (p q r s t u across x0 y0 x1 y1 x y : ℕ) → x0 ≡ min p q → y0 ≡ min s t → x1 ≡ max p q + across → y1 ≡ max s t + 1
     → min p q ≤ r → r ≤ max p q → min s t ≤ u → u ≤ max s t → r ≤ x → x < r + across → y ≡ u → (x0 ≤ x) × (x < x1) × (y0 ≤ y) × (y < y1)
 within_corners p q r s t u across x0 y0 x1 y1 x y left top right bottom a b c d on_left on_right on_row = (omega arith, omega arith, omega arith, omega arith)
 
--- a number from the lower corner on
+-- a number that is at least the lower corner is at least what the corner is
 from_left : {low n m : ℕ} → low ≡ m → low ≤ n → m ≤ n
 from_left is less = omega arith
 
--- a number before the corner behind the last
+-- a number below the corner after the last one is at most the last one
 from_right : {high n m : ℕ} → high ≡ m + 1 → n < high → n ≤ m
 from_right is less = omega arith
 
--- the same, where the line is one cell
+-- where the line is one cell, a number below the corner after it is at most this cell
 from_right_one : {high n m : ℕ} (across : ℕ) → across ≡ 1 → high ≡ m + across → n < high → n ≤ m
 from_right_one across single is less = omega arith
 
--- so many lines behind the first
+-- a line counted on from the first one is not before it
 first_plus : (first n : ℕ) → first ≤ first + n
 first_plus first n = omega arith
 
@@ -55,7 +55,7 @@ first_plus first n = omega arith
 stays_left : (p q r column x0 x : ℕ) → p ≡ column → q ≡ column → r ≡ column → x0 ≡ min p q → x0 ≤ x → r ≤ x
 stays_left p q r column x0 x one other here is left = omega arith
 
--- and so is the right corner
+-- where the column stays, the right corner is the end of the line
 stays_right : (p q r column x1 x across : ℕ) → p ≡ column → q ≡ column → r ≡ column → x1 ≡ max p q + across → x < x1 → x < r + across
 stays_right p q r column x1 x across one other here is right = omega arith
 
@@ -67,7 +67,7 @@ stays_row p q r row y0 y1 y one other here top bottom low high = omega arith
 at_left : (r x : ℕ) → r ≡ x → r ≤ x
 at_left r x is = omega arith
 
--- and ends behind it
+-- a line of one cell ends after it
 at_right : (r x across : ℕ) → r ≡ x → across ≡ 1 → x < r + across
 at_right r x across is single = omega arith
 

@@ -11,21 +11,21 @@ use Rattle.bits.specs.Cells.{Cells, IsInside}
 use Rattle.clearance.specs.Paths.{towards, cells_up_to, cells_behind, cells_of_path}
 use Rattle.clearance.specs.Search.{IsInRect}
 use Rattle.clearance.specs.Segments.{IsStraight, IsWalk, cell_count}
-use Rattle.clearance.specs.Firsts.{origin, cell_in}
+use Rattle.clearance.specs.Firsts.{origin, cell_of_list}
 
--- the cell of a step behind a point, from 0
+-- the cell of a step after a point, from 0
 abbrev pub cell_of_step : Cell → Cell → ℕ → Cell
 cell_of_step from to k = record { x = towards from.x to.x (1 + k); y = towards from.y to.y (1 + k) }
 
--- the number of cells of a segment
+-- a segment has as many cells as it is counted to have
 pub length-cells_up_to : (from to : Cell) → length (cells_up_to from to) ≡ cell_count from to
 length-cells_up_to from to = length-map-range_with_len (λ k. record { x = towards from.x to.x k; y = towards from.y to.y k }) 1 (cell_count from to)
 
--- a cell of a segment
+-- each cell of a segment is that of its step
 pub get_or-cells_up_to : (from to : Cell) (k : ℕ) → k < cell_count from to → get_or (cells_up_to from to) k origin ≡ cell_of_step from to k
 get_or-cells_up_to from to k within = get_or-map-range_with_len (λ n. record { x = towards from.x to.x n; y = towards from.y to.y n }) 1 (cell_count from to) k (1 + k) origin within refl
 
--- one step from a number to itself
+-- one step from a number to itself ends at it
 towards-same : (n : ℕ) → towards n n 1 ≡ n
 towards-same n = grind (arith, nat_tests)
 
@@ -35,7 +35,7 @@ cells_up_to-same point =
     let one : max 1 (abs_diff point.x point.x + abs_diff point.y point.y) ≡ 1 = omega arith in
     rw (one, towards-same point.x, towards-same point.y) refl
 
--- the first point of a path is behind itself
+-- the cells of a path are those after its first point, along all its points
 first_behind : (first : Cell) (points : List Cell) → cells_of_path (first ∷ points) ≡ cells_behind first (first ∷ points)
 first_behind first points = sym (ap (λ (l : List Cell). l ++ cells_behind first points) (cells_up_to-same first))
 
@@ -55,7 +55,7 @@ last_of from [] = from
 last_of from (to ∷ points) = last_of to points
 
 -- the last of some points is the one at the last place
-pub last_of-place : (from : Cell) (points : List Cell) (n : ℕ) → length points ≡ 1 + n → get_or points n origin ≡ last_of from points
+last_of-place : (from : Cell) (points : List Cell) (n : ℕ) → length points ≡ 1 + n → get_or points n origin ≡ last_of from points
 last_of-place from [] n some = absurd (omega arith)
 last_of-place from (to ∷ []) zero some = refl
 last_of-place from (to ∷ []) (suc n) some = absurd (omega arith)
@@ -63,13 +63,13 @@ last_of-place from (to ∷ next ∷ points) zero some = absurd (omega arith)
 last_of-place from (to ∷ next ∷ points) (suc n) some = last_of-place to (next ∷ points) n (omega arith)
 
 -- the cells of a walk are those of its first points, and then those after the last of these
-pub cells_behind-append : (from : Cell) (front back : List Cell) → cells_behind from (front ++ back) ≡ cells_behind from front ++ cells_behind (last_of from front) back
+cells_behind-append : (from : Cell) (front back : List Cell) → cells_behind from (front ++ back) ≡ cells_behind from front ++ cells_behind (last_of from front) back
 cells_behind-append from [] back = refl
 cells_behind-append from (to ∷ front) back =
     ap (λ (l : List Cell). cells_up_to from to ++ l) (cells_behind-append to front back) ∙ sym (append_assoc (cells_up_to from to) (cells_behind to front) (cells_behind (last_of to front) back))
 
 -- both parts of a walk are walks
-pub IsWalk-parts : (cells : Cells) (from : Cell) (front back : List Cell) → IsWalk cells from (front ++ back) → IsWalk cells from front × IsWalk cells (last_of from front) back
+IsWalk-parts : (cells : Cells) (from : Cell) (front back : List Cell) → IsWalk cells from (front ++ back) → IsWalk cells from front × IsWalk cells (last_of from front) back
 IsWalk-parts cells from [] [] walk = (walk, walk)
 IsWalk-parts cells from [] (to ∷ back) walk = (walk.0, walk)
 IsWalk-parts cells from (to ∷ front) back walk =
@@ -100,8 +100,8 @@ step-in_rect rect from to k one other =
 
 -- the cells of a walk lie in each rectangle that has all of its points
 pub cells_behind-in_rect : (rect : Rect) (from : Cell) (points : List Cell) → IsInRect rect from.x from.y
-    → ((k : ℕ) → k < length points → IsInRect rect (cell_in points k).x (cell_in points k).y)
-    → (i : ℕ) → i < length (cells_behind from points) → IsInRect rect (cell_in (cells_behind from points) i).x (cell_in (cells_behind from points) i).y
+    → ((k : ℕ) → k < length points → IsInRect rect (cell_of_list points k).x (cell_of_list points k).y)
+    → (i : ℕ) → i < length (cells_behind from points) → IsInRect rect (cell_of_list (cells_behind from points) i).x (cell_of_list (cells_behind from points) i).y
 cells_behind-in_rect rect from [] here points i within = absurd (omega arith)
 cells_behind-in_rect rect from (to ∷ rest) here points i within =
     let there = points 0 (omega arith) in
@@ -109,11 +109,11 @@ cells_behind-in_rect rect from (to ∷ rest) here points i within =
     let whole = length-append (cells_up_to from to) (cells_behind to rest) in
     elim (cases_lt i (cell_count from to)) [
       | inl early ↦
-          let at : cell_in (cells_behind from (to ∷ rest)) i ≡ cell_of_step from to i =
+          let at : cell_of_list (cells_behind from (to ∷ rest)) i ≡ cell_of_step from to i =
           get_or_append_left (cells_up_to from to) (cells_behind to rest) origin i (rw size early) ∙ get_or-cells_up_to from to i early in
           subst (λ (c : Cell). IsInRect rect c.x c.y) (sym at) (step-in_rect rect from to i here there)
       | inr late ↦
-          let at : cell_in (cells_behind from (to ∷ rest)) i ≡ cell_in (cells_behind to rest) (i - cell_count from to) =
+          let at : cell_of_list (cells_behind from (to ∷ rest)) i ≡ cell_of_list (cells_behind to rest) (i - cell_count from to) =
           get_or-append_right (cells_up_to from to) (cells_behind to rest) (cell_count from to) i origin size late in
           subst (λ (c : Cell). IsInRect rect c.x c.y) (sym at)
           (cells_behind-in_rect rect to rest there (λ k more. points (suc k) (omega arith)) (i - cell_count from to) (omega arith))
@@ -142,7 +142,7 @@ pub record AreHalves (points front back : List Cell) : Type 0 where
   pub front_fewer : length front < length points
   pub back_fewer : length back < length points
 
--- the halves of two points or more
+-- two points or more that are cut in the middle give two halves, each of them shorter
 pub AreHalves-split : (points front back : List Cell) → front ≡ take (length points / 2) points → back ≡ drop (length points / 2) points
     → (length points ≡ 0 → ⊥) → (length points ≡ 1 → ⊥) → AreHalves points front back
 AreHalves-split points front back front_is back_is some more =
@@ -182,8 +182,3 @@ pub cells_behind-one : (from : Cell) (points : List Cell) → length points ≡ 
 cells_behind-one from [] one = absurd (omega arith)
 cells_behind-one from (to ∷ []) one = append-nil (cells_up_to from to)
 cells_behind-one from (to ∷ next ∷ points) one = absurd (omega arith)
-
--- a walk of no point has no cell
-pub cells_behind-none : (from : Cell) (points : List Cell) → length points ≡ 0 → cells_behind from points ≡ []
-cells_behind-none from [] none = refl
-cells_behind-none from (to ∷ points) none = absurd (omega arith)

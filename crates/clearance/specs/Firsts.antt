@@ -48,16 +48,16 @@ abbrev pub origin : Cell
 origin = record { x = 0; y = 0 }
 
 -- the cell at this place of the list
-abbrev pub cell_in : List Cell → ℕ → Cell
-cell_in cells place = slice_index_or cells place origin
+abbrev pub cell_of_list : List Cell → ℕ → Cell
+cell_of_list cells place = slice_index_or cells place origin
 
 -- the distance of the cell at this place of the list to the cell (a, b)
 abbrev pub distance_at : (ℕ → ℕ → ℕ) → List Cell → ℕ → ℤ → ℤ → ℕ
-distance_at distance cells place a b = spot_distance distance (cell_in cells place).x (cell_in cells place).y a b
+distance_at distance cells place a b = spot_distance distance (cell_of_list cells place).x (cell_of_list cells place).y a b
 
 -- some cell of the list has an obstacle at a distance below the limit
 abbrev pub IsListNear : (ℕ → ℕ → ℕ) → (ℤ → ℤ → Type 0) → List Cell → ℕ → Type 0
-IsListNear distance Obstacle cells limit = (i : ℕ) × (i < length cells) × IsCellNear distance Obstacle limit (cell_in cells i).x (cell_in cells i).y
+IsListNear distance Obstacle cells limit = (i : ℕ) × (i < length cells) × IsCellNear distance Obstacle limit (cell_of_list cells i).x (cell_of_list cells i).y
 
 -- no cell before this place of the list has an obstacle at a distance below the limit
 abbrev pub AreFarBefore : (ℕ → ℕ → ℕ) → (ℤ → ℤ → Type 0) → List Cell → ℕ → ℕ → Type 0
@@ -67,7 +67,7 @@ AreFarBefore distance Obstacle cells limit place = (i : ℕ) (a b : ℤ) → i <
 pub record IsFirstNearer (distance : ℕ → ℕ → ℕ) (Obstacle : ℤ → ℤ → Type 0) (cells : List Cell) (limit : ℕ) (cell : Cell) (near : Near) : Type 0 where
   pub place : ℕ
   pub within : place < length cells
-  pub cell_is : cell_in cells place ≡ cell
+  pub cell_is : cell_of_list cells place ≡ cell
   pub near_is : IsNearest distance Obstacle cell.x cell.y near
   pub nearer : near.dist < limit
   pub before : AreFarBefore distance Obstacle cells limit place

@@ -37,17 +37,17 @@ abbrev pub IsAlong : ℕ → ℕ → ℕ → ℕ → Type 0
 IsAlong right bottom a b = (0 < a) × (a < right) × ((b ≡ 0) ⊎ (b ≡ bottom))
 
 -- what is found in a map, counted with the map's frame
-abbrev pub moved : Found → Found
-moved own = record { dist = own.dist; cell = record { x = own.cell.x + 1; y = own.cell.y + 1 } }
+abbrev pub counted_with_frame : Found → Found
+counted_with_frame own = record { dist = own.dist; cell = record { x = own.cell.x + 1; y = own.cell.y + 1 } }
 
 -- the one of two that has no greater key
-abbrev pub IsBest : ℕ → Found → Found → Found → Type 0
-IsBest y frame own best = ((best ≡ own) × IsAtMost (key_found y own) (key_found y frame)) ⊎ ((best ≡ frame) × IsAtMost (key_found y frame) (key_found y own))
+abbrev pub IsLesser : ℕ → Found → Found → Found → Type 0
+IsLesser y frame own best = ((best ≡ own) × IsAtMost (key_found y own) (key_found y frame)) ⊎ ((best ≡ frame) × IsAtMost (key_found y frame) (key_found y own))
 
 -- the better of what is found in the frame and, if there is any, in the map
-abbrev pub IsBetter : ℕ → Found → Option Found → Found → Type 0
-IsBetter y frame None best = best ≡ frame
-IsBetter y frame (Some own) best = IsBest y frame (moved own) best
+abbrev pub IsBetterOfBoth : ℕ → Found → Option Found → Found → Type 0
+IsBetterOfBoth y frame None best = best ≡ frame
+IsBetterOfBoth y frame (Some own) best = IsLesser y frame (counted_with_frame own) best
 
 -- the nearer of the frame's first and last row, the first where both are as near, and how far away it is
 pub record IsNearerRow (y bottom gap row : ℕ) : Type 0 where

@@ -1,4 +1,5 @@
 pub mod Answers
+pub mod Bands
 pub mod Firsts
 pub mod Frames
 pub mod Nearest

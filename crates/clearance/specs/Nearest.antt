@@ -39,16 +39,16 @@ abbrev pub IsWithinOrAbove : ℕ → ℕ → ℕ → ℕ → Type 0
 IsWithinOrAbove y gap a b = (abs_diff y b < gap) ⊎ (b + gap ≡ y)
 
 -- seen from the row y, the row b is looked at before another: it's fewer rows away, or as many and above
-abbrev pub IsRowBefore : ℕ → ℕ → ℕ → Type 0
-IsRowBefore y row b = (abs_diff y b < abs_diff y row) ⊎ ((abs_diff y b ≡ abs_diff y row) × (b < row))
+abbrev pub IsRowFirst : ℕ → ℕ → ℕ → Type 0
+IsRowFirst y row b = (abs_diff y b < abs_diff y row) ⊎ ((abs_diff y b ≡ abs_diff y row) × (b < row))
 
 -- the same of the rows up to that one, with it
 abbrev pub IsRowUpTo : ℕ → ℕ → ℕ → ℕ → Type 0
-IsRowUpTo y row a b = IsRowBefore y row b ⊎ (b ≡ row)
+IsRowUpTo y row a b = IsRowFirst y row b ⊎ (b ≡ row)
 
 -- the rows before one, and its columns that pass a test
 abbrev pub IsSeenInRow : ℕ → ℕ → (ℕ → Type 0) → ℕ → ℕ → Type 0
-IsSeenInRow y row IsColumn a b = IsRowBefore y row b ⊎ ((b ≡ row) × IsColumn a)
+IsSeenInRow y row IsColumn a b = IsRowFirst y row b ⊎ ((b ≡ row) × IsColumn a)
 
 -- an obstacle is ahead of another one that isn't in a row before its own: it's nearer, or as near and in a column that isn't to the right
 abbrev pub IsAhead : Found → Found → Type 0

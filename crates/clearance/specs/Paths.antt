@@ -11,11 +11,11 @@ use Rattle.bits.specs.Cells.{Cells}
 abbrev pub towards : ℕ → ℕ → ℕ → ℕ
 towards from to k = if nat_le from to then min (from + k) to else max (from - k) to
 
--- the cells behind a point, up to the next, in whose row or column it lies; a point that is repeated adds its cell once more
+-- the cells after a point, up to the next, in whose row or column it lies; a point that is repeated adds its cell once more
 abbrev pub cells_up_to : Cell → Cell → List Cell
 cells_up_to from to = map (λ k. record { x = towards from.x to.x k; y = towards from.y to.y k }) (range_with_len 1 (max 1 (abs_diff from.x to.x + abs_diff from.y to.y)))
 
--- the cells behind a point, along all points that follow it
+-- the cells after a point, along all points that follow it
 abbrev pub cells_behind : Cell → List Cell → List Cell
 cells_behind from [] = []
 cells_behind from (to ∷ points) = cells_up_to from to ++ cells_behind to points

@@ -13,7 +13,7 @@ abbrev pub IsWalk : Cells → Cell → List Cell → Type 0
 IsWalk cells from [] = IsInside cells from.x from.y
 IsWalk cells from (to ∷ points) = IsInside cells from.x from.y × IsStraight from to × IsWalk cells to points
 
--- how many cells lie behind a point, up to the next
+-- how many cells lie after a point, up to the next
 abbrev pub cell_count : Cell → Cell → ℕ
 cell_count from to = max 1 (abs_diff from.x to.x + abs_diff from.y to.y)
 

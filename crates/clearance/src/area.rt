@@ -39,7 +39,8 @@ fn first_of_rect<M: Metric, R: Rows>(
 ) -> Option<(Cell, Near)>
     requires rect { IsRectIn (R.cells rows.old) rect }
     requires some { IsRectNear M.distance (IsBlocked (R.cells rows.old) edge) rect limit }
-    ensures found { IsFirstOrNone M.distance (IsBlocked (R.cells rows.old) edge) (cells_of_rect rect.x0 rect.y0 rect.x1 rect.y1) limit result }
+    ensures found { IsFirstOrNone M.distance (IsBlocked (R.cells rows.old) edge)
+        (cells_of_rect rect.x0 rect.y0 rect.x1 rect.y1) limit result }
     ensures rows { rows.new ≡ rows.old }
 {
     let y = first_row::<M, R>(rows, edge, rect, limit);

@@ -40,3 +40,16 @@ pub fn bits_below(word: u64, place: u16) -> u64
 {
     word & ((1 << place) - 1)
 }
+
+/// The word with its bits above a place made 0.
+pub fn bits_through(word: u64, place: u16) -> u64
+    requires { place < 64 }
+    ensures kept { (i : ℕ) → i ≤ place → bit_at result i ≡ bit_at word i }
+    ensures cleared { (i : ℕ) → place < i → i < 64 → bit_at result i ≡ 0 }
+{
+    if place < 63 {
+        bits_below(word, place + 1)
+    } else {
+        word
+    }
+}

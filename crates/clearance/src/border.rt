@@ -4,16 +4,16 @@ ghost use Rattle.std.specs.Prelude.{◌≡◌, ◌≤◌, Some};
 ghost use Rattle.metric.specs.Nearest.{IsNear};
 ghost use Rattle.metric.specs.declared.edge.Edge.TheVariants.{Open, Wall};
 ghost use Rattle.bits.specs.Cells.{IsBitmap, IsInside, IsObstacle};
-ghost use Rattle.bits.specs.Edges.{IsBlocked, spot_of};
+ghost use Rattle.bits.specs.Edges.{IsBlocked};
 ghost use Rattle.clearance.specs.Frames.{IsFoundBelow, IsLoweredByFrame};
 ghost use Rattle.clearance.specs.Search.{IsLeastBelow, IsRectIn};
 
 use crate::found::Found;
-use crate::frame::{better, frame_nearest, spot_at};
+use crate::frame::{better, frame_nearest};
 use crate::nearest::nearest;
 use crate::rows::{Rows, holds};
 use crate::search::least_in_bits;
-use metric::{Cell, Edge, Metric, Near, Rect, Spot};
+use metric::{Cell, Edge, MOST_SIDE, Metric, Near, Rect};
 
 /// The nearest obstacle of the cell; `None` where there is none.
 pub fn nearest_spot<M: Metric, R: Rows>(rows: &mut R, edge: Edge, cell: Cell) -> Option<Near>
@@ -36,23 +36,8 @@ fn nearest_open<M: Metric, R: Rows>(rows: &mut R, cell: Cell) -> Option<Near>
     let inside = holds(rows, cell);
     prove!(inside);
     match nearest::<M, R>(rows, cell) {
-        Some(found) => Some(open_spot(found)),
+        Some(found) => Some(found.as_near(Edge::Open)),
         None => None,
-    }
-}
-
-/// What was found in a map whose border is open.
-fn open_spot(found: Found) -> Near
-    requires column { found.cell.x ≤ 4095 }
-    requires row { found.cell.y ≤ 4095 }
-    ensures { result ≡ record { dist = found.dist; cell = spot_of Open found.cell.x found.cell.y } }
-{
-    Near {
-        dist: found.dist,
-        cell: Spot {
-            x: found.cell.x as i16,
-            y: found.cell.y as i16,
-        },
     }
 }
 
@@ -71,7 +56,7 @@ fn nearest_walled<M: Metric, R: Rows>(rows: &mut R, cell: Cell) -> Near
     };
     let frame = frame_nearest::<M>(width + 1, height + 1, framed);
     let own = own_below::<M, R>(rows, cell, u64::from(frame.dist) + 1);
-    spot_at(better(framed.y, frame, own))
+    better(framed.y, frame, own).as_near(Edge::Wall)
 }
 
 /// The nearest obstacle of the bitmap, or none where none is below the limit.
@@ -120,8 +105,8 @@ fn least_walled<M: Metric, R: Rows>(rows: &mut R, rect: Rect, limit: u64) -> u64
 fn lowered_by_frame<M: Metric>(width: u16, height: u16, rect: Rect, limit: u64) -> u64
     requires columns { rect.x1 ≤ width }
     requires rows { rect.y1 ≤ height }
-    requires few_columns { width ≤ 4096 }
-    requires few_rows { height ≤ 4096 }
+    requires few_columns { width ≤ MOST_SIDE }
+    requires few_rows { height ≤ MOST_SIDE }
     ensures { IsLoweredByFrame M.distance width height rect limit result }
 {
     let left = M::of(rect.x0 + 1, 0);

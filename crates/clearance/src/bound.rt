@@ -3,7 +3,7 @@
 ghost use Rattle.std.specs.Prelude.{◌≡◌, ℕ, ◌<◌, length};
 ghost use Rattle.bits.specs.Cells.{IsBitmap};
 ghost use Rattle.bits.specs.Edges.{IsBlocked};
-ghost use Rattle.clearance.specs.Firsts.{IsBoundOver, cell_in};
+ghost use Rattle.clearance.specs.Firsts.{IsBoundOver, cell_of_list};
 ghost use Rattle.clearance.specs.Paths.{cells_behind};
 ghost use Rattle.clearance.specs.Search.{IsInRect, IsRectIn};
 ghost use Rattle.clearance.specs.Segments.{IsWalk};
@@ -41,7 +41,7 @@ fn rect_round<R: Rows>(_rows: &R, from: Cell, points: &[Cell]) -> Rect
     requires bitmap { IsBitmap (R.cells _rows.now) }
     ensures inside { IsRectIn (R.cells _rows.now) result }
     ensures from { IsInRect result from.x from.y }
-    ensures points { (k : ℕ) → k < length points.now → IsInRect result (cell_in points.now k).x (cell_in points.now k).y }
+    ensures points { (k : ℕ) → k < length points.now → IsInRect result (cell_of_list points.now k).x (cell_of_list points.now k).y }
 {
     let (mut low, mut high) = (from, from);
     'points: for point in points {

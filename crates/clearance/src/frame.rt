@@ -2,19 +2,18 @@
 
 ghost use Rattle.std.specs.Prelude.{◌≡◌, ◌≤◌, ◌<◌, true, false, IfSome};
 ghost use Rattle.metric.specs.Cellwise.{IsAtMost};
-ghost use Rattle.metric.specs.declared.edge.Edge.TheVariants.{Wall};
-ghost use Rattle.bits.specs.Edges.{IsFrameCell, less_one, spot_of};
-ghost use Rattle.clearance.specs.Frames.{IsAlong, IsBest, IsBetter, IsFirstAsNear, IsFramedIn, key_found, moved};
+ghost use Rattle.bits.specs.Edges.{IsFrameCell};
+ghost use Rattle.clearance.specs.Frames.{IsAlong, IsLesser, IsBetterOfBoth, IsFirstAsNear, IsFramedIn, key_found, counted_with_frame};
 ghost use Rattle.clearance.specs.Nearest.{IsFound};
 
 use crate::found::Found;
-use metric::{Cell, Metric, Near, Spot};
+use metric::{Cell, LAST_FRAMED, MOST_SIDE, Metric};
 
 /// Of the columns from 1 to `x` the first from which an obstacle `gap` rows away is as near to the column `x` as from there.
 fn first_as_near<M: Metric>(x: u16, gap: u16) -> u16
     requires some { 1 ≤ x }
-    requires column { x ≤ 4097 }
-    requires gap { gap ≤ 4097 }
+    requires column { x ≤ LAST_FRAMED }
+    requires gap { gap ≤ LAST_FRAMED }
     ensures { IsFirstAsNear M.distance x gap result }
 {
     let here = M::of(0, gap);
@@ -94,18 +93,10 @@ fn is_at_most(y: u16, one: Found, other: Found) -> bool
     one.cell.y <= other.cell.y
 }
 
-/// The number of a column or a row, counted from the frame's, as it is counted from the map's.
-fn from_frame(count: u16) -> i16
-    requires { count ≤ 4097 }
-    ensures { result ≡ less_one count }
-{
-    count as i16 - 1
-}
-
 /// The better of the frame's and, if there is one, the bitmap's own, which is moved by one.
 pub fn better(y: u16, frame: Found, own: Option<Found>) -> Found
-    requires { IfSome own (λ found. (found.cell.x ≤ 4095) × (found.cell.y ≤ 4095)) }
-    ensures { IsBetter y frame own result }
+    requires { IfSome own (λ found. (found.cell.x < MOST_SIDE) × (found.cell.y < MOST_SIDE)) }
+    ensures { IsBetterOfBoth y frame own result }
 {
     match own {
         Some(own) => better_of(y, frame, moved(own)),
@@ -115,7 +106,7 @@ pub fn better(y: u16, frame: Found, own: Option<Found>) -> Found
 
 /// The better of the frame's and one of the map's own.
 fn better_of(y: u16, frame: Found, own: Found) -> Found
-    ensures { IsBest y frame own result }
+    ensures { IsLesser y frame own result }
 {
     if is_at_most(y, own, frame) {
         own
@@ -126,30 +117,15 @@ fn better_of(y: u16, frame: Found, own: Found) -> Found
 
 /// What was found in a map, as it is counted with the map's frame.
 fn moved(own: Found) -> Found
-    requires column { own.cell.x ≤ 4095 }
-    requires row { own.cell.y ≤ 4095 }
-    ensures { result ≡ moved own }
+    requires column { own.cell.x < MOST_SIDE }
+    requires row { own.cell.y < MOST_SIDE }
+    ensures { result ≡ counted_with_frame own }
 {
     Found {
         dist: own.dist,
         cell: Cell {
             x: own.cell.x + 1,
             y: own.cell.y + 1,
-        },
-    }
-}
-
-/// What was found in a map with its frame, as it is counted from the map's first column and row.
-pub fn spot_at(found: Found) -> Near
-    requires column { found.cell.x ≤ 4097 }
-    requires row { found.cell.y ≤ 4097 }
-    ensures { result ≡ record { dist = found.dist; cell = spot_of Wall found.cell.x found.cell.y } }
-{
-    Near {
-        dist: found.dist,
-        cell: Spot {
-            x: from_frame(found.cell.x),
-            y: from_frame(found.cell.y),
         },
     }
 }

@@ -4,6 +4,7 @@
 #![tactic(auto)]
 
 mod area;
+mod band;
 mod bit;
 mod border;
 mod bound;

@@ -3,29 +3,33 @@
 ghost use Rattle.std.specs.Prelude.{◌≡◌, ◌+◌, ◌<◌, ◌≤◌, ◌↔◌, IsTrue};
 ghost use Rattle.std.specs.Int.{abs_diff};
 ghost use Rattle.bits.specs.Cells.{IsInside, IsObstacle};
-ghost use Rattle.clearance.specs.Nearest.{IsAhead, IsBetter, IsNearCell, IsRowBefore, IsRowUpTo, IsSeenInRow, IsSought, IsWithin, IsWithinOrAbove, limit_of};
+ghost use Rattle.clearance.specs.Nearest.{IsAhead, IsBetter, IsNearCell, IsRowFirst, IsRowUpTo, IsSeenInRow, IsSought, IsWithin, IsWithinOrAbove, limit_of};
 
+use crate::band::{first_gap, next_gap};
 use crate::found::Found;
 use crate::rows::Rows;
 use crate::search::{NO_LIMIT, is_passed};
 use crate::words::{last_nearer, next_nearer};
-use metric::{Cell, Metric};
+use metric::{Cell, MOST_SIDE, Metric};
 
 /// The nearest obstacle of the cell; `None` where the map has no obstacle.
 ///
-/// The rows are looked at from the cell outwards, the upper one of two first, and in each row the words, as long as an obstacle there can be as near as the best so far.
+/// The rows that may have an obstacle are looked at from the cell outwards, the upper one of two first, and in each row the words, as long as an obstacle there can be as near as the best so far.
 pub fn nearest<M: Metric, R: Rows>(rows: &mut R, cell: Cell) -> Option<Found>
     requires { IsInside (R.cells rows.old) cell.x cell.y }
     ensures near { IsNearCell M.distance (IsObstacle (R.cells rows.old)) cell.x cell.y result }
     ensures rows { rows.new ≡ rows.old }
 {
     let mut best = None;
-    'gaps: for gap in 0..rows.height() {
+    let (bands, height) = (rows.bands(), rows.height());
+    let mut gap = first_gap(bands, cell.y, cell.y, 0);
+    'gaps: while gap < height {
         if u64::from(M::of(0, gap)) >= limit_of(best) {
             return best;
         }
         best = with_row_above::<M, R>(rows, cell, gap, best);
         best = with_row_below::<M, R>(rows, cell, gap, best);
+        gap = next_gap(bands, cell.y, cell.y, gap + 1);
     }
     best
 }
@@ -47,7 +51,7 @@ fn with_row_above<M: Metric, R: Rows>(
     gap: u16,
     best: Option<Found>,
 ) -> Option<Found>
-    requires gap { gap ≤ 4095 }
+    requires gap { gap < MOST_SIDE }
     requires sought { IsSought M.distance (R.cells rows.old) cell (IsWithin cell.y gap) best }
     ensures sought { IsSought M.distance (R.cells rows.new) cell (IsWithinOrAbove cell.y gap) result }
     ensures rows { rows.new ≡ rows.old }
@@ -66,7 +70,7 @@ fn with_row_below<M: Metric, R: Rows>(
     gap: u16,
     best: Option<Found>,
 ) -> Option<Found>
-    requires gap { gap ≤ 4095 }
+    requires gap { gap < MOST_SIDE }
     requires sought { IsSought M.distance (R.cells rows.old) cell (IsWithinOrAbove cell.y gap) best }
     ensures sought { IsSought M.distance (R.cells rows.new) cell (IsWithin cell.y (gap + 1)) result }
     ensures rows { rows.new ≡ rows.old }
@@ -88,7 +92,7 @@ fn with_row<M: Metric, R: Rows>(
 ) -> Option<Found>
     requires row { row < (R.cells rows.old).height }
     requires gap { gap ≡ abs_diff cell.y row }
-    requires sought { IsSought M.distance (R.cells rows.old) cell (λ a b. IsRowBefore cell.y row b) best }
+    requires sought { IsSought M.distance (R.cells rows.old) cell (λ a b. IsRowFirst cell.y row b) best }
     ensures sought { IsSought M.distance (R.cells rows.new) cell (IsRowUpTo cell.y row) result }
     ensures rows { rows.new ≡ rows.old }
 {
@@ -110,7 +114,7 @@ fn with_right<M: Metric, R: Rows>(
 ) -> Option<Found>
     requires row { row < (R.cells rows.old).height }
     requires gap { gap ≡ abs_diff cell.y row }
-    requires sought { IsSought M.distance (R.cells rows.old) cell (λ a b. IsRowBefore cell.y row b) best }
+    requires sought { IsSought M.distance (R.cells rows.old) cell (λ a b. IsRowFirst cell.y row b) best }
     ensures sought { IsSought M.distance (R.cells rows.new) cell (IsSeenInRow cell.y row (λ a. cell.x ≤ a)) result }
     ensures rows { rows.new ≡ rows.old }
 {

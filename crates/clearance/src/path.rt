@@ -9,7 +9,8 @@ use metric::{Cell, Refusal};
 
 /// Refuses a path of no point or of over 1000, then one with a point outside, then one with a crooked point, the first of them.
 pub fn check_path<R: Rows>(rows: &R, points: &[Cell]) -> Result<(), Refusal>
-    ensures { MatchResult result (λ _. path_refusal (R.cells rows.now) points.now ≡ None) (λ refusal. path_refusal (R.cells rows.now) points.now ≡ Some refusal) }
+    ensures { MatchResult result (λ _. path_refusal (R.cells rows.now) points.now ≡ None)
+        (λ refusal. path_refusal (R.cells rows.now) points.now ≡ Some refusal) }
 {
     if points.is_empty() || points.len() > 1000 {
         return Err(Refusal::BadPath);

@@ -1,4 +1,4 @@
-//! A row whose words are there.
+//! One row of a map whose words are all in memory: whether it is blank.
 
 ghost use Rattle.std.specs.Prelude.{◌≡◌, ℕ, ◌<◌, true, length, slice_index};
 

@@ -2,6 +2,7 @@
 
 ghost use Rattle.std.specs.Prelude.{◌≡◌, ◌<◌, ◌≤◌, ◌↔◌, IsTrue, true, slice_index};
 ghost use Rattle.bits.specs.Cells.{Cells, IsBitmap, IsInside};
+ghost use Rattle.bits.specs.Bands.{IsBanded};
 ghost use Rattle.bits.specs.Words.{words_across};
 ghost use Rattle.clearance.specs.Rows.{IsBlankRow, words_of_row};
 
@@ -41,6 +42,10 @@ pub trait Rows {
         requires { y < (cells self.old).height }
         ensures blank { result ≡ true → IsBlankRow (cells self.old) y }
         ensures rows { self.new ≡ self.old };
+
+    /// Which bands of 64 rows may have an obstacle: where bit k is 0, the rows 64 k to 64 k + 63 are blank. To know of none, answer `u64::MAX`.
+    fn bands(&self) -> u64
+        ensures { IsBanded (cells self.now) result };
 }
 
 impl<'a> Rows for &'a Bitmap {
@@ -70,6 +75,12 @@ impl<'a> Rows for &'a Bitmap {
     fn is_blank(&mut self, y: u16) -> bool {
         let bitmap: &Bitmap = *self;
         is_blank(bitmap.row_words(y))
+    }
+
+    #[inline(always)]
+    fn bands(&self) -> u64 {
+        let bitmap: &Bitmap = *self;
+        bitmap.bands()
     }
 }
 

@@ -5,9 +5,10 @@ ghost use Rattle.bits.specs.Cells.{IsObstacle};
 ghost use Rattle.clearance.specs.Rows.{IsBlankRow, words_of_row};
 ghost use Rattle.clearance.specs.Search.{IsLeastInBits, IsLeastWithin, IsLoweredBy, IsLoweredLeft, IsLoweredRight, IsRectIn};
 
+use crate::band::{are_blank_bands, first_gap, is_in_blank_band, next_gap};
 use crate::rows::Rows;
 use crate::words::{last_nearer, next_nearer};
-use metric::{Metric, Rect};
+use metric::{LAST_FRAMED, Metric, Rect};
 
 /// Above each distance.
 pub const NO_LIMIT: u64 = 1 << 32;
@@ -15,21 +16,28 @@ pub const NO_LIMIT: u64 = 1 << 32;
 /// From so many rows away on, a row is looked at as a whole first: obstacles are rare there.
 const SPARSE_GAP: u16 = 128;
 
+/// From so many rows away on, a row in a band that is known to be blank isn't looked at: where obstacles are many there is one nearer.
+const FAR_GAP: u16 = 32;
+
 /// The least of `limit` and of the distances of the rectangle's cells to the bitmap's obstacles.
 ///
-/// The rows are looked at from the rectangle outwards, and in each row the words, no further than a distance below the least so far can be.
+/// The rows that may have an obstacle are looked at from the rectangle outwards, and in each row the words, no further than a distance below the least so far can be.
 pub fn least_in_bits<M: Metric, R: Rows>(rows: &mut R, rect: Rect, limit: u64) -> u64
     requires { IsRectIn (R.cells rows.old) rect }
     ensures least { IsLeastInBits M.distance (IsObstacle (R.cells rows.old)) rect limit result }
     ensures rows { rows.new ≡ rows.old }
 {
     let mut least = least_inside::<M, R>(rows, rect, limit);
-    'gaps: for gap in 1..rows.height() {
+    let (bands, height) = (rows.bands(), rows.height());
+    let (top, bottom) = (rect.y0, rect.y1 - 1);
+    let mut gap = first_gap(bands, top, bottom, 1);
+    'gaps: while gap < height {
         if u64::from(M::of(0, gap)) >= least {
             return least;
         }
         least = lowered_above::<M, R>(rows, rect, gap, least);
         least = lowered_below::<M, R>(rows, rect, gap, least);
+        gap = next_gap(bands, top, bottom, gap + 1);
     }
     least
 }
@@ -40,6 +48,9 @@ fn least_inside<M: Metric, R: Rows>(rows: &mut R, rect: Rect, limit: u64) -> u64
     ensures least { IsLeastWithin M.distance (IsObstacle (R.cells rows.old)) rect 1 limit result }
     ensures rows { rows.new ≡ rows.old }
 {
+    if are_blank_bands(rows.bands(), rect.y0, rect.y1 - 1) {
+        return limit;
+    }
     let mut least = limit;
     'inside: for y in rect.y0..rect.y1 {
         if u64::from(M::of(0, 0)) >= least {
@@ -53,7 +64,7 @@ fn least_inside<M: Metric, R: Rows>(rows: &mut R, rect: Rect, limit: u64) -> u64
 /// The least so far, or a lesser distance to an obstacle so many rows above the rectangle, if there is such a row.
 fn lowered_above<M: Metric, R: Rows>(rows: &mut R, rect: Rect, gap: u16, least: u64) -> u64
     requires rect { IsRectIn (R.cells rows.old) rect }
-    requires gap { gap ≤ 4097 }
+    requires gap { gap ≤ LAST_FRAMED }
     ensures row { gap ≤ rect.y0 → IsLoweredBy M.distance (IsObstacle (R.cells rows.old)) rect (rect.y0 - gap) gap least result }
     ensures none { rect.y0 < gap → result ≡ least }
     ensures rows { rows.new ≡ rows.old }
@@ -68,8 +79,9 @@ fn lowered_above<M: Metric, R: Rows>(rows: &mut R, rect: Rect, gap: u16, least: 
 /// The same below the rectangle.
 fn lowered_below<M: Metric, R: Rows>(rows: &mut R, rect: Rect, gap: u16, least: u64) -> u64
     requires rect { IsRectIn (R.cells rows.old) rect }
-    requires gap { gap ≤ 4097 }
-    ensures row { rect.y1 - 1 + gap < (R.cells rows.old).height → IsLoweredBy M.distance (IsObstacle (R.cells rows.old)) rect (rect.y1 - 1 + gap) gap least result }
+    requires gap { gap ≤ LAST_FRAMED }
+    ensures row { rect.y1 - 1 + gap < (R.cells rows.old).height
+        → IsLoweredBy M.distance (IsObstacle (R.cells rows.old)) rect (rect.y1 - 1 + gap) gap least result }
     ensures none { (R.cells rows.old).height ≤ rect.y1 - 1 + gap → result ≡ least }
     ensures rows { rows.new ≡ rows.old }
 {
@@ -85,7 +97,7 @@ fn lowered_below<M: Metric, R: Rows>(rows: &mut R, rect: Rect, gap: u16, least: 
 fn lowered<M: Metric, R: Rows>(rows: &mut R, rect: Rect, y: u16, gap: u16, least: u64) -> u64
     requires rect { IsRectIn (R.cells rows.old) rect }
     requires row { y < (R.cells rows.old).height }
-    requires gap { gap ≤ 4097 }
+    requires gap { gap ≤ LAST_FRAMED }
     ensures least { IsLoweredBy M.distance (IsObstacle (R.cells rows.old)) rect y gap least result }
     ensures rows { rows.new ≡ rows.old }
 {
@@ -96,14 +108,14 @@ fn lowered<M: Metric, R: Rows>(rows: &mut R, rect: Rect, y: u16, gap: u16, least
     lowered_left::<M, R>(rows, rect, y, gap, right)
 }
 
-/// Whether the row `y`, so many rows away, is looked at as a whole and found to be free.
+/// Whether the row `y`, so many rows away, is known to be free, or looked at as a whole and found to be free.
 #[inline(always)]
 pub fn is_passed<R: Rows>(rows: &mut R, y: u16, gap: u16) -> bool
     requires { y < (R.cells rows.old).height }
     ensures blank { result ≡ true → IsBlankRow (R.cells rows.old) y }
     ensures rows { rows.new ≡ rows.old }
 {
-    gap >= SPARSE_GAP && rows.is_blank(y)
+    gap >= FAR_GAP && (is_in_blank_band(rows, y) || gap >= SPARSE_GAP && rows.is_blank(y))
 }
 
 /// The least so far, or a lesser distance to an obstacle of the row in the rectangle's columns or to the right of them.
@@ -111,7 +123,7 @@ pub fn is_passed<R: Rows>(rows: &mut R, y: u16, gap: u16) -> bool
 fn lowered_right<M: Metric, R: Rows>(rows: &mut R, rect: Rect, y: u16, gap: u16, least: u64) -> u64
     requires rect { IsRectIn (R.cells rows.old) rect }
     requires row { y < (R.cells rows.old).height }
-    requires gap { gap ≤ 4097 }
+    requires gap { gap ≤ LAST_FRAMED }
     ensures least { IsLoweredRight M.distance (words_of_row (R.cells rows.old) y) rect gap least result }
     ensures rows { rows.new ≡ rows.old }
 {
@@ -127,7 +139,7 @@ fn lowered_right<M: Metric, R: Rows>(rows: &mut R, rect: Rect, y: u16, gap: u16,
 fn lowered_left<M: Metric, R: Rows>(rows: &mut R, rect: Rect, y: u16, gap: u16, least: u64) -> u64
     requires rect { IsRectIn (R.cells rows.old) rect }
     requires row { y < (R.cells rows.old).height }
-    requires gap { gap ≤ 4097 }
+    requires gap { gap ≤ LAST_FRAMED }
     ensures least { IsLoweredLeft M.distance (words_of_row (R.cells rows.old) y) rect gap least result }
     ensures rows { rows.new ≡ rows.old }
 {

@@ -1,4 +1,4 @@
-//! Segments of a path: the cells behind a point, up to the next, which lies in its row or column.
+//! Segments of a path: the cells after a point, up to the next, which lies in its row or column.
 
 ghost use Rattle.std.specs.Prelude.{◌≡◌};
 ghost use Rattle.clearance.specs.Paths.{towards};
@@ -6,7 +6,7 @@ ghost use Rattle.clearance.specs.Segments.{IsStraight, cell_count};
 
 use metric::Cell;
 
-/// How many cells lie behind a point, up to the next: a point that is repeated has its cell once more.
+/// How many cells lie after a point, up to the next: a point that is repeated has its cell once more.
 pub fn count_cells(from: Cell, to: Cell) -> u16
     requires { IsStraight from to }
     ensures { result ≡ cell_count from to }

@@ -6,10 +6,7 @@ ghost use Rattle.clearance.specs.Rows.{IsLastNearer, IsNextNearer, IsWhereNearer
 
 use crate::bit::{bits_below, bits_from, highest_bit, lowest_bit};
 use crate::rows::Rows;
-use metric::Metric;
-
-/// How many cells a word holds.
-const WORD_CELLS: u16 = 64;
+use metric::{LAST_FRAMED, MOST_SIDE, Metric, WORD_CELLS};
 
 /// The first obstacle of the row `y` from the column `start` on, where its distance is below `limit`.
 ///
@@ -26,7 +23,7 @@ pub fn next_nearer<M: Metric, R: Rows>(
     requires bitmap { IsBitmap (R.cells rows.old) }
     requires row { y < (R.cells rows.old).height }
     requires start { start < (R.cells rows.old).width }
-    requires gap { gap ≤ 4097 }
+    requires gap { gap ≤ LAST_FRAMED }
     ensures next { IsNextNearer M.distance (words_of_row (R.cells rows.old) y) start edge gap limit result }
     ensures rows { rows.new ≡ rows.old }
 {
@@ -51,8 +48,8 @@ pub fn next_nearer<M: Metric, R: Rows>(
 /// The column, where its distance from a column on its left is below the limit.
 #[inline(always)]
 fn right_nearer<M: Metric>(column: u16, edge: u16, gap: u16, limit: u64) -> Option<u16>
-    requires column { column ≤ 4095 }
-    requires gap { gap ≤ 4097 }
+    requires column { column < MOST_SIDE }
+    requires gap { gap ≤ LAST_FRAMED }
     ensures { IsWhereNearer (M.distance (column - edge) gap) limit column result }
 {
     if u64::from(M::of(column.saturating_sub(edge), gap)) < limit {
@@ -77,8 +74,8 @@ pub fn last_nearer<M: Metric, R: Rows>(
     requires row { y < (R.cells rows.old).height }
     requires end { end < (R.cells rows.old).width }
     requires edge { end ≤ edge }
-    requires within { edge ≤ 4095 }
-    requires gap { gap ≤ 4097 }
+    requires within { edge < MOST_SIDE }
+    requires gap { gap ≤ LAST_FRAMED }
     ensures last { IsLastNearer M.distance (words_of_row (R.cells rows.old) y) end edge gap limit result }
     ensures rows { rows.new ≡ rows.old }
 {
@@ -104,8 +101,8 @@ pub fn last_nearer<M: Metric, R: Rows>(
 #[inline(always)]
 fn left_nearer<M: Metric>(column: u16, edge: u16, gap: u16, limit: u64) -> Option<u16>
     requires column { column ≤ edge }
-    requires edge { edge ≤ 4095 }
-    requires gap { gap ≤ 4097 }
+    requires edge { edge < MOST_SIDE }
+    requires gap { gap ≤ LAST_FRAMED }
     ensures { IsWhereNearer (M.distance (edge - column) gap) limit column result }
 {
     if u64::from(M::of(edge - column, gap)) < limit {

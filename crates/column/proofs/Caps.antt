@@ -1,7 +1,7 @@
 -- Maps with the frame's first and last row, and what they have in common with maps with the whole frame.
 use Rattle.std.proofs.Common.{◌≡◌, ℕ, ◌+◌, ◌-◌, ◌*◌, ◌<◌, ◌≤◌, ◌==◌, ◌||◌, Bool, true, false, List, Option, Some, None, length, get_or, inl, inr, refl, sym, ◌∙◌, ◌++◌, take, drop, arith}
 use Rattle.std.proofs.lemmas.List.{get_or-append_right, get_or-drop, get_or-take, get_or_append_left, length-take-le}
-use Rattle.std.proofs.lemmas.Bool.{cases_lt}
+use Rattle.std.proofs.lemmas.Bool.{cases_lt, or_left}
 use Rattle.std.proofs.lemmas.Bool.Decides.{nat_tests}
 use Rattle.metric.specs.Edge.{shift}
 use Rattle.metric.specs.declared.edge.Edge.{Edge}
@@ -9,13 +9,13 @@ use Rattle.metric.specs.declared.edge.Edge.TheVariants.{Open, Wall}
 use Rattle.bits.specs.Cells.{Cells, IsBitmap, has}
 use Rattle.bits.specs.Edges.{IsMap, framed}
 use Rattle.bits.proofs.CellsLemmas.{has-cells_where, has-cells_where_below, has-cells_where_right}
-use Rattle.bits.proofs.Framing.{framed_map, framed_size, has-framed, shift_few}
+use Rattle.bits.proofs.Framing.{framed_map, framed_size, has-framed, shift_few, wall_test}
 use Rattle.column.specs.Capped.{capped, is_cap, is_side}
 use Rattle.column.specs.Columns.{IsNearestRow, IsRowOfTable, row_of}
 use Rattle.column.specs.Sweeps.{marked}
 use Rattle.column.proofs.Nearest.{IsRowAtMost-by, row_of-some}
 
--- the test of a capped map
+-- a cell of a capped map is an obstacle if it is in the frame's rows or an obstacle of the map
 abbrev cap_test : Edge → Cells → ℕ → ℕ → Bool
 cap_test edge cells x y = is_cap edge cells.height y || has cells x (y - shift edge)
 
@@ -45,29 +45,20 @@ cap_not Open height y free within = (omega arith, omega (arith, within))
 cap_not Wall height y free within = (grind (arith, nat_tests), grind (arith, nat_tests))
 
 -- where the first of two tests fails, the second one decides
-or_left : (a b : Bool) → a ≡ false → (a || b) ≡ b
-or_left false b is = refl
-or_left true b is = absurd (cc)
+or_second : (a b : Bool) → a ≡ false → (a || b) ≡ b
+or_second false b is = refl
+or_second true b is = absurd (cc)
 
--- where the first of two tests passes, one of them passes
-or_true : (a b : Bool) → a ≡ true → (a || b) ≡ true
-or_true true b is = refl
-or_true false b is = absurd (cc)
-
--- in the rows of the map a capped map has what the map has
+-- a capped map has what the map has, in the rows of the map
 pub has-capped : (edge : Edge) (cells : Cells) (x y : ℕ) → x < cells.width → shift edge ≤ y → y < cells.height + shift edge → has (capped edge cells) x y ≡ has cells x (y - shift edge)
 has-capped edge cells x y column above within =
     has-cells_where cells.width (cells.height + 2 * shift edge) (cap_test edge cells) x y column (omega (arith, within))
-    ∙ or_left (is_cap edge cells.height y) (has cells x (y - shift edge)) (cap_free edge cells.height y above within)
+    ∙ or_second (is_cap edge cells.height y) (has cells x (y - shift edge)) (cap_free edge cells.height y above within)
 
 -- in the frame's rows each cell of a capped map is an obstacle
 pub has-cap : (edge : Edge) (cells : Cells) (x y : ℕ) → x < cells.width → y < cells.height + 2 * shift edge → is_cap edge cells.height y ≡ true → has (capped edge cells) x y ≡ true
 has-cap edge cells x y column within cap =
-    has-cells_where cells.width (cells.height + 2 * shift edge) (cap_test edge cells) x y column within ∙ or_true (is_cap edge cells.height y) (has cells x (y - shift edge)) cap
-
--- whether a cell of a map with its frame is an obstacle
-abbrev wall_test : Cells → ℕ → ℕ → Bool
-wall_test cells x y = ((x == 0 || y == 0) || (x == cells.width + 1 || y == cells.height + 1)) || has cells (x - 1) (y - 1)
+    has-cells_where cells.width (cells.height + 2 * shift edge) (cap_test edge cells) x y column within ∙ or_left (is_cap edge cells.height y) (has cells x (y - shift edge)) cap
 
 -- in the map's own columns, the tests of cells with the frame and with its rows alone agree
 same_test : (w h x y : ℕ) (black : Bool) → x < w → (((x + 1 == 0 || y == 0) || (x + 1 == w + 1 || y == h + 1)) || black) ≡ ((y == 0 || y == h + 1) || black)
@@ -103,7 +94,7 @@ own_row : (cells : Cells) (x y : ℕ) → has cells x y ≡ true → IsNearestRo
 own_row cells x y black = (black, λ b other. IsRowAtMost-by y y b (omega arith) (λ same. omega (arith, same)))
 
 -- each cell of the frame's columns is an obstacle
-pub has-side : (edge : Edge) (cells : Cells) (x y : ℕ) → x < cells.width + 2 * shift edge → y < cells.height + 2 * shift edge → is_side edge (cells.width + 2 * shift edge) x ≡ true → has (framed edge cells) x y ≡ true
+has-side : (edge : Edge) (cells : Cells) (x y : ℕ) → x < cells.width + 2 * shift edge → y < cells.height + 2 * shift edge → is_side edge (cells.width + 2 * shift edge) x ≡ true → has (framed edge cells) x y ≡ true
 has-side Open cells x y column row side = absurd (cc)
 has-side Wall cells x y column row side = has-cells_where (cells.width + 2) (cells.height + 2) (wall_test cells) x y (omega (arith, column)) (omega (arith, row)) ∙ side_test cells.width cells.height x y (has cells (x - 1) (y - 1)) side
   where
@@ -119,7 +110,7 @@ has-framed_cap Wall cells x y column row cap = has-cells_where (cells.width + 2)
     row_test w h x y black cap = grind (arith, nat_tests)
 
 -- a column that is none of the frame's is one of the map
-pub side_not : (edge : Edge) (width x : ℕ) → is_side edge (width + 2 * shift edge) x ≡ false → x < width + 2 * shift edge → (shift edge ≤ x) × (x - shift edge < width)
+side_not : (edge : Edge) (width x : ℕ) → is_side edge (width + 2 * shift edge) x ≡ false → x < width + 2 * shift edge → (shift edge ≤ x) × (x - shift edge < width)
 side_not Open width x free within = (omega arith, omega (arith, within))
 side_not Wall width x free within = (grind (arith, nat_tests), grind (arith, nat_tests))
 

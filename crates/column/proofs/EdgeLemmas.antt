@@ -11,17 +11,17 @@ use Rattle.column.specs.Sweeps.{AreMissing, first_marked}
 use Rattle.column.proofs.Nearest.{row_of-none, row_of-some}
 use Rattle.column.proofs.Seeking.{IsSeen-none, first_marked-black, first_marked-free, first_marked-some}
 
--- of the rows from one to before another, the row of the uppermost obstacle of column x; none where they have none
+-- this is the row of the uppermost obstacle of column x in the rows from one to before another; none where they have none
 abbrev pub IsRowFromTo : Cells → ℕ → ℕ → ℕ → Option ℕ → Type 0
 IsRowFromTo cells from to x None = (b : ℕ) → from ≤ b → b < to → IsObstacle cells x b → ⊥
 IsRowFromTo cells from to x (Some row) = IsRowFrom cells x from (Some row)
 
--- of the rows from one to before another, the row of the lowest obstacle of column x; none where they have none
+-- this is the row of the lowest obstacle of column x in the rows from one to before another; none where they have none
 abbrev pub IsRowToBefore : Cells → ℕ → ℕ → ℕ → Option ℕ → Type 0
 IsRowToBefore cells from to x None = (b : ℕ) → from ≤ b → b < to → IsObstacle cells x b → ⊥
 IsRowToBefore cells from to x (Some row) = IsRowBefore cells x to (Some row)
 
--- a line of what is known of each column, and the masks of the columns that have no entry
+-- the line has what is known of each column, and the masks say which columns have no entry
 pub record IsSought (cells : Cells) (Is : ℕ → Option ℕ → Type 0) (masks line : List ℕ) : Type 0 where
   pub as_many : length line ≡ cells.width
   pub room : length masks ≡ 64
@@ -62,7 +62,7 @@ next_entry cells Is Next x y entry small met free kept was black is =
         rw (row_of-none (first_marked (has cells x y) y entry) still) (free is was)
 
 -- a line tells what is known of each column once one row more has been looked at
-pub IsSought-next : (cells : Cells) (Is Next : ℕ → Option ℕ → Type 0) (y : ℕ) (masks new_masks old new : List ℕ) → IsMap cells → y < cells.height
+IsSought-next : (cells : Cells) (Is Next : ℕ → Option ℕ → Type 0) (y : ℕ) (masks new_masks old new : List ℕ) → IsMap cells → y < cells.height
     → ((x : ℕ) → has cells x y ≡ true → Is x None → Next x (Some y)) → ((x : ℕ) → has cells x y ≡ false → Is x None → Next x None) → ((x row : ℕ) → Is x (Some row) → Next x (Some row))
     → IsSought cells Is masks old → length new ≡ length old → length new_masks ≡ length masks → AreMissing new_masks new
     → ((x : ℕ) → x < cells.width → get_or new x 0 ≡ first_marked (has cells x y) y (get_or old x 0)) → IsSought cells Next new_masks new

@@ -1,9 +1,9 @@
-pub mod Caps
-pub mod EdgeLemmas
-pub mod Marking
-pub mod Nearest
-pub mod Seeking
+mod Caps
+mod EdgeLemmas
+mod Marking
+mod Nearest
+mod Seeking
 pub mod Sweeping
-pub mod Tables
-pub mod LineLemmas
-pub mod SpotRows
+mod Tables
+mod LineLemmas
+mod SpotRows

@@ -1,4 +1,4 @@
--- Lines carried from row to row, and the nearest obstacle between two of them.
+-- Lines are carried from row to row, and the nearest obstacle is found between two of them.
 use Rattle.std.proofs.Common.{◌≡◌, ℕ, ◌+◌, ◌-◌, ◌*◌, ◌<◌, ◌≤◌, ◌⊎◌, ◌∙◌, min, inl, inr, Bool, true, false, List, Option, Some, None, length, get_or, arith, refl}
 use Rattle.std.specs.Int.{abs_diff}
 use Rattle.std.proofs.Math.Nat.{mul-le-mul_right}
@@ -97,7 +97,7 @@ before_wins cells x y above below wins before behind =
       ],
     )
 
--- of the entry at or above a row and the entry below it the nearer one is the nearest of all
+-- the nearer one of the entry at or above a row and the entry below it is the nearest of all
 nearest_between : (cells : Cells) (x y above below : ℕ) → IsRowBefore cells x (y + 1) (row_of above) → IsRowFrom cells x (y + 1) (row_of below) → IsNearestRow cells x y (row_of (nearer y above below))
 nearest_between cells x y above below before behind =
     nearer_by (IsNearestRow cells x y) y above below

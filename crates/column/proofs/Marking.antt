@@ -1,19 +1,18 @@
 -- Which entries still stand for no row, as masks of bits tell it.
-use Rattle.std.proofs.Common.{false, zero, suc, eqb, cond, List, [], ◌∷◌, get_or, replicate, ap₂, ◌≡◌, ℕ, ◌+◌, ◌-◌, ◌*◌, ◌/◌, ◌%◌, ◌^◌, ◌<◌, ◌==◌, ◌∙◌, min, arith, refl, sym, ap, ◌≤◌, not}
+use Rattle.std.proofs.Common.{false, zero, suc, eqb, cond, List, [], ◌∷◌, get_or, replicate, ap₂, ◌≡◌, ℕ, ◌-◌, ◌*◌, ◌^◌, ◌<◌, ◌==◌, ◌∙◌, min, arith, refl, sym, ap, not}
 use Rattle.std.specs.Int.{bit_at, w64}
 use mathlib.Core.Logic.{inl, inr}
 use Rattle.std.proofs.lemmas.Bool.{cases_lt}
-use Rattle.std.proofs.lemmas.Nat.{div-add-mod', mod_below, pow_pos}
+use Rattle.std.proofs.lemmas.Nat.{pow_pos}
 use lib.Bits.{bit_and}
-use Rattle.std.specs.Int.RustNames.{bit_or}
 use Rattle.std.proofs.lemmas.Bool.Decides.{nat_tests}
-use Rattle.std.proofs.lemmas.Nat.Bits.{bit_at_and, bit_at_not, bit_at-lt, bit_at-zero, and_pow, bit_at_cat_high, bit_at_ones, bit_at_or, same_from_bits}
+use Rattle.std.proofs.lemmas.Nat.Bits.{bit_at_and, bit_at_not, bit_at-lt, bit_at-zero, and_pow}
 use Rattle.std.specs.Simd.Lanes.{zip2}
 use Rattle.std.proofs.lemmas.List.{get_or-replicate}
 use Rattle.std.proofs.lemmas.Simd.{get_or-zip2}
 use Rattle.column.specs.Sweeps.{marked, first_marked}
 
--- of one bit: a column is missing still where it was missing, and the word has no obstacle there
+-- by its bit, a column is missing still where it was missing and the word has no obstacle there
 bit_missing : (b m entry y : ℕ) → b < 2 → m < 2 → y < 4098 → (m == 1) ≡ (entry == 65535) → (min m (1 - b) == 1) ≡ (marked (min b m == 1) y entry == 65535)
 bit_missing b m entry y hb hm small was = grind (arith, nat_tests)
 
@@ -41,37 +40,9 @@ none_marked word missing i old y was none =
     let free : marked (bit_at 0 i == 1) y old ≡ old = rw (bit_at-zero i) refl in
     new_marked word missing i old old y was (rw none (sym free))
 
--- two numbers joined have each bit of the second one
-pub joined_more : (new word i : ℕ) → bit_at word i ≤ bit_at (bit_or new word) i
-joined_more new word i = rw (bit_at_or new word i) (omega arith)
-
--- two numbers joined have each bit of the first one
-pub joined_before : (new word bit i : ℕ) → bit ≤ bit_at new i → bit ≤ bit_at (bit_or new word) i
-joined_before new word bit i before = rw (bit_at_or new word i) (omega arith)
-
--- where the joined number is 0, each number that was joined to it is 0
-pub joined_none : (word new : ℕ) → new ≡ 0 → ((i : ℕ) → bit_at word i ≤ bit_at new i) → word ≡ 0
-joined_none word new none less = same_from_bits word 0 (λ i.
-    let zero = bit_at-zero i in
-    let less_here : bit_at word i ≤ bit_at 0 i = rw (← none) (less i) in
-    rw zero (omega (arith, less_here, zero)))
-
 -- a number that the test for other numbers than 0 refuses is 0
 pub zero_from_test : (n : ℕ) → not (n == 0) ≡ false → n ≡ 0
 zero_from_test n test = grind (arith, nat_tests)
-
--- each bit of a byte that is cut out of a word is the word's bit at that place
-pub bit_of_part : (word part i : ℕ) → i < 8 → bit_at (bit_and (word / 2 ^ (8 * part)) 255) i ≡ bit_at word (8 * part + i)
-bit_of_part word part i within =
-    let ones : bit_at 255 i ≡ 1 = bit_at_ones 8 i within in
-    let bit = bit_at-lt (word / 2 ^ (8 * part)) i in
-    let cut : bit_at (bit_and (word / 2 ^ (8 * part)) 255) i ≡ bit_at (word / 2 ^ (8 * part)) i = rw (bit_at_and (word / 2 ^ (8 * part)) 255 i, ones) (omega (arith, bit)) in
-    let back : 8 * part + i - 8 * part ≡ i = omega arith in
-    let whole : bit_at word (8 * part + i) ≡ bit_at (word / 2 ^ (8 * part)) i =
-    ap (λ (n : ℕ). bit_at n (8 * part + i)) (sym (div-add-mod' word (2 ^ (8 * part))))
-    ∙ (bit_at_cat_high (word / 2 ^ (8 * part)) (8 * part) (word % 2 ^ (8 * part)) (8 * part + i) (mod_below word (2 ^ (8 * part)) (pow_pos (8 * part))) (omega arith)
-    ∙ ap (bit_at (word / 2 ^ (8 * part))) back) in
-    cut ∙ sym whole
 
 -- a bit times a number that isn't none is the number where the bit is set
 by_bit : (b n : ℕ) → b < 2 → 0 < n → (b * n == n) ≡ (b == 1)
@@ -81,10 +52,10 @@ by_bit b n few some = elim (cases_lt b 1) [
 ]
 
 -- a bit alone, cut out of some bits, is itself where they have it
-pub has_place : (bits i : ℕ) → (bit_and bits (2 ^ i) == 2 ^ i) ≡ (bit_at bits i == 1)
+has_place : (bits i : ℕ) → (bit_and bits (2 ^ i) == 2 ^ i) ≡ (bit_at bits i == 1)
 has_place bits i = rw (and_pow bits i) (by_bit (bit_at bits i) (2 ^ i) (bit_at-lt bits i) (pow_pos i))
 
--- the lowest eight bits, each alone
+-- each of the lowest eight bits stands alone
 abbrev pub places : List ℕ
 places = 1 ∷ 2 ∷ 4 ∷ 8 ∷ 16 ∷ 32 ∷ 64 ∷ 128 ∷ []
 

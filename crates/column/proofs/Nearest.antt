@@ -26,7 +26,7 @@ IsRowAtMost-by y row other near upper = record {
 IsRowAtMost-near : (y row other : ℕ) → IsRowAtMost y row other → abs_diff y row ≤ abs_diff y other
 IsRowAtMost-near y row other at_most = elim at_most.order [ inl nearer ↦ omega arith | inr same ↦ let far = same.0 in omega arith ]
 
--- of two rows as far away the one that comes first isn't below the other
+-- the one that comes first of two rows as far away isn't below the other
 IsRowAtMost-upper : (y row other : ℕ) → IsRowAtMost y row other → abs_diff y row ≡ abs_diff y other → row ≤ other
 IsRowAtMost-upper y row other at_most same = elim at_most.order [ inl nearer ↦ absurd (omega arith) | inr far ↦ far.1 ]
 
@@ -132,7 +132,7 @@ nearer_by P y above below none_below none_above lower upper =
       ]
     ]
 
--- of the entry at or above a row and the nearest seen from the row below, the nearer one is the nearest of all
+-- the nearer one of the entry at or above a row and the nearest seen from the row below is the nearest of all
 pub IsNearestRow-nearer : (cells : Cells) (x y above below : ℕ) → IsRowAbove cells x y (row_of above) → IsNearestRow cells x (y + 1) (row_of below) → IsNearestRow cells x y (row_of (nearer y above below))
 IsNearestRow-nearer cells x y above below up down =
     nearer_by (IsNearestRow cells x y) y above below

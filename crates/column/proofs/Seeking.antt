@@ -1,4 +1,4 @@
--- One row's entries, found by looking at the rows from it outwards.
+-- One row's entries are found by looking at the rows from it outwards.
 use Rattle.std.proofs.Common.{◌≡◌, ◌≢◌, ℕ, ◌+◌, ◌-◌, ◌/◌, ◌%◌, ◌<◌, ◌≤◌, ◌==◌, ◌∙◌, inl, inr, Bool, true, false, List, Option, Some, None, length, get_or, arith, refl, sym, ap}
 use Rattle.std.specs.Int.{abs_diff, bit_at}
 use Rattle.std.proofs.Math.ListN.{replicate}
@@ -112,7 +112,7 @@ next_none cells x y away old mid new map row none was above above_not below belo
     ]
 
 -- an entry is right one row farther once the two rows so far away have been looked at
-pub IsNearestWithin-next : (cells : Cells) (x y away old mid new : ℕ) → IsMap cells → y < cells.height → IsNearestWithin cells x y away (row_of old)
+IsNearestWithin-next : (cells : Cells) (x y away old mid new : ℕ) → IsMap cells → y < cells.height → IsNearestWithin cells x y away (row_of old)
     → (away ≤ y → mid ≡ first_marked (has cells x (y - away)) (y - away) old) → (y < away → mid ≡ old)
     → (y + away < cells.height → new ≡ first_marked (has cells x (y + away)) (y + away) mid) → (cells.height ≤ y + away → new ≡ mid)
     → IsNearestWithin cells x y (away + 1) (row_of new)

@@ -1,8 +1,6 @@
 -- A table of nearest rows, and the bitmap that it was made of.
-use Rattle.std.proofs.Common.{◌≡◌, ◌≢◌, ℕ, ◌+◌, ◌*◌, ◌<◌, ◌≤◌, ◌==◌, ◌∙◌, Bool, true, false, List, ◌++◌, Option, Some, None, length, get_or, take, drop, arith, sym, ap}
-use Rattle.std.proofs.lemmas.Bool.{cases_eq}
-use Rattle.std.proofs.lemmas.Bool.Decides.{nat_tests}
-use Rattle.std.proofs.Math.Seq.{take-append_seam}
+use Rattle.std.proofs.Common.{◌≡◌, ℕ, ◌+◌, ◌*◌, ◌<◌, ◌≤◌, ◌==◌, ◌∙◌, Bool, true, false, List, Option, Some, None, length, get_or, arith, sym, ap}
+use Rattle.std.proofs.lemmas.Bool.{cases_eq, eq-eqb, ne_eqb}
 use Rattle.std.proofs.Math.Nat.{mul-le-mul}
 use mathlib.Core.Logic.{inl, inr}
 use Rattle.metric.specs.Edge.{shift}
@@ -29,14 +27,6 @@ nearest_of_obstacle cells x y (Some row) black nearest =
 nearest_of_free : (cells : Cells) (x y : ℕ) → has cells x y ≡ false → IsNearestRow cells x y (Some y) → ⊥
 nearest_of_free cells x y free nearest = let black = nearest.0 in absurd (cc)
 
--- the test of an entry that is the row passes
-is_row : (entry y : ℕ) → entry ≡ y → (entry == y) ≡ true
-is_row entry y same = grind (arith, nat_tests)
-
--- the test of an entry that isn't the row fails
-is_no_row : (entry y : ℕ) → entry ≢ y → (entry == y) ≡ false
-is_no_row entry y apart = grind (arith, nat_tests)
-
 -- an entry that stands for a row is that row
 entry_of_row : (entry y : ℕ) → row_of entry ≡ Some y → entry ≡ y
 entry_of_row entry y is = elim (cases_eq entry 65535) [
@@ -48,12 +38,12 @@ entry_of_row entry y is = elim (cases_eq entry 65535) [
 entry_tells : (cells : Cells) (x y entry : ℕ) → y < 65535 → IsNearestRow cells x y (row_of entry) → (black : Bool) → has cells x y ≡ black → (entry == y) ≡ black
 entry_tells cells x y entry small nearest true is =
     let same = entry_of_row entry y (nearest_of_obstacle cells x y (row_of entry) is nearest) in
-    is_row entry y same
+    eq-eqb entry y same
 entry_tells cells x y entry small nearest false is = elim (cases_eq entry y) [
   | inl same ↦
       let row : row_of entry ≡ Some y = rw same (row_of-some y (λ mark. omega arith)) in
       absurd (nearest_of_free cells x y is (rw row at nearest))
-  | inr apart ↦ is_no_row entry y apart
+  | inr apart ↦ ne_eqb entry y apart
 ]
 
 -- after both sweeps the table stands for the bitmap
@@ -93,11 +83,7 @@ IsTabled-swept cells width height edge entries bitmap width_is height_is swept =
 pub IsBitmap-cells_tabled : (width height : ℕ) (edge : Edge) (entries : List ℕ) → IsTabled width height edge entries → IsBitmap (cells_tabled width height edge entries)
 IsBitmap-cells_tabled width height edge entries tabled = IsBitmap-cells_where width height (λ x y. get_or entries (place_in width edge x y) 0 == y + shift edge) tabled.width_is tabled.height_is
 
--- a list that is written over the beginning of another is that beginning
-pub written_over : (n : ℕ) (new old : List ℕ) → n ≡ length new → take n (new ++ drop (length new) old) ≡ new
-written_over n new old as_many = rw as_many (take-append_seam new (drop (length new) old))
-
--- a bitmap with its border
+-- a bitmap is given its border
 abbrev pub bordered : Cells → Edge → Bordered
 bordered cells edge = record { cells = cells; edge = edge }
 

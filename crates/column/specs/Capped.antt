@@ -5,16 +5,16 @@ use Rattle.metric.specs.declared.edge.Edge.TheVariants.{Open, Wall}
 use Rattle.metric.specs.Edge.{shift}
 use Rattle.bits.specs.Cells.{Cells, cells_where, has}
 
--- whether the row y is one of the frame's, where the map itself has so many rows
+-- the test says whether the row y is one of the frame's, where the map itself has so many rows
 abbrev pub is_cap : Edge → ℕ → ℕ → Bool
 is_cap Open height y = false
 is_cap Wall height y = y == 0 || y == height + 1
 
--- whether the column x is one of the frame's, where there are so many with these
+-- the test says whether the column x is one of the frame's, where there are so many with these
 abbrev pub is_side : Edge → ℕ → ℕ → Bool
 is_side Open count x = false
 is_side Wall count x = x == 0 || x + 1 == count
 
--- a map with the frame's first and last row, as far as these lie in its columns
+-- a capped map has the frame's first and last row, as far as these lie in its columns
 abbrev pub capped : Edge → Cells → Cells
 capped edge cells = cells_where cells.width (cells.height + 2 * shift edge) (λ x y. is_cap edge cells.height y || has cells x (y - shift edge))

@@ -8,12 +8,12 @@ use Rattle.bits.specs.Cells.{Cells, IsObstacle}
 pub record IsRowAtMost (y row other : ℕ) : Type 0 where
   pub order : (abs_diff y row < abs_diff y other) ⊎ ((abs_diff y row ≡ abs_diff y other) × (row ≤ other))
 
--- the row of the obstacle of column x that is nearest to the row y, the upper one on a tie; none where the column has none
+-- this is the row of the obstacle of column x that is nearest to the row y, the upper one on a tie; none where the column has none
 abbrev pub IsNearestRow : Cells → ℕ → ℕ → Option ℕ → Type 0
 IsNearestRow cells x y None = (b : ℕ) → IsObstacle cells x b → ⊥
 IsNearestRow cells x y (Some row) = IsObstacle cells x row × ((b : ℕ) → IsObstacle cells x b → IsRowAtMost y row b)
 
--- the row that an entry of a table stands for: none for the greatest number of 16 bits, otherwise the entry
+-- an entry of a table stands for its own row, and for none where it is the greatest number of 16 bits
 abbrev pub row_of : ℕ → Option ℕ
 row_of entry = if entry == 65535 then None else Some entry
 

@@ -3,30 +3,30 @@ use Rattle.std.specs.Prelude.{◌≡◌, ℕ, ◌+◌, ◌-◌, ◌*◌, ◌<◌
 use Rattle.bits.specs.Cells.{Cells, IsObstacle}
 use Rattle.column.specs.Columns.{row_of}
 
--- the row of the lowest obstacle of column x before the row y; none where there is none
+-- this is the row of the lowest obstacle of column x before the row y; none where there is none
 abbrev pub IsRowBefore : Cells → ℕ → ℕ → Option ℕ → Type 0
 IsRowBefore cells x y None = (b : ℕ) → b < y → IsObstacle cells x b → ⊥
 IsRowBefore cells x y (Some row) = IsObstacle cells x row × (row < y) × ((b : ℕ) → b < y → IsObstacle cells x b → b ≤ row)
 
--- the row of the uppermost obstacle of column x from the row y on; none where there is none
+-- this is the row of the uppermost obstacle of column x from the row y on; none where there is none
 abbrev pub IsRowFrom : Cells → ℕ → ℕ → Option ℕ → Type 0
 IsRowFrom cells x y None = (b : ℕ) → y ≤ b → IsObstacle cells x b → ⊥
 IsRowFrom cells x y (Some row) = IsObstacle cells x row × (y ≤ row) × ((b : ℕ) → y ≤ b → IsObstacle cells x b → row ≤ b)
 
--- for each column the nearest obstacle before the row y
+-- the line has for each column its nearest obstacle before the row y
 pub record IsLineBefore (cells : Cells) (y : ℕ) (line : List ℕ) : Type 0 where
   pub as_many : length line ≡ cells.width
   pub each : (x : ℕ) → x < cells.width → IsRowBefore cells x y (row_of (slice_index line x))
 
--- for each column the nearest obstacle from the row y on
+-- the line has for each column its nearest obstacle from the row y on
 pub record IsLineFrom (cells : Cells) (y : ℕ) (line : List ℕ) : Type 0 where
   pub as_many : length line ≡ cells.width
   pub each : (x : ℕ) → x < cells.width → IsRowFrom cells x y (row_of (slice_index line x))
 
--- for each row from one to before another and each column, the nearest obstacle below the row; lines are counted from a first row
+-- the lines have for each row from one to before another and each column the nearest obstacle below it; they are counted from a first row
 pub record AreLinesBehind (cells : Cells) (first from to : ℕ) (lines : List ℕ) : Type 0 where
   pub each : (x y : ℕ) → x < cells.width → from ≤ y → y < to → IsRowFrom cells x (y + 1) (row_of (slice_index lines ((y - first) * cells.width + x)))
 
--- for each band of 64 rows from one on, of the rows from one to before another, and each column, the nearest obstacle below the band
+-- the edges have for each band of 64 rows from one on, and each column, the nearest obstacle below the band, of the rows before another
 pub record AreEdges (cells : Cells) (from to bands : ℕ) (edges : List ℕ) : Type 0 where
   pub each : (x band : ℕ) → x < cells.width → bands ≤ band → from + 64 * band < to → IsRowFrom cells x (min (from + 64 * (band + 1)) to) (row_of (slice_index edges (band * cells.width + x)))

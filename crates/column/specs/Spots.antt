@@ -9,7 +9,7 @@ use Rattle.bits.specs.Edges.{IsBlocked}
 pub record IsSpotRowAtMost (y : ℕ) (row other : ℤ) : Type 0 where
   pub order : (apart y row < apart y other) ⊎ ((apart y row ≡ apart y other) × (row ≤ℤ other))
 
--- the row of the obstacle of column x that is nearest to the row y, the upper one on a tie; none where the column has none
+-- this is the row of the obstacle of column x that is nearest to the row y, the upper one on a tie; none where the column has none
 abbrev pub IsNearestSpotRow : Cells → Edge → ℤ → ℕ → Option ℤ → Type 0
 IsNearestSpotRow cells edge x y None = (b : ℤ) → IsBlocked cells edge x b → ⊥
 IsNearestSpotRow cells edge x y (Some row) = IsBlocked cells edge x row × ((b : ℤ) → IsBlocked cells edge x b → IsSpotRowAtMost y row b)

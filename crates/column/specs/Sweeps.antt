@@ -4,7 +4,7 @@ use Rattle.std.specs.Int.{abs_diff, bit_at}
 use Rattle.bits.specs.Cells.{Cells, IsObstacle}
 use Rattle.column.specs.Columns.{IsNearestRow, row_of}
 
--- the row of the lowest obstacle of column x at or above the row y; none where there is none
+-- this is the row of the lowest obstacle of column x at or above the row y; none where there is none
 abbrev pub IsRowAbove : Cells → ℕ → ℕ → Option ℕ → Type 0
 IsRowAbove cells x y None = (b : ℕ) → b ≤ y → IsObstacle cells x b → ⊥
 IsRowAbove cells x y (Some row) = IsObstacle cells x row × (row ≤ y) × ((b : ℕ) → b ≤ y → IsObstacle cells x b → b ≤ row)
@@ -13,11 +13,11 @@ IsRowAbove cells x y (Some row) = IsObstacle cells x row × (row ≤ y) × ((b :
 abbrev pub marked : Bool → ℕ → ℕ → ℕ
 marked black y entry = if black then y else entry
 
--- whether a row's words have a 1 for the column x
+-- the test says whether a row's words have a 1 for the column x
 abbrev pub is_marked : List ℕ → ℕ → Bool
 is_marked words x = bit_at (slice_index words (x / 64)) (x % 64) == 1
 
--- of the entries of the nearest obstacle at or above the row y and of the nearest seen from the row below, the nearer; the upper one on a tie
+-- the nearer wins of the nearest obstacle at or above the row y and the nearest seen from the row below, and the upper one on a tie
 abbrev pub nearer : ℕ → ℕ → ℕ → ℕ
 nearer y above below = if below == 65535 then above else if above == 65535 then below else if nat_lt (abs_diff y below) (abs_diff y above) then below else above
 
@@ -33,7 +33,7 @@ pub record IsSweptUp (cells : Cells) (from : ℕ) (entries : List ℕ) : Type 0 
   pub above : (x y : ℕ) → x < cells.width → y < from → IsRowAbove cells x y (row_of (slice_index entries (y * cells.width + x)))
   pub nearest : (x y : ℕ) → x < cells.width → from ≤ y → y < cells.height → IsNearestRow cells x y (row_of (slice_index entries (y * cells.width + x)))
 
--- seen from the row y, the nearest of the obstacles of column x that are less than so many rows away; none where there is none
+-- this is the nearest to the row y of the obstacles of column x that are less than so many rows away; none where there is none
 abbrev pub IsNearestWithin : Cells → ℕ → ℕ → ℕ → Option ℕ → Type 0
 IsNearestWithin cells x y away None = (b : ℕ) → abs_diff y b < away → IsObstacle cells x b → ⊥
 IsNearestWithin cells x y away (Some row) = IsNearestRow cells x y (Some row)
@@ -46,7 +46,7 @@ AreMissing masks entries = (x : ℕ) → x < length entries → is_marked masks 
 abbrev pub first_marked : Bool → ℕ → ℕ → ℕ
 first_marked black y entry = if entry == 65535 then marked black y entry else entry
 
--- the entries of the row y, where the obstacles less than so many rows away have been looked at
+-- the entries of the row y are right where the obstacles less than so many rows away have been looked at
 pub record IsSeen (cells : Cells) (y away : ℕ) (masks entries : List ℕ) : Type 0 where
   pub as_many : length entries ≡ cells.width
   pub room : cells.width ≤ 64 * length masks

@@ -6,16 +6,16 @@ use Rattle.bits.specs.Cells.{Cells, cells_where, IsSide}
 use Rattle.bits.specs.Edges.{framed}
 use Rattle.column.specs.Columns.{IsNearestRow, row_of}
 
--- a bitmap, and what its border is
+-- a bordered map is a bitmap, and what its border is
 pub record Bordered : Type 0 where
   pub cells : Cells
   pub edge : Edge
 
--- the place of a cell's entry, where the cell's column and row are counted without the frame
+-- a cell's entry has this place, where the cell's column and row are counted without the frame
 abbrev pub place_in : ℕ → Edge → ℕ → ℕ → ℕ
 place_in width edge x y = (y + shift edge) * (width + 2 * shift edge) + (x + shift edge)
 
--- the bitmap that such a table was made of
+-- a table was made of this bitmap
 abbrev pub cells_tabled : ℕ → ℕ → Edge → List ℕ → Cells
 cells_tabled width height edge entries = cells_where width height (λ x y. slice_index entries (place_in width edge x y) == y + shift edge)
 

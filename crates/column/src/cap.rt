@@ -6,11 +6,11 @@ ghost use Rattle.column.specs.Capped.{is_cap, is_side};
 ghost use Rattle.column.specs.Sweeps.{AreMissing, first_marked, marked};
 
 use crate::NONE;
-use metric::Edge;
+use metric::{Edge, FRAMED_SIDE, MOST_SIDE};
 
 /// Whether the row `y` is one of the frame's, where the map itself has `height` rows.
 pub fn is_cap(edge: Edge, height: u16, y: u16) -> bool
-    requires { height ≤ 4096 }
+    requires { height ≤ MOST_SIDE }
     ensures { result ≡ is_cap edge height y }
 {
     match edge {
@@ -23,7 +23,8 @@ pub fn is_cap(edge: Edge, height: u16, y: u16) -> bool
 pub fn mark_sides(edge: Edge, y: u16, row: &mut [u16])
     requires { 2 * shift edge ≤ length row.old }
     ensures len { length row.new ≡ length row.old }
-    ensures marked { (x : ℕ) → x < length row.old → slice_index row.new x ≡ marked (is_side edge (length row.old) x) y (slice_index row.old x) }
+    ensures marked { (x : ℕ) → x < length row.old → slice_index row.new x
+        ≡ marked (is_side edge (length row.old) x) y (slice_index row.old x) }
 {
     match edge {
         Edge::Open => {}
@@ -46,7 +47,7 @@ fn mark_ends(y: u16, row: &mut [u16])
 
 /// Writes the row `y` into each entry that is missing; no column is missing then.
 pub fn mark_all(y: u16, missing: &mut [u64], entries: &mut [u16])
-    requires { y < 4098 }
+    requires { y < FRAMED_SIDE }
     ensures len { length entries.new ≡ length entries.old }
     ensures room { length missing.new ≡ length missing.old }
     ensures missing { AreMissing missing.new entries.new }

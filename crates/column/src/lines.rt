@@ -13,10 +13,10 @@ use crate::cap::mark_sides;
 use crate::edge::{seek_before, seek_from};
 use crate::row::{mark_row, nearer};
 use bits::Bitmap;
-use metric::Edge;
+use metric::{BAND_ROWS, Edge};
 
 /// How many rows a band has.
-pub const BAND: u16 = 64;
+pub const BAND: u16 = BAND_ROWS;
 
 /// Carries the line of the obstacles from row `to` on up to row `from`.
 fn carry_up(bitmap: &Bitmap, edge: Edge, from: u16, to: u16, line: &mut [u16])
@@ -141,7 +141,8 @@ fn mark_line(bitmap: &Bitmap, edge: Edge, y: u16, line: &mut [u16])
     requires row { y < bitmap.now.height + shift edge }
     requires width { length line.old ≡ bitmap.now.width }
     ensures len { length line.new ≡ length line.old }
-    ensures marked { (x : ℕ) → x < bitmap.now.width → slice_index line.new x ≡ marked (has (capped edge bitmap.now) x y) y (slice_index line.old x) }
+    ensures marked { (x : ℕ) → x < bitmap.now.width → slice_index line.new x
+        ≡ marked (has (capped edge bitmap.now) x y) y (slice_index line.old x) }
 {
     mark_row(bitmap.row_words(y - edge.shift()), y, line);
 }
@@ -162,7 +163,8 @@ fn pick_line(y: u16, above: &[u16], below: &[u16], entries: &mut [u16])
     requires above { length above.now ≡ length entries.old }
     requires below { length below.now ≡ length entries.old }
     ensures len { length entries.new ≡ length entries.old }
-    ensures nearer { (x : ℕ) → x < length entries.old → slice_index entries.new x ≡ nearer y (slice_index above.now x) (slice_index below.now x) }
+    ensures nearer { (x : ℕ) → x < length entries.old → slice_index entries.new x
+        ≡ nearer y (slice_index above.now x) (slice_index below.now x) }
 {
     'columns: for x in 0..entries.len() {
         entries[x] = nearer(y, above[x], below[x]);

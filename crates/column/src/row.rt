@@ -5,13 +5,11 @@ ghost use Rattle.std.specs.Int.{bit_at};
 ghost use Rattle.column.specs.Sweeps.{is_marked, marked, nearer};
 
 use crate::NONE;
+use metric::WORD_BITS;
 use std::simd::prelude::*;
 
 /// The lowest eight bits, each alone.
 const PLACES: [u16; 8] = [1, 2, 4, 8, 16, 32, 64, 128];
-
-/// How many cells a word of a bitmap's row holds.
-pub const WORD_BITS: usize = 64;
 
 /// Writes its own row into the entry of each obstacle of row `y`.
 pub fn mark_row(words: &[u64], y: u16, row: &mut [u16])
@@ -32,7 +30,8 @@ pub fn mark_row(words: &[u64], y: u16, row: &mut [u16])
 pub fn mark_word(word: u64, y: u16, first: usize, row: &mut [u16])
     requires { first ≤ length row.old }
     ensures len { length row.new ≡ length row.old }
-    ensures marked { (i : ℕ) → i < 64 → first + i < length row.old → slice_index row.new (first + i) ≡ marked (bit_at word i == 1) y (slice_index row.old (first + i)) }
+    ensures marked { (i : ℕ) → i < 64 → first + i < length row.old
+        → slice_index row.new (first + i) ≡ marked (bit_at word i == 1) y (slice_index row.old (first + i)) }
     ensures others { (x : ℕ) → (x < first) ⊎ (first + 64 ≤ x) → slice_index row.new x ≡ slice_index row.old x }
 {
     'parts: for part in 0..8 {
@@ -47,7 +46,8 @@ pub fn mark_word(word: u64, y: u16, first: usize, row: &mut [u16])
 fn mark_part(bits: u16, y: u16, first: usize, row: &mut [u16])
     requires { first ≤ length row.old + 56 }
     ensures len { length row.new ≡ length row.old }
-    ensures marked { (i : ℕ) → i < 8 → first + i < length row.old → slice_index row.new (first + i) ≡ marked (bit_at bits i == 1) y (slice_index row.old (first + i)) }
+    ensures marked { (i : ℕ) → i < 8 → first + i < length row.old
+        → slice_index row.new (first + i) ≡ marked (bit_at bits i == 1) y (slice_index row.old (first + i)) }
     ensures others { (x : ℕ) → (x < first) ⊎ (first + 8 ≤ x) → slice_index row.new x ≡ slice_index row.old x }
 {
     if first + 8 <= row.len() {
@@ -85,7 +85,8 @@ fn mark_last(bits: u16, y: u16, first: usize, row: &mut [u16])
     requires some { first ≤ length row.old }
     requires few { length row.old < first + 8 }
     ensures len { length row.new ≡ length row.old }
-    ensures marked { (i : ℕ) → i < 8 → first + i < length row.old → slice_index row.new (first + i) ≡ marked (bit_at bits i == 1) y (slice_index row.old (first + i)) }
+    ensures marked { (i : ℕ) → i < 8 → first + i < length row.old
+        → slice_index row.new (first + i) ≡ marked (bit_at bits i == 1) y (slice_index row.old (first + i)) }
     ensures others { (x : ℕ) → x < first → slice_index row.new x ≡ slice_index row.old x }
 {
     'bits: for place in 0..row.len() - first {
@@ -99,7 +100,8 @@ fn mark_last(bits: u16, y: u16, first: usize, row: &mut [u16])
 pub fn lift_row(y: u16, start: usize, entries: &mut [u16], below: &[u16])
     requires { start + length below.now ≤ length entries.old }
     ensures len { length entries.new ≡ length entries.old }
-    ensures nearer { (x : ℕ) → x < length below.now → slice_index entries.new (start + x) ≡ nearer y (slice_index entries.old (start + x)) (slice_index below.now x) }
+    ensures nearer { (x : ℕ) → x < length below.now → slice_index entries.new (start + x)
+        ≡ nearer y (slice_index entries.old (start + x)) (slice_index below.now x) }
     ensures others { (k : ℕ) → (k < start) ⊎ (start + length below.now ≤ k) → slice_index entries.new k ≡ slice_index entries.old k }
 {
     'columns: for x in 0..below.len() {

@@ -11,12 +11,12 @@ ghost use Rattle.column.specs.Sweeps.{AreMissing, first_marked, is_marked};
 
 use crate::NONE;
 use crate::cap::{is_cap, mark_all, mark_sides};
-use crate::row::{WORD_BITS, mark_word};
+use crate::row::mark_word;
 use bits::Bitmap;
-use metric::Edge;
+use metric::{Edge, FRAMED_SIDE, MOST_SIDE, WORD_BITS, WORD_CELLS};
 
 /// How many words the widest row takes.
-pub const MOST_WORDS: usize = 64;
+pub const MOST_WORDS: usize = (MOST_SIDE / WORD_CELLS) as usize;
 
 /// Fills `entries` as the table of the bitmap has them in row `y`, which is counted with the frame where the border is a wall. No memory is taken.
 ///
@@ -62,7 +62,7 @@ fn look_around(bitmap: &Bitmap, edge: Edge, y: u16, missing: &mut [u64], entries
 /// How many rows away from row `y` the first rows lie past one of the frame, so that all columns have entries; 0 where the border is open.
 fn past_frame(edge: Edge, rows: u16, y: u16) -> u16
     requires row { y < rows }
-    requires few { rows ≤ 4098 }
+    requires few { rows ≤ FRAMED_SIDE }
 {
     match edge {
         Edge::Open => 0,
@@ -87,7 +87,9 @@ fn look_above(
     ensures len { length entries.new ≡ length entries.old }
     ensures room { length missing.new ≡ length missing.old }
     ensures missing { AreMissing missing.new entries.new }
-    ensures seen { away ≤ y → (x : ℕ) → x < bitmap.now.width → slice_index entries.new x ≡ first_marked (has (capped edge bitmap.now) x (y - away)) (y - away) (slice_index entries.old x) }
+    ensures seen { away ≤ y → (x : ℕ) → x < bitmap.now.width
+        → slice_index entries.new x ≡ first_marked (has (capped edge bitmap.now) x (y - away)) (y - away)
+        (slice_index entries.old x) }
     ensures none { y < away → entries.new ≡ entries.old }
 {
     if away <= y {
@@ -112,7 +114,9 @@ fn look_below(
     ensures len { length entries.new ≡ length entries.old }
     ensures room { length missing.new ≡ length missing.old }
     ensures missing { AreMissing missing.new entries.new }
-    ensures seen { y + away < bitmap.now.height + 2 * shift edge → (x : ℕ) → x < bitmap.now.width → slice_index entries.new x ≡ first_marked (has (capped edge bitmap.now) x (y + away)) (y + away) (slice_index entries.old x) }
+    ensures seen { y + away < bitmap.now.height + 2 * shift edge → (x : ℕ) → x < bitmap.now.width
+        → slice_index entries.new x ≡ first_marked (has (capped edge bitmap.now) x (y + away)) (y + away)
+        (slice_index entries.old x) }
     ensures none { bitmap.now.height + 2 * shift edge ≤ y + away → entries.new ≡ entries.old }
 {
     if away < bitmap.height() + 2 * edge.shift() - y {
@@ -130,7 +134,8 @@ pub fn look_at(bitmap: &Bitmap, edge: Edge, y: u16, missing: &mut [u64], entries
     ensures len { length entries.new ≡ length entries.old }
     ensures room { length missing.new ≡ length missing.old }
     ensures missing { AreMissing missing.new entries.new }
-    ensures seen { (x : ℕ) → x < bitmap.now.width → slice_index entries.new x ≡ first_marked (has (capped edge bitmap.now) x y) y (slice_index entries.old x) }
+    ensures seen { (x : ℕ) → x < bitmap.now.width → slice_index entries.new x
+        ≡ first_marked (has (capped edge bitmap.now) x y) y (slice_index entries.old x) }
 {
     if is_cap(edge, bitmap.height(), y) {
         mark_all(y, missing, entries);
@@ -142,7 +147,7 @@ pub fn look_at(bitmap: &Bitmap, edge: Edge, y: u16, missing: &mut [u64], entries
 
 /// Writes the row `y` into the entries of those of its obstacles whose columns are missing.
 fn mark_missing(words: &[u64], y: u16, missing: &mut [u64], entries: &mut [u16])
-    requires row { y < 4098 }
+    requires row { y < FRAMED_SIDE }
     requires few { length words.now ≤ 64 }
     requires all { length entries.old ≤ 64 * length words.now }
     requires no_more { 64 * length words.now < length entries.old + 64 }
@@ -151,7 +156,8 @@ fn mark_missing(words: &[u64], y: u16, missing: &mut [u64], entries: &mut [u16])
     ensures len { length entries.new ≡ length entries.old }
     ensures room { length missing.new ≡ length missing.old }
     ensures missing { AreMissing missing.new entries.new }
-    ensures marked { (x : ℕ) → x < length entries.old → slice_index entries.new x ≡ first_marked (is_marked words.now x) y (slice_index entries.old x) }
+    ensures marked { (x : ℕ) → x < length entries.old → slice_index entries.new x
+        ≡ first_marked (is_marked words.now x) y (slice_index entries.old x) }
 {
     if !has_new(words, missing) {
         return;
@@ -175,12 +181,15 @@ fn has_new(words: &[u64], missing: &[u64]) -> bool
 
 /// Writes the row `y` into the entries of those of a word's obstacles whose columns are missing. Which columns are missing then.
 fn mark_new(word: u64, y: u16, first: usize, missing: u64, entries: &mut [u16]) -> u64
-    requires row { y < 4098 }
+    requires row { y < FRAMED_SIDE }
     requires first { first ≤ length entries.old }
-    requires missing { (i : ℕ) → i < 64 → first + i < length entries.old → (bit_at missing i == 1) ≡ (slice_index entries.old (first + i) == 65535) }
+    requires missing { (i : ℕ) → i < 64 → first + i < length entries.old
+        → (bit_at missing i == 1) ≡ (slice_index entries.old (first + i) == 65535) }
     ensures len { length entries.new ≡ length entries.old }
-    ensures missing { (i : ℕ) → i < 64 → first + i < length entries.old → (bit_at result i == 1) ≡ (slice_index entries.new (first + i) == 65535) }
-    ensures marked { (i : ℕ) → i < 64 → first + i < length entries.old → slice_index entries.new (first + i) ≡ first_marked (bit_at word i == 1) y (slice_index entries.old (first + i)) }
+    ensures missing { (i : ℕ) → i < 64 → first + i < length entries.old
+        → (bit_at result i == 1) ≡ (slice_index entries.new (first + i) == 65535) }
+    ensures marked { (i : ℕ) → i < 64 → first + i < length entries.old
+        → slice_index entries.new (first + i) ≡ first_marked (bit_at word i == 1) y (slice_index entries.old (first + i)) }
     ensures others { (x : ℕ) → (x < first) ⊎ (first + 64 ≤ x) → slice_index entries.new x ≡ slice_index entries.old x }
 {
     let new = word & missing;

@@ -9,7 +9,7 @@ ghost use Rattle.column.specs.Sweeps.{IsSweptDown, IsSweptUp, marked, nearer};
 use crate::cap::{is_cap, mark_sides};
 use crate::row::{lift_row, mark_row};
 use bits::Bitmap;
-use metric::Edge;
+use metric::{Edge, FRAMED_SIDE};
 
 /// Finds for each cell the nearest obstacle of its column, where each entry is `NONE` at first.
 pub fn sweep(bitmap: &Bitmap, edge: Edge, entries: &mut [u16])
@@ -35,7 +35,7 @@ fn sweep_down(bitmap: &Bitmap, edge: Edge, entries: &mut [u16])
 
 /// Gives row `y` the entries of the row above; the top row stays.
 fn start_row(width: usize, y: u16, entries: &mut [u16])
-    requires small { width ≤ 4098 }
+    requires small { width ≤ FRAMED_SIDE }
     requires row { y * width + width ≤ length entries.old }
     ensures len { length entries.new ≡ length entries.old }
     ensures copied { 0 < y → (x : ℕ) → x < width → slice_index entries.new (y * width + x) ≡ slice_index entries.old ((y - 1) * width + x) }
@@ -54,7 +54,8 @@ fn mark_row_at(bitmap: &Bitmap, edge: Edge, y: u16, width: usize, entries: &mut 
     requires row { y < bitmap.now.height + 2 * shift edge }
     requires room { y * width + width ≤ length entries.old }
     ensures len { length entries.new ≡ length entries.old }
-    ensures marked { (x : ℕ) → x < width → slice_index entries.new (y * width + x) ≡ marked (has (framed edge bitmap.now) x y) y (slice_index entries.old (y * width + x)) }
+    ensures marked { (x : ℕ) → x < width → slice_index entries.new (y * width + x)
+        ≡ marked (has (framed edge bitmap.now) x y) y (slice_index entries.old (y * width + x)) }
     ensures others { (k : ℕ) → (k < y * width) ⊎ (y * width + width ≤ k) → slice_index entries.new k ≡ slice_index entries.old k }
 {
     let start = usize::from(y) * width;
@@ -66,7 +67,8 @@ fn mark_framed(bitmap: &Bitmap, edge: Edge, y: u16, row: &mut [u16])
     requires row { y < bitmap.now.height + 2 * shift edge }
     requires width { length row.old ≡ bitmap.now.width + 2 * shift edge }
     ensures len { length row.new ≡ length row.old }
-    ensures marked { (x : ℕ) → x < length row.old → slice_index row.new x ≡ marked (has (framed edge bitmap.now) x y) y (slice_index row.old x) }
+    ensures marked { (x : ℕ) → x < length row.old → slice_index row.new x
+        ≡ marked (has (framed edge bitmap.now) x y) y (slice_index row.old x) }
 {
     if is_cap(edge, bitmap.height(), y) {
         row.fill(y);
@@ -92,10 +94,11 @@ fn sweep_up(bitmap: &Bitmap, edge: Edge, entries: &mut [u16])
 
 /// Takes for each entry of row `y` that of the row below where that one is nearer.
 fn lift_row_at(width: usize, y: u16, entries: &mut [u16])
-    requires small { width ≤ 4098 }
+    requires small { width ≤ FRAMED_SIDE }
     requires rows { y * width + width + width ≤ length entries.old }
     ensures len { length entries.new ≡ length entries.old }
-    ensures nearer { (x : ℕ) → x < width → slice_index entries.new (y * width + x) ≡ nearer y (slice_index entries.old (y * width + x)) (slice_index entries.old (y * width + width + x)) }
+    ensures nearer { (x : ℕ) → x < width → slice_index entries.new (y * width + x)
+        ≡ nearer y (slice_index entries.old (y * width + x)) (slice_index entries.old (y * width + width + x)) }
     ensures others { (k : ℕ) → (k < y * width) ⊎ (y * width + width ≤ k) → slice_index entries.new k ≡ slice_index entries.old k }
 {
     let start = usize::from(y) * width;

@@ -11,7 +11,7 @@ ghost use Rattle.metric.specs.declared.refusal.Refusal.TheVariants.{Memory};
 
 use crate::sweep::sweep;
 use bits::Bitmap;
-use metric::{Edge, Refusal};
+use metric::{Edge, LAST_FRAMED, MOST_SIDE, Refusal};
 use std::alloc::Global;
 use std::marker::Model;
 
@@ -123,7 +123,7 @@ fn line_of(entries: &[u16], line: usize, width: usize) -> &[u16]
 /// The column of a map with its border, counted with the frame.
 fn column_of(edge: Edge, x: i16) -> u16
     requires left { pos 0 ≤ℤ (x +ℤ pos (shift edge)) }
-    requires right { x ≤ℤ pos 4096 }
+    requires right { x ≤ℤ pos MOST_SIDE }
     ensures { pos result ≡ (x +ℤ pos (shift edge)) }
 {
     (x + edge.shift() as i16) as u16
@@ -131,8 +131,8 @@ fn column_of(edge: Edge, x: i16) -> u16
 
 /// The row of an entry in a column, both counted with the frame, as it is counted without it.
 fn spot_row(edge: Edge, column: u16, entry: u16) -> Option<i16>
-    requires column { column ≤ 4097 }
-    requires entry { entry ≢ 65535 → entry ≤ 4097 }
+    requires column { column ≤ LAST_FRAMED }
+    requires entry { entry ≢ 65535 → entry ≤ LAST_FRAMED }
     ensures { result ≡ option_map (λ r. (spot_of edge column r).y) (row_of entry) }
 {
     if entry == NONE {

@@ -16,23 +16,23 @@ use Rattle.map_core.specs.Ledger.{takes_room}
 use Rattle.map_core.specs.Legal.{told, refused, are_places_used}
 use Rattle.map_core.specs.Words.{Base}
 use Rattle.map_core.specs.Views.{story}
-use Rattle.shelf.specs.declared.signed.Signed.{Signed}
+use Rattle.shelf.specs.declared.store_entry.StoreEntry.{StoreEntry}
 use Rattle.shelf.specs.Store.{StoreId, readers_of}
-use Rattle.shelf.proofs.LogParts.{entries-push, length-entries, prefix-push}
-use Rattle.shelf.proofs.NowLemmas.{story-push}
-use Rattle.map_core.proofs.LogLemmas.{places_are, places-legal}
+use Rattle.shelf.proofs.logs.LogParts.{entries-push, length-entries, prefix-push}
+use Rattle.shelf.proofs.logs.NowLemmas.{story-push}
+use Rattle.map_core.proofs.logs.LogLemmas.{places_are, places-legal}
 use Rattle.map_core.specs.Legal.{IsLegal}
 use Rattle.std.proofs.lemmas.List.{drop-append-le, drop_all, length-append}
 use Rattle.shelf.specs.Roles.{KeeperView, ReaderView, entries, resting, unmet_by}
 use Rattle.shelf.specs.Steps.{met, met_by}
-use Rattle.shelf.proofs.ReaderSeats.{hold_stays}
+use Rattle.shelf.proofs.seats.ReaderSeats.{hold_stays}
 use Rattle.desk.specs.declared.holding.Holding.{Holding}
-use Rattle.desk.specs.Holdings.{IsTold, Refuses}
+use Rattle.desk.specs.Holdings.{IsToldByLog, Refuses}
 use Rattle.desk.specs.Carries.{CanCarry, IsCarried, signed}
-use Rattle.desk.specs.Desks.{DeskView, story_told, base_place, kept_part, kept_after, IsDesk, IsSteady, IsAccepted, IsWhy, IsRefused, IsApplied}
+use Rattle.desk.specs.Desks.{DeskView, story_told, base_place, kept_part, entries_kept_after, IsDesk, IsSteady, IsAccepted, IsWhy, IsCommandRefused, IsApplied}
 
 -- a desk refuses a command where the log does, or for want of memory
-why_is : (z : StoreId) (d : DeskView) (h : Holding) (c : Command) (refusal : Refusal) → IsTold z.base (entries d.log) h → Refuses h c refusal → IsWhy z d c refusal
+why_is : (z : StoreId) (d : DeskView) (h : Holding) (c : Command) (refusal : Refusal) → IsToldByLog z.base (entries d.log) h → Refuses h c refusal → IsWhy z d c refusal
 why_is z d h c refusal told (inl judged) = inl (sym (judged z.base (entries d.log) told))
 why_is z d h c refusal told (inr judged) = inr (sym (judged.0 z.base (entries d.log) told), judged.1, judged.2)
 
@@ -41,32 +41,32 @@ met_steady : (z : Base) (k : KeeperView) (x : ReaderView) (more : ℕ) → IsSte
 met_steady z k x more steady count = λ i. record x { seen = k.log; made = x.made + count i; holds = hold_stays x (newest (story z (entries k.log))) steady i }
 
 -- once a reader has met the keeper of a desk, the keeper rests at the desk's log
-pub keeper_met : (z : StoreId) (d : DeskView) (k after : KeeperView) (h : Holding) (kept : List Signed) (as' : List (Option Seen)) → IsDesk z d k h kept as' → after ≡ met k → after ≡ resting (readers_of z) d.log
+pub keeper_met : (z : StoreId) (d : DeskView) (k after : KeeperView) (h : Holding) (kept : List StoreEntry) (as' : List (Option Seen)) → IsDesk z d k h kept as' → after ≡ met k → after ≡ resting (readers_of z) d.log
 keeper_met z d k after h kept as' desk is = is ∙ ap met desk.keeper_is
 
 -- a reader that has met the keeper of a desk has seen the desk's log
-pub reader_met : (z : StoreId) (d : DeskView) (k : KeeperView) (h : Holding) (kept : List Signed) (as' : List (Option Seen)) (x y : ReaderView) → IsDesk z d k h kept as' → IsSteady x → y ≡ met_by z.base k x
+pub reader_met : (z : StoreId) (d : DeskView) (k : KeeperView) (h : Holding) (kept : List StoreEntry) (as' : List (Option Seen)) (x y : ReaderView) → IsDesk z d k h kept as' → IsSteady x → y ≡ met_by z.base k x
     → y ≡ record x { seen = d.log }
 reader_met z d k h kept as' x y desk steady is =
     is ∙ (ap (λ (u : KeeperView). met_by z.base u x) desk.keeper_is
     ∙ (met_steady z.base (resting (readers_of z) d.log) x 0 steady refl ∙ ap (λ (n : ℕ). record x { seen = d.log; made = n }) (add-zero x.made)))
 
 -- a command can be carried out by a keeper that rests at the desk's log
-pub can_carry : (z : StoreId) (d : DeskView) (k : KeeperView) (h : Holding) → IsTold z.base (entries d.log) h → k ≡ resting (readers_of z) d.log → CanCarry z k h
+pub can_carry : (z : StoreId) (d : DeskView) (k : KeeperView) (h : Holding) → IsToldByLog z.base (entries d.log) h → k ≡ resting (readers_of z) d.log → CanCarry z k h
 can_carry z d k h told is = record {
   keeper_is = is ∙ ap (λ (u : KeeperView). resting (readers_of z) u.log) (sym is);
-  told = subst (λ (u : KeeperView). IsTold z.base (entries u.log) h) (sym is) told;
+  told = subst (λ (u : KeeperView). IsToldByLog z.base (entries u.log) h) (sym is) told;
 }
 
 -- a command is refused where what is held refuses it, the desk is as before, and the reader has met the keeper
-pub refused_is : (z : StoreId) (d new : DeskView) (k : KeeperView) (h : Holding) (kept : List Signed) (as' : List (Option Seen)) (x y : ReaderView) (c : Command) (refusal : Refusal) → IsDesk z d k h kept as'
-    → IsSteady x → Refuses h c refusal → new ≡ d → y ≡ met_by z.base k x → IsRefused z d x c refusal new y
+pub refused_is : (z : StoreId) (d new : DeskView) (k : KeeperView) (h : Holding) (kept : List StoreEntry) (as' : List (Option Seen)) (x y : ReaderView) (c : Command) (refusal : Refusal) → IsDesk z d k h kept as'
+    → IsSteady x → Refuses h c refusal → new ≡ d → y ≡ met_by z.base k x → IsCommandRefused z d x c refusal new y
 refused_is z d new k h kept as' x y c refusal desk steady judged same met_is =
     record { why = why_is z d h c refusal desk.told judged; same = same; seat_is = reader_met z d k h kept as' x y desk steady met_is }
 
--- what was done of a command that is accepted: the keeper rested at the desk's log, and carried it out
+-- a command that is accepted was done so: the keeper rested at the desk's log, and carried it out
 pub record IsDone (z : StoreId) (d : DeskView) (k : KeeperView) (h : Holding) (by : ℕ) (c : Command) (reply : Reply) (after : KeeperView) (new : Holding) : Type 0 where
-  pub told : IsTold z.base (entries d.log) h
+  pub told : IsToldByLog z.base (entries d.log) h
   pub at_rest : k ≡ resting (readers_of z) d.log
   pub carried : IsCarried k h by c reply after new
 
@@ -89,13 +89,13 @@ base_told s Collect reply = refl
 base_told s Checkpoint reply = refl
 
 -- a log's base place is that of its last entry where this takes no room, and else stays
-base_push : (z : StoreId) (log : List Signed) (e : Signed) → base_place z (log ++ e ∷ []) ≡ (if takes_room e.entry.command then base_place z log else length log + 1)
+base_push : (z : StoreId) (log : List StoreEntry) (e : StoreEntry) → base_place z (log ++ e ∷ []) ≡ (if takes_room e.entry.command then base_place z log else length log + 1)
 base_push z log e =
     ap (λ (s : Story). s.base) (story-push z.base log e)
     ∙ (base_told (story_told z log) e.entry.command e.entry.reply ∙ ap (λ (n : ℕ). if takes_room e.entry.command then base_place z log else n + 1) (places_are z.base (entries log) ∙ length-entries log))
 
 -- a log with one more entry keeps that entry too, or none where it is a checkpoint
-pub kept_push : (z : StoreId) (log : List Signed) (e : Signed) → IsLegal z.base.setting z.base.opening (entries log) → kept_part z (log ++ e ∷ []) ≡ kept_after (kept_part z log) e
+kept_push : (z : StoreId) (log : List StoreEntry) (e : StoreEntry) → IsLegal z.base.setting z.base.opening (entries log) → kept_part z (log ++ e ∷ []) ≡ entries_kept_after (kept_part z log) e
 kept_push z log e legal =
     ap (λ (n : ℕ). drop n (log ++ e ∷ [])) (base_push z log e) ∙ by_room (takes_room e.entry.command)
   where
@@ -116,16 +116,16 @@ pub log_after : (z : StoreId) (d : DeskView) (k : KeeperView) (h : Holding) (by 
 log_after z d k h by c reply after last new done last_is = ap (λ (q : KeeperView). q.log) (last_is ∙ ap met (keeper_after z d k h by c reply after new done))
 
 -- once a command is accepted, and its reader has met the keeper, the desk is one with one more entry
-pub desk_after : (z : StoreId) (d : DeskView) (k : KeeperView) (h : Holding) (by : ℕ) (c : Command) (reply : Reply) (after last : KeeperView) (new : Holding) (before kept : List Signed) (as' : List (Option Seen))
-    → IsDone z d k h by c reply after new → before ≡ kept_part z d.log → kept ≡ kept_after before (signed by c reply) → last ≡ met after → length as' ≡ readers_of z → IsDesk z record { log = last.log } last new kept as'
+pub desk_after : (z : StoreId) (d : DeskView) (k : KeeperView) (h : Holding) (by : ℕ) (c : Command) (reply : Reply) (after last : KeeperView) (new : Holding) (before kept : List StoreEntry) (as' : List (Option Seen))
+    → IsDone z d k h by c reply after new → before ≡ kept_part z d.log → kept ≡ entries_kept_after before (signed by c reply) → last ≡ met after → length as' ≡ readers_of z → IsDesk z record { log = last.log } last new kept as'
 desk_after z d k h by c reply after last new before kept as' done before_is kept_is last_is place_each =
     let e = signed by c reply in
     let rests : last ≡ resting (readers_of z) (d.log ++ e ∷ []) = last_is ∙ ap met (keeper_after z d k h by c reply after new done) in
     subst (λ (q : KeeperView). IsDesk z record { log = q.log } q new kept as') (sym rests)
     record {
       keeper_is = refl;
-      told = subst (λ (l : List Entry). IsTold z.base l new) (sym (entries-push d.log e)) (done.carried.does z.base (entries d.log) done.told).1;
-      kept_is = kept_is ∙ (ap (λ (l : List Signed). kept_after l e) before_is ∙ sym (kept_push z d.log e done.told.legal));
+      told = subst (λ (l : List Entry). IsToldByLog z.base l new) (sym (entries-push d.log e)) (done.carried.does z.base (entries d.log) done.told).1;
+      kept_is = kept_is ∙ (ap (λ (l : List StoreEntry). entries_kept_after l e) before_is ∙ sym (kept_push z d.log e done.told.legal));
       place_each = place_each;
     }
 
@@ -147,14 +147,14 @@ accepted_is z d now k h by c reply after new x seen y done steady by_is now_is s
           ∙ ap (λ (n : ℕ). if takes_room c then base_place z d.log else n) (sym (ap length whole ∙ length-append d.log (signed x.number c reply ∷ []))));
       seat_is = y_is ∙ ((λ i. met_by z.base (keeper_after z d k h by c reply after new done i) (seen_is i))
           ∙ (met_steady z.base last (record x { seen = d.log }) 1 steady one
-          ∙ ap (λ (l : List Signed). record x { seen = l; made = x.made + 1 }) (sym (ap (λ (v : DeskView). v.log) now_is))));
+          ∙ ap (λ (l : List StoreEntry). record x { seen = l; made = x.made + 1 }) (sym (ap (λ (v : DeskView). v.log) now_is))));
     }
   where
     same_number : (a b : ℕ) → b ≡ a → ◌≡◌ {A = ℕ} (cond (a == b) 1 0) 1
     same_number a b is = grind (arith, nat_tests)
 
 -- a command that takes no room is refused for want of a place alone
-only_places : (z : StoreId) (d new : DeskView) (x y : ReaderView) (c : Command) (refusal : Refusal) → takes_room c ≡ false → IsRefused z d x c refusal new y → refusal ≡ PlacesUsed
+only_places : (z : StoreId) (d new : DeskView) (x y : ReaderView) (c : Command) (refusal : Refusal) → takes_room c ≡ false → IsCommandRefused z d x c refusal new y → refusal ≡ PlacesUsed
 unfolding refused
 only_places z d new x y (Paint r black) refusal none back = absurd (cc)
 only_places z d new x y (Stamp x' y' b) refusal none back = absurd (cc)
@@ -191,7 +191,7 @@ applied_accepted z d now x y c reply accepted began legal =
     }
 
 -- a command that is refused is answered, and its seat has seen the whole log
-pub applied_refused : (z : StoreId) (d now : DeskView) (x y : ReaderView) (c : Command) (refusal : Refusal) → IsRefused z d x c refusal now y → IsPrefix x.seen d.log → IsLegal z.base.setting z.base.opening (entries d.log)
+pub applied_refused : (z : StoreId) (d now : DeskView) (x y : ReaderView) (c : Command) (refusal : Refusal) → IsCommandRefused z d x c refusal now y → IsPrefix x.seen d.log → IsLegal z.base.setting z.base.opening (entries d.log)
     → IsApplied z d x c (Err refusal) now y
 applied_refused z d now x y c refusal refused began legal =
     let all : y.seen ≡ d.log = ap (λ (q : ReaderView). q.seen) refused.seat_is in

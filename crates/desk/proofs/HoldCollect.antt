@@ -3,12 +3,12 @@ use Rattle.std.proofs.Common.{◌≡◌, ℕ, ◌+◌, Bool, true, false, cond, 
 use Rattle.std.specs.Prelude.{None, Contains, filter}
 use Rattle.std.proofs.lemmas.List.{length-map}
 use Rattle.arena.specs.Blocks.{Home}
-use Rattle.map_core.specs.declared.blocks.Retired.{Retired}
+use Rattle.map_core.specs.declared.blocks.RetiredBlock.{RetiredBlock}
 use Rattle.map_core.specs.declared.command.Command.TheVariants.{Collect}
 use Rattle.map_core.specs.declared.command.Reply.{Reply}
 use Rattle.map_core.specs.declared.command.Reply.TheVariants.{Collected}
 use Rattle.map_core.specs.declared.kept.Kept.{Kept}
-use Rattle.map_core.specs.Kept.{members, IsIn, IsPart, least_kept}
+use Rattle.map_core.specs.Kept.{members, IsIn, IsPartOfKept, least_kept}
 use Rattle.map_core.specs.Story.{Story, newest, bitmap_of, kept, IsKept, with_kept, inuse}
 use Rattle.map_core.specs.Legal.{IsAnswer, told}
 use Rattle.map_core.specs.Blocks.{Blocks, directory_of, is_used, moved}
@@ -17,15 +17,15 @@ use Rattle.map_core.specs.Summary.{IsSummary}
 use Rattle.map_core.specs.Words.{Base}
 use Rattle.map_core.specs.Views.{story, blocks}
 use Rattle.map_core.specs.Tidy.{IsTidy}
-use Rattle.map_core.proofs.FreedLemmas.{freed_is}
-use Rattle.map_core.proofs.LedgerLemmas.{refused_next, ledger_collect}
-use Rattle.map_core.proofs.SummaryCollect.{summary_swept}
-use Rattle.map_core.proofs.TidyCollect.{IsChoice, kept_of}
+use Rattle.map_core.proofs.accounts.FreedLemmas.{freed_is}
+use Rattle.map_core.proofs.logs.LedgerLemmas.{refused_next, ledger_collect}
+use Rattle.map_core.proofs.logs.SummaryCollect.{summary_swept}
+use Rattle.map_core.proofs.invariants.TidyCollect.{IsChoice, kept_of}
 use Rattle.grid.proofs.GridSweep.{contains_member}
-use Rattle.map_core.proofs.TimesLemmas.{length-filter}
+use Rattle.map_core.proofs.accounts.TimesLemmas.{length-filter}
 use Rattle.grid.specs.Grids.{Tiled, OldPiece, Sweeps, draft, bitmap_at, own_blocks, newest_blocks, retired_of, retired_blocks}
 use Rattle.desk.specs.declared.holding.Holding.{Holding}
-use Rattle.desk.specs.Holdings.{summary_of, Holds, IsTold, Does}
+use Rattle.desk.specs.Holdings.{summary_of, Holds, IsToldByLog, Does}
 use Rattle.desk.proofs.HoldLemmas.{tidy_told, told_more}
 
 -- a version that is kept is one of those in the slots
@@ -33,10 +33,10 @@ kept_member : (kept_now : Kept) (v : ℕ) → IsIn kept_now v → Contains (memb
 kept_member kept_now v h = contains_member kept_now.slots h.slot v h.there
 
 -- retired pieces that are kept, as retired blocks, are the retired blocks that are kept
-stay_as_blocks : (p : Retired → Bool) (rs : List OldPiece) → map retired_of (filter (λ r. p (retired_of r)) rs) ≡ filter p (map retired_of rs)
+stay_as_blocks : (p : RetiredBlock → Bool) (rs : List OldPiece) → map retired_of (filter (λ r. p (retired_of r)) rs) ≡ filter p (map retired_of rs)
 stay_as_blocks p [] = refl
 stay_as_blocks p (r ∷ rs) = by_test (p (retired_of r)) r (filter (λ q. p (retired_of q)) rs)
-    ∙ ap (λ (qs : List Retired). cond (p (retired_of r)) (retired_of r ∷ qs) qs) (stay_as_blocks p rs)
+    ∙ ap (λ (qs : List RetiredBlock). cond (p (retired_of r)) (retired_of r ∷ qs) qs) (stay_as_blocks p rs)
   where
     by_test : (t : Bool) (r : OldPiece) (qs : List OldPiece) → map retired_of (cond t (r ∷ qs) qs) ≡ cond t (retired_of r ∷ map retired_of qs) (map retired_of qs)
     by_test true r qs = refl
@@ -94,7 +94,7 @@ freed_told k s m old new freed kept_now tidy holds choice sweeps =
     omega arith
 
 -- a collect does what its reply says
-pub collect_done : (old new : Holding) (kept_now : Kept) (freed : ℕ) (reply : Reply) → refused_by_ledger old.ledger Collect ≡ None → IsPart kept_now.slots old.ledger.kept.slots → IsIn kept_now old.ledger.newest
+pub collect_done : (old new : Holding) (kept_now : Kept) (freed : ℕ) (reply : Reply) → refused_by_ledger old.ledger Collect ≡ None → IsPartOfKept kept_now.slots old.ledger.kept.slots → IsIn kept_now old.ledger.newest
     → Sweeps (members kept_now.slots) old.grid old.arena.free freed new.grid new.arena.free → new.arena.home ≡ old.arena.home
     → new.ledger ≡ record old.ledger { places = old.ledger.places + 1; kept = kept_now } → reply ≡ Collected (old.ledger.places + 1) (least_kept old.ledger.newest kept_now) freed kept_now → Does old Collect reply new
 collect_done old new kept_now freed reply by part newest_in sweeps home entered said k log tells =
@@ -105,7 +105,7 @@ collect_done old new kept_now freed reply by part newest_in sweeps home entered 
     let place = old.ledger.places + 1 in
     let least = least_kept old.ledger.newest kept_now in
     let choice : IsChoice s kept_now = record {
-      part = subst (λ (q : Kept). IsPart kept_now.slots q.slots) held.kept_is part;
+      part = subst (λ (q : Kept). IsPartOfKept kept_now.slots q.slots) held.kept_is part;
       newest_in = subst (λ (n : ℕ). IsIn kept_now n) held.newest_is newest_in;
     } in
     let answer : IsAnswer k.setting s Collect (Collected place least freed kept_now) = record {
@@ -116,4 +116,4 @@ collect_done old new kept_now freed reply by part newest_in sweeps home entered 
       );
     } in
     let all = told_more k log old new Collect (Collected place least freed kept_now) tells answer (holds_collected k s m old new place least freed kept_now tidy tells.holds choice sweeps home entered) in
-    subst (λ (x : Reply). IsAnswer k.setting s Collect x × IsTold k (log ++ record { command = Collect; reply = x } ∷ []) new) (sym said) (answer, all)
+    subst (λ (x : Reply). IsAnswer k.setting s Collect x × IsToldByLog k (log ++ record { command = Collect; reply = x } ∷ []) new) (sym said) (answer, all)

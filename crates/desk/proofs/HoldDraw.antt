@@ -21,9 +21,9 @@ use Rattle.map_core.specs.Summary.{Summary, IsSummary}
 use Rattle.map_core.specs.Words.{Base}
 use Rattle.map_core.specs.Views.{story, blocks}
 use Rattle.map_core.specs.Tidy.{IsTidy}
-use Rattle.map_core.proofs.LedgerLemmas.{refused_first, refused_next, refused_for_none, inside_told, told_draw, ledger_draw, ledger_revert, ledger_checkpoint}
-use Rattle.map_core.proofs.SummaryDraw.{IsDrawnOn, moved_draw, summary_draw, summary_revert, summary_checkpoint}
-use Rattle.map_core.proofs.TidyDraft.{free_is}
+use Rattle.map_core.proofs.logs.LedgerLemmas.{refused_first, refused_next, refused_for_none, inside_told, told_draw, ledger_draw, ledger_revert, ledger_checkpoint}
+use Rattle.map_core.proofs.logs.SummaryDraw.{IsDrawnOn, moved_draw, summary_draw, summary_revert, summary_checkpoint}
+use Rattle.map_core.proofs.invariants.TidyDraft.{free_is}
 use Rattle.grid.specs.Grids.{Draws, Reverts, draft, own_blocks, needed_by, refused_by}
 use Rattle.grid.specs.Pieces.{block_if}
 use Rattle.desk.specs.declared.holding.Holding.{Holding}
@@ -31,7 +31,7 @@ use Rattle.desk.specs.declared.holding.judged.Judged.{Judged}
 use Rattle.desk.specs.declared.holding.judged.Judged.TheVariants as kinds
 use Rattle.grid.specs.declared.stroke.Stroke.{Stroke}
 use Rattle.desk.specs.Judging.{IsJudged, drawing_of}
-use Rattle.desk.specs.Holdings.{summary_of, Holds, IsTold, Judges, Does}
+use Rattle.desk.specs.Holdings.{summary_of, Holds, IsToldByLog, Judges, Does}
 use Rattle.desk.proofs.HoldLemmas.{tidy_told, told_more, holds_draft}
 
 -- a paint or a stamp needs so many blocks by the grid as by the log
@@ -66,7 +66,7 @@ drawn_on old new c changed drew = record {
 }
 
 -- what the grid answers to a paint or a stamp that the ledger doesn't refuse is what the log says
-pub judged_draw : (k : Base) (log : List Entry) (h : Holding) (c : Command) (answer : Option Refusal) → IsTold k log h → IsDraw c → refused_by_ledger h.ledger c ≡ None
+judged_draw : (k : Base) (log : List Entry) (h : Holding) (c : Command) (answer : Option Refusal) → IsToldByLog k log h → IsDraw c → refused_by_ledger h.ledger c ≡ None
     → refused_by h.grid h.arena.free c ≡ answer → answer ≡ refused k.setting (story k log) c
 judged_draw k log h c answer tells draws by is =
     let s = story k log in
@@ -84,7 +84,7 @@ judged_draw k log h c answer tells draws by is =
     as_draw g s Checkpoint draws = absurd draws
 
 -- a command that draws nothing isn't refused where the ledger doesn't refuse it
-pub judged_other : (k : Base) (log : List Entry) (h : Holding) (c : Command) → IsTold k log h → is_draw c ≡ false → refused_by_ledger h.ledger c ≡ None → None ≡ refused k.setting (story k log) c
+pub judged_other : (k : Base) (log : List Entry) (h : Holding) (c : Command) → IsToldByLog k log h → is_draw c ≡ false → refused_by_ledger h.ledger c ≡ None → None ≡ refused k.setting (story k log) c
 judged_other k log h c tells other by =
     sym (refused_next k (story k log) h.ledger tells.holds.summary.ledger_is (tidy_told k log h tells).draft c by ∙ refused_for_none k.setting (story k log) c other)
 
@@ -180,7 +180,7 @@ checkpoint_done old new ledger reply by new_is entered said k log tells =
     let next = ledger_checkpoint k s old.ledger ledger reply kept.ledger_is entered in
     let summary = summary_checkpoint k s m (summary_of old) reply ledger kept next in (
       answer,
-      subst (λ (h : Holding). IsTold k (log ++ record { command = Checkpoint; reply = reply } ∷ []) h) (sym new_is)
+      subst (λ (h : Holding). IsToldByLog k (log ++ record { command = Checkpoint; reply = reply } ∷ []) h) (sym new_is)
           (told_more k log old now Checkpoint reply tells answer
           (holds_draft k s (told s Checkpoint reply) m (moved s Checkpoint reply m) old now tells.holds refl refl summary refl refl (λ v. refl) refl)),
     )

@@ -18,20 +18,20 @@ use Rattle.map_core.specs.Words.{Base}
 use Rattle.map_core.specs.Views.{story, blocks}
 use Rattle.map_core.specs.Tidy.{IsTidy}
 use Rattle.map_core.specs.Summary.{IsSummary}
-use Rattle.map_core.proofs.StepLemmas.{story-push, blocks-push}
-use Rattle.map_core.proofs.TidyLog.{IsTidy-legal, IsLegal-push}
+use Rattle.map_core.proofs.steps.StepLemmas.{story-push, blocks-push}
+use Rattle.map_core.proofs.invariants.TidyLog.{IsTidy-legal, IsLegal-push}
 use Rattle.arena.specs.Blocks.{Home}
 use Rattle.grid.specs.Grids.{Tiled, draft, bitmap_at, own_blocks, newest_blocks, retired_blocks}
 use Rattle.desk.specs.declared.holding.Holding.{Holding}
-use Rattle.desk.specs.Holdings.{summary_of, Holds, IsTold}
+use Rattle.desk.specs.Holdings.{summary_of, Holds, IsToldByLog}
 
 -- the map of a log that is told, and its blocks, are tidy
-pub tidy_told : (k : Base) (log : List Entry) (h : Holding) → IsTold k log h → IsTidy k (story k log) (blocks k log)
+pub tidy_told : (k : Base) (log : List Entry) (h : Holding) → IsToldByLog k log h → IsTidy k (story k log) (blocks k log)
 tidy_told k log h tells = IsTidy-legal k log tells.ready tells.legal
 
 -- what is held after one more entry is told by the log with that entry
-pub told_more : (k : Base) (log : List Entry) (old new : Holding) (c : Command) (reply : Reply) → IsTold k log old → IsAnswer k.setting (story k log) c reply
-    → Holds k (told (story k log) c reply) (moved (story k log) c reply (blocks k log)) new → IsTold k (log ++ record { command = c; reply = reply } ∷ []) new
+pub told_more : (k : Base) (log : List Entry) (old new : Holding) (c : Command) (reply : Reply) → IsToldByLog k log old → IsAnswer k.setting (story k log) c reply
+    → Holds k (told (story k log) c reply) (moved (story k log) c reply (blocks k log)) new → IsToldByLog k (log ++ record { command = c; reply = reply } ∷ []) new
 unfolding story
 told_more k log old new c reply tells answer holds =
     let e : Entry = record { command = c; reply = reply } in

@@ -15,15 +15,15 @@ use Rattle.map_core.specs.Blocks.{opened_blocks, directory_of, own_list}
 use Rattle.map_core.specs.Ledger.{IsLedger}
 use Rattle.map_core.specs.Words.{Base, tiles}
 use Rattle.map_core.specs.Views.{story, blocks}
-use Rattle.map_core.proofs.LedgerLemmas.{balanced}
-use Rattle.map_core.proofs.OpenWorld.{fits_ready, bad_field-none}
+use Rattle.map_core.proofs.logs.LedgerLemmas.{balanced}
+use Rattle.map_core.proofs.steps.OpenWorld.{fits_ready, bad_field-none}
 use Rattle.grid.specs.Grids.{draft, bitmap_at, own_blocks, newest_blocks, retired_of}
 use Rattle.desk.specs.declared.holding.Holding.{Holding}
-use Rattle.desk.specs.Holdings.{IsTold, CanAnswer}
-use Rattle.map_core.proofs.TidyOpened.{opened_at}
+use Rattle.desk.specs.Holdings.{IsToldByLog, CanAnswer}
+use Rattle.map_core.proofs.invariants.TidyOpened.{opened_at}
 use Rattle.desk.proofs.HoldLemmas.{tidy_told}
 
--- what the parts of a holding are at its opening
+-- the parts of a holding are these at its opening
 pub record IsNew (g : Setting) (b : Cells) (h : Holding) : Type 0 where
   pub fits : bad_field (tile_count b) g ≡ None
   pub bitmap : IsBitmap b
@@ -55,7 +55,7 @@ range_parts (x ∷ xs) ys a m is =
     (ap (λ (n : ℕ). n ∷ xs) first ∙ ap (λ (ns : List ℕ). a ∷ ns) rest.0, rest.1 ∙ ap (λ (b : ℕ). range_with_len b m) on)
 
 -- what is held at the opening is what the empty log tells
-pub told_new : (g : Setting) (b : Cells) (h : Holding) → IsNew g b h → IsTold record { setting = g; opening = b } [] h
+pub told_new : (g : Setting) (b : Cells) (h : Holding) → IsNew g b h → IsToldByLog record { setting = g; opening = b } [] h
 unfolding story blocks opened opened_blocks newest bitmap_of directory_of IsKept
 told_new g b h new =
     let k : Base = record { setting = g; opening = b } in
@@ -89,12 +89,12 @@ told_new g b h new =
     }
 
 -- the newest version has one piece for each tile of the map
-pieces_counted : (k : Base) (log : List Entry) (h : Holding) → IsTold k log h → length h.grid.pieces ≡ tiles k
+pieces_counted : (k : Base) (log : List Entry) (h : Holding) → IsToldByLog k log h → length h.grid.pieces ≡ tiles k
 pieces_counted k log h tells =
     sym (length-map h.grid.pieces (λ p. p.block)) ∙ (ap length tells.holds.mapped ∙ (tidy_told k log h tells).shape.directory (newest (story k log)) (omega arith))
 
 -- the free blocks, the draft's own, newest's and the retired are all blocks of the setting
-all_counted : (k : Base) (log : List Entry) (h : Holding) → IsTold k log h
+all_counted : (k : Base) (log : List Entry) (h : Holding) → IsToldByLog k log h
     → length h.arena.free + (length (own_list (own_blocks h.grid)) + (length h.grid.pieces + length h.grid.retired)) ≡ k.setting.blocks
 all_counted k log h tells =
     let kept = tells.holds.summary in
@@ -106,12 +106,12 @@ all_counted k log h tells =
     omega arith
 
 -- the free blocks, the draft's own, newest's and the retired are all blocks of the arena
-pub all_back : (k : Base) (log : List Entry) (h : Holding) → IsTold k log h
+pub all_back : (k : Base) (log : List Entry) (h : Holding) → IsToldByLog k log h
     → length h.arena.free + (length (own_list (own_blocks h.grid)) + (length h.grid.pieces + length h.grid.retired)) ≡ h.arena.home.count
 all_back k log h tells = all_counted k log h tells ∙ sym tells.holds.count_is
 
 -- where what is held is what a log tells, commands can be answered
-pub can_answer : (k : Base) (log : List Entry) (h : Holding) → IsTold k log h → CanAnswer h
+pub can_answer : (k : Base) (log : List Entry) (h : Holding) → IsToldByLog k log h → CanAnswer h
 can_answer k log h tells =
     let all = all_counted k log h tells in
     let room = tells.holds.room_is in

@@ -16,9 +16,9 @@ use Rattle.map_core.specs.Summary.{IsSummary, came_after, retired_by}
 use Rattle.map_core.specs.Words.{Base}
 use Rattle.map_core.specs.Views.{story, blocks}
 use Rattle.map_core.specs.Tidy.{IsTidy}
-use Rattle.map_core.proofs.LedgerLemmas.{refused_next, ledger_publish}
-use Rattle.map_core.proofs.SummaryPublish.{newest_published, slots_published, summary_publish}
-use Rattle.map_core.proofs.TidyPublish.{newest-publish, bitmap_of-publish, bitmap_of-new, directory_of-new, kept_published}
+use Rattle.map_core.proofs.logs.LedgerLemmas.{refused_next, ledger_publish}
+use Rattle.map_core.proofs.logs.SummaryPublish.{newest_published, slots_published, summary_publish}
+use Rattle.map_core.proofs.invariants.TidyPublish.{newest-publish, bitmap_of-publish, bitmap_of-new, directory_of-new, kept_published}
 use Rattle.grid.specs.Grids.{Seals, bitmap_at, own_blocks, newest_blocks, retired_blocks}
 use Rattle.grid.specs.Pieces.{block_if}
 use Rattle.desk.specs.declared.holding.Holding.{Holding}

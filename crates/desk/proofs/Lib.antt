@@ -1,10 +1,10 @@
-pub mod CarryLemmas
-pub mod DeskLemmas
-pub mod HoldCollect
-pub mod HoldDraw
-pub mod HoldLemmas
-pub mod HoldOpen
-pub mod HoldPublish
-pub mod OpenedLemmas
-pub mod PublishSteps
-pub mod ScanSteps
+mod CarryLemmas
+mod DeskLemmas
+mod HoldCollect
+mod HoldDraw
+mod HoldLemmas
+mod HoldOpen
+mod HoldPublish
+mod OpenedLemmas
+mod PublishSteps
+mod ScanSteps

@@ -17,22 +17,22 @@ use Rattle.grid.specs.Grids.{draft, own_blocks, newest_blocks}
 use Rattle.grid.specs.Pieces.{block_if}
 use Rattle.shelf.specs.Store.{StoreId, readers_of}
 use Rattle.shelf.specs.Roles.{Task, KeeperView, entries}
-use Rattle.shelf.specs.Steps.{ordered, writing, committed, newest_slot, one_own, IsOwn, MayCommit}
-use Rattle.map_core.proofs.PublishWords.{own_more}
-use Rattle.shelf.proofs.WriteSteps.{is_own, may_publish, publish_done}
+use Rattle.shelf.specs.Steps.{with_command, writing, committed, newest_slot, one_own, IsOwn, MayCommit}
+use Rattle.map_core.proofs.shared_words.PublishWords.{own_more}
+use Rattle.shelf.proofs.steps.WriteSteps.{is_own, may_publish, publish_done}
 use Rattle.desk.specs.declared.holding.Holding.{Holding}
-use Rattle.desk.specs.Holdings.{IsTold, Does}
+use Rattle.desk.specs.Holdings.{IsToldByLog, Does}
 use Rattle.desk.specs.Carries.{CanCarry, IsCarried}
 use Rattle.desk.proofs.CarryLemmas.{all_met, is_dealt, carried_is, slot_told}
 use Rattle.desk.proofs.HoldLemmas.{tidy_told}
 
 -- the draft has a place of its own for each position
-pub own_long : (z : Base) (k : KeeperView) (h : Holding) → IsTold z (entries k.log) h → length h.grid.own ≡ tiles z
+pub own_long : (z : Base) (k : KeeperView) (h : Holding) → IsToldByLog z (entries k.log) h → length h.grid.own ≡ tiles z
 own_long z k h told =
     sym (length-map h.grid.own block_if) ∙ (ap (λ (os : List (Option ℕ)). length os) told.holds.summary.own_is ∙ (tidy_told z (entries k.log) h told).shape.own)
 
 -- a tile that the draft has of its own is the next one of a publish
-pub next_tile : (z : Base) (k : KeeperView) (h : Holding) (by index p block n : ℕ) (words : List ℕ) → IsTold z (entries k.log) h → k ≡ writing k by n
+pub next_tile : (z : Base) (k : KeeperView) (h : Holding) (by index p block n : ℕ) (words : List ℕ) → IsToldByLog z (entries k.log) h → k ≡ writing k by n
     → index ≡ length (own_list (take p (blocks z (entries k.log)).own)) → get_or (own_blocks h.grid) p None ≡ Some block → words ≡ tile_words (draft h.grid) p
     → (q : ℕ) × IsOwn z k index block q × (words ≡ tile_words (story z (entries k.log)).draft q)
 next_tile z k h by index p block n words told in_hand count there shows = (
@@ -42,7 +42,7 @@ next_tile z k h by index p block n words told in_hand count there shows = (
 )
 
 -- the own tiles up to a position, and that position's, are the own tiles up to the next one
-pub one_more : (z : Base) (k : KeeperView) (h : Holding) (index p more : ℕ) (o : Option ℕ) → IsTold z (entries k.log) h → p < tiles z
+pub one_more : (z : Base) (k : KeeperView) (h : Holding) (index p more : ℕ) (o : Option ℕ) → IsToldByLog z (entries k.log) h → p < tiles z
     → index ≡ length (own_list (take p (blocks z (entries k.log)).own)) → get_or (own_blocks h.grid) p None ≡ o → more ≡ one_own o
     → index + more ≡ length (own_list (take (p + 1) (blocks z (entries k.log)).own))
 one_more z k h index p more o told inside count there more_is =
@@ -51,40 +51,40 @@ one_more z k h index p more o told inside count there more_is =
     (λ i. count i + (more_is ∙ ap one_own (sym there ∙ ap (λ (os : List (Option ℕ)). get_or os p None) told.holds.summary.own_is)) i) ∙ sym (own_more own p (omega arith))
 
 -- the own tiles up to the last position are all own tiles
-pub all_own : (z : Base) (k : KeeperView) (h : Holding) (n count : ℕ) → IsTold z (entries k.log) h → n ≡ tiles z → count ≡ length (own_list (take n (blocks z (entries k.log)).own))
+pub all_own : (z : Base) (k : KeeperView) (h : Holding) (n count : ℕ) → IsToldByLog z (entries k.log) h → n ≡ tiles z → count ≡ length (own_list (take n (blocks z (entries k.log)).own))
     → count ≡ length (own_list (blocks z (entries k.log)).own)
 all_own z k h n count told all is =
     let long = (tidy_told z (entries k.log) h told).shape.own in
     is ∙ ap (λ (os : List (Option ℕ)). length (own_list os)) (take_all n (blocks z (entries k.log)).own (omega arith))
 
 -- the block at a position of the next directory, by what is held, is the one by the log
-pub next_block : (z : Base) (k : KeeperView) (h : Holding) (p block : ℕ) → IsTold z (entries k.log) h → block ≡ get_or (mapped (own_blocks h.grid) (newest_blocks h.grid)) p 0
+pub next_block : (z : Base) (k : KeeperView) (h : Holding) (p block : ℕ) → IsToldByLog z (entries k.log) h → block ≡ get_or (mapped (own_blocks h.grid) (newest_blocks h.grid)) p 0
     → block ≡ get_or (mapped (blocks z (entries k.log)).own (directory_of (blocks z (entries k.log)) (newest (story z (entries k.log))))) p 0
 next_block z k h p block told is =
     is ∙ (λ i. get_or (mapped (told.holds.summary.own_is i) (told.holds.mapped i)) p 0)
 
 -- the first free slot of what is held is the next slot of the log
-pub next_slot_is : (z : Base) (k : KeeperView) (h : Holding) (slot : ℕ) → IsTold z (entries k.log) h → slot ≡ first_free h.ledger.kept.slots → slot ≡ next_slot z (story z (entries k.log))
+pub next_slot_is : (z : Base) (k : KeeperView) (h : Holding) (slot : ℕ) → IsToldByLog z (entries k.log) h → slot ≡ first_free h.ledger.kept.slots → slot ≡ next_slot z (story z (entries k.log))
 unfolding next_slot
 next_slot_is z k h slot told is = is ∙ ap (λ (q : Kept). first_free q.slots) told.holds.summary.ledger_is.kept_is
 
 -- the keeper that has taken a publish in hand has stored nothing yet
-pub publish_begun : (k u : KeeperView) (by : ℕ) (c : Command) → u ≡ ordered k by c → c ≡ Publish → u ≡ writing u by 0
+pub publish_begun : (k u : KeeperView) (by : ℕ) (c : Command) → u ≡ with_command k by c → c ≡ Publish → u ≡ writing u by 0
 publish_begun k u by c is publish =
-    let begun : u ≡ writing k by 0 = is ∙ ap (ordered k by) publish in
+    let begun : u ≡ writing k by 0 = is ∙ ap (with_command k by) publish in
     begun ∙ sym (ap (λ (q : KeeperView). writing q by 0) begun)
 
 -- what is held is still told once the keeper has taken a command in hand
-pub told_ordered : (z : Base) (k u : KeeperView) (h : Holding) (by : ℕ) (c : Command) → u ≡ ordered k by c → IsTold z (entries k.log) h → IsTold z (entries u.log) h
-told_ordered z k u h by c is told = subst (λ (q : KeeperView). IsTold z (entries q.log) h) (sym is) told
+pub told_ordered : (z : Base) (k u : KeeperView) (h : Holding) (by : ℕ) (c : Command) → u ≡ with_command k by c → IsToldByLog z (entries k.log) h → IsToldByLog z (entries u.log) h
+told_ordered z k u h by c is told = subst (λ (q : KeeperView). IsToldByLog z (entries q.log) h) (sym is) told
 
--- what a publish has become before its commit: all of its words are stored
+-- before its commit a publish has stored all of its words
 pub record IsWritten (z : Base) (k u : KeeperView) (by stored : ℕ) : Type 0 where
   pub keeper_is : u ≡ writing k by (64 * stored + tiles z)
   pub count : stored ≡ length (own_list (blocks z (entries k.log)).own)
 
 -- a publish that has stored the rows of its own tiles, and then the directory, has stored all its words
-pub written : (z : Base) (k a b u : KeeperView) (by stored : ℕ) (c : Command) → a ≡ ordered k by c → b ≡ writing a by (64 * stored) → stored ≡ length (own_list (blocks z (entries a.log)).own)
+pub written : (z : Base) (k a b u : KeeperView) (by stored : ℕ) (c : Command) → a ≡ with_command k by c → b ≡ writing a by (64 * stored) → stored ≡ length (own_list (blocks z (entries a.log)).own)
     → u ≡ writing b by (64 * stored + tiles z) → IsWritten z k u by stored
 written z k a b u by stored c order rows count directory = record {
   keeper_is = directory ∙ ap (λ (q : KeeperView). writing q by (64 * stored + tiles z)) (rows ∙ ap (λ (q : KeeperView). writing q by (64 * stored)) order);

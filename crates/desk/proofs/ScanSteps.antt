@@ -14,15 +14,15 @@ use Rattle.map_core.specs.Story.{Story, newest, IsKept}
 use Rattle.map_core.specs.Steps.{kept_scanned}
 use Rattle.map_core.specs.Words.{Base, pin_word, seen_in}
 use Rattle.map_core.specs.Views.{story}
-use Rattle.map_core.proofs.StepLemmas.{story-push}
-use Rattle.map_core.proofs.KeptLemmas.{seen_in-pin_word}
-use Rattle.map_core.proofs.Replies.{HasKept}
+use Rattle.map_core.proofs.steps.StepLemmas.{story-push}
+use Rattle.map_core.proofs.logs.KeptLemmas.{seen_in-pin_word}
+use Rattle.map_core.proofs.logs.Replies.{HasKept}
 use Rattle.shelf.specs.Store.{StoreId, readers_of}
 use Rattle.shelf.specs.Roles.{KeeperView, entries}
-use Rattle.shelf.specs.Steps.{ordered, scanning, collected, MayCommit}
-use Rattle.shelf.proofs.WorkSteps.{may_collect}
+use Rattle.shelf.specs.Steps.{with_command, scanning, collected, MayCommit}
+use Rattle.shelf.proofs.steps.WorkSteps.{may_collect}
 use Rattle.desk.specs.declared.holding.Holding.{Holding}
-use Rattle.desk.specs.Holdings.{IsTold, Does}
+use Rattle.desk.specs.Holdings.{IsToldByLog, Does}
 use Rattle.desk.specs.Carries.{CanCarry, IsCarried}
 use Rattle.map_core.specs.Ledger.{refused_by_ledger}
 use Rattle.desk.proofs.CarryLemmas.{next_version, all_met, is_dealt, carried_is}
@@ -44,7 +44,7 @@ words_seen [] = refl
 words_seen (o ∷ os) = λ i. seen_in-pin_word o i ∷ words_seen os i
 
 -- the versions that a scan keeps are those that are computed from what it saw
-pub kept_computed : (z : Base) (k : KeeperView) (h : Holding) (kept : Kept) (seen as' : List (Option Seen)) → IsTold z (entries k.log) h → kept ≡ kept_after h.ledger.kept h.ledger.newest as' → as' ≡ seen
+pub kept_computed : (z : Base) (k : KeeperView) (h : Holding) (kept : Kept) (seen as' : List (Option Seen)) → IsToldByLog z (entries k.log) h → kept ≡ kept_after h.ledger.kept h.ledger.newest as' → as' ≡ seen
     → kept ≡ kept_scanned (story z (entries k.log)) (map pin_word seen)
 unfolding kept_scanned
 kept_computed z k h kept seen as' tells is same =
@@ -52,14 +52,14 @@ kept_computed z k h kept seen as' tells is same =
     is ∙ ((λ i. kept_after (ledger.kept_is i) (ledger.newest_is i) (same i)) ∙ sym (ap (kept_after (story z (entries k.log)).kept (newest (story z (entries k.log)))) (words_seen seen)))
 
 -- the ledger keeps newest
-pub newest_kept : (z : Base) (k : KeeperView) (h : Holding) → IsTold z (entries k.log) h → IsIn h.ledger.kept h.ledger.newest
+pub newest_kept : (z : Base) (k : KeeperView) (h : Holding) → IsToldByLog z (entries k.log) h → IsIn h.ledger.kept h.ledger.newest
 unfolding IsKept
 newest_kept z k h tells =
     let ledger = tells.holds.summary.ledger_is in
     subst (λ (q : Kept × ℕ). IsIn q.0 q.1) (λ j. (sym ledger.kept_is j, sym ledger.newest_is j)) (tidy_told z (entries k.log) h tells).slots.newest_in
 
 -- the versions that the ledger keeps after a collect are those of the collect's reply
-kept_replied : (z : Base) (k : KeeperView) (h new : Holding) (reply : Reply) (kept : Kept) → IsTold z (entries k.log) h → Does h Collect reply new → new.ledger.kept ≡ kept
+kept_replied : (z : Base) (k : KeeperView) (h new : Holding) (reply : Reply) (kept : Kept) → IsToldByLog z (entries k.log) h → Does h Collect reply new → new.ledger.kept ≡ kept
     → kept_told (story z (entries k.log)) reply ≡ kept
 unfolding told
 kept_replied z k h new reply kept tells does is =
@@ -68,17 +68,17 @@ kept_replied z k h new reply kept tells does is =
     sym (after.holds.summary.ledger_is.kept_is ∙ ap (λ (s : Story). s.kept) (story-push z (entries k.log) e)) ∙ is
 
 -- the keeper that has taken a collect in hand has loaded nothing yet
-pub collect_begun : (k u : KeeperView) (by : ℕ) (c : Command) → u ≡ ordered k by c → c ≡ Collect → u ≡ scanning u by []
+pub collect_begun : (k u : KeeperView) (by : ℕ) (c : Command) → u ≡ with_command k by c → c ≡ Collect → u ≡ scanning u by []
 collect_begun k u by c is collect =
-    let begun : u ≡ scanning k by [] = is ∙ ap (ordered k by) collect in
+    let begun : u ≡ scanning k by [] = is ∙ ap (with_command k by) collect in
     begun ∙ sym (ap (λ (q : KeeperView). scanning q by []) begun)
 
 -- a keeper that has scanned all words since the order of a collect is the keeper before the order, with that scan in hand
-pub scanned_all : (k a u : KeeperView) (by : ℕ) (c : Command) (seen : List (Option Seen)) → a ≡ ordered k by c → u ≡ scanning a by (map pin_word seen) → u ≡ scanning k by (map pin_word seen)
+pub scanned_all : (k a u : KeeperView) (by : ℕ) (c : Command) (seen : List (Option Seen)) → a ≡ with_command k by c → u ≡ scanning a by (map pin_word seen) → u ≡ scanning k by (map pin_word seen)
 scanned_all k a u by c seen order is = is ∙ ap (λ (q : KeeperView). scanning q by (map pin_word seen)) order
 
 -- where the ledger doesn't refuse the command in hand, one version more can be counted
-pub few_versions : (z : Base) (k u : KeeperView) (h : Holding) (by : ℕ) (c : Command) → u ≡ ordered k by c → IsTold z (entries k.log) h → refused_by_ledger h.ledger c ≡ None → newest (story z (entries u.log)) + 1 < 2 ^ 32
+pub few_versions : (z : Base) (k u : KeeperView) (h : Holding) (by : ℕ) (c : Command) → u ≡ with_command k by c → IsToldByLog z (entries k.log) h → refused_by_ledger h.ledger c ≡ None → newest (story z (entries u.log)) + 1 < 2 ^ 32
 few_versions z k u h by c is tells judged =
     let few = next_version z k h c tells judged in
     subst (λ (n : ℕ). n + 1 < 2 ^ 32) (tells.holds.summary.ledger_is.newest_is ∙ ap (λ (q : KeeperView). newest (story z (entries q.log))) (sym is)) few

@@ -2,19 +2,19 @@
 use Rattle.std.specs.Prelude.{◌≡◌, ℕ, [], ◌∷◌, ◌++◌, Some, None}
 use Rattle.map_core.specs.declared.command.Command.{Command}
 use Rattle.map_core.specs.declared.command.Reply.{Reply}
-use Rattle.shelf.specs.declared.signed.Signed.{Signed}
+use Rattle.shelf.specs.declared.store_entry.StoreEntry.{StoreEntry}
 use Rattle.shelf.specs.Store.{StoreId, readers_of}
 use Rattle.shelf.specs.Roles.{KeeperView, entries, resting}
 use Rattle.desk.specs.declared.holding.Holding.{Holding}
-use Rattle.desk.specs.Holdings.{IsTold, Does}
+use Rattle.desk.specs.Holdings.{IsToldByLog, Does}
 
 -- a command can be carried out: the keeper rests at a log that tells what is held
 pub record CanCarry (store : StoreId) (k : KeeperView) (h : Holding) : Type 0 where
   pub keeper_is : k ≡ resting (readers_of store) k.log
-  pub told : IsTold store.base (entries k.log) h
+  pub told : IsToldByLog store.base (entries k.log) h
 
--- the entry of a command with its caller
-abbrev pub signed : ℕ → Command → Reply → Signed
+-- the entry of a command is kept with its caller
+abbrev pub signed : ℕ → Command → Reply → StoreEntry
 signed by c reply = record { by = by; entry = record { command = c; reply = reply } }
 
 -- a command is carried out: what is held is answered so, and the keeper's log has the entry, whose caller is to meet the keeper

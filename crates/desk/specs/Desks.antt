@@ -11,41 +11,41 @@ use Rattle.map_core.specs.Story.{Story}
 use Rattle.map_core.specs.Ledger.{takes_room}
 use Rattle.map_core.specs.Legal.{refused, IsAnswer, IsLegal}
 use Rattle.map_core.specs.Views.{story}
-use Rattle.shelf.specs.declared.signed.Signed.{Signed}
+use Rattle.shelf.specs.declared.store_entry.StoreEntry.{StoreEntry}
 use Rattle.shelf.specs.Store.{StoreId, readers_of}
 use Rattle.shelf.specs.Roles.{KeeperView, ReaderView, entries, resting}
 use Rattle.desk.specs.declared.holding.Holding.{Holding}
-use Rattle.desk.specs.Holdings.{IsTold}
+use Rattle.desk.specs.Holdings.{IsToldByLog}
 
--- what contracts see of a desk: the whole log
+-- contracts see the whole log of a desk
 pub record DeskView : Type 0 where
-  pub log : List Signed
+  pub log : List StoreEntry
 
--- what the log of a desk says of the map
-abbrev pub story_told : StoreId → List Signed → Story
+-- the log of a desk tells this story of the map
+abbrev pub story_told : StoreId → List StoreEntry → Story
 story_told store log = story store.base (entries log)
 
--- the place of a log's last checkpoint; 0 where it has none
-abbrev pub base_place : StoreId → List Signed → ℕ
+-- a log's last checkpoint has this place; 0 where it has none
+abbrev pub base_place : StoreId → List StoreEntry → ℕ
 base_place store log = (story_told store log).base
 
--- the entries of a log that are kept: those after its last checkpoint
-abbrev pub kept_part : StoreId → List Signed → List Signed
+-- the entries of a log after its last checkpoint are kept
+abbrev pub kept_part : StoreId → List StoreEntry → List StoreEntry
 kept_part store log = drop (base_place store log) log
 
--- the entries that are kept once there is one more: a checkpoint leaves none
-abbrev pub kept_after : List Signed → Signed → List Signed
-kept_after kept e = if takes_room e.entry.command then kept ++ e ∷ [] else []
+-- another entry is kept with the others, and a checkpoint leaves none
+abbrev pub entries_kept_after : List StoreEntry → StoreEntry → List StoreEntry
+entries_kept_after kept e = if takes_room e.entry.command then kept ++ e ∷ [] else []
 
 -- the keeper's seat rests at the desk's log, what is held is what the log tells, and the log's last part is kept,
 -- with a place for what each reader announces
-pub record IsDesk (store : StoreId) (d : DeskView) (keeper : KeeperView) (h : Holding) (kept : List Signed) (announced : List (Option Seen)) : Type 0 where
+pub record IsDesk (store : StoreId) (d : DeskView) (keeper : KeeperView) (h : Holding) (kept : List StoreEntry) (announced : List (Option Seen)) : Type 0 where
   pub keeper_is : keeper ≡ resting (readers_of store) d.log
-  pub told : IsTold store.base (entries d.log) h
+  pub told : IsToldByLog store.base (entries d.log) h
   pub kept_is : kept ≡ kept_part store d.log
   pub place_each : length announced ≡ readers_of store
 
--- a reader whose hold no load moves: it has announced nothing, or holds a version
+-- no load moves the hold of a reader that has announced nothing, or holds a version
 abbrev pub IsSteady : ReaderView → Type 0
 IsSteady x = (x.announced ≡ None) ⊎ ((version : ℕ) × (x.holds ≡ Some version))
 
@@ -55,7 +55,7 @@ pub record IsAccepted (store : StoreId) (old : DeskView) (seat : ReaderView) (c 
   pub log : new.log ≡ old.log ++ record { by = seat.number; entry = record { command = c; reply = reply } } ∷ []
   pub seat_is : seat_after ≡ record seat { seen = new.log; made = seat.made + 1 }
   -- the entry is kept after the others; a checkpoint leaves none, and its place is the base place then
-  pub kept : kept_part store new.log ≡ kept_after (kept_part store old.log) record { by = seat.number; entry = record { command = c; reply = reply } }
+  pub kept : kept_part store new.log ≡ entries_kept_after (kept_part store old.log) record { by = seat.number; entry = record { command = c; reply = reply } }
   pub base : base_place store new.log ≡ (if takes_room c then base_place store old.log else length new.log)
 
 -- why a command is refused: by the log, or, where the log doesn't refuse it, for want of memory, which a checkpoint never is
@@ -64,12 +64,12 @@ IsWhy store d c refusal =
     (refused store.base.setting (story_told store d.log) c ≡ Some refusal) ⊎ ((refused store.base.setting (story_told store d.log) c ≡ None) × (refusal ≡ Memory) × (takes_room c ≡ true))
 
 -- a command is refused: the desk is as before, and the seat has seen the whole log
-pub record IsRefused (store : StoreId) (old : DeskView) (seat : ReaderView) (c : Command) (refusal : Refusal) (new : DeskView) (seat_after : ReaderView) : Type 0 where
+pub record IsCommandRefused (store : StoreId) (old : DeskView) (seat : ReaderView) (c : Command) (refusal : Refusal) (new : DeskView) (seat_after : ReaderView) : Type 0 where
   pub why : IsWhy store old c refusal
   pub same : new ≡ old
   pub seat_is : seat_after ≡ record seat { seen = old.log }
 
--- what a command is answered, whatever is returned with it where it is refused
+-- a command is answered so, whatever is returned with it where it is refused
 abbrev pub answer_of : {Back : Type 0} → Result Reply (Back × Refusal) → Result Reply Refusal
 answer_of (Ok reply) = Ok reply
 answer_of (Err back) = Err back.1
@@ -77,7 +77,7 @@ answer_of (Err back) = Err back.1
 -- a command is answered: it is accepted or refused, and then the seat has seen the whole log, which is legal
 pub record IsApplied (store : StoreId) (old : DeskView) (seat : ReaderView) (c : Command) (answer : Result Reply Refusal) (new : DeskView) (seat_after : ReaderView) : Type 0 where
   pub accepted : IfOk answer (λ reply. IsAccepted store old seat c reply new seat_after)
-  pub refused : IfErr answer (λ refusal. IsRefused store old seat c refusal new seat_after)
+  pub refused : IfErr answer (λ refusal. IsCommandRefused store old seat c refusal new seat_after)
   -- a checkpoint is refused for want of a place alone
   pub places : takes_room c ≡ false → IfErr answer (λ refusal. refusal ≡ PlacesUsed)
   -- of the seat nothing changes but what it has seen and what it counts

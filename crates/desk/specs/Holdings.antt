@@ -17,7 +17,7 @@ use Rattle.map_core.specs.Summary.{Summary, IsSummary}
 use Rattle.grid.specs.Grids.{draft, bitmap_at, own_blocks, newest_blocks, retired_blocks}
 use Rattle.desk.specs.declared.holding.Holding.{Holding}
 
--- what is kept of the log
+-- this is kept of the log
 abbrev pub summary_of : Holding → Summary
 summary_of h =
     record { ledger = h.ledger; draft = draft h.grid; published = bitmap_at h.grid h.grid.newest; came = h.grid.came; own = own_blocks h.grid; free = h.arena.free; retired = retired_blocks h.grid }
@@ -34,7 +34,7 @@ pub record Holds (k : Base) (s : Story) (m : Blocks) (h : Holding) : Type 0 wher
   pub room_is : h.grid.room ≡ k.setting.blocks
 
 -- what is held is what a legal log of the map tells
-pub record IsTold (k : Base) (log : List Entry) (h : Holding) : Type 0 where
+pub record IsToldByLog (k : Base) (log : List Entry) (h : Holding) : Type 0 where
   pub ready : IsReady k
   pub legal : IsLegal k.setting k.opening log
   pub holds : Holds k (story k log) (blocks k log) h
@@ -48,13 +48,13 @@ pub record CanAnswer (h : Holding) : Type 0 where
 
 -- a command is refused for this reason, or for none, after whatever log tells what is held
 abbrev pub Judges : Holding → Command → Option Refusal → Type 0
-Judges h c refusal = (k : Base) (log : List Entry) → IsTold k log h → refusal ≡ refused k.setting (story k log) c
+Judges h c refusal = (k : Base) (log : List Entry) → IsToldByLog k log h → refusal ≡ refused k.setting (story k log) c
 
 -- a command is refused: for this reason by the log, or for want of memory for its entry, where the log has no reason
 abbrev pub Refuses : Holding → Command → Refusal → Type 0
 Refuses h c refusal = Judges h c (Some refusal) ⊎ (Judges h c None × (refusal ≡ Memory) × (takes_room c ≡ true))
 
--- a paint, a stamp or a revert: its only step is its last
+-- the only step of a paint, a stamp or a revert is its last
 abbrev pub IsOneStep : Command → Type 0
 IsOneStep Publish = ⊥
 IsOneStep Collect = ⊥
@@ -63,4 +63,4 @@ IsOneStep c = Unit {0}
 -- a command is answered after whatever log tells what is held, and then the log with that entry tells it
 abbrev pub Does : Holding → Command → Reply → Holding → Type 0
 Does old c reply new =
-    (k : Base) (log : List Entry) → IsTold k log old → IsAnswer k.setting (story k log) c reply × IsTold k (log ++ record { command = c; reply = reply } ∷ []) new
+    (k : Base) (log : List Entry) → IsToldByLog k log old → IsAnswer k.setting (story k log) c reply × IsToldByLog k (log ++ record { command = c; reply = reply } ∷ []) new

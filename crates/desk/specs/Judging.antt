@@ -24,7 +24,7 @@ pub record IsJudged (h : Holding) (c : Command) (j : Judged) : Type 0 where
   pub by : refused_by_ledger h.ledger c ≡ None
   pub kind : IsKind h c j
 
--- what a paint or a stamp does, if it isn't refused
+-- a paint or a stamp does this, if it isn't refused
 abbrev pub drawing_of : Result Stroke Refusal → Result Judged Refusal
 drawing_of (Ok stroke) = Ok (kinds.Draw stroke)
 drawing_of (Err refusal) = Err refusal

@@ -12,13 +12,13 @@ use crate::carry::collect::carry_collect;
 use crate::carry::publish::carry_publish;
 use crate::holding::{Holding, Judged};
 use map_core::{Reply, Seen};
-use shelf::{Asked, KeeperSeat, StoreName};
+use shelf::{KeeperSeat, Request, StoreName};
 
 /// Carries out what is done in one step: a paint, a stamp, a revert or a checkpoint that is judged.
 fn carry_at_once<Id: StoreName>(
     keeper: &mut KeeperSeat<Id>,
     holding: &mut Holding,
-    asked: &Asked,
+    asked: &Request,
     judged: Judged,
 ) -> Reply
     requires able { CanCarry Id.store keeper.old holding.old }
@@ -40,7 +40,7 @@ pub fn carry<Id: StoreName>(
     keeper: &mut KeeperSeat<Id>,
     holding: &mut Holding,
     announced: &mut Vec<Option<Seen>>,
-    asked: &Asked,
+    asked: &Request,
     judged: Judged,
 ) -> Reply
     requires able { CanCarry Id.store keeper.old holding.old }

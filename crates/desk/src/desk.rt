@@ -9,7 +9,7 @@ use crate::holding::Holding;
 pub use answers::{answered, stamp_answered};
 pub use fresh::FreshDesk;
 use map_core::Seen;
-use shelf::{KeeperSeat, Signed, StoreName};
+use shelf::{KeeperSeat, StoreEntry, StoreName};
 use std::marker::Model;
 
 /// The value that the writers' lock of a store guards.
@@ -24,7 +24,7 @@ pub struct Desk<Id: StoreName> {
     keeper: KeeperSeat<Id>,
     holding: Holding,
     // The entries that are kept.
-    log: Vec<Signed>,
+    log: Vec<StoreEntry>,
     // What the last collect's scan saw of each reader.
     announced: Vec<Option<Seen>>,
 }

@@ -10,7 +10,7 @@ ghost use Rattle.metric.specs.declared.refusal.Refusal.TheVariants.{Memory};
 ghost use Rattle.map_core.specs.Blocks.{own_list};
 ghost use Rattle.map_core.specs.Setting.{bad_field};
 ghost use Rattle.grid.specs.Grids.{own_blocks};
-ghost use Rattle.desk.specs.Holdings.{IsTold};
+ghost use Rattle.desk.specs.Holdings.{IsToldByLog};
 
 use arena::Arena;
 use bits::Bitmap;
@@ -33,7 +33,7 @@ impl Holding {
     /// All room is taken here. Refused for want of memory alone.
     pub fn of(alloc: Global, setting: Setting, map: &Bitmap) -> Result<Holding, Refusal>
         requires { bad_field (tile_count map.now) setting ≡ None }
-        ensures opened { IfOk result (IsTold record { setting = setting; opening = map.now } []) }
+        ensures opened { IfOk result (IsToldByLog record { setting = setting; opening = map.now } []) }
         ensures memory { IfErr result (λ refusal. refusal ≡ Memory) }
     {
         // Asking for a side shows the proof that it is a bitmap.
@@ -55,7 +55,8 @@ impl Holding {
     /// Gives all blocks back, and ends the arena.
     pub fn end(self)
         requires home { self.grid.home ≡ self.arena.home }
-        requires all { length self.arena.free + (length (own_list (own_blocks self.grid)) + (length self.grid.pieces + length self.grid.retired)) ≡ self.arena.home.count }
+        requires all { length self.arena.free + (length (own_list (own_blocks self.grid))
+            + (length self.grid.pieces + length self.grid.retired)) ≡ self.arena.home.count }
     {
         let Holding {
             ledger: _,

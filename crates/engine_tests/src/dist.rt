@@ -1,8 +1,7 @@
 //! The worked rows through `dist`, and streams that fail.
 
 use crate::compare::same;
-use engines::arguments::DistOptions;
-use engines::dist_run;
+use engines::{DistOptions, dist_run};
 use metric::{Edge, MemorySink, MemorySource, MetricKind, Sink, Source};
 use std::process::Abort;
 use std::thread::Threads;

@@ -3,8 +3,7 @@
 ghost use Rattle.std.specs.Prelude.{◌<◌};
 
 use crate::compare::same;
-use engines::arguments::DistOptions;
-use engines::dist_run;
+use engines::{DistOptions, dist_run};
 use metric::{Edge, MemorySink, MemorySource, MetricKind};
 use std::alloc::Global;
 use std::process::Abort;

@@ -3,9 +3,8 @@
 use crate::compare::same;
 use bits::Bitmap;
 use crossbeam_channel::{Receiver, Sender, bounded};
-use engines::arguments::{AskOptions, ServeOptions};
 use engines::net::ask;
-use engines::{Socket, ask_run, serve_run};
+use engines::{AskOptions, ServeOptions, Socket, ask_run, serve_run};
 use metric::{Edge, MemorySink, MemorySource};
 use std::alloc::Global;
 use std::io::Write;

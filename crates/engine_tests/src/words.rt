@@ -1,8 +1,7 @@
 //! The words of the command line, and what they say.
 
 use crate::compare::{holds, same};
-use engines::arguments::{AskOptions, DistOptions, Fault, Options, ServeOptions};
-use engines::options;
+use engines::{AskOptions, DistOptions, Fault, Options, ServeOptions, options};
 use metric::{Edge, MetricKind};
 use std::process::Abort;
 

@@ -1,75 +1,71 @@
 -- An answer of `dist`, written whole or in part.
-use Rattle.std.proofs.Common.{◌≡◌, ◌≢◌, ℕ, List, [], ◌∷◌, ◌++◌, Option, Some, None, Result, Ok, Err, inl, inr, refl, ap, arith, IfOk, OnOk, OnErr, IsOk}
+use Rattle.std.proofs.Common.{◌≡◌, ◌≢◌, ℕ, List, [], ◌∷◌, ◌++◌, Option, Some, None, Result, Ok, Err, inl, inr, refl, arith, IfOk, OnOk, OnErr, IsOk}
 use Rattle.std.specs.Borrow.{Bor}
 use Rattle.std.specs.Result.{result_unwrap_or}
 use Rattle.metric.specs.declared.fault.PbmFault.{PbmFault}
 use Rattle.metric.specs.declared.fault.PbmFault.TheVariants as faults
 use Rattle.metric.specs.declared.stream.WriteFault.{WriteFault}
 use Rattle.metric.specs.Refusal.{image_text}
-use Rattle.metric.specs.Stream.{AreAll, Appends, AppendsFront, Counts}
-use Rattle.engines.specs.declared.arguments.DistOptions.{DistOptions}
-use Rattle.engines.specs.declared.table.Table.{Table}
-use Rattle.engines.specs.Table.{table_text}
-use Rattle.engines.specs.Tabled.{IsTableOf, nears_of}
+use Rattle.metric.specs.Stream.{Appends, AppendsFront, Counts}
+use Rattle.engines.specs.declared.words.arguments.DistOptions.{DistOptions}
+use Rattle.engines.specs.declared.dist.table.Table.{Table}
+use Rattle.engines.specs.dist.Table.{table_text}
+use Rattle.engines.specs.dist.Tabled.{IsTableOf, nears_of}
 use Rattle.bits.specs.Cells.{Cells}
 use Rattle.pbm.specs.Faults.{◌>>=◌, header, image}
 use Rattle.pbm.specs.Image.{Reads}
+use Rattle.pbm.proofs.Following.{told, AreAll-told}
 use Rattle.pbm.proofs.Images.{reads-image}
-use Rattle.engines.specs.Dist.{IsImageAnswer, IsRefused, IsReply, Answers, BeginsToAnswer}
+use Rattle.pbm.specs.Windows.{HasFault, HasImage}
+use Rattle.engines.specs.declared.dist.reply.QueryReply.{QueryReply}
+use Rattle.engines.specs.dist.Replied.{IsReplyOf}
+use Rattle.engines.specs.dist.Dist.{IsImageAnswer, IsMapAnswer, IsBadImage, AnswersImage, BeginsToAnswerImage}
 
--- the bytes that a reader tells, and none where it tells nothing
-pub told : Option (List ℕ) → List ℕ
-told None = []
-told (Some bytes) = bytes
-
--- the bytes that a reader tells, none where it tells nothing, are all that it told
-pub AreAll-told : (unread : Option (List ℕ)) → AreAll unread (told unread)
-unfolding told
-AreAll-told None = tt
-AreAll-told (Some bytes) = refl
-
--- where no write failed, an answer to what a reader tells is written whole
-pub answered : (options : DistOptions) (unread before after : Option (List ℕ)) (bytes : List ℕ) (written : Result ℕ WriteFault) (old new : ℕ)
-    → AreAll unread bytes
-    → IfOk written (λ status. (text : List ℕ) × IsImageAnswer options bytes text status × Appends before text after)
-    → Counts old written new → new ≡ old → Answers options unread before after (result_unwrap_or written 1)
-answered options unread before after bytes (Ok status) old new all (text, answer, whole) counts same = record { bytes = bytes; text = text; all = all; answer = inl answer; written = whole }
-answered options unread before after bytes (Err fault) old new all whole counts same = absurd (omega (arith, counts))
+-- where no write failed, an answer to the image that a reader had is written whole
+pub answered : (options : DistOptions) (unread before after : Option (List ℕ)) (cells : Cells) (written : Result ℕ WriteFault) (old new : ℕ)
+    → HasImage unread cells
+    → IfOk written (λ status. (text : List ℕ) × IsMapAnswer options cells text status × Appends before text after)
+    → Counts old written new → new ≡ old → AnswersImage options unread before after (result_unwrap_or written 1)
+answered options unread before after cells (Ok status) old new has (text, answer, whole) counts same =
+    record { bytes = has.bytes; text = text; all = has.all; answer = inl (answer has.bytes has.taken has.reads); written = whole }
+answered options unread before after cells (Err fault) old new has whole counts same = absurd (omega (arith, counts))
 
 -- where a write failed, a beginning of the answer is written, and the status is 1
-pub begun : (options : DistOptions) (unread before after : Option (List ℕ)) (bytes : List ℕ) (written : Result ℕ WriteFault) (old new : ℕ)
-    → AreAll unread bytes
-    → OnErr written ((text : List ℕ) × (status : ℕ) × IsImageAnswer options bytes text status × AppendsFront before text after)
-    → Counts old written new → new ≢ old → BeginsToAnswer options unread before after × (result_unwrap_or written 1 ≡ 1)
-begun options unread before after bytes (Ok status) old new all front counts other = absurd (other counts)
-begun options unread before after bytes (Err fault) old new all (text, status, answer, front) counts other =
-    (record { bytes = bytes; text = text; status = status; all = all; answer = inl answer; written = front }, refl)
+pub begun : (options : DistOptions) (unread before after : Option (List ℕ)) (cells : Cells) (written : Result ℕ WriteFault) (old new : ℕ)
+    → HasImage unread cells
+    → OnErr written ((text : List ℕ) × (status : ℕ) × IsMapAnswer options cells text status × AppendsFront before text after)
+    → Counts old written new → new ≢ old → BeginsToAnswerImage options unread before after × (result_unwrap_or written 1 ≡ 1)
+begun options unread before after cells (Ok status) old new has front counts other = absurd (other counts)
+begun options unread before after cells (Err fault) old new has (text, status, answer, front) counts other =
+    (record { bytes = has.bytes; text = text; status = status; all = has.all; answer = inl (answer has.bytes has.taken has.reads); written = front }, refl)
 
 -- the line of a fault that is true of the bytes is an answer to them
-pub answer_of_fault : (options : DistOptions) (bytes : List ℕ) (fault : PbmFault) (status : ℕ) → (fault ≢ faults.Memory → IsRefused bytes fault) → (fault ≡ faults.Memory → IsOk (header bytes)) → status ≡ 1
+answer_of_fault : (options : DistOptions) (bytes : List ℕ) (fault : PbmFault) (status : ℕ) → (fault ≢ faults.Memory → IsBadImage bytes fault) → (fault ≡ faults.Memory → IsOk (header bytes)) → status ≡ 1
     → IsImageAnswer options bytes (image_text fault ++ 10 ∷ []) status
 answer_of_fault options bytes fault status true_of memory one = inr (record { fault = fault; true_of = true_of; memory = memory; text_is = refl; status_is = one })
 
--- where no query is asked, the lines of the image's table are an answer to it
-pub asked_of_table : (options : DistOptions) (bytes : List ℕ) (table : Table) → options.query ≡ None → IsTableOf options.metric options.edge bytes table
-    → IsImageAnswer options bytes (table_text options.nearest table.width table.height (nears_of table)) 0
-asked_of_table options bytes table no_line of = inl (rw no_line (record {
-  taken = of.taken;
-  cells = of.cells;
-  nears = nears_of table;
-  reads = of.reads;
-  rows = of.rows;
-  text_is = rw (of.width_is, of.height_is) refl;
-  status_is = refl;
-}))
+-- the line of a fault that a reader's bytes have is an answer to them
+fault_answered : (options : DistOptions) (unread : Option (List ℕ)) (fault : PbmFault) (status : ℕ) (has : HasFault unread fault) → status ≡ 1 → IsImageAnswer options has.bytes (image_text fault ++ 10 ∷ []) status
+fault_answered options unread fault status has one =
+    answer_of_fault options has.bytes fault status (λ real. record { first = has.first real; none = has.none real }) has.memory one
 
--- where a query is asked, its reply is an answer to the image
-pub asked_of_reply : (options : DistOptions) (bytes : List ℕ) (line : Bor (List ℕ)) (text : List ℕ) (status : ℕ) → options.query ≡ Some line → IsReply options.edge line.now bytes text status → IsImageAnswer options bytes text status
-asked_of_reply options bytes line text status given reply = inl (rw given reply)
+-- the line of a fault that a reader's bytes have, written whole, is an answer of `dist`
+pub fault_whole : (options : DistOptions) (unread before after : Option (List ℕ)) (fault : PbmFault) (written : Result ℕ WriteFault) (old new : ℕ) → HasFault unread fault → IfOk written (λ status. status ≡ 1)
+    → OnOk written (Appends before (image_text fault ++ 10 ∷ []) after) → Counts old written new → new ≡ old → AnswersImage options unread before after (result_unwrap_or written 1)
+fault_whole options unread before after fault (Ok status) old new has one whole counts same =
+    record { bytes = has.bytes; text = image_text fault ++ 10 ∷ []; all = has.all; answer = inl (fault_answered options unread fault status has one); written = whole }
+fault_whole options unread before after fault (Err failed) old new has one whole counts same = absurd (omega (arith, counts))
+
+-- the line of a fault that a reader's bytes have, written in part, begins an answer of `dist`
+pub fault_in_part : (options : DistOptions) (unread before after : Option (List ℕ)) (fault : PbmFault) (written : Result ℕ WriteFault) (old new : ℕ) → HasFault unread fault
+    → OnErr written (AppendsFront before (image_text fault ++ 10 ∷ []) after) → Counts old written new → new ≢ old → BeginsToAnswerImage options unread before after × (result_unwrap_or written 1 ≡ 1)
+fault_in_part options unread before after fault (Ok status) old new has front counts other = absurd (other counts)
+fault_in_part options unread before after fault (Err failed) old new has front counts other =
+    (record { bytes = has.bytes; text = image_text fault ++ 10 ∷ []; status = 1; all = has.all; answer = inl (fault_answered options unread fault 1 has refl); written = front }, refl)
 
 -- the line of want of memory, written whole, is an answer of `dist` to all bytes of any reader
 pub memory_whole : (options : DistOptions) (unread before after : Option (List ℕ)) (written : Result ℕ WriteFault) (old new : ℕ) → IfOk written (λ status. status ≡ 1)
-    → OnOk written (Appends before (image_text faults.Memory ++ 10 ∷ []) after) → Counts old written new → new ≡ old → Answers options unread before after (result_unwrap_or written 1)
+    → OnOk written (Appends before (image_text faults.Memory ++ 10 ∷ []) after) → Counts old written new → new ≡ old → AnswersImage options unread before after (result_unwrap_or written 1)
 memory_whole options unread before after (Ok status) old new one whole counts same = record {
   bytes = told unread;
   text = image_text faults.Memory ++ 10 ∷ [];
@@ -81,7 +77,7 @@ memory_whole options unread before after (Err fault) old new one whole counts sa
 
 -- the line of want of memory, written in part, begins an answer of `dist` to all bytes of any reader
 pub memory_in_part : (options : DistOptions) (unread before after : Option (List ℕ)) (written : Result ℕ WriteFault) (old new : ℕ) → OnErr written (AppendsFront before (image_text faults.Memory ++ 10 ∷ []) after)
-    → Counts old written new → new ≢ old → BeginsToAnswer options unread before after × (result_unwrap_or written 1 ≡ 1)
+    → Counts old written new → new ≢ old → BeginsToAnswerImage options unread before after × (result_unwrap_or written 1 ≡ 1)
 memory_in_part options unread before after (Ok status) old new front counts other = absurd (other counts)
 memory_in_part options unread before after (Err fault) old new front counts other =
     (record { bytes = told unread; text = image_text faults.Memory ++ 10 ∷ []; status = 1; all = AreAll-told unread; answer = inr (refl, refl); written = front }, refl)
@@ -92,10 +88,35 @@ first_part (Ok x) after value e = refl
 first_part (Err fault) after value e = absurd (cc)
 
 -- bytes that read as an image have a good header
-pub reads-header : (bytes : List ℕ) (n : ℕ) (cells : Cells) → Reads bytes n cells → IsOk (header bytes)
+reads-header : (bytes : List ℕ) (n : ℕ) (cells : Cells) → Reads bytes n cells → IsOk (header bytes)
 unfolding image
 reads-header bytes n cells found = let is : image bytes ≡ Ok (cells, found.rest) = reads-image bytes n cells found in first_part (header bytes) _ (cells, found.rest) is
 
--- what follows where one call finds no memory follows where its fault is passed on
-pub memory_passed : {A B P : Type 0} (fault : PbmFault) → (let found : Result A PbmFault = Err fault in found ≡ Err faults.Memory → P) → (let passed : Result B PbmFault = Err fault in passed ≡ Err faults.Memory) → P
-memory_passed fault follows none = let same : fault ≡ faults.Memory = cc in follows (ap Err same)
+-- the line of want of memory is an answer to any bytes that read as an image
+pub map_wants_memory : (options : DistOptions) (cells : Cells) (fault : PbmFault) (status : ℕ) → fault ≡ faults.Memory → status ≡ 1 → IsMapAnswer options cells (image_text fault ++ 10 ∷ []) status
+map_wants_memory options cells fault status none one = λ bytes taken reads. answer_of_fault options bytes fault status (λ real. absurd (real none)) (λ e. reads-header bytes taken cells reads) one
+
+-- where the line of want of memory is written whole, an answer to any image of the map is
+pub map_wanting_whole : (options : DistOptions) (cells : Cells) (fault : PbmFault) (before after : Option (List ℕ)) (written : Result ℕ WriteFault) → fault ≡ faults.Memory → IfOk written (λ status. status ≡ 1)
+    → OnOk written (Appends before (image_text fault ++ 10 ∷ []) after) → IfOk written (λ status. (text : List ℕ) × IsMapAnswer options cells text status × Appends before text after)
+map_wanting_whole options cells fault before after (Ok status) none one whole = (image_text fault ++ 10 ∷ [], map_wants_memory options cells fault status none one, whole)
+map_wanting_whole options cells fault before after (Err failed) none one whole = tt
+
+-- where no query is asked, the lines of the map's table are an answer to an image of it
+pub asked_of_table : (options : DistOptions) (cells : Cells) (table : Table) → options.query ≡ None → IsTableOf options.metric options.edge cells table
+    → IsMapAnswer options cells (table_text options.nearest table.width table.height (nears_of table)) 0
+asked_of_table options cells table no_line of = λ bytes taken reads. inl (rw no_line (record {
+  taken = taken;
+  cells = cells;
+  nears = nears_of table;
+  reads = reads;
+  rows = of.rows;
+  text_is = rw (of.width_is, of.height_is) refl;
+  status_is = refl;
+}))
+
+-- where a query is asked, its reply is an answer to an image of the map
+pub asked_of_reply : (options : DistOptions) (cells : Cells) (line : Bor (List ℕ)) (reply : QueryReply) → options.query ≡ Some line → IsReplyOf options.edge line.now cells reply
+    → IsMapAnswer options cells reply.text reply.status
+asked_of_reply options cells line reply given of =
+    λ bytes taken reads. inl (rw given (record { taken = taken; cells = cells; answer = of.answer; reads = reads; replies = of.replies; text_is = of.text_is; status_is = of.status_is }))

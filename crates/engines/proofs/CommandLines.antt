@@ -16,20 +16,19 @@ use Rattle.metric.specs.declared.edge.Edge.{Edge}
 use Rattle.metric.specs.declared.edge.Edge.TheVariants.{Open}
 use Rattle.metric.specs.declared.kind.MetricKind.{MetricKind}
 use Rattle.metric.specs.declared.kind.MetricKind.TheVariants.{Euclid2}
-use Rattle.engines.specs.declared.arguments.DistOptions.{DistOptions}
-use Rattle.engines.specs.CommandLine.{AreDistOptions, AreNoDistOptions, AreOptions, AreTaken, default_options, program_app}
+use Rattle.engines.specs.declared.words.arguments.DistOptions.{DistOptions}
+use Rattle.engines.specs.words.CommandLine.{AreDistOptions, AreNoDistOptions, AreOptions, AreTaken, default_options, program_app}
 use Rattle.proto.specs.Numbers.{number}
-use Rattle.engines.specs.ServeLine.{AreAskOptions, AreNoMatch, AreServeOptions, in_range}
+use Rattle.engines.specs.words.ServeLine.{AreNoMatch, AreServeOptions, in_range}
 use Rattle.engines.specs.Runs.{IsSaidBy}
-use Rattle.engines.specs.declared.arguments.AskOptions.{AskOptions}
-use Rattle.engines.specs.declared.arguments.ServeOptions.{ServeOptions}
-use Rattle.engines.specs.declared.arguments.Fault.{Fault}
-use Rattle.engines.specs.declared.arguments.Fault.TheVariants.{Memory}
-use Rattle.engines.specs.declared.arguments.Options.{Options}
-use Rattle.engines.specs.declared.arguments.Options.TheVariants.{Ask, Dist, Serve, Steps}
+use Rattle.engines.specs.declared.words.arguments.ServeOptions.{ServeOptions}
+use Rattle.engines.specs.declared.words.arguments.Fault.{Fault}
+use Rattle.engines.specs.declared.words.arguments.Fault.TheVariants.{Memory}
+use Rattle.engines.specs.declared.words.arguments.Options.{Options}
+use Rattle.engines.specs.declared.words.arguments.Options.TheVariants.{Ask, Dist, Serve, Steps}
 use Rattle.clearance.proofs.Refusals.{map_none}
 
--- what the words say of the subcommand and its flags
+-- the words say this of the subcommand and its flags
 abbrev pub read_of : Option (Text × List Row) → Option (Text × Option Text × Option Text × Option Text × Option Text × Option Text)
 read_of found = option_map (λ p. (p.0, first_of (codes "metric") p.1, one_of (codes "nearest") p.1, first_of (codes "query") p.1, first_of (codes "workers") p.1, first_of (codes "edge") p.1)) found
 
@@ -39,12 +38,12 @@ unfolding clap_on_literals
 takes_dist name = refl
 
 -- the word `dist` alone names the subcommand `dist` and no flag, so that the flags have their defaults
-pub read_of_dist : (name : List ℕ) → read_of (subcommand_of program_app (name ∷ codes "dist" ∷ [])) ≡ Some (codes "dist", Some (codes "euclid2"), Some (codes "false"), None, Some (codes "1"), Some (codes "open"))
+read_of_dist : (name : List ℕ) → read_of (subcommand_of program_app (name ∷ codes "dist" ∷ [])) ≡ Some (codes "dist", Some (codes "euclid2"), Some (codes "false"), None, Some (codes "1"), Some (codes "open"))
 unfolding clap_on_literals
 read_of_dist name = refl
 
 -- the program's commands and flags are simple ones
-pub program_is_simple : is_simple program_app ≡ true
+program_is_simple : is_simple program_app ≡ true
 unfolding clap_on_literals
 program_is_simple = refl
 
@@ -95,7 +94,7 @@ named_steps name texts matches words found =
     first_of_pair _ _ _ ∙ (ap (option_map (λ (p : Text × List Row). p.0)) met ∙ name_of_steps name)
 
 -- a parse whose words name a subcommand has met it
-pub named_so : (name : Text) (rows : List Row) (texts : List (List ℕ)) (matches : ArgMatches) → HasMatchesOf program_app texts matches → subcommand_of program_app texts ≡ Some (name, rows) → subcommand_name_of matches ≡ Some name
+named_so : (name : Text) (rows : List Row) (texts : List (List ℕ)) (matches : ArgMatches) → HasMatchesOf program_app texts matches → subcommand_of program_app texts ≡ Some (name, rows) → subcommand_name_of matches ≡ Some name
 named_so name rows texts matches found named = first_of_pair _ _ _ ∙ ap (option_map (λ (p : Text × List Row). p.0)) ((found program_is_simple).1 ∙ named)
 
 -- a parse whose words name a subcommand has met the flags that these words give it
@@ -199,21 +198,3 @@ no_match_serve matches rows named these none (Ask options) are =
     let same : Some (codes "serve") ≡ Some (codes "ask") = sym named ∙ (first_of_pair _ _ _ ∙ ap (option_map (λ (p : Text × List Row). p.0)) are.1) in cc
 no_match_serve matches rows named these none (Dist options) are = are
 no_match_serve matches rows named these none Steps are = are
-
--- where `ask` was matched with flags that say no options, no options are matched
-pub no_match_ask : (matches : ArgMatches) (rows : List Row) → subcommand_name_of matches ≡ Some (codes "ask") → option_map (λ (p : Text × List Row). p.1) (subcommand_rows_of matches) ≡ Some rows
-    → ((options : AskOptions) → AreAskOptions rows options → ⊥) → AreNoMatch matches
-no_match_ask matches rows named these none (Ask options) are =
-    let same : Some are.0 ≡ Some rows = sym (ap (option_map (λ (p : Text × List Row). p.1)) are.1) ∙ these in
-    let rows_are : are.0 ≡ rows = cc in none options (subst (λ (r : List Row). AreAskOptions r options) rows_are are.2)
-no_match_ask matches rows named these none (Serve options) are =
-    let same : Some (codes "ask") ≡ Some (codes "serve") = sym named ∙ (first_of_pair _ _ _ ∙ ap (option_map (λ (p : Text × List Row). p.0)) are.1) in cc
-no_match_ask matches rows named these none (Dist options) are = are
-no_match_ask matches rows named these none Steps are = are
-
--- where neither `serve` nor `ask` was matched, no options are matched
-pub no_match : (matches : ArgMatches) → (subcommand_name_of matches ≡ Some (codes "serve") → ⊥) → (subcommand_name_of matches ≡ Some (codes "ask") → ⊥) → AreNoMatch matches
-no_match matches no_serve no_ask (Serve options) are = no_serve (first_of_pair _ _ _ ∙ ap (option_map (λ (p : Text × List Row). p.0)) are.1)
-no_match matches no_serve no_ask (Ask options) are = no_ask (first_of_pair _ _ _ ∙ ap (option_map (λ (p : Text × List Row). p.0)) are.1)
-no_match matches no_serve no_ask (Dist options) are = are
-no_match matches no_serve no_ask Steps are = are

@@ -1,46 +1,26 @@
 -- Bytes that are taken from a stream, and put into a buffer or written to another stream.
-use Rattle.std.proofs.Common.{◌≡◌, ℕ, List, [], ◌∷◌, ◌++◌, Option, Some, None, Result, Ok, Err, OnOk, OnErr, refl, sym, ap, subst, ◌∙◌, append_assoc}
-use Rattle.std.proofs.lemmas.List.{append-nil}
+use Rattle.std.proofs.Common.{◌≡◌, ℕ, List, [], ◌∷◌, ◌++◌, Option, Some, Result, Ok, Err, OnOk, OnErr, refl, ap, ◌∙◌, append_assoc}
 use Rattle.metric.specs.Stream.{Takes, TakesByte, Appends, AppendsFront}
 use Rattle.metric.proofs.Appending.{Appends-nothing, Appends-more, AppendsFront-whole}
-use Rattle.metric.proofs.Taking.{Takes-nothing, Takes-more}
-use Rattle.engines.specs.Passing.{Gathers, PassesOn, PassesFront, EndsEarly, WritesEnd}
+use Rattle.metric.proofs.Taking.{Takes-nothing, Takes-more, Takes-behind}
+use Rattle.engines.specs.streams.Passing.{Gathers, PassesOn, PassesFront, EndsEarly, WritesEnd}
 use Rattle.engines.proofs.RefusalLines.{front_second}
-
--- bytes that are taken after the first ones that a stream tells are taken together with these
-takes_behind : (told left first second : List ℕ) (new : Option (List ℕ)) → told ≡ first ++ left → Takes (Some left) second new → Takes (Some told) (first ++ second) new
-takes_behind told left first second new split (rest, is, next) = (rest, is, split ∙ (ap (λ t. first ++ t) next ∙ sym (append_assoc first second rest)))
-
--- bytes that are taken of a stream in two parts are taken as one
-pub Takes-both : (old between new : Option (List ℕ)) (first second : List ℕ) → Takes old first between → Takes between second new → Takes old (first ++ second) new
-Takes-both None between new first second one two = let told : Takes None second new = subst (λ r. Takes r second new) one two in told
-Takes-both (Some told) between new first second (left, is, split) two = takes_behind told left first second new split (subst (λ r. Takes r second new) is two)
 
 -- a byte that was met is one that was taken
 pub Takes-byte : (old new : Option (List ℕ)) (byte : ℕ) → TakesByte old (Some byte) new → Takes old (byte ∷ []) new
 Takes-byte old new byte next = Takes-more old old new [] byte (Takes-nothing old) next
 
--- where the end of a stream was met, nothing was taken
-pub Takes-end : (old new : Option (List ℕ)) → TakesByte old None new → Takes old [] new
-Takes-end None new next = next
-Takes-end (Some []) new (none, same) = ([], same, refl)
-Takes-end (Some (b ∷ bytes)) new (none, same) = absurd (cc)
-
--- a buffer that is as it was has gathered nothing
-pub Gathers-nothing : (rest : Option (List ℕ)) (buffer : List ℕ) → Gathers rest buffer buffer rest
-Gathers-nothing rest buffer = record { bytes = []; taken = Takes-nothing rest; after_is = sym (append-nil buffer) }
-
 -- what is gathered in two parts, one after the other, is gathered as one
 pub Gathers-both : (old between new : Option (List ℕ)) (before middle after : List ℕ) → Gathers old before middle between → Gathers between middle after new → Gathers old before after new
 Gathers-both old between new before middle after one two = record {
   bytes = one.bytes ++ two.bytes;
-  taken = Takes-both old between new one.bytes two.bytes one.taken two.taken;
+  taken = Takes-behind old between new one.bytes two.bytes one.taken two.taken;
   after_is = two.after_is ∙ (ap (λ t. t ++ two.bytes) one.after_is ∙ append_assoc before one.bytes two.bytes);
 }
 
 -- where bytes were gathered, and then more were taken, all of them were taken
 pub taken_behind : (old between new : Option (List ℕ)) (before after : List ℕ) → Gathers old before after between → ((bytes : List ℕ) × Takes between bytes new) → (bytes : List ℕ) × Takes old bytes new
-taken_behind old between new before after one (bytes, two) = (one.bytes ++ bytes, Takes-both old between new one.bytes bytes one.taken two)
+taken_behind old between new before after one (bytes, two) = (one.bytes ++ bytes, Takes-behind old between new one.bytes bytes one.taken two)
 
 -- what is gathered in an empty buffer is what was taken
 pub Gathers-taken : (unread left : Option (List ℕ)) (before after : List ℕ) → before ≡ [] → Gathers unread before after left → Takes unread after left
@@ -48,7 +28,7 @@ Gathers-taken unread left before after empty all =
     let same : after ≡ all.bytes = all.after_is ∙ ap (λ t. t ++ all.bytes) empty in rw same all.taken
 
 -- where nothing is written, a beginning of any bytes is
-pub front_nothing : (held : Option (List ℕ)) (bytes : List ℕ) → AppendsFront held bytes held
+front_nothing : (held : Option (List ℕ)) (bytes : List ℕ) → AppendsFront held bytes held
 front_nothing held bytes = record { front = []; back = bytes; whole = refl; appended = Appends-nothing held }
 
 -- where nothing is read and nothing is written, all that was read is written
@@ -67,7 +47,7 @@ PassesFront-whole unread left before after whole = record { bytes = whole.bytes;
 pub PassesOn-both : (unread between left before middle after : Option (List ℕ)) → PassesOn unread between before middle → PassesOn between left middle after → PassesOn unread left before after
 PassesOn-both unread between left before middle after one two = record {
   bytes = one.bytes ++ two.bytes;
-  taken = Takes-both unread between left one.bytes two.bytes one.taken two.taken;
+  taken = Takes-behind unread between left one.bytes two.bytes one.taken two.taken;
   written = Appends-more before middle after one.bytes two.bytes one.written two.written;
 }
 
@@ -75,7 +55,7 @@ PassesOn-both unread between left before middle after one two = record {
 pub PassesFront-both : (unread between left before middle after : Option (List ℕ)) → PassesOn unread between before middle → PassesFront between left middle after → PassesFront unread left before after
 PassesFront-both unread between left before middle after one two = record {
   bytes = one.bytes ++ two.bytes;
-  taken = Takes-both unread between left one.bytes two.bytes one.taken two.taken;
+  taken = Takes-behind unread between left one.bytes two.bytes one.taken two.taken;
   written = front_second before middle after one.bytes two.bytes one.written two.written;
 }
 

@@ -1,5 +1,5 @@
--- Steps of the keeper, one after another.
-use Rattle.std.proofs.Common.{ℕ, ◌+◌, [], ◌∷◌, ◌++◌, Result, refl}
+-- Steps of the keeper that are done one after another are one run.
+use Rattle.std.proofs.Common.{ℕ, ◌+◌, [], ◌∷◌, ◌++◌, Result}
 use Rattle.std.specs.Prelude.{replicate}
 use Rattle.std.proofs.lemmas.List.{replicate_more}
 use Rattle.map_core.specs.declared.event.Event.TheVariants as events
@@ -7,12 +7,8 @@ use Rattle.map_core.specs.declared.event.NotEnabled.{NotEnabled}
 use Rattle.map_core.specs.declared.event.StepReply.{StepReply}
 use Rattle.map_core.specs.Runs.{SafeStep}
 use Rattle.map_core.specs.Views.{State}
-use Rattle.engines.specs.Steps.{Keeps}
-use Rattle.map_core.proofs.RunLemmas.{run-push}
-
--- one Keep event is a run of one step of the keeper
-pub Keeps-one : (old new : State) (answer : Result StepReply NotEnabled) → SafeStep old events.Keep answer new → Keeps 1 old answer new
-Keeps-one old new answer step = record { before = []; run = (new, step, refl) }
+use Rattle.engines.specs.steps.Steps.{Keeps}
+use Rattle.map_core.proofs.steps.RunLemmas.{run-push}
 
 -- a run of steps of the keeper, and one Keep event after it, are a run of one step more
 pub Keeps-more : (count : ℕ) (old mid new : State) (first second : Result StepReply NotEnabled) → Keeps count old first mid → SafeStep mid events.Keep second new → Keeps (count + 1) old second new

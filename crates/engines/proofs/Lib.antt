@@ -1,18 +1,18 @@
-pub mod Answering
-pub mod CommandLines
-pub mod Lines
-pub mod MeasuredLines
-pub mod RefusalLines
-pub mod PartLemmas
-pub mod PuttingLemmas
-pub mod QuadLemmas
-pub mod RowLemmas
-pub mod Telling
-pub mod Gathering
-pub mod Hearing
-pub mod Keeping
-pub mod LineSplitting
-pub mod OpeningLemmas
-pub mod ServingLemmas
-pub mod StepAnswering
-pub mod Requests
+mod Answering
+mod Lines
+mod MeasuredLines
+mod PartLemmas
+mod PuttingLemmas
+mod QuadLemmas
+mod RowLemmas
+mod CommandLines
+mod Gathering
+mod RefusalLines
+mod Hearing
+mod Keeping
+mod LineSplitting
+mod OpeningLemmas
+mod StepAnswering
+mod Telling
+mod ServingLemmas
+mod Requests

@@ -1,9 +1,9 @@
--- The line of a row, an entry at a time.
+-- The line of a row is put together an entry at a time.
 use Rattle.std.proofs.Common.{◌≡◌, ℕ, List, [], ◌∷◌, ◌++◌, map, Bool, Option, ap, sym}
 use Rattle.std.specs.List.{join_with_byte, flat_map}
 use Rattle.std.proofs.lemmas.List.{append-nil}
 use Rattle.metric.specs.declared.near.Near.{Near}
-use Rattle.engines.specs.Table.{entry_text, row_line}
+use Rattle.engines.specs.dist.Table.{entry_text, row_line}
 
 -- pieces that are joined by a byte are the first piece, and then each other one after that byte
 pub join_with_byte-cons : {X : Type 0} (byte : ℕ) (f : X → List ℕ) (x : X) (xs : List X) → join_with_byte byte (map f (x ∷ xs)) ≡ f x ++ flat_map (λ y. byte ∷ f y) xs

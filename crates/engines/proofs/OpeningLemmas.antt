@@ -3,8 +3,8 @@ use Rattle.std.proofs.Common.{◌≡◌, ℕ, Bool, true, false, cond, codes, Li
 use Rattle.std.specs.Prelude.{bytes_eq, option_map, option_and_then}
 use Rattle.proto.specs.Numbers.{numbers, HasNoNumber}
 use Rattle.proto.specs.Words.{words}
-use Rattle.engines.specs.declared.steps.opening.Opening.{Opening}
-use Rattle.engines.specs.Opening.{opening_of, opening_told, setting_of}
+use Rattle.engines.specs.declared.steps.opening.OpenLine.{OpenLine}
+use Rattle.engines.specs.steps.Opening.{opening_of, opening_told, setting_of}
 
 -- without a number there is no setting
 pub setting_of-none : (words : List (List ℕ)) → HasNoNumber words → None ≡ option_and_then setting_of (numbers words)
@@ -18,14 +18,14 @@ unfolding numbers
 opening_of-none words (inl empty) = rw empty refl
 opening_of-none words (inr none) = rw none refl
 
--- with one number alone nothing is opened
+-- nothing is opened by a line with one number alone
 pub opening_of-one : (words others : List (List ℕ)) (width : ℕ) → numbers words ≡ option_map (λ ns. width ∷ ns) (numbers others) → HasNoNumber others → None ≡ opening_of (numbers words)
 unfolding numbers
 opening_of-one words others width first (inl empty) = rw (first, empty) refl
 opening_of-one words others width first (inr none) = rw (first, none) refl
 
 -- where an opening is none, it is none whatever a test before it says
-none-chosen : (b : Bool) (opening : Option Opening) → None ≡ opening → None ≡ cond b opening None
+none-chosen : (b : Bool) (opening : Option OpenLine) → None ≡ opening → None ≡ cond b opening None
 none-chosen true opening none = none
 none-chosen false opening none = refl
 

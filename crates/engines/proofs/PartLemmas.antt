@@ -1,16 +1,17 @@
 -- The lines of rows that stand in parts, one part after another.
 use Rattle.std.proofs.Common.{◌≡◌, ℕ, ◌+◌, ◌-◌, ◌*◌, ◌<◌, ◌≤◌, List, ◌++◌, Bool, Option, length, min, refl, arith}
+use Rattle.std.proofs.Math.Nat.{mul-le-mul_left}
 use Rattle.metric.specs.Stream.{Appends, AppendsFront}
 use Rattle.metric.proofs.Appending.{Appends-more, AppendsFront-more}
 use Rattle.metric.specs.declared.near.Near.{Near}
-use Rattle.engines.specs.declared.parts.Part.{Part}
-use Rattle.engines.specs.declared.table.Table.{Table}
-use Rattle.engines.specs.Parts.{AreParts, HaveRows, parts_text}
-use Rattle.engines.specs.Table.{rows_text, table_text}
-use Rattle.engines.specs.Tabled.{nears_of}
+use Rattle.engines.specs.declared.dist.parts.WorkerLines.{WorkerLines}
+use Rattle.engines.specs.declared.dist.table.Table.{Table}
+use Rattle.engines.specs.dist.Parts.{AreShares, ShareRows, parts_text}
+use Rattle.engines.specs.dist.Table.{rows_text, table_text}
+use Rattle.engines.specs.dist.Tabled.{nears_of}
 use Rattle.engines.proofs.RowLemmas.{rows_text-all, rows_text-append}
 
--- the lines of the rows between two
+-- the lines of the rows from one to before another come one after another
 abbrev pub rows_between : Bool → ℕ → List (Option Near) → ℕ → ℕ → List ℕ
 rows_between nearest width nears from to = rows_text nearest width from (to - from) nears
 
@@ -21,7 +22,7 @@ table_text-between nearest width height nears =
     rw all (rows_text-all nearest width height nears)
 
 -- the lines from one row to another are those up to a row between them, and then those from there on
-pub rows_between-join : (nearest : Bool) (width : ℕ) (nears : List (Option Near)) (from middle to : ℕ) → from ≤ middle → middle ≤ to
+rows_between-join : (nearest : Bool) (width : ℕ) (nears : List (Option Near)) (from middle to : ℕ) → from ≤ middle → middle ≤ to
     → rows_between nearest width nears from to ≡ rows_between nearest width nears from middle ++ rows_between nearest width nears middle to
 rows_between-join nearest width nears from middle to above below =
     let both : to - from ≡ (middle - from) + (to - middle) = omega arith in
@@ -29,7 +30,7 @@ rows_between-join nearest width nears from middle to above below =
     rw (both, rows_text-append nearest width from (middle - from) (to - middle) nears, on) refl
 
 -- a beginning of the lines in the middle, after all those above them, is a beginning of all
-pub AppendsFront-rows : (nearest : Bool) (width : ℕ) (nears : List (Option Near)) (from middle next to : ℕ) (before between after : Option (List ℕ)) → from ≤ middle → middle ≤ next → next ≤ to
+AppendsFront-rows : (nearest : Bool) (width : ℕ) (nears : List (Option Near)) (from middle next to : ℕ) (before between after : Option (List ℕ)) → from ≤ middle → middle ≤ next → next ≤ to
     → Appends before (rows_between nearest width nears from middle) between → AppendsFront between (rows_between nearest width nears middle next) after
     → AppendsFront before (rows_between nearest width nears from to) after
 AppendsFront-rows nearest width nears from middle next to before between after one two three above line =
@@ -37,42 +38,49 @@ AppendsFront-rows nearest width nears from middle next to before between after o
     (AppendsFront-more before between after (rows_between nearest width nears from middle) (rows_between nearest width nears middle next) (rows_between nearest width nears next to) above line)
 
 -- where the lines of some parts are written, and then the next part's, the lines of one part more are
-pub Appends-part : (nearest : Bool) (width height : ℕ) (nears : List (Option Near)) (from k : ℕ) (text : List ℕ) (before between after : Option (List ℕ))
-    → Appends before (rows_between nearest width nears (min height from) (min height (from + 16 * k))) between
-    → text ≡ rows_between nearest width nears (min height (from + 16 * k)) (min height (from + 16 * k + 16)) → Appends between text after
-    → Appends before (rows_between nearest width nears (min height from) (min height (from + 16 * (k + 1)))) after
-Appends-part nearest width height nears from k text before between after above is here =
-    let next : from + 16 * (k + 1) ≡ from + 16 * k + 16 = omega arith in
-    rw (next, rows_between-join nearest width nears (min height from) (min height (from + 16 * k)) (min height (from + 16 * k + 16)) (omega arith) (omega arith))
-    (Appends-more before between after (rows_between nearest width nears (min height from) (min height (from + 16 * k))) (rows_between nearest width nears (min height (from + 16 * k)) (min height (from + 16 * k + 16))) above
+pub Appends-part : (nearest : Bool) (width height : ℕ) (nears : List (Option Near)) (rows from k : ℕ) (text : List ℕ) (before between after : Option (List ℕ))
+    → Appends before (rows_between nearest width nears (min height from) (min height (from + rows * k))) between
+    → text ≡ rows_between nearest width nears (min height (from + rows * k)) (min height (from + rows * k + rows)) → Appends between text after
+    → Appends before (rows_between nearest width nears (min height from) (min height (from + rows * (k + 1)))) after
+Appends-part nearest width height nears rows from k text before between after above is here =
+    let next : from + rows * (k + 1) ≡ from + rows * k + rows = omega arith in
+    rw (next, rows_between-join nearest width nears (min height from) (min height (from + rows * k)) (min height (from + rows * k + rows)) (omega arith) (omega arith))
+    (Appends-more before between after (rows_between nearest width nears (min height from) (min height (from + rows * k))) (rows_between nearest width nears (min height (from + rows * k)) (min height (from + rows * k + rows))) above
     (rw is at here))
 
 -- where the lines of some parts are written, and then a beginning of the next, a beginning of all parts is
-pub AppendsFront-part : (nearest : Bool) (width height : ℕ) (nears : List (Option Near)) (from k count : ℕ) (text : List ℕ) (before between after : Option (List ℕ)) → k < count
-    → Appends before (rows_between nearest width nears (min height from) (min height (from + 16 * k))) between
-    → text ≡ rows_between nearest width nears (min height (from + 16 * k)) (min height (from + 16 * k + 16)) → AppendsFront between text after
-    → AppendsFront before (rows_between nearest width nears (min height from) (min height (from + 16 * count))) after
-AppendsFront-part nearest width height nears from k count text before between after below above is here =
-    AppendsFront-rows nearest width nears (min height from) (min height (from + 16 * k)) (min height (from + 16 * k + 16)) (min height (from + 16 * count)) before between after
-    (omega arith) (omega arith) (omega arith) above (rw is at here)
+pub AppendsFront-part : (nearest : Bool) (width height : ℕ) (nears : List (Option Near)) (rows from k count : ℕ) (text : List ℕ) (before between after : Option (List ℕ)) → k < count
+    → Appends before (rows_between nearest width nears (min height from) (min height (from + rows * k))) between
+    → text ≡ rows_between nearest width nears (min height (from + rows * k)) (min height (from + rows * k + rows)) → AppendsFront between text after
+    → AppendsFront before (rows_between nearest width nears (min height from) (min height (from + rows * count))) after
+AppendsFront-part nearest width height nears rows from k count text before between after below above is here =
+    let further : rows * (k + 1) ≤ rows * count = mul-le-mul_left rows (omega (arith, below)) in
+    AppendsFront-rows nearest width nears (min height from) (min height (from + rows * k)) (min height (from + rows * k + rows)) (min height (from + rows * count)) before between after
+    (omega arith) (omega arith) (omega (arith, further)) above (rw is at here)
 
 -- where the lines of some parts are written after those of the rows above, the lines of all these rows are
-pub Appends-parts : (nearest : Bool) (table : Table) (from count : ℕ) (before between after : Option (List ℕ))
-    → Appends before (rows_between nearest table.width (nears_of table) 0 (min table.height from)) between → Appends between (parts_text nearest table from count) after
-    → Appends before (rows_between nearest table.width (nears_of table) 0 (min table.height (from + 16 * count))) after
-Appends-parts nearest table from count before between after above here =
-    rw (rows_between-join nearest table.width (nears_of table) 0 (min table.height from) (min table.height (from + 16 * count)) (omega arith) (omega arith))
-    (Appends-more before between after (rows_between nearest table.width (nears_of table) 0 (min table.height from)) (rows_between nearest table.width (nears_of table) (min table.height from) (min table.height (from + 16 * count))) above here)
+pub Appends-parts : (nearest : Bool) (table : Table) (rows from count : ℕ) (before between after : Option (List ℕ))
+    → Appends before (rows_between nearest table.width (nears_of table) 0 (min table.height from)) between → Appends between (parts_text nearest table rows from count) after
+    → Appends before (rows_between nearest table.width (nears_of table) 0 (min table.height (from + rows * count))) after
+Appends-parts nearest table rows from count before between after above here =
+    rw (rows_between-join nearest table.width (nears_of table) 0 (min table.height from) (min table.height (from + rows * count)) (omega arith) (omega arith))
+    (Appends-more before between after (rows_between nearest table.width (nears_of table) 0 (min table.height from)) (rows_between nearest table.width (nears_of table) (min table.height from) (min table.height (from + rows * count))) above here)
 
 -- a beginning of the lines of some parts, after those of the rows above, is a beginning of the table
-pub AppendsFront-parts : (nearest : Bool) (table : Table) (from count : ℕ) (before between after : Option (List ℕ))
-    → Appends before (rows_between nearest table.width (nears_of table) 0 (min table.height from)) between → AppendsFront between (parts_text nearest table from count) after
+pub AppendsFront-parts : (nearest : Bool) (table : Table) (rows from count : ℕ) (before between after : Option (List ℕ))
+    → Appends before (rows_between nearest table.width (nears_of table) 0 (min table.height from)) between → AppendsFront between (parts_text nearest table rows from count) after
     → AppendsFront before (table_text nearest table.width table.height (nears_of table)) after
-AppendsFront-parts nearest table from count before between after above here =
+AppendsFront-parts nearest table rows from count before between after above here =
     rw (table_text-between nearest table.width table.height (nears_of table))
-    (AppendsFront-rows nearest table.width (nears_of table) 0 (min table.height from) (min table.height (from + 16 * count)) table.height before between after (omega arith) (omega arith) (omega arith) above here)
+    (AppendsFront-rows nearest table.width (nears_of table) 0 (min table.height from) (min table.height (from + rows * count)) table.height before between after (omega arith) (omega arith) (omega arith) above here)
 
 -- a set of parts into which rows were put is one still
-pub AreParts-put : (nearest : Bool) (width height from : ℕ) (nears : List (Option Near)) (old new : List Part) → AreParts width old → length new ≡ length old
-    → HaveRows nearest width height nears from new → AreParts width new
-AreParts-put nearest width height from nears old new parts many have = record { some = omega (arith, parts.some); few = omega (arith, parts.few); places = λ k other below. (have k other below).kept }
+pub AreParts-put : (nearest : Bool) (width height rows from : ℕ) (nears : List (Option Near)) (old new : List WorkerLines) → AreShares width rows old → length new ≡ length old
+    → ShareRows nearest width height nears rows from new → AreShares width rows new
+AreParts-put nearest width height rows from nears old new parts many have = record {
+  some = omega (arith, parts.some);
+  few = omega (arith, parts.few);
+  some_rows = parts.some_rows;
+  few_rows = parts.few_rows;
+  places = λ k other below. (have k other below).kept;
+}

@@ -1,12 +1,12 @@
 -- Bytes that are put into a buffer one after another.
-use Rattle.std.proofs.Common.{◌≡◌, ℕ, ◌+◌, ◌/◌, ◌%◌, ◌^◌, ◌≤◌, ◌<◌, List, [], ◌++◌, length, take, sym, ap, arith, ◌∙◌, append_assoc, length-append, lit<}
+use Rattle.std.proofs.Common.{◌≡◌, ℕ, ◌+◌, ◌/◌, ◌%◌, ◌^◌, ◌≤◌, ◌<◌, List, ◌++◌, length, take, sym, ap, arith, ◌∙◌, append_assoc, length-append, lit<}
 use Rattle.std.proofs.Math.Seq.{take-append-add}
-use Rattle.std.proofs.lemmas.List.{append-nil, length-take-le, take-take}
+use Rattle.std.proofs.lemmas.List.{length-take-le, take-take}
 use Rattle.std.specs.Fmt.{decimal}
 use Rattle.std.proofs.lemmas.Fmt.{length-decimal-le}
 use Rattle.metric.specs.Digits.{two_digits}
 use Rattle.metric.proofs.Decimals.{decimal_ten_thousands}
-use Rattle.engines.specs.Putting.{Puts, four_digits}
+use Rattle.engines.specs.dist.Putting.{Puts, four_digits}
 
 -- a text that is put, and another that is put after it, are put as one text
 pub Puts-more : (old middle new : List ℕ) (at mid end : ℕ) (first second : List ℕ) → Puts old at first middle mid → Puts middle mid second new end → Puts old at (first ++ second) new end
@@ -37,7 +37,3 @@ decimal_quads n large fits =
 -- a number below 100,000,000 has eight digits at most
 pub length-decimal_8 : (n : ℕ) → n < 100000000 → length (decimal n) ≤ 8
 length-decimal_8 n fits = length-decimal-le 8 n (lit< tt) (omega arith) (omega arith)
-
--- where nothing is put, a text stays as it was
-pub Puts-nothing : (text : List ℕ) (at : ℕ) → Puts text at [] text at
-Puts-nothing text at = record { end_is = omega arith; text = sym (append-nil (take at text)) }

@@ -1,4 +1,4 @@
--- Two texts written one after the other, in part.
+-- Two texts that are written one after the other are written in part where a write fails.
 use Rattle.std.proofs.Common.{ℕ, List, [], ◌++◌, Option, ap, ◌∙◌, append_assoc}
 use Rattle.std.proofs.lemmas.List.{append-nil}
 use Rattle.metric.specs.Stream.{Appends, AppendsFront}

@@ -1,28 +1,23 @@
 -- Requests that are read and sent.
-use Rattle.std.proofs.Common.{◌≡◌, ◌≢◌, ◌+◌, ◌<◌, ℕ, Bool, true, false, List, [], ◌∷◌, ◌++◌, Option, Some, None, Result, Ok, Err, OnOk, inl, inr, refl, sym, ap, subst, codes, length, ◌∙◌, append_assoc, arith}
-use Rattle.std.specs.Prelude.{All, ◌⊎◌, bytes_eq}
+use Rattle.std.proofs.Common.{◌≡◌, ◌≢◌, ◌+◌, ◌<◌, ℕ, Bool, true, List, [], ◌∷◌, ◌++◌, Option, Result, Ok, Err, OnOk, inl, inr, refl, sym, ap, subst, codes, length, ◌∙◌, append_assoc}
+use Rattle.std.specs.Prelude.{◌⊎◌, bytes_eq}
 use Rattle.std.specs.List.{concat}
 use Rattle.std.specs.Str.Lines.{strip_carriage_return}
-use Rattle.std.proofs.lemmas.Bool.{false≢true}
 use Rattle.std.proofs.lemmas.List.{append-nil, length-append}
 use Rattle.std.proofs.lemmas.List.Elements.{All-append, All-cons, All-nil}
 use Rattle.std.proofs.lemmas.List.Folds.{concat-append}
 use Rattle.std.proofs.lemmas.Slice.Eq.{bytes_eq-Decides}
 use Rattle.metric.specs.Stream.{Appends, Takes}
 use Rattle.metric.proofs.Appending.{Appends-more, Appends-nothing}
-use Rattle.metric.proofs.Taking.{Takes-nothing}
+use Rattle.metric.proofs.Taking.{Takes-nothing, Takes-behind}
 use Rattle.proto.specs.Said.{said, verb_in}
-use Rattle.engines.specs.Asking.{IsCut, IsRequest, IsUnended, bytes_behind}
-use Rattle.engines.specs.Passing.{Asks, AsksAll, EndsByBye, EndsCut, Gathers, GathersAll, PassesOn, PutsCount, PutsFewer, PutsLine, PutsUnended}
-use Rattle.engines.proofs.Gathering.{Gathers-both, Gathers-taken, Takes-both}
+use Rattle.engines.specs.ask.Asking.{IsRequest, IsUnended, bytes_behind}
+use Rattle.engines.specs.streams.Passing.{Asks, AsksAll, EndsByBye, EndsCut, Gathers, GathersAll, PassesOn, PutsCount, PutsFewer, PutsLine, PutsUnended}
+use Rattle.engines.proofs.Gathering.{Gathers-both, Gathers-taken}
 
 -- where a part was gathered, and then all that was left, all was gathered
-pub GathersAll-both : (unread between left : Option (List ℕ)) (before middle after : List ℕ) → Gathers unread before middle between → GathersAll between middle after left → GathersAll unread before after left
+GathersAll-both : (unread between left : Option (List ℕ)) (before middle after : List ℕ) → Gathers unread before middle between → GathersAll between middle after left → GathersAll unread before after left
 GathersAll-both unread between left before middle after one two = record { gathered = Gathers-both _ _ _ _ _ _ one two.gathered; ended = two.ended }
-
--- where no byte is put, no line ends in what is put
-pub PutsUnended-nothing : (before : List ℕ) → PutsUnended before before
-PutsUnended-nothing before = record { part = []; unended = All-nil (λ (b : ℕ). b ≢ 10); after_is = sym (append-nil before) }
 
 -- bytes in which no line ends stay so with one byte more that is no LF
 pub PutsUnended-more : (before middle after : List ℕ) (byte : ℕ) → PutsUnended before middle → after ≡ middle ++ byte ∷ [] → byte ≢ 10 → PutsUnended before after
@@ -45,10 +40,6 @@ pub ended_unended : (unread between left : Option (List ℕ)) (before middle aft
     → PutsUnended before after × GathersAll unread before after left
 ended_unended unread between left before middle after one part (same, all) =
     (subst (λ (t : List ℕ). PutsUnended before t) (sym same) part, GathersAll-both unread between left before middle after one all)
-
--- where no byte is put, 0 bytes are
-pub PutsCount-nothing : (before : List ℕ) → PutsCount 0 before before
-PutsCount-nothing before = record { part = []; many = refl; after_is = sym (append-nil before) }
 
 -- where a byte is put after so many, one byte more is put
 pub PutsCount-more : (count : ℕ) (before middle after : List ℕ) (byte : ℕ) → PutsCount count before middle → after ≡ middle ++ byte ∷ [] → PutsCount (count + 1) before after
@@ -119,7 +110,7 @@ cut_bytes unread between left before middle after stripped count empty first one
 }
 
 -- where nothing is read and nothing is sent, no request is
-pub Asks-nothing : (unread held : Option (List ℕ)) → Asks unread unread held held
+Asks-nothing : (unread held : Option (List ℕ)) → Asks unread unread held held
 Asks-nothing unread held = record { requests = []; are = All-nil IsRequest; taken = Takes-nothing unread; sent = Appends-nothing held }
 
 -- where one request is read and sent, a list of requests is, with that one alone
@@ -136,7 +127,7 @@ pub Asks-both : (unread between left before middle after : Option (List ℕ)) �
 Asks-both unread between left before middle after one two = record {
   requests = one.requests ++ two.requests;
   are = All-append IsRequest one.requests two.requests one.are two.are;
-  taken = rw (concat-append one.requests two.requests) (Takes-both unread between left (concat one.requests) (concat two.requests) one.taken two.taken);
+  taken = rw (concat-append one.requests two.requests) (Takes-behind unread between left (concat one.requests) (concat two.requests) one.taken two.taken);
   sent = rw (concat-append one.requests two.requests) (Appends-more before middle after (concat one.requests) (concat two.requests) one.sent two.sent);
 }
 

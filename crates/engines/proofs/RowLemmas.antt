@@ -1,10 +1,10 @@
--- The lines of some rows, a row or several at a time.
+-- The lines of some rows are put together a row or several at a time.
 use Rattle.std.proofs.Common.{◌≡◌, ℕ, ◌+◌, ◌*◌, List, [], ◌++◌, Bool, Option, refl, ap, ◌∙◌}
 use Rattle.std.specs.List.{range_with_len, slice_range, flat_map}
 use Rattle.std.proofs.lemmas.List.Concat.{flat_map-append}
 use Rattle.std.proofs.lemmas.List.{append-nil}
 use Rattle.metric.specs.declared.near.Near.{Near}
-use Rattle.engines.specs.Table.{row_line, rows_text, table_text}
+use Rattle.engines.specs.dist.Table.{row_line, rows_text, table_text}
 use Rattle.pbm.proofs.Ranges.{range-append}
 
 -- the lines of no rows are no bytes

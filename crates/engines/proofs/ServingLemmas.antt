@@ -1,24 +1,24 @@
 -- Why nothing is served.
-use Rattle.std.proofs.Common.{◌≡◌, ℕ, List, [], ◌∷◌, ◌++◌, Option, Some, None, Result, Ok, Err, OnOk, OnErr, IfOk, inl, inr, refl, sym, ap, arith, ◌∙◌}
-use Rattle.std.specs.Prelude.{◌≢◌, ◌+◌, IfErr, IfSome, MatchOption}
+use Rattle.std.proofs.Common.{◌≡◌, ℕ, List, [], ◌∷◌, ◌++◌, Option, Some, None, Result, Ok, Err, OnOk, OnErr, IfOk, inl, inr, refl, sym, ap, ◌∙◌}
+use Rattle.std.specs.Prelude.{IfErr, IfSome, MatchOption}
 use Rattle.std.specs.Result.{result_unwrap_or}
 use Rattle.metric.specs.Refusal.{refusal_text}
-use Rattle.metric.specs.Stream.{Appends, AppendsFront, Counts}
+use Rattle.metric.specs.Stream.{Appends, AppendsFront}
 use Rattle.metric.proofs.Appending.{Appends-more}
 use Rattle.metric.specs.declared.refusal.Field.{Field}
 use Rattle.metric.specs.declared.refusal.Refusal.{Refusal}
 use Rattle.metric.specs.declared.refusal.Refusal.TheVariants.{BadSetting, Memory}
 use Rattle.metric.specs.declared.stream.WriteFault.{WriteFault}
-use Rattle.engines.specs.Refusals.{net_text}
-use Rattle.engines.specs.Serving.{BeginsServed, IsUnserved, WritesOnly, WritesServed, listening_text, memory_text, served_text}
+use Rattle.engines.specs.words.Refusals.{net_text}
+use Rattle.engines.specs.serve.Serving.{BeginsServed, IsUnserved, WritesOnly, WritesServed, listening_text, served_text}
 use Rattle.engines.proofs.Gathering.{written_either}
 use Rattle.engines.proofs.RefusalLines.{front_first, front_second}
 
--- the line of a setting that is out of its limits
+-- a setting that is out of its limits is told in this line
 abbrev pub setting_line : Field → List ℕ
 setting_line field = refusal_text (BadSetting field) ++ 10 ∷ []
 
--- the refusal that comes with what is returned
+-- the refusal comes with what is returned
 abbrev refusal_back : {A B : Type 0} → Refusal → Result A (B × Refusal) → Refusal
 refusal_back other (Ok value) = other
 refusal_back other (Err back) = back.1
@@ -52,13 +52,13 @@ told_net None before after written one whole front = tt
 told_net (Some field) before after written one whole front = (record { text = net_text; text_is = inr refl; written = written_either before after net_text written whole front }, one_or_failed written one)
 
 -- where it was written why nothing is served, all that `serve` tells was written
-pub unserved_whole : (connections : ℕ) (before after : Option (List ℕ)) (text : List ℕ) (written : Result ℕ WriteFault) → IsUnserved text → IfOk written (λ status. status ≡ 1) → OnOk written (Appends before text after)
+unserved_whole : (connections : ℕ) (before after : Option (List ℕ)) (text : List ℕ) (written : Result ℕ WriteFault) → IsUnserved text → IfOk written (λ status. status ≡ 1) → OnOk written (Appends before text after)
     → IfOk written (WritesServed connections before after)
 unserved_whole connections before after text (Ok status) why one whole = record { text = text; text_is = inr (why, one); written = whole }
 unserved_whole connections before after text (Err fault) why one whole = tt
 
 -- where a beginning of why nothing is served was written, a beginning of what `serve` tells was
-pub unserved_front : (connections : ℕ) (before after : Option (List ℕ)) (text : List ℕ) (written : Result ℕ WriteFault) → IsUnserved text → OnErr written (AppendsFront before text after)
+unserved_front : (connections : ℕ) (before after : Option (List ℕ)) (text : List ℕ) (written : Result ℕ WriteFault) → IsUnserved text → OnErr written (AppendsFront before text after)
     → OnErr written (BeginsServed connections before after)
 unserved_front connections before after text (Ok status) why front = tt
 unserved_front connections before after text (Err fault) why front = record { text = text; status = 1; text_is = inr (why, refl); written = front }
@@ -124,15 +124,3 @@ port_front connections port before after front = record {
   text_is = inl (port, 0, refl, refl);
   written = front_first before after (listening_text port) (served_text connections 0) front;
 }
-
--- where no write failed, all that `serve` tells was written
-pub served_unless : (connections : ℕ) (before after : Option (List ℕ)) (failed_before failed_after : ℕ) (written : Result ℕ WriteFault) → Counts failed_before written failed_after → IfOk written (WritesServed connections before after)
-    → failed_after ≡ failed_before → WritesServed connections before after (result_unwrap_or written 1)
-served_unless connections before after failed_before failed_after (Ok status) counts whole same = whole
-served_unless connections before after failed_before failed_after (Err fault) counts whole same = absurd (omega (arith, counts))
-
--- where a write failed, a beginning of what `serve` tells was written, and the status is 1
-pub begun_unless : (connections : ℕ) (before after : Option (List ℕ)) (failed_before failed_after : ℕ) (written : Result ℕ WriteFault) → Counts failed_before written failed_after → OnErr written (BeginsServed connections before after)
-    → failed_after ≢ failed_before → BeginsServed connections before after × (result_unwrap_or written 1 ≡ 1)
-begun_unless connections before after failed_before failed_after (Ok status) counts front other = absurd (other counts)
-begun_unless connections before after failed_before failed_after (Err fault) counts front other = (front, refl)

@@ -6,10 +6,10 @@ use Rattle.metric.specs.declared.refusal.Refusal.TheVariants as refusals
 use Rattle.metric.specs.declared.stream.WriteFault.{WriteFault}
 use Rattle.metric.specs.Refusal.{refusal_text}
 use Rattle.metric.specs.Stream.{Appends, AppendsFront, Counts}
-use Rattle.engines.specs.Opening.{judged, later_lines, opened_by, opening_told}
-use Rattle.engines.specs.Steps.{Answers, BeginsToAnswer, IsBegun}
-use Rattle.engines.specs.TextLines.{lines_of}
-use Rattle.engines.proofs.Answering.{told, AreAll-told}
+use Rattle.engines.specs.steps.Opening.{judged, later_lines, opened_by, opening_told}
+use Rattle.engines.specs.steps.Steps.{AnswersText, BeginsToAnswerText, IsBegun}
+use Rattle.engines.specs.streams.TextLines.{lines_of}
+use Rattle.pbm.proofs.Following.{told, AreAll-told}
 
 -- a beginning of the line of want of memory begins an answer to bytes whose first line opens a world
 memory_begun : (bytes : List ℕ) (before after : Option (List ℕ)) → IsOk (opened_by (lines_of bytes)) → AppendsFront before (refusal_text refusals.Memory ++ 10 ∷ []) after → IsBegun bytes before after
@@ -43,7 +43,7 @@ stop_begun bytes first later stop before after lines refused opens front = refus
 
 -- the line of want of memory, written whole, is an answer of `steps` to all bytes of any reader
 pub memory_answered : (unread before after : Option (List ℕ)) (written : Result ℕ WriteFault) (old new : ℕ) → IfOk written (λ status. status ≡ 1)
-    → OnOk written (Appends before (refusal_text refusals.Memory ++ 10 ∷ []) after) → Counts old written new → new ≡ old → Answers unread before after (result_unwrap_or written 1)
+    → OnOk written (Appends before (refusal_text refusals.Memory ++ 10 ∷ []) after) → Counts old written new → new ≡ old → AnswersText unread before after (result_unwrap_or written 1)
 memory_answered unread before after (Ok status) old new one whole counts same = record {
   bytes = told unread;
   all = AreAll-told unread;
@@ -53,7 +53,7 @@ memory_answered unread before after (Err fault) old new one whole counts same = 
 
 -- the line of want of memory, written in part, begins an answer of `steps` to all bytes of any reader
 pub memory_told_in_part : (unread before after : Option (List ℕ)) (written : Result ℕ WriteFault) (old new : ℕ) → OnErr written (AppendsFront before (refusal_text refusals.Memory ++ 10 ∷ []) after)
-    → Counts old written new → new ≢ old → BeginsToAnswer unread before after × (result_unwrap_or written 1 ≡ 1)
+    → Counts old written new → new ≢ old → BeginsToAnswerText unread before after × (result_unwrap_or written 1 ≡ 1)
 memory_told_in_part unread before after (Ok status) old new front counts other = absurd (other counts)
 memory_told_in_part unread before after (Err fault) old new front counts other =
     (record { bytes = told unread; all = AreAll-told unread; begun = inr front }, refl)

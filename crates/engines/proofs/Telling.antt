@@ -1,4 +1,4 @@
--- The text of a world, written whole or in part.
+-- The text of a world is written whole or in part.
 use Rattle.std.proofs.Common.{◌≡◌, ℕ, List, [], ◌∷◌, ◌++◌, Option, Ok, codes, refl, sym, ap, ◌∙◌, inl, subst}
 use Rattle.std.specs.Fmt.{decimal}
 use Rattle.std.proofs.lemmas.List.{append-nil}
@@ -7,13 +7,13 @@ use Rattle.metric.proofs.Appending.{Appends-more, AppendsFront-more, AppendsFron
 use Rattle.map_core.specs.Runs.{IsOpened}
 use Rattle.map_core.specs.Views.{State}
 use Rattle.map_core.specs.Words.{tiles}
-use Rattle.engines.specs.declared.steps.opening.Opening.{Opening}
-use Rattle.engines.specs.Opening.{base_of, judged, later_lines, opened_by, opening_told}
-use Rattle.engines.specs.StepRuns.{IsDone, IsDoneInPart, IsTold, IsToldInPart}
-use Rattle.engines.specs.Steps.{IsBegun, IsWorldText, written_lines}
-use Rattle.engines.specs.TextLines.{lines_of}
+use Rattle.engines.specs.declared.steps.opening.OpenLine.{OpenLine}
+use Rattle.engines.specs.steps.Opening.{base_opened, judged, later_lines, opened_by, opening_told}
+use Rattle.engines.specs.steps.StepRuns.{AreLinesDone, IsDoneInPart, IsWorldTold, IsToldInPart}
+use Rattle.engines.specs.steps.Steps.{IsBegun, IsWorldText, written_lines}
+use Rattle.engines.specs.streams.TextLines.{lines_of}
 
--- the first answer line
+-- the first answer line tells how many positions the map has
 abbrev pub opened_text : ℕ → List ℕ
 opened_text positions = (codes "OPENED " ++ decimal positions) ++ 10 ∷ []
 
@@ -29,7 +29,7 @@ written_lines-alone positions = append-nil (opened_text positions)
 
 -- where the first answer line is written, and then all lines are done, the whole text is told
 pub told_whole : (start last : State) (positions : ℕ) (lines : List (List ℕ)) (before between after : Option (List ℕ))
-    → Appends before (opened_text positions) between → IsDone start lines between after last → IsTold start positions lines before after
+    → Appends before (opened_text positions) between → AreLinesDone start lines between after last → IsWorldTold start positions lines before after
 told_whole start last positions lines before between after first done = record {
   text = written_lines ((codes "OPENED " ++ decimal positions) ∷ done.answers);
   text_is = record { last = last; answers = done.answers; answered = done.answered; text_is = refl };
@@ -62,7 +62,7 @@ told_first start positions lines before after front = record {
 }
 
 -- a text that is told whole is told in part too
-pub told_all : (start : State) (positions : ℕ) (lines : List (List ℕ)) (before after : Option (List ℕ)) → IsTold start positions lines before after → IsToldInPart start positions lines before after
+pub told_all : (start : State) (positions : ℕ) (lines : List (List ℕ)) (before after : Option (List ℕ)) → IsWorldTold start positions lines before after → IsToldInPart start positions lines before after
 told_all start positions lines before after whole = record {
   heard = lines;
   unheard = [];
@@ -74,7 +74,7 @@ told_all start positions lines before after whole = record {
 
 -- what is told in part begins an answer to the bytes whose first line opened the world
 pub told_begun : (bytes first : List ℕ) (later : List (List ℕ)) (start : State) (positions : ℕ) (before after : Option (List ℕ)) → lines_of bytes ≡ first ∷ later
-    → (opening : Opening) × (judged (opening_told first) ≡ Ok opening) × IsOpened (base_of opening) start × (positions ≡ tiles (base_of opening))
+    → (opening : OpenLine) × (judged (opening_told first) ≡ Ok opening) × IsOpened (base_opened opening) start × (positions ≡ tiles (base_opened opening))
     → IsToldInPart start positions later before after → IsBegun bytes before after
 told_begun bytes first later start positions before after lines (opening, told, opened, count) part = record {
   heard = part.heard;

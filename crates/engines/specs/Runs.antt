@@ -5,13 +5,13 @@ use Rattle.clap.specs.declared.error.kind.ErrorKind.TheVariants.{DisplayHelp, Di
 use Rattle.metric.specs.Refusal.{refusal_text}
 use Rattle.metric.specs.declared.refusal.Refusal.TheVariants as refusals
 use Rattle.metric.specs.Stream.{Appends, AppendsFront}
-use Rattle.engines.specs.declared.arguments.Fault.{Fault}
-use Rattle.engines.specs.declared.arguments.Fault.TheVariants.{Words, Memory}
-use Rattle.engines.specs.declared.arguments.Options.{Options}
-use Rattle.engines.specs.declared.arguments.Options.TheVariants.{Dist, Steps}
-use Rattle.engines.specs.CommandLine.{AreOptions, AreTaken}
-use Rattle.engines.specs.Dist.{Answers as AnswersDist, BeginsToAnswer as BeginsDist}
-use Rattle.engines.specs.Steps.{Answers as AnswersSteps, BeginsToAnswer as BeginsSteps}
+use Rattle.engines.specs.declared.words.arguments.Fault.{Fault}
+use Rattle.engines.specs.declared.words.arguments.Fault.TheVariants.{Words, Memory}
+use Rattle.engines.specs.declared.words.arguments.Options.{Options}
+use Rattle.engines.specs.declared.words.arguments.Options.TheVariants.{Dist, Steps}
+use Rattle.engines.specs.words.CommandLine.{AreOptions, AreTaken}
+use Rattle.engines.specs.dist.Dist.{AnswersImage as AnswersDist, BeginsToAnswerImage as BeginsDist}
+use Rattle.engines.specs.steps.Steps.{AnswersText as AnswersSteps, BeginsToAnswerText as BeginsSteps}
 
 -- an answer of the engine that the options name was written whole; nothing is done here for one that needs the network
 abbrev pub AnswersAs : Options → Option (List ℕ) → Option (List ℕ) → Option (List ℕ) → ℕ → Type 0
@@ -25,7 +25,7 @@ BeginsAs (Dist options) unread before after = BeginsDist options unread before a
 BeginsAs Steps unread before after = BeginsSteps unread before after
 BeginsAs other unread before after = ⊥
 
--- the status of words that are refused: 0 where they ask for help or the version, 1 for want of memory, and otherwise 2
+-- words that are refused end with status 0 where they ask for help or the version, 1 for want of memory, and otherwise 2
 abbrev pub IsStatusOf : Fault → ℕ → Type 0
 IsStatusOf (Words error) status = ((kind_of error ≡ DisplayHelp) ⊎ (kind_of error ≡ DisplayVersion) → status ≡ 0) × (kind_of error ≢ DisplayHelp → kind_of error ≢ DisplayVersion → status ≡ 2)
 IsStatusOf Memory status = status ≡ 1
@@ -43,8 +43,8 @@ pub record IsMemoryTold (before after errors_before errors_after : Option (List 
   pub no_mistake : errors_after ≡ errors_before
 
 -- a text of words that are refused is written, or there is no memory for it
-abbrev pub IsTold : Fault → Option (List ℕ) → Option (List ℕ) → Option (List ℕ) → Option (List ℕ) → ℕ → Type 0
-IsTold fault before after errors_before errors_after status =
+abbrev pub IsFaultTold : Fault → Option (List ℕ) → Option (List ℕ) → Option (List ℕ) → Option (List ℕ) → ℕ → Type 0
+IsFaultTold fault before after errors_before errors_after status =
     ((text : List ℕ) × (fault ≢ Memory) × IsStatusOf fault status × IsWrittenBy status text before after errors_before errors_after) ⊎ IsMemoryTold before after errors_before errors_after status
 
 -- the words say these options; or they are refused, which those that are to be taken are for want of memory alone
@@ -52,12 +52,12 @@ abbrev pub IsSaidBy : List (List ℕ) → Result Options Fault → Type 0
 IsSaidBy words (Ok options) = AreOptions words options
 IsSaidBy words (Err fault) = AreTaken words → fault ≡ Memory
 
--- what is done where the words say this
+-- this is done where the words say so
 abbrev pub IsDoneFor : Result Options Fault → Option (List ℕ) → Option (List ℕ) → Option (List ℕ) → Option (List ℕ) → Option (List ℕ) → ℕ → Type 0
 IsDoneFor (Ok options) unread before after errors_before errors_after status = AnswersAs options unread before after status × (errors_after ≡ errors_before)
-IsDoneFor (Err fault) unread before after errors_before errors_after status = IsTold fault before after errors_before errors_after status
+IsDoneFor (Err fault) unread before after errors_before errors_after status = IsFaultTold fault before after errors_before errors_after status
 
--- a run of the program on these words, where no call of a stream failed
+-- a run of the program on these words has written this where no call of a stream failed
 pub record IsRunOf (words : List (List ℕ)) (unread before after errors_before errors_after : Option (List ℕ)) (status : ℕ) : Type 0 where
   pub said : Result Options Fault
   pub said_by : IsSaidBy words said
@@ -68,12 +68,12 @@ pub record Begins (before after : Option (List ℕ)) : Type 0 where
   pub text : List ℕ
   pub written : AppendsFront before text after
 
--- a beginning of what is written where the words say this
+-- a beginning of what the words ask for was written
 abbrev pub BeginsFor : Result Options Fault → Option (List ℕ) → Option (List ℕ) → Option (List ℕ) → Type 0
 BeginsFor (Ok options) unread before after = BeginsAs options unread before after
 BeginsFor (Err fault) unread before after = Begins before after
 
--- a run of the program on these words, of which a write to the standard output failed
+-- a run of the program on these words has begun to write this where a write to the standard output failed
 pub record BeginsRunOf (words : List (List ℕ)) (unread before after : Option (List ℕ)) : Type 0 where
   pub said : Result Options Fault
   pub said_by : IsSaidBy words said

@@ -2,13 +2,13 @@
 
 ghost use Rattle.std.specs.Prelude.{◌≡◌, ◌≢◌, ◌++◌, ◌∷◌, [], OnOk, OnErr, IfErr, Err, Ok, true, false, bytes_eq, codes};
 ghost use Rattle.metric.specs.Stream.{Appends, AppendsFront, CanFail};
-ghost use Rattle.engines.specs.Passing.{Asks, AsksAll, EndsEarly, PassesFront, PassesOn, WritesEnd};
+ghost use Rattle.engines.specs.streams.Passing.{Asks, AsksAll, EndsEarly, PassesFront, PassesOn, WritesEnd};
 ghost use Rattle.engines.specs.declared.ask.Stop.TheVariants.{Standard};
 
 mod exchange;
 mod request;
 
-use crate::output::{write_net_fault, write_refusal, write_text};
+use crate::streams::output::{write_net_fault, write_refusal, write_text};
 use crate::{DONE, REFUSED};
 use exchange::exchange;
 use metric::{Refusal, Sink, Source, Stream, WriteFault};
@@ -44,11 +44,13 @@ pub fn ask_run<S: Stream, R: Source, W: Sink>(
     ensures sent { PassesFront (R.rest reader.old) (R.rest reader.new) (S.held stream.old) (S.held stream.new) }
 
     // A run that is done has sent each request that there was, until the server said BYE.
-    ensures asked { result ≡ 0 → AsksAll (R.rest reader.old) (R.rest reader.new) (S.held stream.old) (S.held stream.new) (W.held writer.old) (W.held writer.new) }
+    ensures asked { result ≡ 0 → AsksAll (R.rest reader.old) (R.rest reader.new) (S.held stream.old) (S.held stream.new)
+        (W.held writer.old) (W.held writer.new) }
 
     // A run that is done has written all that the server said, and nothing else.
     ensures printed { result ≡ 0 → PassesOn (S.rest stream.old) (S.rest stream.new) (W.held writer.old) (W.held writer.new) }
-    ensures well { result ≡ 0 → (R.failed_reads reader.new ≡ R.failed_reads reader.old) × (W.failed_writes writer.new ≡ W.failed_writes writer.old) }
+    ensures well { result ≡ 0 → (R.failed_reads reader.new ≡ R.failed_reads reader.old)
+        × (W.failed_writes writer.new ≡ W.failed_writes writer.old) }
 
     // Any other has written a beginning of it, and after that why it ended.
     ensures ended { result ≢ 0 → EndsEarly (S.rest stream.old) (S.rest stream.new) (W.held writer.old) (W.held writer.new) × (result ≡ 1) }
@@ -114,7 +116,8 @@ fn ask_lines<S: Stream, R: Source, W: Sink>(
     ensures cut { OnErr result (PassesFront (S.rest stream.old) (S.rest stream.new) (W.held writer.old) (W.held writer.new)) }
     ensures reader { OnOk result (R.failed_reads reader.new ≡ R.failed_reads reader.old) }
     ensures writer { result ≢ Err Standard → W.failed_writes writer.new ≡ W.failed_writes writer.old }
-    ensures asked { OnOk result (AsksAll (R.rest reader.old) (R.rest reader.new) (S.held stream.old) (S.held stream.new) (W.held writer.old) (W.held writer.new)) }
+    ensures asked { OnOk result (AsksAll (R.rest reader.old) (R.rest reader.new) (S.held stream.old) (S.held stream.new)
+        (W.held writer.old) (W.held writer.new)) }
 {
     'lines: for _ in 0..u64::MAX {
         if !ask_line(stream, reader, writer, request, reply)? {
@@ -137,11 +140,13 @@ fn ask_line<S: Stream, R: Source, W: Sink>(
     requires reader { CanFail (R.failed_reads reader.old) }
     requires writer { CanFail (W.failed_writes writer.old) }
     ensures went { result ≡ Ok true → Asks (R.rest reader.old) (R.rest reader.new) (S.held stream.old) (S.held stream.new) }
-    ensures over { result ≡ Ok false → AsksAll (R.rest reader.old) (R.rest reader.new) (S.held stream.old) (S.held stream.new) (W.held writer.old) (W.held writer.new) }
+    ensures over { result ≡ Ok false → AsksAll (R.rest reader.old) (R.rest reader.new) (S.held stream.old) (S.held stream.new)
+        (W.held writer.old) (W.held writer.new) }
     ensures sent { PassesFront (R.rest reader.old) (R.rest reader.new) (S.held stream.old) (S.held stream.new) }
     ensures printed { OnOk result (PassesOn (S.rest stream.old) (S.rest stream.new) (W.held writer.old) (W.held writer.new)) }
     ensures cut { OnErr result (PassesFront (S.rest stream.old) (S.rest stream.new) (W.held writer.old) (W.held writer.new)) }
-    ensures stream { OnOk result ((S.failed_reads stream.new ≡ S.failed_reads stream.old) × (S.failed_writes stream.new ≡ S.failed_writes stream.old)) }
+    ensures stream { OnOk result ((S.failed_reads stream.new ≡ S.failed_reads stream.old)
+        × (S.failed_writes stream.new ≡ S.failed_writes stream.old)) }
     ensures reader { OnOk result (R.failed_reads reader.new ≡ R.failed_reads reader.old) }
     ensures writer { result ≢ Err Standard → W.failed_writes writer.new ≡ W.failed_writes writer.old }
 {

@@ -3,21 +3,33 @@
 ghost use Rattle.std.specs.Prelude.{◌≡◌, ◌≢◌, ℕ, ◌+◌, ◌≤◌, ◌∷◌, ◌++◌, [], List, IfOk, OnOk, OnErr};
 ghost use Rattle.metric.specs.Refusal.{image_text};
 ghost use Rattle.metric.specs.Stream.{Appends, AppendsFront, Counts, CanFail};
-ghost use Rattle.engines.specs.Dist.{Answers, BeginsToAnswer, IsImageAnswer};
-ghost use Rattle.engines.specs.Table.{table_text};
-ghost use Rattle.engines.specs.Tabled.{nears_of};
+ghost use Rattle.engines.specs.dist.Dist.{AnswersImage, BeginsToAnswerImage, IsMapAnswer};
+ghost use Rattle.engines.specs.dist.Table.{table_text};
+ghost use Rattle.engines.specs.dist.Tabled.{nears_of};
 
-use crate::arguments::DistOptions;
-use crate::input::{InputStop, read_to_end};
-use crate::output::{write_refusal, write_text};
-use crate::print::{Print, write_table};
-use crate::reply::Reply;
+mod decimals;
+mod distances;
+mod line;
+mod parts;
+mod put;
+mod quad;
+mod query;
+mod reply;
+mod table;
+mod table_writer;
+
+use crate::dist::reply::QueryReply;
+use crate::dist::table_writer::{TableWriter, write_table};
+use crate::streams::output::{write_refusal, write_text};
+use crate::words::arguments::DistOptions;
 use crate::{DONE, REFUSED};
+use bits::Bitmap;
 use metric::{PbmFault, Refusal, Sink, Source, WriteFault};
+use pbm::{ImageStop, read_source};
 use std::alloc::Global;
 use std::thread::Threads;
 
-/// Reads an image to the end of the reader, and writes its cells' distances to their nearest obstacles, a line a row, as the options ask. Answers the status.
+/// Reads an image, and the reader to its end, and writes its cells' distances to their nearest obstacles, a line a row, as the options ask. Answers the status.
 ///
 /// The rows are shared by as many workers as the options say; the text is the same for each number. A refused image, or want of memory, is one line instead, with status 1. All is computed before the first byte is written. Where a call of the reader or the writer fails, neither is called again, and the status is 1.
 pub fn dist_run<R: Source, W: Sink, T: Threads + Sync>(
@@ -32,7 +44,7 @@ pub fn dist_run<R: Source, W: Sink, T: Threads + Sync>(
 
     // Where no call failed, the answer is whole.
     ensures answers { R.failed_reads reader.new ≡ R.failed_reads reader.old → W.failed_writes writer.new ≡ W.failed_writes writer.old
-        → Answers options.now (R.rest reader.old) (W.held writer.old) (W.held writer.new) result }
+        → AnswersImage options.now (R.rest reader.old) (W.held writer.old) (W.held writer.new) result }
 
     // Where a read failed, nothing was written.
     ensures failed_read { R.failed_reads reader.new ≢ R.failed_reads reader.old
@@ -40,40 +52,42 @@ pub fn dist_run<R: Source, W: Sink, T: Threads + Sync>(
 
     // Where a write failed, a beginning of the answer was written.
     ensures failed_write { W.failed_writes writer.new ≢ W.failed_writes writer.old
-        → BeginsToAnswer options.now (R.rest reader.old) (W.held writer.old) (W.held writer.new) × (result ≡ 1) }
+        → BeginsToAnswerImage options.now (R.rest reader.old) (W.held writer.old) (W.held writer.new) × (result ≡ 1) }
     ensures one_failure { R.failed_reads reader.new + W.failed_writes writer.new ≤ R.failed_reads reader.old + W.failed_writes writer.old + 1 }
 {
-    match read_to_end(alloc, reader) {
-        Ok(bytes) => write_answer(rt, alloc, options, bytes.as_slice(), writer).unwrap_or(REFUSED),
-        Err(InputStop::Memory) => write_fault(writer, PbmFault::Memory).unwrap_or(REFUSED),
-        Err(InputStop::Failed) => REFUSED,
+    match read_source(alloc, reader) {
+        Ok(map) => write_answer(rt, alloc, options, &map, writer).unwrap_or(REFUSED),
+        Err(ImageStop::Fault(fault)) => write_fault(writer, fault).unwrap_or(REFUSED),
+        Err(ImageStop::Memory) => write_fault(writer, PbmFault::Memory).unwrap_or(REFUSED),
+        Err(ImageStop::Failed) => REFUSED,
     }
 }
 
-/// Writes the answer to these bytes.
+/// Writes the answer to an image of this map.
 fn write_answer<W: Sink, T: Threads + Sync>(
     rt: &T,
     alloc: Global,
     options: &DistOptions<'_>,
-    bytes: &[u8],
+    map: &Bitmap,
     writer: &mut W,
 ) -> Result<u8, WriteFault>
     requires { CanFail (W.failed_writes writer.old) }
-    ensures whole { IfOk result (λ status. (text : List ℕ) × IsImageAnswer options.now bytes.now text status × Appends (W.held writer.old) text (W.held writer.new)) }
-    ensures front { OnErr result ((text : List ℕ) × (status : ℕ) × IsImageAnswer options.now bytes.now text status × AppendsFront (W.held writer.old) text (W.held writer.new)) }
+    ensures whole { IfOk result (λ status. (text : List ℕ) × IsMapAnswer options.now map.now text status × Appends (W.held writer.old) text (W.held writer.new)) }
+    ensures front { OnErr result ((text : List ℕ) × (status : ℕ) × IsMapAnswer options.now map.now text status × AppendsFront (W.held writer.old) text (W.held writer.new)) }
     ensures counts { Counts (W.failed_writes writer.old) result (W.failed_writes writer.new) }
 {
     match options.query {
-        Some(line) => match Reply::of(alloc, bytes, options.edge, line.as_bytes()) {
+        Some(line) => match QueryReply::of(alloc, map, options.edge, line.as_bytes()) {
             Ok(reply) => write_text(writer, reply.text.as_bytes(), reply.status),
             Err(fault) => write_fault(writer, fault),
         },
-        None => match Print::of(
+        None => match TableWriter::of(
             rt,
             alloc,
-            bytes,
+            map,
             options.metric,
             options.edge,
+            options.nearest,
             options.workers,
         ) {
             Ok(print) => write_rows(rt, writer, print, options.nearest),
@@ -86,7 +100,7 @@ fn write_answer<W: Sink, T: Threads + Sync>(
 fn write_rows<W: Sink, T: Threads + Sync>(
     rt: &T,
     writer: &mut W,
-    print: Print,
+    print: TableWriter,
     nearest: bool,
 ) -> Result<u8, WriteFault>
     requires { CanFail (W.failed_writes writer.old) }
@@ -95,14 +109,15 @@ fn write_rows<W: Sink, T: Threads + Sync>(
     ensures front { OnErr result (AppendsFront (W.held writer.old) (table_text nearest print.table.width print.table.height (nears_of print.table)) (W.held writer.new)) }
     ensures counts { Counts (W.failed_writes writer.old) result (W.failed_writes writer.new) }
 {
-    let Print {
+    let TableWriter {
         table,
         decimals,
+        rows,
         mut even,
         mut odd,
     } = print;
     let (even, odd) = (even.as_mut_slice(), odd.as_mut_slice());
-    write_table(rt, writer, &decimals, &table, even, odd, nearest)?;
+    write_table(rt, writer, &decimals, &table, even, odd, rows, nearest)?;
     writer.flush()?;
     Ok(DONE)
 }

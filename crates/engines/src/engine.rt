@@ -2,15 +2,15 @@
 
 ghost use Rattle.std.specs.Prelude.{◌≡◌, ◌≢◌, ◌+◌, ◌≤◌, IsErr};
 ghost use Rattle.metric.specs.Stream.{CanFail};
-ghost use Rattle.engines.specs.CommandLine.{texts_of};
+ghost use Rattle.engines.specs.words.CommandLine.{texts_of};
 ghost use Rattle.engines.specs.Runs.{AnswersAs, Begins, BeginsAs, BeginsFor, BeginsRunOf, IsDoneFor, IsRunOf};
 
 use crate::REFUSED;
-use crate::arguments::{Fault, Options};
 use crate::dist::dist_run;
-use crate::refusing::tell;
 use crate::steps::steps_run;
+use crate::words::arguments::{Fault, Options};
 use crate::words::options;
+use crate::words::refusing::tell;
 use metric::{Sink, Source};
 use std::alloc::Global;
 use std::thread::Threads;
@@ -31,8 +31,10 @@ pub fn run_words<R: Source, W: Sink, E: Sink, T: Threads + Sync>(
     requires errors { CanFail (E.failed_writes errors.old) }
 
     // Where no call failed, the words are done, or told why they aren't.
-    ensures done { R.failed_reads reader.new ≡ R.failed_reads reader.old → W.failed_writes writer.new ≡ W.failed_writes writer.old → E.failed_writes errors.new ≡ E.failed_writes errors.old
-        → IsRunOf (texts_of words.entry.now) (R.rest reader.old) (W.held writer.old) (W.held writer.new) (E.held errors.old) (E.held errors.new) result }
+    ensures done { R.failed_reads reader.new ≡ R.failed_reads reader.old
+        → W.failed_writes writer.new ≡ W.failed_writes writer.old → E.failed_writes errors.new ≡ E.failed_writes errors.old
+        → IsRunOf (texts_of words.entry.now) (R.rest reader.old) (W.held writer.old) (W.held writer.new) (E.held errors.old)
+        (E.held errors.new) result }
 
     // Where a read failed, nothing was written.
     ensures failed_read { R.failed_reads reader.new ≢ R.failed_reads reader.old
@@ -40,12 +42,14 @@ pub fn run_words<R: Source, W: Sink, E: Sink, T: Threads + Sync>(
 
     // Where a write failed, a beginning of what these words ask for was written.
     ensures failed_write { W.failed_writes writer.new ≢ W.failed_writes writer.old
-        → BeginsRunOf (texts_of words.entry.now) (R.rest reader.old) (W.held writer.old) (W.held writer.new) × (E.held errors.new ≡ E.held errors.old) × (result ≡ 1) }
+        → BeginsRunOf (texts_of words.entry.now) (R.rest reader.old) (W.held writer.old) (W.held writer.new)
+        × (E.held errors.new ≡ E.held errors.old) × (result ≡ 1) }
 
     // Where the mistake couldn't be told, a beginning of its text was.
     ensures failed_error { E.failed_writes errors.new ≢ E.failed_writes errors.old
         → Begins (E.held errors.old) (E.held errors.new) × (W.held writer.new ≡ W.held writer.old) × (result ≡ 1) }
-    ensures one_failure { R.failed_reads reader.new + W.failed_writes writer.new + E.failed_writes errors.new ≤ R.failed_reads reader.old + W.failed_writes writer.old + E.failed_writes errors.old + 1 }
+    ensures one_failure { R.failed_reads reader.new + W.failed_writes writer.new + E.failed_writes errors.new
+        ≤ R.failed_reads reader.old + W.failed_writes writer.old + E.failed_writes errors.old + 1 }
 {
     run_said(rt, alloc, options(alloc, words), reader, writer, errors)
 }
@@ -62,15 +66,18 @@ pub fn run_said<R: Source, W: Sink, E: Sink, T: Threads + Sync>(
     requires reader { CanFail (R.failed_reads reader.old) }
     requires writer { CanFail (W.failed_writes writer.old) }
     requires errors { CanFail (E.failed_writes errors.old) }
-    ensures done { R.failed_reads reader.new ≡ R.failed_reads reader.old → W.failed_writes writer.new ≡ W.failed_writes writer.old → E.failed_writes errors.new ≡ E.failed_writes errors.old
+    ensures done { R.failed_reads reader.new ≡ R.failed_reads reader.old
+        → W.failed_writes writer.new ≡ W.failed_writes writer.old → E.failed_writes errors.new ≡ E.failed_writes errors.old
         → IsDoneFor said.entry (R.rest reader.old) (W.held writer.old) (W.held writer.new) (E.held errors.old) (E.held errors.new) result }
     ensures failed_read { R.failed_reads reader.new ≢ R.failed_reads reader.old
         → (W.held writer.new ≡ W.held writer.old) × (E.held errors.new ≡ E.held errors.old) × (result ≡ 1) }
     ensures failed_write { W.failed_writes writer.new ≢ W.failed_writes writer.old
-        → BeginsFor said.entry (R.rest reader.old) (W.held writer.old) (W.held writer.new) × (E.held errors.new ≡ E.held errors.old) × (result ≡ 1) }
+        → BeginsFor said.entry (R.rest reader.old) (W.held writer.old) (W.held writer.new)
+        × (E.held errors.new ≡ E.held errors.old) × (result ≡ 1) }
     ensures failed_error { E.failed_writes errors.new ≢ E.failed_writes errors.old
         → IsErr said.entry × Begins (E.held errors.old) (E.held errors.new) × (W.held writer.new ≡ W.held writer.old) × (result ≡ 1) }
-    ensures one_failure { R.failed_reads reader.new + W.failed_writes writer.new + E.failed_writes errors.new ≤ R.failed_reads reader.old + W.failed_writes writer.old + E.failed_writes errors.old + 1 }
+    ensures one_failure { R.failed_reads reader.new + W.failed_writes writer.new + E.failed_writes errors.new
+        ≤ R.failed_reads reader.old + W.failed_writes writer.old + E.failed_writes errors.old + 1 }
 {
     match said {
         Ok(options) => run_engine(rt, alloc, &options, reader, writer),
@@ -94,7 +101,8 @@ fn run_engine<R: Source, W: Sink, T: Threads + Sync>(
         → (W.held writer.new ≡ W.held writer.old) × (W.failed_writes writer.new ≡ W.failed_writes writer.old) × (result ≡ 1) }
     ensures failed_write { W.failed_writes writer.new ≢ W.failed_writes writer.old
         → BeginsAs options.now (R.rest reader.old) (W.held writer.old) (W.held writer.new) × (result ≡ 1) }
-    ensures one_failure { R.failed_reads reader.new + W.failed_writes writer.new ≤ R.failed_reads reader.old + W.failed_writes writer.old + 1 }
+    ensures one_failure { R.failed_reads reader.new + W.failed_writes writer.new
+        ≤ R.failed_reads reader.old + W.failed_writes writer.old + 1 }
 {
     match options {
         Options::Dist(options) => dist_run(rt, alloc, options, reader, writer),

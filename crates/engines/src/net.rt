@@ -2,17 +2,17 @@
 
 ghost use Rattle.std.specs.Prelude.{◌≡◌, ◌≢◌, IfOk, IfErr, IfSome};
 ghost use Rattle.metric.specs.Stream.{CanFail};
-ghost use Rattle.engines.specs.Refusals.{HasWordsAlone};
+ghost use Rattle.engines.specs.words.Refusals.{HasWordsAlone};
 
 use crate::REFUSED;
-use crate::arguments::{AskOptions, ServeOptions};
 use crate::ask::ask_run;
-use crate::input::{InputStop, read_to_end};
-use crate::output::{write_net_fault, write_refusal};
 use crate::serve::serve_run;
-use crate::socket::{NoSocket, Socket};
+use crate::streams::output::{write_net_fault, write_refusal};
+use crate::streams::socket::{NoSocket, Socket};
+use crate::words::arguments::{AskOptions, ServeOptions};
 use bits::Bitmap;
 use metric::{Refusal, Sink, Source};
+use pbm::{ImageStop, read_source};
 use std::alloc::Global;
 use std::net::{Ipv4Addr, Net, SocketAddr, SocketAddrV4, TcpListener, TcpStream};
 use std::sync::Wait;
@@ -29,13 +29,11 @@ fn read_map<R: Source>(alloc: Global, reader: &mut R) -> Result<Bitmap, Option<R
     requires { CanFail (R.failed_reads reader.old) }
     ensures { IfErr result (λ refusal. IfSome refusal HasWordsAlone) }
 {
-    match read_to_end(alloc, reader) {
-        Ok(bytes) => match pbm::read_image(alloc, bytes.as_slice()) {
-            Ok((map, _)) => Ok(map),
-            Err(fault) => Err(Some(Refusal::BadImage(fault))),
-        },
-        Err(InputStop::Memory) => Err(Some(Refusal::Memory)),
-        Err(InputStop::Failed) => Err(None),
+    match read_source(alloc, reader) {
+        Ok(map) => Ok(map),
+        Err(ImageStop::Fault(fault)) => Err(Some(Refusal::BadImage(fault))),
+        Err(ImageStop::Memory) => Err(Some(Refusal::Memory)),
+        Err(ImageStop::Failed) => Err(None),
     }
 }
 

@@ -6,14 +6,14 @@ ghost use Rattle.metric.specs.Stream.{CanFail, Counts};
 ghost use Rattle.metric.specs.declared.refusal.Refusal.TheVariants.{BadSetting};
 ghost use Rattle.bits.specs.Tiles.{tile_count};
 ghost use Rattle.map_core.specs.Setting.{bad_field};
-ghost use Rattle.engines.specs.Serving.{BeginsServed, WritesOnly, WritesServed, setting_of};
+ghost use Rattle.engines.specs.serve.Serving.{BeginsServed, WritesOnly, WritesServed, setting_served};
 
 mod accepted;
 mod lines;
 mod pause;
 
-use crate::arguments::ServeOptions;
-use crate::output::{write_net_fault, write_refusal, write_text};
+use crate::streams::output::{write_net_fault, write_refusal, write_text};
+use crate::words::arguments::ServeOptions;
 use crate::{DONE, REFUSED};
 use accepted::Accepted;
 use bits::Bitmap;
@@ -32,7 +32,7 @@ use std::time::Clock;
 
 /// Where connections come from, and how many are served.
 #[derive(Drop)]
-struct Place {
+struct Listening {
     listener: TcpListener,
     port: u16,
     connections: u32,
@@ -41,7 +41,7 @@ struct Place {
 impl ServeOptions {
     /// The setting of the store: a session for each worker.
     fn setting(&self) -> Setting
-        ensures { result ≡ setting_of self.now }
+        ensures { result ≡ setting_served self.now }
     {
         Setting {
             blocks: self.blocks,
@@ -68,19 +68,21 @@ pub fn serve_run<R: Clock + Wait + Threads + Sync, W: Sink>(
     requires { CanFail (W.failed_writes writer.old) }
 
     // Where the setting is out of its limits nothing is served, and one line says so.
-    ensures setting { IfSome (bad_field (tile_count map) (setting_of options.now)) (λ field.
+    ensures setting { IfSome (bad_field (tile_count map) (setting_served options.now)) (λ field.
         WritesOnly (refusal_text (BadSetting field) ++ 10 ∷ []) (W.held writer.old) (W.held writer.new) × (result ≡ 1)) }
 
     // Otherwise the port is told, and how many connections were served; or why nothing is.
-    ensures served { bad_field (tile_count map) (setting_of options.now) ≡ None → W.failed_writes writer.new ≡ W.failed_writes writer.old
+    ensures served { bad_field (tile_count map) (setting_served options.now) ≡ None
+        → W.failed_writes writer.new ≡ W.failed_writes writer.old
         → WritesServed options.now.connections (W.held writer.old) (W.held writer.new) result }
-    ensures failed { bad_field (tile_count map) (setting_of options.now) ≡ None → W.failed_writes writer.new ≢ W.failed_writes writer.old
+    ensures failed { bad_field (tile_count map) (setting_served options.now) ≡ None
+        → W.failed_writes writer.new ≢ W.failed_writes writer.old
         → BeginsServed options.now.connections (W.held writer.old) (W.held writer.new) × (result ≡ 1) }
     ensures one_failure { W.failed_writes writer.new ≤ W.failed_writes writer.old + 1 }
 {
     match listener.local_addr() {
         Ok(address) => {
-            let place = Place {
+            let place = Listening {
                 listener,
                 port: address.port(),
                 connections: options.connections,
@@ -95,16 +97,19 @@ pub fn serve_run<R: Clock + Wait + Threads + Sync, W: Sink>(
 fn serve_at<R: Clock + Wait + Threads + Sync, W: Sink>(
     rt: &R,
     alloc: Global,
-    place: Place,
+    place: Listening,
     map: Bitmap,
     setting: Setting,
     writer: &mut W,
 ) -> Result<u8, WriteFault>
     requires { CanFail (W.failed_writes writer.old) }
     ensures setting { IfSome (bad_field (tile_count map) setting) (λ field.
-        WritesOnly (refusal_text (BadSetting field) ++ 10 ∷ []) (W.held writer.old) (W.held writer.new) × IfOk result (λ status. status ≡ 1)) }
-    ensures served { bad_field (tile_count map) setting ≡ None → IfOk result (WritesServed place.connections (W.held writer.old) (W.held writer.new)) }
-    ensures begun { bad_field (tile_count map) setting ≡ None → OnErr result (BeginsServed place.connections (W.held writer.old) (W.held writer.new)) }
+        WritesOnly (refusal_text (BadSetting field) ++ 10 ∷ []) (W.held writer.old) (W.held writer.new) × IfOk result
+        (λ status. status ≡ 1)) }
+    ensures served { bad_field (tile_count map) setting ≡ None
+        → IfOk result (WritesServed place.connections (W.held writer.old) (W.held writer.new)) }
+    ensures begun { bad_field (tile_count map) setting ≡ None
+        → OnErr result (BeginsServed place.connections (W.held writer.old) (W.held writer.new)) }
     ensures counts { Counts (W.failed_writes writer.old) result (W.failed_writes writer.new) }
 {
     match Blank::of(alloc, setting, map) {
@@ -117,7 +122,7 @@ fn serve_at<R: Clock + Wait + Threads + Sync, W: Sink>(
 fn serve_blank<Id: StoreName + Send + Sync, R: Clock + Wait + Threads + Sync, W: Sink>(
     rt: &R,
     alloc: Global,
-    place: Place,
+    place: Listening,
     blank: Blank,
     writer: &mut W,
 ) -> Result<u8, WriteFault>
@@ -140,7 +145,7 @@ fn serve_blank<Id: StoreName + Send + Sync, R: Clock + Wait + Threads + Sync, W:
 fn serve_store<Id: StoreName + Send + Sync, R: Clock + Wait + Threads + Sync, W: Sink>(
     rt: &R,
     alloc: Global,
-    place: Place,
+    place: Listening,
     store: Store<Id>,
     sessions: Vec<Session<Id>>,
     writer: &mut W,

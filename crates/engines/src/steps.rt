@@ -2,7 +2,7 @@
 
 ghost use Rattle.std.specs.Prelude.{◌≡◌, ◌≢◌, ◌+◌, ◌≤◌};
 ghost use Rattle.metric.specs.Stream.{CanFail};
-ghost use Rattle.engines.specs.Steps.{Answers, BeginsToAnswer};
+ghost use Rattle.engines.specs.steps.Steps.{AnswersText, BeginsToAnswerText};
 
 mod answer;
 mod line;
@@ -11,8 +11,8 @@ mod run;
 pub mod text;
 
 use crate::REFUSED;
-use crate::input::{InputStop, read_to_end};
-use crate::output::write_refusal;
+use crate::streams::input::{InputStop, read_to_end};
+use crate::streams::output::write_refusal;
 use metric::{Refusal, Sink, Source};
 use run::write_steps;
 use std::alloc::Global;
@@ -27,7 +27,7 @@ pub fn steps_run<R: Source, W: Sink>(alloc: Global, reader: &mut R, writer: &mut
 
     // Where no call failed, each line has its answer.
     ensures answers { R.failed_reads reader.new ≡ R.failed_reads reader.old → W.failed_writes writer.new ≡ W.failed_writes writer.old
-        → Answers (R.rest reader.old) (W.held writer.old) (W.held writer.new) result }
+        → AnswersText (R.rest reader.old) (W.held writer.old) (W.held writer.new) result }
 
     // Where a read failed, nothing was written.
     ensures failed_read { R.failed_reads reader.new ≢ R.failed_reads reader.old
@@ -35,8 +35,9 @@ pub fn steps_run<R: Source, W: Sink>(alloc: Global, reader: &mut R, writer: &mut
 
     // Where a write failed, a beginning of the answers to a beginning of the lines was written.
     ensures failed_write { W.failed_writes writer.new ≢ W.failed_writes writer.old
-        → BeginsToAnswer (R.rest reader.old) (W.held writer.old) (W.held writer.new) × (result ≡ 1) }
-    ensures one_failure { R.failed_reads reader.new + W.failed_writes writer.new ≤ R.failed_reads reader.old + W.failed_writes writer.old + 1 }
+        → BeginsToAnswerText (R.rest reader.old) (W.held writer.old) (W.held writer.new) × (result ≡ 1) }
+    ensures one_failure { R.failed_reads reader.new + W.failed_writes writer.new
+        ≤ R.failed_reads reader.old + W.failed_writes writer.old + 1 }
 {
     match read_to_end(alloc, reader) {
         Ok(bytes) => write_steps(alloc, bytes.as_slice(), writer).unwrap_or(REFUSED),

@@ -5,13 +5,17 @@ ghost use Rattle.clap.specs.Words.{HasMatchesOf, app_of, first_of, first_value, 
 ghost use Rattle.clap.specs.declared.builder.command.Command.TheViews.{out-Command};
 ghost use Rattle.clap.specs.declared.error.kind.ErrorKind.TheVariants.{OutOfMemory};
 ghost use Rattle.metric.specs.Kind.{metric_named};
-ghost use Rattle.engines.specs.declared.arguments.Fault.TheVariants.{Memory};
-ghost use Rattle.engines.specs.declared.arguments.Options.TheVariants.{Dist, Steps};
-ghost use Rattle.engines.specs.CommandLine.{AreDistOptions, AreNoDistOptions, AreOptions, AreTaken, default_options, dist_app, metric_rule, nearest_rule, program_app, query_rule, steps_app, texts_of};
-ghost use Rattle.engines.specs.ServeLine.{default_rule};
+ghost use Rattle.engines.specs.declared.words.arguments.Fault.TheVariants.{Memory};
+ghost use Rattle.engines.specs.declared.words.arguments.Options.TheVariants.{Dist, Steps};
+ghost use Rattle.engines.specs.words.CommandLine.{AreDistOptions, AreNoDistOptions, AreOptions, AreTaken, default_options, dist_app, metric_rule, nearest_rule, program_app, query_rule, steps_app, texts_of};
+ghost use Rattle.engines.specs.words.ServeLine.{default_rule};
 
-use crate::arguments::{DistOptions, Fault, Options};
-use crate::serve_words::{
+pub mod arguments;
+pub mod refusing;
+mod serve_words;
+
+use crate::words::arguments::{DistOptions, Fault, Options};
+use crate::words::serve_words::{
     ask_command, default_flag, edge_flag, edge_given, number_given, serve_command, serve_or_ask,
 };
 use clap::{Arg, ArgAction, ArgMatches, Command, Error};

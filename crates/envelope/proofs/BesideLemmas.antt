@@ -8,24 +8,13 @@ use Rattle.metric.specs.Distance.{Grows}
 use Rattle.metric.specs.Crossing.{StaysNearer}
 use Rattle.metric.specs.Lanes.{IsSmall}
 use Rattle.metric.proofs.Growing.{of_grows}
-use Rattle.envelope.specs.Beside.{AreBestNear, AreDecided, AreParts, AreTold, IsBestIn, IsTold, small_distance}
+use Rattle.envelope.specs.Beside.{AreDecided, AreColumnParts, AreTold, IsBestIn, IsToldByLanes, small_distance}
 use Rattle.envelope.specs.Columns.{AreEntries, IsAmong, gap_of}
+use Rattle.envelope.proofs.Entries.{gap_small}
 
 -- a number is equal to itself
 same_is_equal : (n : ℕ) → (n == n) ≡ true
 same_is_equal n = grind (arith, nat_tests)
-
--- of the one place looked at first it is the best
-pub best_one : (far : ℕ → ℕ) (place : ℕ) → IsBestIn far place (place + 1 - 1) (place + 1) (far place) 128
-best_one far place = record {
-  other = place;
-  where_is = refl;
-  low = omega arith;
-  high = omega arith;
-  best_is = refl;
-  least = λ p from to. let same : p ≡ place = omega arith in rw same (omega arith);
-  first = λ p from before. absurd (omega arith);
-}
 
 -- the number of two which is the less, and whether it is the second
 less_first : (a b : ℕ) → a < b → (min a b ≡ a) × ((min a b == b) ≡ false)
@@ -34,7 +23,7 @@ less_first a b less =
     (e, rw e (ne_eqb a b (λ same. absurd (omega (arith, same, less)))))
 
 -- one place more on the left: it wins where it isn't worse
-pub best_left : (far : ℕ → ℕ) (place from to best away value left : ℕ) → value ≡ far from → left + place ≡ from + 128
+best_left : (far : ℕ → ℕ) (place from to best away value left : ℕ) → value ≡ far from → left + place ≡ from + 128
     → IsBestIn far place (from + 1) to best away → from < to → IsBestIn far place from to (min best value) (if min best value == value then left else away)
 best_left far place from to best away value left value_is left_is known some = elim (cases_lt best value) [
   | inl less ↦
@@ -73,7 +62,7 @@ best_left far place from to best away value left value_is left_is known some = e
 ]
 
 -- one place more on the right: it wins where it is strictly better
-pub best_right : (far : ℕ → ℕ) (place from to best away value right : ℕ) → value ≡ far to → right + place ≡ to + 128
+best_right : (far : ℕ → ℕ) (place from to best away value right : ℕ) → value ≡ far to → right + place ≡ to + 128
     → IsBestIn far place from to best away → IsBestIn far place from (to + 1) (min best value) (if min best value == best then away else right)
 best_right far place from to best away value right value_is right_is known = elim (cases_lt value best) [
   | inl less ↦
@@ -111,7 +100,7 @@ best_right far place from to best away value right value_is right_is known = eli
       })
 ]
 
--- one column more on both sides
+-- with one column more on both sides the best of the columns is chosen among all of them
 pub best_wider : (d joined : ℕ → ℕ → ℕ) (parts : List ℕ) (place k b a l r b1 a1 b2 a2 : ℕ) → 1 ≤ k → k ≤ 97 → 128 ≤ place
     → l ≡ joined (slice_index parts (place - k)) (d k 0) → r ≡ joined (slice_index parts (place + k)) (d k 0)
     → b1 ≡ min b l → a1 ≡ (if b1 == l then 128 - k else a) → b2 ≡ min b1 r → a2 ≡ (if b2 == b1 then a1 else 128 + k)
@@ -144,7 +133,7 @@ module _ (d joined : ℕ → ℕ → ℕ) (part : ℕ → ℕ) (small : IsSmall 
   told_more dx g best near row few more = let same = small.told dx g near row in omega (arith, same, more, few)
 
 -- a place with a small part is that of a column
-column_place : (part : ℕ → ℕ) (entries : List ℕ) (y : ℕ) (parts : List ℕ) (p : ℕ) → AreParts part entries y parts → p < length entries + 272 → slice_index parts p < 32400
+column_place : (part : ℕ → ℕ) (entries : List ℕ) (y : ℕ) (parts : List ℕ) (p : ℕ) → AreColumnParts part entries y parts → p < length entries + 272 → slice_index parts p < 32400
     → (128 ≤ p) × (p < length entries + 128)
 column_place part entries y parts p laid inside few = (
   elim (cases_lt p 128) [ inl before ↦ let none = laid.before p before in absurd (omega (arith, none, few)) | inr behind ↦ behind ],
@@ -152,7 +141,7 @@ column_place part entries y parts p laid inside few = (
 )
 
 -- a column with a small part has an obstacle
-column_some : (d joined : ℕ → ℕ → ℕ) (part : ℕ → ℕ) (entries : List ℕ) (y : ℕ) (parts : List ℕ) (column : ℕ) → IsSmall d part joined → AreEntries entries y → AreParts part entries y parts → column < length entries
+column_some : (d joined : ℕ → ℕ → ℕ) (part : ℕ → ℕ) (entries : List ℕ) (y : ℕ) (parts : List ℕ) (column : ℕ) → IsSmall d part joined → AreEntries entries y → AreColumnParts part entries y parts → column < length entries
     → slice_index parts (column + 128) < 32400 → IsAmong entries (length entries) column
 column_some d joined part entries y parts column small row laid inside few = record {
   left = inside;
@@ -164,12 +153,8 @@ column_some d joined part entries y parts column small row laid inside few = rec
       absurd (omega (arith, most, is, few));
 }
 
--- an obstacle lies fewer rows away than the largest map has
-small_gap : (entries : List ℕ) (y column : ℕ) → AreEntries entries y → IsAmong entries (length entries) column → gap_of entries y column ≤ 4097
-small_gap entries y column row among = let entry = row.each column among.left among.some in let seen = row.seen_from in omega (arith, entry, seen)
-
 module _ (d joined : ℕ → ℕ → ℕ) (part : ℕ → ℕ) (small : IsSmall d part joined) (grows : Grows d) (stays : StaysNearer d)
-    (entries parts : List ℕ) (edge : Edge) (y x place best away k : ℕ) (row : AreEntries entries y) (laid : AreParts part entries y parts) (inside : x < length entries) (place_is : place ≡ x + 128)
+    (entries parts : List ℕ) (edge : Edge) (y x place best away k : ℕ) (row : AreEntries entries y) (laid : AreColumnParts part entries y parts) (inside : x < length entries) (place_is : place ≡ x + 128)
     (few : k ≤ 97) (less : best < d k 0) (found : IsBestIn (small_distance d joined parts place) place (place + 1 - k) (place + k) best away) where
   -- no distance that was found is large
   best_small : best < 32400
@@ -180,7 +165,7 @@ module _ (d joined : ℕ → ℕ → ℕ) (part : ℕ → ℕ) (small : IsSmall 
   farther column among off =
       let few_columns = row.few in
       let left = among.left in
-      let more = of_grows d grows stays k (abs_diff x column) 0 (gap_of entries y column) off (omega (arith, inside, left, few_columns)) (omega arith) (small_gap entries y column row among) in
+      let more = of_grows d grows stays k (abs_diff x column) 0 (gap_of entries y column) off (omega (arith, inside, left, few_columns)) (omega arith) (gap_small entries y column row among) in
       omega (arith, more, less)
 
   -- what is known of the place of a column that was looked at
@@ -194,7 +179,7 @@ module _ (d joined : ℕ → ℕ → ℕ) (part : ℕ → ℕ) (small : IsSmall 
   no_nearer column among = elim (cases_lt (abs_diff x column) k) [
     | inl near ↦
         let least = rw (looked_at column among.left) at (found.least (column + 128) (omega (arith, near, place_is)) (omega (arith, near, place_is))) in
-        told_least d joined part small (abs_diff x column) (gap_of entries y column) best (omega (arith, near, few)) (small_gap entries y column row among) best_small least
+        told_least d joined part small (abs_diff x column) (gap_of entries y column) best (omega (arith, near, few)) (gap_small entries y column row among) best_small least
     | inr off ↦ let more = farther column among off in omega (arith, more)
   ]
 
@@ -203,12 +188,12 @@ module _ (d joined : ℕ → ℕ → ℕ) (part : ℕ → ℕ) (small : IsSmall 
   before_farther column among before = elim (cases_lt (abs_diff x column) k) [
     | inl near ↦
         let more = rw (looked_at column among.left) at (found.first (column + 128) (omega (arith, near, place_is)) before) in
-        told_more d joined part small (abs_diff x column) (gap_of entries y column) best (omega (arith, near, few)) (small_gap entries y column row among) best_small more
+        told_more d joined part small (abs_diff x column) (gap_of entries y column) best (omega (arith, near, few)) (gap_small entries y column row among) best_small more
     | inr off ↦ farther column among off
   ]
 
   -- the obstacle of the column that was found is the nearest column's
-  found_told : IsTold d entries y edge x best away
+  found_told : IsToldByLanes d entries y edge x best away
   found_told =
       let low = found.low in
       let high = found.high in
@@ -225,7 +210,7 @@ module _ (d joined : ℕ → ℕ → ℕ) (part : ℕ → ℕ) (small : IsSmall 
       let among = column_some d joined part entries y parts column small row laid left (rw other_is at part_small) in
       let near : abs_diff x column ≤ 97 = omega (arith, other_is, low, high, place_is, few) in
       let value : joined (part (gap_of entries y column)) (d (abs_diff x column) 0) ≡ best = sym (looked_at column left) ∙ (rw other_is at is) in
-      let dist : d (abs_diff x column) (gap_of entries y column) ≡ best = told_same d joined part small (abs_diff x column) (gap_of entries y column) best near (small_gap entries y column row among) best_small value in
+      let dist : d (abs_diff x column) (gap_of entries y column) ≡ best = told_same d joined part small (abs_diff x column) (gap_of entries y column) best near (gap_small entries y column row among) best_small value in
       record {
         right = omega (arith, where_is, place_is, within_left);
         inside = left;
@@ -241,23 +226,16 @@ module _ (d joined : ℕ → ℕ → ℕ) (part : ℕ → ℕ) (small : IsSmall 
       }
 
 -- eight cells with their nearest tell the nearest columns
-pub are_told : (d joined : ℕ → ℕ → ℕ) (part : ℕ → ℕ) (entries parts : List ℕ) (edge : Edge) (y at start : ℕ) (best away : List ℕ) → IsSmall d part joined → Grows d → StaysNearer d → AreEntries entries y → AreParts part entries y parts
+pub are_told : (d joined : ℕ → ℕ → ℕ) (part : ℕ → ℕ) (entries parts : List ℕ) (edge : Edge) (y at start : ℕ) (best away : List ℕ) → IsSmall d part joined → Grows d → StaysNearer d → AreEntries entries y → AreColumnParts part entries y parts
     → at ≡ start + 128 → AreDecided d joined parts at best away → AreTold d entries y edge start best away
 are_told d joined part entries parts edge y at start best away small grows stays row laid at_is decided i within inside =
     let it = decided i within in
     found_told d joined part small grows stays entries parts edge y (start + i) (at + i) (slice_index best i) (slice_index away i) it.k row laid inside (omega (arith, at_is)) it.few it.less it.found
 
--- eight cells whose best are below a reach have their nearest
-pub are_decided : (d joined : ℕ → ℕ → ℕ) (parts : List ℕ) (at k reach : ℕ) (best away : List ℕ) → k ≤ 97 → reach ≡ d k 0
-    → AreBestNear d joined parts at k best away → ((i : ℕ) → i < 8 → slice_index best i < reach) → AreDecided d joined parts at best away
-are_decided d joined parts at k reach best away few reach_is found below i within =
-    let less = below i within in
-    record { k = k; few = few; found = found i within; less = rw (← reach_is) less }
-
 -- the parts of all columns, once each is set
 pub AreParts-set : (d joined : ℕ → ℕ → ℕ) (part : ℕ → ℕ) (entries : List ℕ) (y : ℕ) (parts : List ℕ) → IsSmall d part joined → length parts ≡ length entries + 272
     → ((column : ℕ) → column < length entries → slice_index parts (column + 128) ≡ part (abs_diff y (slice_index entries column)))
-    → ((p : ℕ) → (p < 128) ⊎ (length entries + 128 ≤ p) → p < length entries + 272 → slice_index parts p ≡ 32400) → AreParts part entries y parts
+    → ((p : ℕ) → (p < 128) ⊎ (length entries + 128 ≤ p) → p < length entries + 272 → slice_index parts p ≡ 32400) → AreColumnParts part entries y parts
 AreParts-set d joined part entries y parts small as_many each others = record {
   as_many = as_many;
   small = λ p below. elim (cases_lt p 128) [

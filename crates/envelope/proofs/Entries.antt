@@ -2,13 +2,13 @@
 use Rattle.std.proofs.Common.{◌≡◌, ℕ, ◌+◌, ◌-◌, ◌<◌, ◌≤◌, inl, inr, List, length, slice_index, arith}
 use Rattle.std.proofs.lemmas.Bool.{cases_lt}
 use Rattle.metric.specs.Crossing.{AreColumns}
-use Rattle.envelope.specs.Columns.{AreEntries, IsAmong, IsFrom, gap_of}
+use Rattle.envelope.specs.Columns.{AreEntries, IsAmong, IsColumnFrom, gap_of}
 use Rattle.envelope.specs.declared.cover.Span.{Span}
-use Rattle.envelope.specs.Envelope.{IsCut, span_at}
+use Rattle.envelope.specs.Envelope.{IsCutAt, span_at}
 use Rattle.envelope.proofs.Envelopes.{IsMore, cut_top}
 
--- an obstacle lies fewer rows away than the largest map has
-gap_small : (entries : List ℕ) (y column : ℕ) → AreEntries entries y → IsAmong entries (length entries) column → gap_of entries y column ≤ 4097
+-- a column with an obstacle has a gap of fewer rows than the largest map
+pub gap_small : (entries : List ℕ) (y column : ℕ) → AreEntries entries y → IsAmong entries (length entries) column → gap_of entries y column ≤ 4097
 gap_small entries y column row among = let entry = row.each column among.left among.some in let seen = row.seen_from in omega (arith, entry, seen)
 
 -- each column before another one is left of it
@@ -27,7 +27,7 @@ pairs_left entries y u row right column left =
 
 -- each column of a piece before another one is left of it
 pub pairs_from : (entries : List ℕ) (y first u : ℕ) → AreEntries entries y → IsAmong entries (length entries) u
-    → (column : ℕ) → IsFrom entries first u column → AreColumns column (gap_of entries y column) u (gap_of entries y u)
+    → (column : ℕ) → IsColumnFrom entries first u column → AreColumns column (gap_of entries y column) u (gap_of entries y u)
 pairs_from entries y first u row right column left = pairs_left entries y u row right column left.among
 
 -- the numbers of a span are those of a map, and its gap is its column's
@@ -41,9 +41,9 @@ pub record IsKnown (entries : List ℕ) (y u : ℕ) (span : Span) : Type 0 where
 
 -- what is known of the last span that is kept for one more column
 pub top_known : (d : ℕ → ℕ → ℕ) (entries : List ℕ) (y first width u : ℕ) (spans : List Span) (count : ℕ) → AreEntries entries y → IsAmong entries (length entries) u → 0 < count → width ≤ length entries
-    → IsCut d (gap_of entries y) (IsFrom entries first u) spans count width u → IsKnown entries y u (span_at spans (count - 1))
+    → IsCutAt d (gap_of entries y) (IsColumnFrom entries first u) spans count width u → IsKnown entries y u (span_at spans (count - 1))
 top_known d entries y first width u spans count row right some within cut =
-    let top = cut_top d (gap_of entries y) (IsFrom entries first u) u spans width count some cut in
+    let top = cut_top d (gap_of entries y) (IsColumnFrom entries first u) u spans width count some cut in
     let span = span_at spans (count - 1) in
     let few = row.few in
     let start = top.start in
@@ -63,8 +63,8 @@ top_known d entries y first width u spans count row right some within cut =
     }
 
 -- a column with an obstacle joins those of a piece before it
-pub more_with : (entries : List ℕ) (y first u : ℕ) → AreEntries entries y → IsFrom entries first (length entries) u
-    → IsMore (gap_of entries y) (IsFrom entries first u) (IsFrom entries first (u + 1)) u
+pub more_with : (entries : List ℕ) (y first u : ℕ) → AreEntries entries y → IsColumnFrom entries first (length entries) u
+    → IsMore (gap_of entries y) (IsColumnFrom entries first u) (IsColumnFrom entries first (u + 1)) u
 more_with entries y first u row right = record {
   there = λ column from. let left = from.among.left in record { low = from.low; among = record { left = omega (arith, left); some = from.among.some } };
   here = record { low = right.low; among = record { left = omega arith; some = right.among.some } };
@@ -76,7 +76,7 @@ more_with entries y first u row right = record {
 }
 
 -- a column without an obstacle adds nothing to those before it
-pub same_without : (entries : List ℕ) (first u : ℕ) → slice_index entries u ≡ 65535 → (column : ℕ) → IsFrom entries first (u + 1) column → IsFrom entries first u column
+pub same_without : (entries : List ℕ) (first u : ℕ) → slice_index entries u ≡ 65535 → (column : ℕ) → IsColumnFrom entries first (u + 1) column → IsColumnFrom entries first u column
 same_without entries first u none column from = elim (cases_lt column u) [
   | inl before ↦ record { low = from.low; among = record { left = before; some = from.among.some } }
   | inr after ↦
@@ -86,9 +86,5 @@ same_without entries first u none column from = elim (cases_lt column u) [
 ]
 
 -- what stands among the first columns stands among one more
-pub more_left : (entries : List ℕ) (first u column : ℕ) → IsFrom entries first u column → IsFrom entries first (u + 1) column
+pub more_left : (entries : List ℕ) (first u column : ℕ) → IsColumnFrom entries first u column → IsColumnFrom entries first (u + 1) column
 more_left entries first u column from = let left = from.among.left in record { low = from.low; among = record { left = omega (arith, left); some = from.among.some } }
-
--- no column stands before the first
-pub none_from : (entries : List ℕ) (first column : ℕ) → IsFrom entries first first column → ⊥
-none_from entries first column from = let low = from.low in let left = from.among.left in absurd (omega (arith, low, left))

@@ -4,7 +4,7 @@ use Rattle.std.proofs.lemmas.Bool.{cases_lt}
 use Rattle.metric.specs.Crossing.{AreColumns, IsRightNearer, StaysNearer}
 use Rattle.envelope.specs.declared.cover.Span.{Span}
 use Rattle.envelope.specs.Columns.{IsBest, distance_from}
-use Rattle.envelope.specs.Envelope.{IsCovered, IsCut, IsEnvelope, span_at}
+use Rattle.envelope.specs.Envelope.{IsCovered, IsCutAt, IsEnvelope, span_at}
 
 -- a set of columns and one more, right of all
 pub record IsMore (gaps : ℕ → ℕ) (P Q : ℕ → Type 0) (u : ℕ) : Type 0 where
@@ -25,7 +25,7 @@ best_stays d gaps P Q u x column more stays best = record {
   ];
 }
 
--- one more column is the best where it is strictly nearer than all
+-- a column that is added is the best where it is strictly nearer than all others
 pub best_new : (d : ℕ → ℕ → ℕ) (gaps : ℕ → ℕ) (P Q : ℕ → Type 0) (u x : ℕ) → IsMore gaps P Q u
     → ((other : ℕ) → P other → distance_from d gaps u x < distance_from d gaps other x) → IsBest d gaps Q x u
 best_new d gaps P Q u x more nearer = record {
@@ -69,7 +69,7 @@ pub record IsTop (d : ℕ → ℕ → ℕ) (gaps : ℕ → ℕ) (P : ℕ → Typ
 
 -- the last span's column is the best at its first cell, which lies in the row
 pub cut_top : (d : ℕ → ℕ → ℕ) (gaps : ℕ → ℕ) (P : ℕ → Type 0) (u : ℕ) (spans : List Span) (width count : ℕ) → 0 < count
-    → IsCut d gaps P spans count width u → IsTop d gaps P spans count width
+    → IsCutAt d gaps P spans count width u → IsTop d gaps P spans count width
 cut_top d gaps P u spans width zero some cut = absurd (omega arith)
 cut_top d gaps P u spans width (suc count) some cut =
     let before : suc count - 1 ≡ count = omega arith in
@@ -85,9 +85,9 @@ cut_top d gaps P u spans width (suc count) some cut =
 -- a span at whose first cell one more column is strictly nearer is taken off
 cut_drop_last : (d : ℕ → ℕ → ℕ) (gaps : ℕ → ℕ) (P : ℕ → Type 0) (u : ℕ) (spans : List Span) (width count : ℕ) → StaysNearer d → width ≤ 4098
     → ((column : ℕ) → P column → AreColumns column (gaps column) u (gaps u))
-    → IsCut d gaps P spans (suc count) width u
+    → IsCutAt d gaps P spans (suc count) width u
     → distance_from d gaps u (span_at spans count).start < distance_from d gaps (span_at spans count).column (span_at spans count).start
-    → IsCut d gaps P spans count width u
+    → IsCutAt d gaps P spans count width u
 cut_drop_last d gaps P u spans width count stays few pairs cut beaten =
     let span = span_at spans count in
     let top = cut.covered.0 in
@@ -111,9 +111,9 @@ cut_drop_last d gaps P u spans width count stays few pairs cut beaten =
 -- a span at whose first cell one more column is strictly nearer is taken off, for any count
 pub cut_drop : (d : ℕ → ℕ → ℕ) (gaps : ℕ → ℕ) (P : ℕ → Type 0) (u : ℕ) (spans : List Span) (width count : ℕ) → 0 < count → StaysNearer d → width ≤ 4098
     → ((column : ℕ) → P column → AreColumns column (gaps column) u (gaps u))
-    → IsCut d gaps P spans count width u
+    → IsCutAt d gaps P spans count width u
     → (let span = span_at spans (count - 1) in distance_from d gaps u span.start < distance_from d gaps span.column span.start)
-    → IsCut d gaps P spans (count - 1) width u
+    → IsCutAt d gaps P spans (count - 1) width u
 cut_drop d gaps P u spans width zero some stays few pairs cut beaten = absurd (omega arith)
 cut_drop d gaps P u spans width (suc count) some stays few pairs cut beaten =
     let before : suc count - 1 ≡ count = omega arith in
@@ -121,7 +121,7 @@ cut_drop d gaps P u spans width (suc count) some stays few pairs cut beaten =
 
 -- before any span is taken off, all cells of the row have one, or there is no column
 pub cut_begin : (d : ℕ → ℕ → ℕ) (gaps : ℕ → ℕ) (P : ℕ → Type 0) (u : ℕ) (spans : List Span) (width count : ℕ)
-    → IsCovered d gaps P spans count width → IsCut d gaps P spans count width u
+    → IsCovered d gaps P spans count width → IsCutAt d gaps P spans count width u
 cut_begin d gaps P u spans width zero covered = record {
   end = 0;
   within = omega arith;

@@ -4,7 +4,7 @@ use Rattle.envelope.specs.declared.cover.Span.{Span}
 use Rattle.envelope.specs.Envelope.{IsCovered, IsEnvelope, IsSpan, span_at}
 use Rattle.envelope.proofs.Envelopes.{envelope_same}
 
--- the last of some spans, and the spans below it
+-- an envelope ends with its last span, and those below it are an envelope as far as its start
 pub envelope_last : (d : ℕ → ℕ → ℕ) (gaps : ℕ → ℕ) (P : ℕ → Type 0) (spans : List Span) (count end : ℕ) → 0 < count → IsEnvelope d gaps P spans count end
     → IsSpan d gaps P (span_at spans (count - 1)) end × IsEnvelope d gaps P spans (count - 1) (span_at spans (count - 1)).start
 envelope_last d gaps P spans zero end some envelope = absurd (omega arith)

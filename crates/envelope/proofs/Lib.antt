@@ -1,8 +1,9 @@
 mod BesideLemmas
-pub mod Entries
-pub mod Envelopes
-pub mod Putting
+mod Entries
+mod Envelopes
+mod Putting
 mod Crossings
 pub mod Nears
-pub mod Filling
+mod Filling
 mod PieceLemmas
+mod ScanLemmas

@@ -1,5 +1,5 @@
 -- From the columns of a row of the table to the obstacles of the bitmap.
-use Rattle.std.proofs.Common.{◌≡◌, ◌≢◌, ℕ, ◌+◌, ◌-◌, ◌<◌, ◌≤◌, inl, inr, List, length, slice_index, slice_index_or, slice_set, get_or-set_same, Option, Some, None, refl, sym, subst, arith}
+use Rattle.std.proofs.Common.{◌≡◌, ◌≢◌, ℕ, ◌+◌, ◌-◌, ◌/◌, ◌%◌, ◌<◌, ◌≤◌, inl, inr, List, length, slice_index, slice_index_or, slice_set, get_or-set_same, Option, Some, None, refl, sym, subst, arith}
 use Rattle.std.specs.Int.{abs_diff}
 use Rattle.std.proofs.lemmas.Bool.{cases_eq, cases_lt, ne_eqb}
 use Rattle.metric.specs.Distance.{Grows, distance_between}
@@ -15,7 +15,8 @@ use Rattle.column.specs.Columns.{IsNearestRow, IsRowAtMost, IsRowOfTable}
 use Rattle.envelope.specs.Rows.{AreRowAnswers, AreRowNears}
 use Rattle.envelope.specs.Columns.{AreEntries, AreNearColumns, IsAmong, IsBest, IsNearColumn, distance_from, gap_of, near_from}
 use Rattle.envelope.specs.Answer.{Reading}
-use Rattle.envelope.specs.Beside.{IsTold}
+use Rattle.envelope.specs.Beside.{IsToldByLanes}
+use Rattle.envelope.specs.Scans.{IsToldBy}
 
 -- a column with an obstacle has an entry
 entry_some : (cells : Cells) (y : ℕ) (entries : List ℕ) (a b : ℕ) → IsRowOfTable cells y entries → a < cells.width → IsObstacle cells a b → slice_index entries a ≢ 65535
@@ -103,7 +104,7 @@ nearest_of_best d cells x y column entries grows bitmap inside within row best =
     }
 
 -- the obstacle of the nearest column is the nearest spot of the map with its border; none where there is no column
-pub near_of_column : (d : ℕ → ℕ → ℕ) (cells : Cells) (edge : Edge) (x y : ℕ) (entries : List ℕ) (answer : Option Near) → Grows d → IsBitmap cells → x + shift edge < (framed edge cells).width → y + shift edge < (framed edge cells).height
+near_of_column : (d : ℕ → ℕ → ℕ) (cells : Cells) (edge : Edge) (x y : ℕ) (entries : List ℕ) (answer : Option Near) → Grows d → IsBitmap cells → x + shift edge < (framed edge cells).width → y + shift edge < (framed edge cells).height
     → IsRowOfTable (framed edge cells) (y + shift edge) entries → IsNearColumn d entries (y + shift edge) edge (x + shift edge) answer → IsNear d (IsBlocked cells edge) x y answer
 near_of_column d cells edge x y entries None grows bitmap inside within row none = edge_none edge cells bitmap (λ a b obstacle.
     let map = framed_map edge cells bitmap in
@@ -137,28 +138,39 @@ AreRowAnswers-columns told nothing d cells edge y entries answers grows bitmap w
 pub AreRowNears-answers : (d : ℕ → ℕ → ℕ) (cells : Cells) (edge : Edge) (y count : ℕ) (nears : List (Option Near)) → AreRowAnswers (λ distance x y near. near) None d cells edge y count nears → AreRowNears d cells edge y count nears
 AreRowNears-answers d cells edge y count nears answers = record { as_many = answers.as_many; each = answers.each }
 
--- what a column's obstacle is seen at, by its spot
-pub near_seen : (d : ℕ → ℕ → ℕ) (entries : List ℕ) (edge : Edge) (y column x : ℕ) → shift edge ≤ x → shift edge ≤ y
+-- the obstacle of a column is seen at the distance of its spot
+near_seen : (d : ℕ → ℕ → ℕ) (entries : List ℕ) (edge : Edge) (y column x : ℕ) → shift edge ≤ x → shift edge ≤ y
     → (near_from d entries y edge column x).dist ≡ spot_distance d (x - shift edge) (y - shift edge) (spot_of edge column (slice_index entries column)).x (spot_of edge column (slice_index entries column)).y
 near_seen d entries edge y column x left top =
     let across : x - shift edge + shift edge ≡ x = omega arith in
     let down : y - shift edge + shift edge ≡ y = omega arith in
     rw (across, down) at (spot_seen d edge (x - shift edge) (y - shift edge) column (slice_index entries column))
 
--- the same of the obstacle of the nearest column
-pub near_column_seen : (d : ℕ → ℕ → ℕ) (entries : List ℕ) (edge : Edge) (y x : ℕ) (near : Near) → IsNearColumn d entries y edge x (Some near) → shift edge ≤ x → shift edge ≤ y
+-- the obstacle of the nearest column is seen at the distance of its spot
+near_column_seen : (d : ℕ → ℕ → ℕ) (entries : List ℕ) (edge : Edge) (y x : ℕ) (near : Near) → IsNearColumn d entries y edge x (Some near) → shift edge ≤ x → shift edge ≤ y
     → near.dist ≡ spot_distance d (x - shift edge) (y - shift edge) near.cell.x near.cell.y
 near_column_seen d entries edge y x near (column, best, same) left top =
     subst (λ (n : Near). n.dist ≡ spot_distance d (x - shift edge) (y - shift edge) n.cell.x n.cell.y) (sym same) (near_seen d entries edge y column x left top)
 
--- an answer that keeps what was found tells the nearest column's obstacle
-pub told_kept : {T : Type 0} (told : Reading T) (nothing : T) (d : ℕ → ℕ → ℕ) (entries : List ℕ) (edge : Edge) (y x place best away : ℕ) (near : Near) (kept : T) (answers : List T) → IsTold d entries y edge place best away
+-- an answer that keeps the nearest column's obstacle tells it
+pub near_kept : {T : Type 0} (told : Reading T) (nothing : T) (d : ℕ → ℕ → ℕ) (entries : List ℕ) (edge : Edge) (y x : ℕ) (near : Near) (kept : T) (answers : List T) → IsNearColumn d entries y edge (x + shift edge) (Some near) → shift edge ≤ y
+    → ((distance : ℕ → ℕ → ℕ) (a b : ℕ) → near.dist ≡ spot_distance distance a b near.cell.x near.cell.y → told distance a b kept ≡ Some near) → x < length answers
+    → IsNearColumn d entries y edge (x + shift edge) (told d x (y - shift edge) (slice_index_or (slice_set answers x kept) x nothing))
+near_kept told nothing d entries edge y x near kept answers found top keeps inside =
+    let back : x + shift edge - shift edge ≡ x = omega arith in
+    let seen : near.dist ≡ spot_distance d x (y - shift edge) near.cell.x near.cell.y = rw back at (near_column_seen d entries edge y (x + shift edge) near found (omega arith) top) in
+    rw (get_or-set_same answers x kept nothing inside, keeps d x (y - shift edge) seen) found
+
+-- an answer that keeps what was found side by side tells the nearest column's obstacle
+pub told_kept : {T : Type 0} (told : Reading T) (nothing : T) (d : ℕ → ℕ → ℕ) (entries : List ℕ) (edge : Edge) (y x place best away : ℕ) (near : Near) (kept : T) (answers : List T) → IsToldByLanes d entries y edge place best away
     → near ≡ record { dist = best; cell = spot_of edge (place + away - 128) (slice_index entries (place + away - 128)) } → place ≡ x + shift edge → shift edge ≤ y
     → ((distance : ℕ → ℕ → ℕ) (a b : ℕ) → near.dist ≡ spot_distance distance a b near.cell.x near.cell.y → told distance a b kept ≡ Some near) → x < length answers
     → IsNearColumn d entries y edge (x + shift edge) (told d x (y - shift edge) (slice_index_or (slice_set answers x kept) x nothing))
 told_kept told nothing d entries edge y x place best away near kept answers found near_is place_is top keeps inside =
     let here : IsNearColumn d entries y edge place (Some near) = rw near_is found.near in
-    let there : IsNearColumn d entries y edge (x + shift edge) (Some near) = rw place_is at here in
-    let back : x + shift edge - shift edge ≡ x = omega arith in
-    let seen : near.dist ≡ spot_distance d x (y - shift edge) near.cell.x near.cell.y = rw back at (near_column_seen d entries edge y (x + shift edge) near there (omega arith) top) in
-    rw (get_or-set_same answers x kept nothing inside, keeps d x (y - shift edge) seen) there
+    near_kept told nothing d entries edge y x near kept answers (rw place_is at here) top keeps inside
+
+-- what a word tells is the nearest column's obstacle
+pub near_of_word : (d : ℕ → ℕ → ℕ) (entries : List ℕ) (edge : Edge) (y x word : ℕ) (near : Near) → IsToldBy d entries y x word
+    → near ≡ record { dist = word / 8192; cell = spot_of edge (word % 8192) (slice_index entries (word % 8192)) } → IsNearColumn d entries y edge x (Some near)
+near_of_word d entries edge y x word near told near_is = (word % 8192, told.best, rw (near_is, told.far) refl)

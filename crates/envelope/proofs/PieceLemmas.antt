@@ -1,11 +1,11 @@
--- The columns that are enough for a piece of a row: those between the nearest ones to the cells beside it.
+-- The columns that are enough for a piece of a row: those between the nearest ones to the cells next to it.
 use Rattle.std.proofs.Common.{◌≡◌, ℕ, ◌+◌, ◌-◌, ◌<◌, ◌≤◌, inl, inr, List, length, slice_index, ap, unsigned_abs, arith}
 use Rattle.std.proofs.lemmas.Bool.{cases_lt}
 use Rattle.metric.specs.Crossing.{AreColumns, IsRightNearer, StaysNearer}
 use Rattle.metric.specs.declared.edge.Edge.TheVariants.{Open}
 use Rattle.metric.specs.declared.near.Near.{Near}
 use Rattle.envelope.specs.Beside.{AreTold}
-use Rattle.envelope.specs.Columns.{AreEntries, IsAmong, IsBest, IsFrom, distance_from, gap_of}
+use Rattle.envelope.specs.Columns.{AreEntries, IsAmong, IsBest, IsColumnFrom, distance_from, gap_of}
 use Rattle.envelope.specs.Pieces.{IsBeaten, IsBestOfAll, IsEnough, IsLeftBound, IsPiece, IsRightBound}
 use Rattle.envelope.proofs.Entries.{pairs_left}
 
@@ -76,7 +76,7 @@ module _ (d : ℕ → ℕ → ℕ) (entries : List ℕ) (y : ℕ) (stays : Stays
       | inr whole ↦ let within = right.within in let is = right.whole (omega (arith, whole, within)) in omega (arith, is)
     ]
 
-    -- the first column isn't behind the last one
+    -- the first column isn't after the last one
     columns_order : first ≤ last
     columns_order = elim (cases_lt last first) [
       | inl less ↦ elim (cases_lt end (length entries)) [
@@ -95,7 +95,7 @@ module _ (d : ℕ → ℕ → ℕ) (entries : List ℕ) (y : ℕ) (stays : Stays
     piece_between = record { columns = columns_order; inside = last_inside; some = some; within = right.within }
 
     -- a column left of the first one is beaten by it
-    beaten_left : (x other : ℕ) → start ≤ x → x < end → IsAmong entries (length entries) other → other < first → IsBeaten d (gap_of entries y) (IsFrom entries first last) x other
+    beaten_left : (x other : ℕ) → start ≤ x → x < end → IsAmong entries (length entries) other → other < first → IsBeaten d (gap_of entries y) (IsColumnFrom entries first last) x other
     beaten_left x other from below among before =
         let (cell, cell_before, best) = left.best other among before in
         let within = right.within in
@@ -118,7 +118,7 @@ module _ (d : ℕ → ℕ → ℕ) (entries : List ℕ) (y : ℕ) (stays : Stays
         }
 
     -- a column right of the last one is beaten by it
-    beaten_right : (x other : ℕ) → start ≤ x → x < end → IsAmong entries (length entries) other → last ≤ other → IsBeaten d (gap_of entries y) (IsFrom entries first last) x other
+    beaten_right : (x other : ℕ) → start ≤ x → x < end → IsAmong entries (length entries) other → last ≤ other → IsBeaten d (gap_of entries y) (IsColumnFrom entries first last) x other
     beaten_right x other from below among beyond = elim (cases_lt end (length entries)) [
       | inl inside ↦
           let (one, best) = right.best inside in
@@ -157,7 +157,7 @@ module _ (d : ℕ → ℕ → ℕ) (entries : List ℕ) (y : ℕ) (stays : Stays
     ]
 
 -- the nearest column that one of eight cells knows
-pub told_best : (d : ℕ → ℕ → ℕ) (entries : List ℕ) (y start i : ℕ) (best away : List ℕ) → AreTold d entries y Open start best away → i < 8 → start + i < length entries
+told_best : (d : ℕ → ℕ → ℕ) (entries : List ℕ) (y start i : ℕ) (best away : List ℕ) → AreTold d entries y Open start best away → i < 8 → start + i < length entries
     → IsBestOfAll d entries y (start + i) (start + i + slice_index away i - 128)
 told_best d entries y start i best away told few inside =
     let (column, is_best, same) = (told i few inside).near in
@@ -165,7 +165,7 @@ told_best d entries y start i best away told few inside =
     rw column_is is_best
 
 -- the nearest column to a cell bounds those of the cells further right
-pub bound_of : (d : ℕ → ℕ → ℕ) (entries : List ℕ) (y cell start first : ℕ) → cell ≤ start → IsBestOfAll d entries y cell first → IsLeftBound d entries y start first
+bound_of : (d : ℕ → ℕ → ℕ) (entries : List ℕ) (y cell start first : ℕ) → cell ≤ start → IsBestOfAll d entries y cell first → IsLeftBound d entries y start first
 bound_of d entries y cell start first before best = let own = best.among.left in record { inside = omega (arith, own); best = λ other among left. (cell, before, best) }
 
 -- the nearest column to a cell ends the columns of a piece before it
@@ -185,16 +185,3 @@ pub told_left : (d : ℕ → ℕ → ℕ) (entries : List ℕ) (y at next first 
     → IsLeftBound d entries y next first
 told_left d entries y at next first best away next_is inside first_is told =
     bound_of d entries y (at + 7) next first (omega (arith, next_is)) (rw first_is (told_best d entries y at 7 best away told (omega arith) (omega (arith, inside, next_is))))
-
--- a whole row is a piece
-pub piece_whole : (entries : List ℕ) → 0 < length entries → IsPiece entries (record { from = 0; end = length entries; first = 0; last = length entries })
-piece_whole entries some = record { columns = omega arith; inside = omega arith; some = some; within = omega arith }
-
--- for a whole row all of its columns are enough
-pub enough_whole : (d : ℕ → ℕ → ℕ) (entries : List ℕ) (y : ℕ) → IsEnough d entries y (record { from = 0; end = length entries; first = 0; last = length entries })
-enough_whole d entries y x other from below among = record {
-  by = other;
-  among = record { low = omega arith; among = among };
-  not_farther = omega arith;
-  nearer = λ left_of. absurd (omega (arith, left_of));
-}

@@ -3,13 +3,13 @@ use Rattle.std.proofs.Common.{◌≡◌, ℕ, ◌+◌, ◌-◌, ◌<◌, ◌≤�
 use Rattle.std.proofs.lemmas.Bool.{cases_lt}
 use Rattle.envelope.specs.declared.cover.Span.{Span}
 use Rattle.envelope.specs.Columns.{IsBest, IsCrossing, distance_from}
-use Rattle.envelope.specs.Envelope.{IsCovered, IsCut, IsEnvelope, IsKept, IsStart, span_at}
+use Rattle.envelope.specs.Envelope.{IsCovered, IsCutAt, IsEnvelope, AreSpansKept, IsStart, span_at}
 use Rattle.envelope.proofs.Envelopes.{IsMore, best_new, envelope_same, envelope_stays}
 
 -- one more column, the column of the last span, and the cell from which on the one is strictly nearer than the other
 record IsMeeting (d : ℕ → ℕ → ℕ) (gaps : ℕ → ℕ) (P : ℕ → Type 0) (u : ℕ) (spans : List Span) (width count start : ℕ) : Type 0 where
   pub few : width ≤ 4098
-  pub cut : IsCut d gaps P spans (suc count) width u
+  pub cut : IsCutAt d gaps P spans (suc count) width u
   pub kept : distance_from d gaps (span_at spans count).column (span_at spans count).start ≤ distance_from d gaps u (span_at spans count).start
   pub crossing : IsCrossing d (span_at spans count).column (gaps (span_at spans count).column) u (gaps u) start
 
@@ -87,9 +87,9 @@ covered_next d gaps P Q u spans others width count start more meeting inside her
     let below : IsEnvelope d gaps Q others (suc count) start = envelope_same d gaps Q spans others (suc count) start same (stays_before d gaps P Q u spans width count start start more meeting first (omega arith) within) in
     rw here (record { some = inside; best = λ x from end. best_from d gaps P Q u spans width count start x more meeting from end; gap_is = refl }, below)
 
--- the spans of the first column
+-- the first column has the whole row as its one span
 covered_first : (d : ℕ → ℕ → ℕ) (gaps : ℕ → ℕ) (P Q : ℕ → Type 0) (u : ℕ) (spans others : List Span) (width : ℕ) → IsMore gaps P Q u
-    → IsCut d gaps P spans zero width u → 0 < width → span_at others zero ≡ record { start = 0; column = u; gap = gaps u }
+    → IsCutAt d gaps P spans zero width u → 0 < width → span_at others zero ≡ record { start = 0; column = u; gap = gaps u }
     → IsEnvelope d gaps Q others (suc zero) width
 covered_first d gaps P Q u spans others width more cut some here =
     let none = cut.covered in
@@ -97,7 +97,7 @@ covered_first d gaps P Q u spans others width more cut some here =
 
 -- what is known where spans were kept
 meeting_of : (d : ℕ → ℕ → ℕ) (gaps : ℕ → ℕ) (P : ℕ → Type 0) (u : ℕ) (spans : List Span) (width total count start : ℕ) → width ≤ 4098
-    → IsKept d gaps P spans total (suc count) width u → IsStart d gaps spans (suc count) u start → IsMeeting d gaps P u spans width count start
+    → AreSpansKept d gaps P spans total (suc count) width u → IsStart d gaps spans (suc count) u start → IsMeeting d gaps P u spans width count start
 meeting_of d gaps P u spans width total count start few kept meets =
     let before : suc count - 1 ≡ count = omega arith in
     let gap = kept.cut.covered.0.gap_is in
@@ -106,7 +106,7 @@ meeting_of d gaps P u spans width total count start few kept meets =
 
 -- the spans of the whole row once a column has been put on whose first cell lies in the row
 pub covered_with : (d : ℕ → ℕ → ℕ) (gaps : ℕ → ℕ) (P Q : ℕ → Type 0) (u : ℕ) (spans others : List Span) (width total count start : ℕ) → width ≤ 4098 → IsMore gaps P Q u
-    → IsKept d gaps P spans total count width u → IsStart d gaps spans count u start → start < width
+    → AreSpansKept d gaps P spans total count width u → IsStart d gaps spans count u start → start < width
     → span_at others count ≡ record { start = start; column = u; gap = gaps u }
     → ((place : ℕ) → place < count → span_at others place ≡ span_at spans place)
     → IsCovered d gaps Q others (count + 1) width
@@ -123,7 +123,7 @@ covered_with d gaps P Q u spans others width total (suc count) start few more ke
 
 -- the spans of the whole row stay where the column's first cell doesn't lie in it
 pub covered_without : (d : ℕ → ℕ → ℕ) (gaps : ℕ → ℕ) (P Q : ℕ → Type 0) (u : ℕ) (spans : List Span) (width total count start : ℕ) → 0 < width → width ≤ 4098 → IsMore gaps P Q u
-    → IsKept d gaps P spans total count width u → IsStart d gaps spans count u start → width ≤ start
+    → AreSpansKept d gaps P spans total count width u → IsStart d gaps spans count u start → width ≤ start
     → IsCovered d gaps Q spans count width
 covered_without d gaps P Q u spans width total zero start wide few more kept meets outside = let first = meets.none refl in absurd (omega (arith, first))
 covered_without d gaps P Q u spans width total (suc count) start wide few more kept meets outside =

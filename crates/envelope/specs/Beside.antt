@@ -1,4 +1,4 @@
--- What is known of cells whose columns are looked at side by side, from the nearest outwards: this project's own rule. Each column has a place, 128 behind its number, so that there are places on both sides of all columns.
+-- What is known of cells whose columns are looked at side by side, from the nearest outwards: this project's own rule. Each column has a place, 128 after its number, so that there are places on both sides of all columns.
 use Rattle.std.specs.Prelude.{◌≡◌, ℕ, ◌+◌, ◌-◌, ◌<◌, ◌≤◌, List, length, slice_index, Some}
 use Rattle.std.specs.Int.{abs_diff}
 use Rattle.metric.specs.Edge.{spot_of}
@@ -10,7 +10,7 @@ abbrev pub AreSmall : List ℕ → Type 0
 AreSmall parts = (p : ℕ) → p < length parts → slice_index parts p ≤ 32400
 
 -- the parts of a row's columns, each at its place; those of the other places stand for no obstacle
-pub record AreParts (part : ℕ → ℕ) (entries : List ℕ) (y : ℕ) (parts : List ℕ) : Type 0 where
+pub record AreColumnParts (part : ℕ → ℕ) (entries : List ℕ) (y : ℕ) (parts : List ℕ) : Type 0 where
   pub as_many : length parts ≡ length entries + 272
   pub small : AreSmall parts
   pub each : (column : ℕ) → column < length entries → slice_index parts (column + 128) ≡ part (abs_diff y (slice_index entries column))
@@ -48,11 +48,11 @@ abbrev pub AreDecided : (ℕ → ℕ → ℕ) → (ℕ → ℕ → ℕ) → List
 AreDecided distance joined parts at best away = (i : ℕ) → i < 8 → IsDecided distance joined parts (at + i) (slice_index best i) (slice_index away i)
 
 -- what a cell's best and how far right of 128 columns to its left it lies tell: the obstacle of the column that is the nearest to it
-pub record IsTold (distance : ℕ → ℕ → ℕ) (entries : List ℕ) (y : ℕ) (edge : Edge) (x best away : ℕ) : Type 0 where
+pub record IsToldByLanes (distance : ℕ → ℕ → ℕ) (entries : List ℕ) (y : ℕ) (edge : Edge) (x best away : ℕ) : Type 0 where
   pub right : 128 ≤ x + away
   pub inside : x + away - 128 < length entries
   pub near : IsNearColumn distance entries y edge x (Some (record { dist = best; cell = spot_of edge (x + away - 128) (slice_index entries (x + away - 128)) }))
 
 -- the same of eight cells, as far as the row has them
 abbrev pub AreTold : (ℕ → ℕ → ℕ) → List ℕ → ℕ → Edge → ℕ → List ℕ → List ℕ → Type 0
-AreTold distance entries y edge start best away = (i : ℕ) → i < 8 → start + i < length entries → IsTold distance entries y edge (start + i) (slice_index best i) (slice_index away i)
+AreTold distance entries y edge start best away = (i : ℕ) → i < 8 → start + i < length entries → IsToldByLanes distance entries y edge (start + i) (slice_index best i) (slice_index away i)

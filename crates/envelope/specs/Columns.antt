@@ -20,7 +20,7 @@ pub record IsAmong (entries : List ℕ) (count column : ℕ) : Type 0 where
   pub some : slice_index entries column ≢ 65535
 
 -- one of the columns from one to before another, with an obstacle
-pub record IsFrom (entries : List ℕ) (first count column : ℕ) : Type 0 where
+pub record IsColumnFrom (entries : List ℕ) (first count column : ℕ) : Type 0 where
   pub low : first ≤ column
   pub among : IsAmong entries count column
 

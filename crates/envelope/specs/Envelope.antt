@@ -29,16 +29,16 @@ pub record IsCovered (distance : ℕ → ℕ → ℕ) (gaps : ℕ → ℕ) (Amon
   pub some : 0 < count → IsEnvelope distance gaps Among spans count width
 
 -- the first spans are those of the cells up to some end, and from there on one more column is strictly nearer than all
-pub record IsCut (distance : ℕ → ℕ → ℕ) (gaps : ℕ → ℕ) (Among : ℕ → Type 0) (spans : List Span) (count width column : ℕ) : Type 0 where
+pub record IsCutAt (distance : ℕ → ℕ → ℕ) (gaps : ℕ → ℕ) (Among : ℕ → Type 0) (spans : List Span) (count width column : ℕ) : Type 0 where
   pub end : ℕ
   pub within : end ≤ width
   pub covered : IsEnvelope distance gaps Among spans count end
   pub beyond : (x : ℕ) → end ≤ x → x < width → (other : ℕ) → Among other → distance_from distance gaps column x < distance_from distance gaps other x
 
 -- so many spans are kept for one more column: it is strictly nearer where those taken off were, and not at the first cell of the last one kept
-pub record IsKept (distance : ℕ → ℕ → ℕ) (gaps : ℕ → ℕ) (Among : ℕ → Type 0) (spans : List Span) (count kept width column : ℕ) : Type 0 where
+pub record AreSpansKept (distance : ℕ → ℕ → ℕ) (gaps : ℕ → ℕ) (Among : ℕ → Type 0) (spans : List Span) (count kept width column : ℕ) : Type 0 where
   pub few : kept ≤ count
-  pub cut : IsCut distance gaps Among spans kept width column
+  pub cut : IsCutAt distance gaps Among spans kept width column
   pub top : 0 < kept → let span = span_at spans (kept - 1) in distance_from distance gaps span.column span.start ≤ distance_from distance gaps column span.start
 
 -- where the kept spans and one more column meet: at the first cell of an empty stack, otherwise where the column becomes strictly nearer than the last span's

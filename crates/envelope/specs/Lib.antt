@@ -4,3 +4,4 @@ pub mod Columns
 pub mod Envelope
 pub mod Pieces
 pub mod Rows
+pub mod Scans

@@ -1,6 +1,6 @@
 -- A piece of a row: some cells, and the columns that are enough for them. This project's own rule.
 use Rattle.std.specs.Prelude.{◌≡◌, ℕ, ◌-◌, ◌<◌, ◌≤◌, List, length}
-use Rattle.envelope.specs.Columns.{IsAmong, IsBest, IsFrom, distance_from, gap_of}
+use Rattle.envelope.specs.Columns.{IsAmong, IsBest, IsColumnFrom, distance_from, gap_of}
 use Rattle.envelope.specs.declared.piece.Piece.{Piece}
 
 -- the cells and the columns of a piece are those of a row, and there is a cell at least
@@ -19,7 +19,7 @@ pub record IsBeaten (distance : ℕ → ℕ → ℕ) (gaps : ℕ → ℕ) (Among
 
 -- for each cell of the piece each column of the row is beaten by one of the piece
 abbrev pub IsEnough : (ℕ → ℕ → ℕ) → List ℕ → ℕ → Piece → Type 0
-IsEnough distance entries y piece = (x other : ℕ) → piece.from ≤ x → x < piece.end → IsAmong entries (length entries) other → IsBeaten distance (gap_of entries y) (IsFrom entries piece.first piece.last) x other
+IsEnough distance entries y piece = (x other : ℕ) → piece.from ≤ x → x < piece.end → IsAmong entries (length entries) other → IsBeaten distance (gap_of entries y) (IsColumnFrom entries piece.first piece.last) x other
 
 -- of all columns of the row the nearest to the cell x
 abbrev pub IsBestOfAll : (ℕ → ℕ → ℕ) → List ℕ → ℕ → ℕ → ℕ → Type 0
@@ -30,7 +30,7 @@ pub record IsLeftBound (distance : ℕ → ℕ → ℕ) (entries : List ℕ) (y 
   pub inside : first ≤ length entries
   pub best : (other : ℕ) → IsAmong entries (length entries) other → other < first → (cell : ℕ) × (cell ≤ start) × IsBestOfAll distance entries y cell first
 
--- the end of a piece and the column before which its columns end: those of the whole row, or the column behind the nearest one to the cell at the end
+-- the end of a piece and the column before which its columns end: those of the whole row, or the column after the nearest one to the cell at the end
 pub record IsRightBound (distance : ℕ → ℕ → ℕ) (entries : List ℕ) (y end last : ℕ) : Type 0 where
   pub within : end ≤ length entries
   pub whole : end ≡ length entries → last ≡ length entries

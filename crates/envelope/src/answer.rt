@@ -7,7 +7,7 @@ ghost use Rattle.metric.specs.declared.near.Near.{Near};
 use metric::Near;
 
 /// What is kept of a cell's nearest obstacle, or that there is none.
-pub trait Answer: Copy {
+pub trait CellAnswer: Copy {
     /// The nearest obstacle that it tells, seen from the cell of this column and row, by a metric's distance.
     ghost told: { (ℕ → ℕ → ℕ) → ℕ → ℕ → Self → Option Near };
 
@@ -24,13 +24,14 @@ pub trait Answer: Copy {
         requires column { near.cell.x ≤ℤ pos 4097 }
         requires top { negsuc 0 ≤ℤ near.cell.y }
         requires row { near.cell.y ≤ℤ pos 4097 }
-        ensures { (distance : ℕ → ℕ → ℕ) (x y : ℕ) → near.dist ≡ spot_distance distance x y near.cell.x near.cell.y → told distance x y result ≡ Some near };
+        ensures { (distance : ℕ → ℕ → ℕ) (x y : ℕ) → near.dist ≡ spot_distance distance x y near.cell.x near.cell.y
+            → told distance x y result ≡ Some near };
 
     /// Where there is none, none is told.
     ghost tells_nothing: { (distance : ℕ → ℕ → ℕ) (x y : ℕ) → told distance x y nothing ≡ None };
 }
 
-impl Answer for Option<Near> {
+impl CellAnswer for Option<Near> {
     ghost use Rattle.std.specs.Prelude.{refl};
 
     ghost told = { λ distance x y near. near };

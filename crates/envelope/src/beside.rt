@@ -1,20 +1,24 @@
-//! The row phase without branches: for eight cells side by side the columns are looked at from the nearest outwards. Cells whose nearest column isn't found near by go to the stack, with the columns between those that are the nearest to the cells beside them.
+//! The row phase without branches: for sixteen cells side by side, in two times eight lanes, the columns are looked at from the nearest
+//! outwards. Cells whose nearest column isn't found near by go to the stack. With them go the columns between those that are the nearest to
+//! the cells next to them.
 //!
-//! Each column has a place, 128 behind its number, and a part at this place: what its gap has in a distance of 16 bits. The places before the first column and behind the last one, and those of columns without an obstacle, have the part that stands for no obstacle. A column is named by how far right it lies of 128 columns to the left of the cell.
+//! Each column has a place, 128 after its number, and a part at this place: what its gap has in a distance of 16 bits. The places before
+//! the first column and after the last one, and those of columns without an obstacle, have the part that stands for no obstacle. A column
+//! is named by how far right it lies of 128 columns to the left of the cell.
 
 ghost use Rattle.std.specs.Prelude.{◌≡◌, ℕ, negsuc, pos, ◌+◌, ◌-◌, ◌*◌, ◌≤ℤ◌, ◌<◌, ◌≤◌, ◌⊎◌, length, slice_index, slice_index_or, Some, IfSome};
 ghost use Rattle.metric.specs.Edge.{shift, spot_of};
 ghost use Rattle.metric.specs.declared.edge.Edge.TheVariants.{Open, Wall};
-ghost use Rattle.envelope.specs.Beside.{AreBestNear, AreDecided, AreParts, AreSmall, AreTold};
+ghost use Rattle.envelope.specs.Beside.{AreBestNear, AreDecided, AreColumnParts, AreSmall, AreTold};
 ghost use Rattle.envelope.specs.Columns.{AreEntries, AreNearColumns, IsNearColumn};
 ghost use Rattle.envelope.specs.Pieces.{IsLeftBound, IsRightBound};
 
-use crate::answer::Answer;
+use crate::answer::CellAnswer;
 use crate::cover::Span;
 use crate::lanes::{all_of, are_below, chosen, least, load};
 use crate::piece::{Piece, fill_piece};
 use column::NONE;
-use metric::{Edge, Metric, Near};
+use metric::{Edge, FRAMED_SIDE, LAST_FRAMED, Metric, Near};
 use std::simd::prelude::*;
 
 /// The place of the first column.
@@ -48,7 +52,7 @@ struct Eight {
 }
 
 /// Fills the row with the obstacle of the column that is the nearest to each cell. Answers whether most cells were found near by. `parts` has room for a place for each column and 272 more, and `spans` for each column.
-pub fn fill_beside<M: Metric, A: Answer>(
+pub fn fill_beside<M: Metric, A: CellAnswer>(
     entries: &[u16],
     y: u16,
     edge: Edge,
@@ -73,7 +77,7 @@ pub fn fill_beside<M: Metric, A: Answer>(
 /// The same where the border is open.
 // Not inlined: the two phases would compete for registers.
 #[inline(never)]
-fn fill_open<M: Metric, A: Answer>(
+fn fill_open<M: Metric, A: CellAnswer>(
     entries: &[u16],
     y: u16,
     parts: &mut [u16],
@@ -92,7 +96,7 @@ fn fill_open<M: Metric, A: Answer>(
 
 /// The same where the border is a wall.
 #[inline(never)]
-fn fill_walled<M: Metric, A: Answer>(
+fn fill_walled<M: Metric, A: CellAnswer>(
     entries: &[u16],
     y: u16,
     parts: &mut [u16],
@@ -112,7 +116,7 @@ fn fill_walled<M: Metric, A: Answer>(
 
 /// The same by an edge that is known where this is inlined, so that no cell asks for it.
 #[inline(always)]
-fn fill_within<M: Metric, A: Answer>(
+fn fill_within<M: Metric, A: CellAnswer>(
     entries: &[u16],
     y: u16,
     edge: Edge,
@@ -162,7 +166,7 @@ fn fill_within<M: Metric, A: Answer>(
 fn first_column<M: Metric>(entries: &[u16], y: u16, parts: &[u16], start: usize) -> usize
     requires laned { 0 < M.reach_of 1 }
     requires entries { AreEntries entries.now y }
-    requires parts { AreParts M.part_of entries.now y parts.now }
+    requires parts { AreColumnParts M.part_of entries.now y parts.now }
     requires start { start < length entries.now }
     ensures { IsLeftBound M.distance entries.now y start result }
 {
@@ -175,7 +179,7 @@ fn first_column<M: Metric>(entries: &[u16], y: u16, parts: &[u16], start: usize)
     }
 }
 
-/// The next cell whose nearest column is found near by, of those at growing distances from one; the column behind that one, and how many steps were taken. The row's end and its last column where there is none.
+/// The next cell whose nearest column is found near by, of those at growing distances from one; the column after that one, and how many steps were taken. The row's end and its last column where there is none.
 #[inline(never)]
 fn next_found<M: Metric>(
     entries: &[u16],
@@ -186,7 +190,7 @@ fn next_found<M: Metric>(
 ) -> (usize, usize, u16)
     requires laned { 0 < M.reach_of 1 }
     requires entries { AreEntries entries.now y }
-    requires parts { AreParts M.part_of entries.now y parts.now }
+    requires parts { AreColumnParts M.part_of entries.now y parts.now }
     requires start { start < length entries.now }
     ensures further { start < result.0 }
     ensures bound { IsRightBound M.distance entries.now y result.0 result.1 }
@@ -238,7 +242,7 @@ fn set_parts<M: Metric>(entries: &[u16], y: u16, parts: &mut [u16])
     requires laned { 0 < M.reach_of 1 }
     requires entries { AreEntries entries.now y }
     requires room { length parts.old ≡ length entries.now + 272 }
-    ensures { AreParts M.part_of entries.now y parts.new }
+    ensures { AreColumnParts M.part_of entries.now y parts.new }
 {
     parts.fill(NO_PART);
     'columns: for column in 0..entries.len() {
@@ -328,7 +332,7 @@ fn look_aside<M: Metric>(parts: &[u16], at: usize, k: u16, best: u16x8, away: u1
 
 /// Fills up to eight cells, as far as the row has them.
 #[inline(always)]
-fn fill_eight<M: Metric, A: Answer>(
+fn fill_eight<M: Metric, A: CellAnswer>(
     entries: &[u16],
     y: u16,
     edge: Edge,
@@ -342,8 +346,11 @@ fn fill_eight<M: Metric, A: Answer>(
     requires start { start ≤ 4113 }
     requires told { AreTold M.distance entries.now y edge (start + shift edge) eight.best eight.away }
     ensures len { length answers.new ≡ length answers.old }
-    ensures filled { (x : ℕ) → start ≤ x → x < start + 8 → x < length answers.old → IsNearColumn M.distance entries.now y edge (x + shift edge) (A.told M.distance x (y - shift edge) (slice_index_or answers.new x A.nothing)) }
-    ensures others { (x : ℕ) → (x < start) ⊎ (start + 8 ≤ x) → slice_index_or answers.new x A.nothing ≡ slice_index_or answers.old x A.nothing }
+    ensures filled { (x : ℕ) → start ≤ x → x < start + 8 → x < length answers.old
+        → IsNearColumn M.distance entries.now y edge (x + shift edge)
+        (A.told M.distance x (y - shift edge) (slice_index_or answers.new x A.nothing)) }
+    ensures others { (x : ℕ) → (x < start) ⊎ (start + 8 ≤ x)
+        → slice_index_or answers.new x A.nothing ≡ slice_index_or answers.old x A.nothing }
 {
     let (best, away) = (eight.best.to_array(), eight.away.to_array());
     let first = usize::from(edge.shift());
@@ -357,16 +364,16 @@ fn fill_eight<M: Metric, A: Answer>(
 /// The obstacle of the column so far right of 128 columns to the left of the cell in column `x`.
 #[inline(always)]
 fn near(entries: &[u16], edge: Edge, x: usize, best: u16, away: u16) -> Near
-    requires few { length entries.now ≤ 4098 }
+    requires few { length entries.now ≤ FRAMED_SIDE }
     requires right { 128 ≤ x + away }
-    requires cell { x ≤ 4097 }
+    requires cell { x ≤ LAST_FRAMED }
     requires inside { x + away - 128 < length entries.now }
-    requires row { slice_index entries.now (x + away - 128) ≤ 4097 }
+    requires row { slice_index entries.now (x + away - 128) ≤ LAST_FRAMED }
     ensures near { result ≡ record { dist = best; cell = spot_of edge (x + away - 128) (slice_index entries.now (x + away - 128)) } }
     ensures left { negsuc 0 ≤ℤ result.cell.x }
-    ensures column { result.cell.x ≤ℤ pos 4097 }
+    ensures column { result.cell.x ≤ℤ pos LAST_FRAMED }
     ensures top { negsuc 0 ≤ℤ result.cell.y }
-    ensures below { result.cell.y ≤ℤ pos 4097 }
+    ensures below { result.cell.y ≤ℤ pos LAST_FRAMED }
 {
     let column = x + usize::from(away) - 128;
     Near {

@@ -6,23 +6,23 @@ ghost use Rattle.std.specs.Prelude.{◌≡◌, ℕ, ◌<◌, ◌≤◌, length};
 ghost use Rattle.metric.specs.Crossing.{AreColumns, at_column};
 ghost use Rattle.envelope.specs.Columns.{AreEntries, IsAmong, IsCrossing, gap_of};
 
-use metric::Metric;
+use metric::{LAST_FRAMED, Metric};
 
 /// How many rows away the column's obstacle lies.
 pub fn gap(entries: &[u16], y: u16, column: u16) -> u16
     requires entries { AreEntries entries.now y }
     requires column { IsAmong entries.now (length entries.now) column }
     ensures gap { result ≡ gap_of entries.now y column }
-    ensures small { result ≤ 4097 }
+    ensures small { result ≤ LAST_FRAMED }
 {
     y.abs_diff(entries[usize::from(column)])
 }
 
 /// The distance from the cell in column `x` to the obstacle of a column with this gap.
 pub fn distance<M: Metric>(column: u16, gap: u16, x: u16) -> u32
-    requires column { column ≤ 4097 }
-    requires gap { gap ≤ 4097 }
-    requires cell { x ≤ 4097 }
+    requires column { column ≤ LAST_FRAMED }
+    requires gap { gap ≤ LAST_FRAMED }
+    requires cell { x ≤ LAST_FRAMED }
     ensures { result ≡ at_column M.distance column gap x }
 {
     M::of(x.abs_diff(column), gap)

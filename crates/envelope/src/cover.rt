@@ -2,8 +2,8 @@
 
 ghost use Rattle.std.specs.Prelude.{ℕ, ◌+◌, ◌-◌, ◌<◌, ◌≤◌, length};
 ghost use Rattle.metric.specs.Crossing.{AreColumns};
-ghost use Rattle.envelope.specs.Columns.{AreEntries, IsAmong, IsFrom, gap_of};
-ghost use Rattle.envelope.specs.Envelope.{IsCovered, IsKept, IsStart, span_at};
+ghost use Rattle.envelope.specs.Columns.{AreEntries, IsAmong, IsColumnFrom, gap_of};
+ghost use Rattle.envelope.specs.Envelope.{IsCovered, AreSpansKept, IsStart, span_at};
 ghost use Rattle.envelope.specs.Pieces.{IsPiece};
 
 use crate::columns::{crossing, distance, gap};
@@ -28,7 +28,8 @@ pub fn cover<M: Metric>(entries: &[u16], y: u16, piece: Piece, spans: &mut [Span
     requires piece { IsPiece entries.now piece }
     requires room { length entries.now ≤ length spans.old }
     ensures few { result ≤ length entries.now }
-    ensures covered { IsCovered M.distance (gap_of entries.now y) (IsFrom entries.now piece.first piece.last) spans.new result piece.end }
+    ensures covered { IsCovered M.distance (gap_of entries.now y)
+        (IsColumnFrom entries.now piece.first piece.last) spans.new result piece.end }
 {
     let mut count = 0;
     'columns: for column in piece.first..piece.last {
@@ -51,11 +52,12 @@ fn put_on<M: Metric>(
     requires entries { AreEntries entries.now y }
     requires piece { IsPiece entries.now piece }
     requires room { length entries.now ≤ length spans.old }
-    requires column { IsFrom entries.now piece.first (length entries.now) column }
+    requires column { IsColumnFrom entries.now piece.first (length entries.now) column }
     requires few { count ≤ column }
-    requires covered { IsCovered M.distance (gap_of entries.now y) (IsFrom entries.now piece.first column) spans.old count piece.end }
+    requires covered { IsCovered M.distance (gap_of entries.now y) (IsColumnFrom entries.now piece.first column) spans.old count piece.end }
     ensures few { result ≤ column + 1 }
-    ensures covered { IsCovered M.distance (gap_of entries.now y) (IsFrom entries.now piece.first (column + 1)) spans.new result piece.end }
+    ensures covered { IsCovered M.distance (gap_of entries.now y)
+        (IsColumnFrom entries.now piece.first (column + 1)) spans.new result piece.end }
 {
     let kept = kept_spans::<M>(entries, y, piece, column, spans, count);
     let start = start_of::<M>(entries, y, column, spans, kept);
@@ -95,9 +97,11 @@ fn kept_spans<M: Metric>(
     requires entries { AreEntries entries.now y }
     requires piece { IsPiece entries.now _piece }
     requires room { count ≤ length spans.now }
-    requires column { IsFrom entries.now _piece.first (length entries.now) column }
-    requires covered { IsCovered M.distance (gap_of entries.now y) (IsFrom entries.now _piece.first column) spans.now count _piece.end }
-    ensures { IsKept M.distance (gap_of entries.now y) (IsFrom entries.now _piece.first column) spans.now count result _piece.end column }
+    requires column { IsColumnFrom entries.now _piece.first (length entries.now) column }
+    requires covered { IsCovered M.distance (gap_of entries.now y)
+        (IsColumnFrom entries.now _piece.first column) spans.now count _piece.end }
+    ensures { AreSpansKept M.distance (gap_of entries.now y)
+        (IsColumnFrom entries.now _piece.first column) spans.now count result _piece.end column }
 {
     let gap = gap(entries, y, column);
     let mut kept = count;

@@ -4,18 +4,18 @@ ghost use Rattle.std.specs.Prelude.{◌≡◌, ℕ, negsuc, pos, ◌+◌, ◌-�
 ghost use Rattle.metric.specs.Edge.{shift};
 ghost use Rattle.metric.specs.declared.edge.Edge.TheVariants.{Open, Wall};
 ghost use Rattle.metric.specs.Nearest.{spot_distance};
-ghost use Rattle.envelope.specs.Columns.{AreEntries, IsAmong, IsFrom, IsNearColumn, gap_of, near_from};
+ghost use Rattle.envelope.specs.Columns.{AreEntries, IsAmong, IsColumnFrom, IsNearColumn, gap_of, near_from};
 ghost use Rattle.envelope.specs.Envelope.{IsCovered};
 ghost use Rattle.envelope.specs.Pieces.{IsEnough, IsPiece};
 
-use crate::answer::Answer;
+use crate::answer::CellAnswer;
 use crate::columns::{distance, gap};
 use crate::cover::Span;
 use crate::piece::Piece;
-use metric::{Edge, Metric, Near};
+use metric::{Edge, LAST_FRAMED, Metric, Near};
 
 /// Fills the cells of the piece with the obstacle of the column that is the nearest to each, or with none where there is no span. Cells of the frame have no place in the row.
-pub fn fill<M: Metric, A: Answer>(
+pub fn fill<M: Metric, A: CellAnswer>(
     entries: &[u16],
     y: u16,
     edge: Edge,
@@ -28,9 +28,13 @@ pub fn fill<M: Metric, A: Answer>(
     requires piece { IsPiece entries.now piece }
     requires enough { IsEnough M.distance entries.now y piece }
     requires width { length answers.old + 2 * shift edge ≡ length entries.now }
-    requires covered { IsCovered M.distance (gap_of entries.now y) (IsFrom entries.now piece.first piece.last) spans.now (length spans.now) piece.end }
-    ensures filled { (x : ℕ) → piece.from ≤ x + shift edge → x + shift edge < piece.end → x < length answers.old → IsNearColumn M.distance entries.now y edge (x + shift edge) (A.told M.distance x (y - shift edge) (slice_index_or answers.new x A.nothing)) }
-    ensures others { (x : ℕ) → (x + shift edge < piece.from) ⊎ (piece.end ≤ x + shift edge) → slice_index_or answers.new x A.nothing ≡ slice_index_or answers.old x A.nothing }
+    requires covered { IsCovered M.distance (gap_of entries.now y)
+        (IsColumnFrom entries.now piece.first piece.last) spans.now (length spans.now) piece.end }
+    ensures filled { (x : ℕ) → piece.from ≤ x + shift edge → x + shift edge < piece.end → x < length answers.old
+        → IsNearColumn M.distance entries.now y edge (x + shift edge)
+        (A.told M.distance x (y - shift edge) (slice_index_or answers.new x A.nothing)) }
+    ensures others { (x : ℕ) → (x + shift edge < piece.from) ⊎ (piece.end ≤ x + shift edge)
+        → slice_index_or answers.new x A.nothing ≡ slice_index_or answers.old x A.nothing }
 {
     match edge {
         Edge::Open => fill_open::<M, A>(entries, y, piece, spans, answers),
@@ -41,7 +45,7 @@ pub fn fill<M: Metric, A: Answer>(
 /// The same where the border is open.
 // Not inlined: the two phases would compete for registers.
 #[inline(never)]
-fn fill_open<M: Metric, A: Answer>(
+fn fill_open<M: Metric, A: CellAnswer>(
     entries: &[u16],
     y: u16,
     piece: Piece,
@@ -53,16 +57,20 @@ fn fill_open<M: Metric, A: Answer>(
     requires piece { IsPiece entries.now piece }
     requires enough { IsEnough M.distance entries.now y piece }
     requires width { length answers.old + 2 * shift Open ≡ length entries.now }
-    requires covered { IsCovered M.distance (gap_of entries.now y) (IsFrom entries.now piece.first piece.last) spans.now (length spans.now) piece.end }
-    ensures filled { (x : ℕ) → piece.from ≤ x + shift Open → x + shift Open < piece.end → x < length answers.old → IsNearColumn M.distance entries.now y Open (x + shift Open) (A.told M.distance x (y - shift Open) (slice_index_or answers.new x A.nothing)) }
-    ensures others { (x : ℕ) → (x + shift Open < piece.from) ⊎ (piece.end ≤ x + shift Open) → slice_index_or answers.new x A.nothing ≡ slice_index_or answers.old x A.nothing }
+    requires covered { IsCovered M.distance (gap_of entries.now y)
+        (IsColumnFrom entries.now piece.first piece.last) spans.now (length spans.now) piece.end }
+    ensures filled { (x : ℕ) → piece.from ≤ x + shift Open → x + shift Open < piece.end → x < length answers.old
+        → IsNearColumn M.distance entries.now y Open (x + shift Open)
+        (A.told M.distance x (y - shift Open) (slice_index_or answers.new x A.nothing)) }
+    ensures others { (x : ℕ) → (x + shift Open < piece.from) ⊎ (piece.end ≤ x + shift Open)
+        → slice_index_or answers.new x A.nothing ≡ slice_index_or answers.old x A.nothing }
 {
     fill_within::<M, A>(entries, y, Edge::Open, piece, spans, answers);
 }
 
 /// The same where the border is a wall.
 #[inline(never)]
-fn fill_walled<M: Metric, A: Answer>(
+fn fill_walled<M: Metric, A: CellAnswer>(
     entries: &[u16],
     y: u16,
     piece: Piece,
@@ -74,16 +82,20 @@ fn fill_walled<M: Metric, A: Answer>(
     requires piece { IsPiece entries.now piece }
     requires enough { IsEnough M.distance entries.now y piece }
     requires width { length answers.old + 2 * shift Wall ≡ length entries.now }
-    requires covered { IsCovered M.distance (gap_of entries.now y) (IsFrom entries.now piece.first piece.last) spans.now (length spans.now) piece.end }
-    ensures filled { (x : ℕ) → piece.from ≤ x + shift Wall → x + shift Wall < piece.end → x < length answers.old → IsNearColumn M.distance entries.now y Wall (x + shift Wall) (A.told M.distance x (y - shift Wall) (slice_index_or answers.new x A.nothing)) }
-    ensures others { (x : ℕ) → (x + shift Wall < piece.from) ⊎ (piece.end ≤ x + shift Wall) → slice_index_or answers.new x A.nothing ≡ slice_index_or answers.old x A.nothing }
+    requires covered { IsCovered M.distance (gap_of entries.now y)
+        (IsColumnFrom entries.now piece.first piece.last) spans.now (length spans.now) piece.end }
+    ensures filled { (x : ℕ) → piece.from ≤ x + shift Wall → x + shift Wall < piece.end → x < length answers.old
+        → IsNearColumn M.distance entries.now y Wall (x + shift Wall)
+        (A.told M.distance x (y - shift Wall) (slice_index_or answers.new x A.nothing)) }
+    ensures others { (x : ℕ) → (x + shift Wall < piece.from) ⊎ (piece.end ≤ x + shift Wall)
+        → slice_index_or answers.new x A.nothing ≡ slice_index_or answers.old x A.nothing }
 {
     fill_within::<M, A>(entries, y, Edge::Wall, piece, spans, answers);
 }
 
 /// The same by an edge that is known where this is inlined, so that no cell asks for it.
 #[inline(always)]
-fn fill_within<M: Metric, A: Answer>(
+fn fill_within<M: Metric, A: CellAnswer>(
     entries: &[u16],
     y: u16,
     edge: Edge,
@@ -96,9 +108,13 @@ fn fill_within<M: Metric, A: Answer>(
     requires piece { IsPiece entries.now piece }
     requires enough { IsEnough M.distance entries.now y piece }
     requires width { length answers.old + 2 * shift edge ≡ length entries.now }
-    requires covered { IsCovered M.distance (gap_of entries.now y) (IsFrom entries.now piece.first piece.last) spans.now (length spans.now) piece.end }
-    ensures filled { (x : ℕ) → piece.from ≤ x + shift edge → x + shift edge < piece.end → x < length answers.old → IsNearColumn M.distance entries.now y edge (x + shift edge) (A.told M.distance x (y - shift edge) (slice_index_or answers.new x A.nothing)) }
-    ensures others { (x : ℕ) → (x + shift edge < piece.from) ⊎ (piece.end ≤ x + shift edge) → slice_index_or answers.new x A.nothing ≡ slice_index_or answers.old x A.nothing }
+    requires covered { IsCovered M.distance (gap_of entries.now y)
+        (IsColumnFrom entries.now piece.first piece.last) spans.now (length spans.now) piece.end }
+    ensures filled { (x : ℕ) → piece.from ≤ x + shift edge → x + shift edge < piece.end → x < length answers.old
+        → IsNearColumn M.distance entries.now y edge (x + shift edge)
+        (A.told M.distance x (y - shift edge) (slice_index_or answers.new x A.nothing)) }
+    ensures others { (x : ℕ) → (x + shift edge < piece.from) ⊎ (piece.end ≤ x + shift edge)
+        → slice_index_or answers.new x A.nothing ≡ slice_index_or answers.old x A.nothing }
 {
     if spans.is_empty() {
         let before = usize::from(edge.shift());
@@ -117,7 +133,7 @@ fn fill_within<M: Metric, A: Answer>(
 }
 
 /// Fills these cells with none.
-fn fill_none<A: Answer>(from: usize, end: usize, answers: &mut [A])
+fn fill_none<A: CellAnswer>(from: usize, end: usize, answers: &mut [A])
     requires within { end ≤ length answers.old }
     ensures none { (x : ℕ) → from ≤ x → x < end → slice_index_or answers.new x A.nothing ≡ A.nothing }
     ensures others { (x : ℕ) → (x < from) ⊎ (end ≤ x) → slice_index_or answers.new x A.nothing ≡ slice_index_or answers.old x A.nothing }
@@ -129,7 +145,7 @@ fn fill_none<A: Answer>(from: usize, end: usize, answers: &mut [A])
 
 /// Fills the cells of one span, from one of them on and up to the end.
 #[inline(always)]
-fn fill_span<M: Metric, A: Answer>(
+fn fill_span<M: Metric, A: CellAnswer>(
     entries: &[u16],
     y: u16,
     edge: Edge,
@@ -143,8 +159,11 @@ fn fill_span<M: Metric, A: Answer>(
     requires row { shift edge ≤ y }
     requires width { length answers.old + 2 * shift edge ≡ length entries.now }
     requires within { end ≤ length entries.now }
-    ensures filled { (x : ℕ) → span.start ≤ x + shift edge → from ≤ x + shift edge → x + shift edge < end → x < length answers.old → A.told M.distance x (y - shift edge) (slice_index_or answers.new x A.nothing) ≡ Some (near_from M.distance entries.now y edge span.column (x + shift edge)) }
-    ensures others { (x : ℕ) → (x + shift edge < from) ⊎ (end ≤ x + shift edge) → slice_index_or answers.new x A.nothing ≡ slice_index_or answers.old x A.nothing }
+    ensures filled { (x : ℕ) → span.start ≤ x + shift edge → from ≤ x + shift edge → x + shift edge < end
+        → x < length answers.old → A.told M.distance x (y - shift edge) (slice_index_or answers.new x A.nothing)
+        ≡ Some (near_from M.distance entries.now y edge span.column (x + shift edge)) }
+    ensures others { (x : ℕ) → (x + shift edge < from) ⊎ (end ≤ x + shift edge)
+        → slice_index_or answers.new x A.nothing ≡ slice_index_or answers.old x A.nothing }
 {
     let before = usize::from(edge.shift());
     let low = usize::from(span.start).max(from).saturating_sub(before);
@@ -159,13 +178,14 @@ fn fill_span<M: Metric, A: Answer>(
 fn near<M: Metric>(entries: &[u16], y: u16, edge: Edge, column: u16, x: u16) -> Near
     requires entries { AreEntries entries.now y }
     requires column { IsAmong entries.now (length entries.now) column }
-    requires cell { x ≤ 4097 }
+    requires cell { x ≤ LAST_FRAMED }
     ensures near { result ≡ near_from M.distance entries.now y edge column x }
-    ensures seen { shift edge ≤ x → shift edge ≤ y → result.dist ≡ spot_distance M.distance (x - shift edge) (y - shift edge) result.cell.x result.cell.y }
+    ensures seen { shift edge ≤ x → shift edge ≤ y → result.dist
+        ≡ spot_distance M.distance (x - shift edge) (y - shift edge) result.cell.x result.cell.y }
     ensures left { negsuc 0 ≤ℤ result.cell.x }
-    ensures column { result.cell.x ≤ℤ pos 4097 }
+    ensures column { result.cell.x ≤ℤ pos LAST_FRAMED }
     ensures top { negsuc 0 ≤ℤ result.cell.y }
-    ensures row { result.cell.y ≤ℤ pos 4097 }
+    ensures row { result.cell.y ≤ℤ pos LAST_FRAMED }
 {
     Near {
         dist: distance::<M>(column, gap(entries, y, column), x),

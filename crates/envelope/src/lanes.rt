@@ -1,4 +1,4 @@
-//! Eight numbers of 16 bits side by side.
+//! Eight numbers of 16 bits side by side, the lanes of the row phase without branches.
 
 ghost use Rattle.std.specs.Prelude.{◌≡◌, ℕ, ◌+◌, ◌<◌, ◌≤◌, ◌==◌, min, length, slice_index, true, if◌then◌else◌};
 
@@ -32,7 +32,8 @@ pub fn least(a: u16x8, b: u16x8) -> u16x8
 /// At each of eight places the first number where two are equal, and otherwise the second.
 #[inline(always)]
 pub fn chosen(a: u16x8, b: u16x8, equal: u16x8, other: u16x8) -> u16x8
-    ensures { (i : ℕ) → i < 8 → slice_index result i ≡ (if slice_index a i == slice_index b i then slice_index equal i else slice_index other i) }
+    ensures { (i : ℕ) → i < 8 → slice_index result i ≡ (if slice_index a i == slice_index b i then slice_index equal i
+        else slice_index other i) }
 {
     a.simd_eq(b).select(equal, other)
 }

@@ -8,8 +8,9 @@ mod cover;
 mod fill;
 mod lanes;
 mod piece;
+mod scan;
 mod stack;
 
-pub use answer::Answer;
+pub use answer::CellAnswer;
 pub use metric::Near;
 pub use stack::{Stack, row, row_alone, row_from};

@@ -5,7 +5,7 @@ ghost use Rattle.metric.specs.Edge.{shift};
 ghost use Rattle.envelope.specs.Columns.{AreEntries, IsNearColumn};
 ghost use Rattle.envelope.specs.Pieces.{IsEnough, IsPiece};
 
-use crate::answer::Answer;
+use crate::answer::CellAnswer;
 use crate::cover::{Span, cover};
 use crate::fill::fill;
 use metric::{Edge, Metric};
@@ -20,7 +20,7 @@ pub struct Piece {
 }
 
 /// Fills the cells of a piece by the stack, which has room for a row.
-pub fn fill_piece<M: Metric, A: Answer>(
+pub fn fill_piece<M: Metric, A: CellAnswer>(
     entries: &[u16],
     y: u16,
     edge: Edge,
@@ -34,8 +34,11 @@ pub fn fill_piece<M: Metric, A: Answer>(
     requires enough { IsEnough M.distance entries.now y piece }
     requires room { length entries.now ≤ length spans.old }
     requires width { length answers.old + 2 * shift edge ≡ length entries.now }
-    ensures filled { (x : ℕ) → piece.from ≤ x + shift edge → x + shift edge < piece.end → x < length answers.old → IsNearColumn M.distance entries.now y edge (x + shift edge) (A.told M.distance x (y - shift edge) (slice_index_or answers.new x A.nothing)) }
-    ensures others { (x : ℕ) → (x + shift edge < piece.from) ⊎ (piece.end ≤ x + shift edge) → slice_index_or answers.new x A.nothing ≡ slice_index_or answers.old x A.nothing }
+    ensures filled { (x : ℕ) → piece.from ≤ x + shift edge → x + shift edge < piece.end → x < length answers.old
+        → IsNearColumn M.distance entries.now y edge (x + shift edge)
+        (A.told M.distance x (y - shift edge) (slice_index_or answers.new x A.nothing)) }
+    ensures others { (x : ℕ) → (x + shift edge < piece.from) ⊎ (piece.end ≤ x + shift edge)
+        → slice_index_or answers.new x A.nothing ≡ slice_index_or answers.old x A.nothing }
 {
     let count = cover::<M>(entries, y, piece, spans);
     fill::<M, A>(entries, y, edge, piece, &spans[..count], answers);

@@ -9,10 +9,11 @@ ghost use Rattle.bits.specs.Edges.{framed};
 ghost use Rattle.metric.specs.Edge.{shift};
 ghost use Rattle.metric.specs.declared.refusal.Refusal.TheVariants.{Memory};
 
-use crate::answer::Answer;
+use crate::answer::CellAnswer;
 use crate::beside::{SPARE, fill_beside};
 use crate::cover::Span;
 use crate::piece::{Piece, fill_piece};
+use crate::scan::{are_many_far, fill_by_scans};
 use bits::Bitmap;
 use column::{ColumnTable, nearest_rows};
 use metric::{Edge, Metric, Near, Refusal};
@@ -26,14 +27,17 @@ const UNUSED: Span = Span {
     gap: 0,
 };
 
-/// So many rows go to the stack at once behind one whose obstacles weren't found near by: neighbours are alike.
+/// So many rows go to the stack at once after one whose obstacles weren't found near by: neighbours are alike.
 const FAR_ROWS: u8 = 16;
 
-/// The room for the spans of one row, and for the parts of its columns. Contracts see it as the width of the rows that it was made for.
+/// The room for the spans of one row, and for the parts and the words of its columns. Contracts see it as the width of the rows that it was made for.
 #[derive(Debug, Drop)]
 pub struct Stack {
     spans: Vec<Span>,
     parts: Vec<u16>,
+    /// The words of the columns for the cells on their right, and for those on their left.
+    left: Vec<u32>,
+    right: Vec<u32>,
     /// How many rows from here on aren't looked at side by side.
     far_rows: u8,
 }
@@ -45,7 +49,7 @@ impl Model for Stack {
 
     ghost view = { λ stack. length stack.spans.items };
 
-    ghost invariant = { λ stack. length stack.parts.items ≡ length stack.spans.items + 272 };
+    ghost invariant = { λ stack. (length stack.parts.items ≡ length stack.spans.items + 272) × (length stack.left.items ≡ length stack.spans.items) × (length stack.right.items ≡ length stack.spans.items) };
 }
 
 impl Stack {
@@ -57,10 +61,18 @@ impl Stack {
         let Ok(spans) = vec![in alloc; UNUSED; usize::from(width)] else {
             return Err(Refusal::Memory);
         };
-        match vec![in alloc; 0; usize::from(width) + SPARE] {
-            Ok(parts) => Ok(Stack {
+        let Ok(parts) = vec![in alloc; 0; usize::from(width) + SPARE] else {
+            return Err(Refusal::Memory);
+        };
+        let Ok(left) = vec![in alloc; 0; usize::from(width)] else {
+            return Err(Refusal::Memory);
+        };
+        match vec![in alloc; 0; usize::from(width)] {
+            Ok(right) => Ok(Stack {
                 spans,
                 parts,
+                left,
+                right,
                 far_rows: 0,
             }),
             Err(_) => Err(Refusal::Memory),
@@ -109,7 +121,7 @@ pub fn row_alone<M: Metric>(
 /// Fills a row with what is kept of the nearest obstacle of each cell of row `y`, from the left. `entries` are the row of a table of the map: the nearest obstacles of the columns. Where the border is a wall, `y` and the entries are counted with the frame.
 ///
 /// The row in hand has as many cells as there are entries, but for those of the frame, and the stack is for so many entries or more. No memory is taken.
-pub fn row_from<M: Metric, A: Answer>(
+pub fn row_from<M: Metric, A: CellAnswer>(
     entries: &[u16],
     y: u16,
     edge: Edge,
@@ -120,14 +132,16 @@ pub fn row_from<M: Metric, A: Answer>(
     requires row { shift edge ≤ y }
     requires stack { length entries.now ≤ stack.old }
     requires width { length answers.old + 2 * shift edge ≡ length entries.now }
-    ensures answers { (cells : Cells) (row : ℕ) → IsBitmap cells → row < cells.height → y ≡ row + shift edge → IsRowOfTable (framed edge cells) y entries.now → AreRowAnswers A.told A.nothing M.distance cells edge row cells.width answers.new }
+    ensures answers { (cells : Cells) (row : ℕ) → IsBitmap cells → row < cells.height → y ≡ row + shift edge
+        → IsRowOfTable (framed edge cells) y entries.now
+        → AreRowAnswers A.told A.nothing M.distance cells edge row cells.width answers.new }
     ensures stack { stack.new ≡ stack.old }
 {
     fill_row::<M, A>(entries, y, edge, stack, answers);
 }
 
-/// Fills a row with the obstacle of the column that is the nearest to each cell: by looking around each cell where the nearest are near by, and otherwise by the stack, as for each metric without a reach.
-fn fill_row<M: Metric, A: Answer>(
+/// Fills a row with the obstacle of the column that is the nearest to each cell: by two scans where the distance is columns and rows added and many columns have an obstacle some rows away; by looking around each cell where the nearest are near by; and otherwise by the stack, as for each metric without a reach.
+fn fill_row<M: Metric, A: CellAnswer>(
     entries: &[u16],
     y: u16,
     edge: Edge,
@@ -141,6 +155,11 @@ fn fill_row<M: Metric, A: Answer>(
     ensures answers { AreNearColumns A.told A.nothing M.distance entries.now y edge answers.new }
     ensures stack { stack.new ≡ stack.old }
 {
+    if M::is_sum() && are_many_far(entries, y) {
+        let (left, right) = (stack.left.as_mut_slice(), stack.right.as_mut_slice());
+        fill_by_scans::<M, A>(entries, y, edge, left, right, answers);
+        return;
+    }
     if stack.far_rows > 0 || M::reach(1) == 0 {
         stack.far_rows = stack.far_rows.saturating_sub(1);
         fill_far::<M, A>(entries, y, edge, stack.spans.as_mut_slice(), answers);
@@ -153,7 +172,7 @@ fn fill_row<M: Metric, A: Answer>(
 }
 
 /// Fills a row by the stack alone.
-fn fill_far<M: Metric, A: Answer>(
+fn fill_far<M: Metric, A: CellAnswer>(
     entries: &[u16],
     y: u16,
     edge: Edge,

@@ -74,14 +74,14 @@ row_behind-grows y0 y1 count a b some order =
     omega (arith, quotients)
 
 -- the row after no band is the first row
-pub row_behind-none : (y0 y1 count : ℕ) → row_behind y0 y1 count 0 ≡ y0
+row_behind-none : (y0 y1 count : ℕ) → row_behind y0 y1 count 0 ≡ y0
 row_behind-none y0 y1 count =
     let none : 0 * (y1 - y0) ≡ 0 = omega arith in
     let quotient : 0 / count ≤ 0 = div-le_self 0 count in
     rw none (omega (arith, quotient))
 
 -- the row after all bands is the one after the last row
-pub row_behind-all : (y0 y1 count : ℕ) → 1 ≤ count → y0 ≤ y1 → row_behind y0 y1 count count ≡ y1
+row_behind-all : (y0 y1 count : ℕ) → 1 ≤ count → y0 ≤ y1 → row_behind y0 y1 count count ≡ y1
 row_behind-all y0 y1 count some order = rw (mul-div_cancel_left (y1 - y0) some) (omega arith)
 
 -- the room of all rows is that of all bands

@@ -1,4 +1,4 @@
 mod BandLemmas
-pub mod ObstacleLemmas
+mod ObstacleLemmas
 mod RowLemmas
-pub mod StripLemmas
+mod StripLemmas

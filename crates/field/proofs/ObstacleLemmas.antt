@@ -13,22 +13,22 @@ use Rattle.bits.specs.Cells.{Cells}
 use Rattle.column.proofs.Sweeping.{place_above}
 use Rattle.field.specs.Bands.{AreAnswers}
 use Rattle.metric.specs.Nearest.{apart}
-use Rattle.field.specs.Obstacles.{AreMeasured, AreRows, IsKept, IsMeasured, Obstacles, nears_told, seen_from, spot_kept}
+use Rattle.field.specs.Obstacles.{AreMeasured, AreRows, IsKeptSpot, IsMeasured, Obstacles, nears_told, seen_from, spot_kept}
 use Rattle.field.specs.Rows.{AreNears}
 
 -- a table tells as many nearest obstacles as it keeps
-pub length-nears_told : (distance : ℕ → ℕ → ℕ) (table : Obstacles) → length (nears_told distance table) ≡ length table.cells
+length-nears_told : (distance : ℕ → ℕ → ℕ) (table : Obstacles) → length (nears_told distance table) ≡ length table.cells
 length-nears_told distance table = length-map-range_with_len (λ k. seen_from distance (k % table.width) (table.y0 + k / table.width) (slice_index_or table.cells k None)) 0 (length table.cells)
 
 -- a table tells of the cell in column x, so many rows after its first one, what it keeps there, seen from the cell
-pub told_at : (distance : ℕ → ℕ → ℕ) (table : Obstacles) (x rows : ℕ) → x < table.width → rows * table.width + x < length table.cells
+told_at : (distance : ℕ → ℕ → ℕ) (table : Obstacles) (x rows : ℕ) → x < table.width → rows * table.width + x < length table.cells
     → slice_index_or (nears_told distance table) (rows * table.width + x) None ≡ seen_from distance x (table.y0 + rows) (slice_index_or table.cells (rows * table.width + x) None)
 told_at distance table x rows inside within =
     get_or-map-range_with_len (λ k. seen_from distance (k % table.width) (table.y0 + k / table.width) (slice_index_or table.cells k None)) 0 (length table.cells) (rows * table.width + x) (rows * table.width + x) None within (omega arith)
     ∙ rw (div-mul-add rows table.width x inside, mod-mul-add rows table.width x inside) refl
 
 -- a cell of a row lies among those of all rows
-pub place_within : (table : Obstacles) (x y : ℕ) → AreRows table → x < table.width → table.y0 ≤ y → y < table.y1 → (y - table.y0) * table.width + x < length table.cells
+place_within : (table : Obstacles) (x y : ℕ) → AreRows table → x < table.width → table.y0 ≤ y → y < table.y1 → (y - table.y0) * table.width + x < length table.cells
 place_within table x y rows inside from to =
     let as_many = rows.as_many in
     let place = place_above (y - table.y0) (table.y1 - table.y0) table.width x (omega (arith, from, to)) inside in
@@ -79,7 +79,7 @@ told_in_line distance table y x kept rows from to column part =
     let here : slice_index_or kept x None ≡ slice_index_or table.cells (start + x) None = rw part (line_at table.cells start table.width x None column) in
     rw (here, line_at (nears_told distance table) start table.width x None column) (sym (told_here distance table x y rows column from to))
 
--- as many of what is told stand in the line of a row as the row has cells
+-- the line of a row has as many told obstacles as the row has cells
 length-line_told : (distance : ℕ → ℕ → ℕ) (table : Obstacles) (y : ℕ) → AreRows table → table.y0 ≤ y → y < table.y1
     → length (slice_range (nears_told distance table) ((y - table.y0) * table.width) ((y - table.y0) * table.width + table.width)) ≡ table.width
 length-line_told distance table y rows from to =
@@ -114,7 +114,7 @@ line_measured distance table y kept numbers rows from to across part measured =
     }
 
 -- what is kept is measured by its distance
-pub IsMeasured-kept : (distance : ℕ → ℕ → ℕ) (x y : ℕ) (a b : ℤ) (columns rows number : ℕ) → IsKept a b → a ≢ negsuc 1 → columns ≡ apart x a → rows ≡ apart y b → columns ≤ 4097 → rows ≤ 4097
+pub IsMeasured-kept : (distance : ℕ → ℕ → ℕ) (x y : ℕ) (a b : ℤ) (columns rows number : ℕ) → IsKeptSpot a b → a ≢ negsuc 1 → columns ≡ apart x a → rows ≡ apart y b → columns ≤ 4097 → rows ≤ 4097
     → number ≡ distance columns rows → IsMeasured distance (seen_from distance x y (spot_kept a b)) number
 IsMeasured-kept distance x y (pos a) b columns rows number kept some across down few_columns few_rows is =
     (rw (← across, ← down) is, record { columns = columns; rows = rows; few_columns = few_columns; few_rows = few_rows; is = is })

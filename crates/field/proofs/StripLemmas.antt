@@ -43,7 +43,7 @@ cell_here width height strips row x some inside =
     omega (arith, scaled) in
     rw (place, div-mul-add (row / height) (height * width) (row % height * width + x) rest, mod-mul-add (row / height) (height * width) (row % height * width + x) rest) refl
 
--- of the cells of all strips, the one in this column of a row is that of the row's strip
+-- the cell in this column of a row, in all strips, is that of the row's strip
 cell_at : (width height rows : ℕ) (strips : List (List (Option Spot))) (row x : ℕ) → 1 ≤ height → row < rows → x < width
     → slice_index_or (cells_in width height rows strips) (row * width + x) None ≡ slice_index_or (slice_index_or strips (row / height) []) (row % height * width + x) None
 cell_at width height rows strips row x some below inside =

@@ -6,7 +6,7 @@ use Rattle.bits.specs.Cells.{Cells}
 use Rattle.bits.specs.Edges.{IsBlocked}
 use Rattle.envelope.specs.Answer.{Reading}
 
--- so many workers as may share a computation
+-- a computation is shared by one to sixteen workers
 pub record IsWorkers (count : ℕ) : Type 0 where
   pub some : 1 ≤ count
   pub few : count ≤ 16
@@ -15,7 +15,7 @@ pub record IsWorkers (count : ℕ) : Type 0 where
 abbrev pub row_behind : ℕ → ℕ → ℕ → ℕ → ℕ
 row_behind y0 y1 count bands = y0 + bands * (y1 - y0) / count
 
--- the bands after some from the top, as far as some others, are of so many, and there is one at least
+-- the bands after some from the top, as far as some others, are so many, and there is one at least
 pub record AreBands (count above below : ℕ) : Type 0 where
   pub some : above < below
   pub within : below ≤ count

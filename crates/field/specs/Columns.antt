@@ -8,7 +8,7 @@ use Rattle.column.specs.Lines.{AreEdges, AreLinesBehind, IsLineBefore}
 use Rattle.field.specs.declared.columns.Columns.{Columns}
 
 -- rows of one band are looked at, from its first on; what lies before row y, and below each row of the band and each band, is known
-pub record IsCarried (cells : Cells) (columns : Columns) (y : ℕ) : Type 0 where
+pub record IsCarriedTo (cells : Cells) (columns : Columns) (y : ℕ) : Type 0 where
   pub before : IsLineBefore cells y columns.before.items
   pub edges : AreEdges cells columns.from columns.to 0 columns.edges.items
   pub behind : AreLinesBehind cells columns.first columns.first columns.known columns.behind.items
@@ -22,9 +22,9 @@ pub record IsCarried (cells : Cells) (columns : Columns) (y : ℕ) : Type 0 wher
   pub aligned : ((columns.known - columns.from) % 64 ≡ 0) ⊎ (columns.known ≡ columns.to)
 
 -- the row y comes next; rows are counted with the frame where the border is a wall, and none of them is the frame's
-pub record IsReady (cells : Cells) (edge : Edge) (columns : Columns) (y : ℕ) : Type 0 where
+pub record IsNextRow (cells : Cells) (edge : Edge) (columns : Columns) (y : ℕ) : Type 0 where
   pub above : shift edge ≤ columns.from
   pub from : columns.from ≤ y
   pub within : columns.to ≤ cells.height + shift edge
   pub width : length columns.entries.items ≡ cells.width + 2 * shift edge
-  pub carried : columns.seeks ≡ false → IsCarried (capped edge cells) columns y
+  pub carried : columns.seeks ≡ false → IsCarriedTo (capped edge cells) columns y

@@ -8,21 +8,21 @@ use Rattle.metric.specs.Nearest.{spot_distance}
 use Rattle.bits.specs.Cells.{Cells}
 use Rattle.field.specs.Bands.{AreAnswers}
 
--- the spot of this column and row, or none where the column is the mark that stands for none
+-- this column and row are a spot, or none where the column is the mark that stands for none
 abbrev pub spot_kept : ℤ → ℤ → Option Spot
 spot_kept x y = if int_lt x (negsuc 0) then None else Some (record { x = x; y = y })
 
--- a spot of a map with its frame, or the mark of none twice
-pub record IsKept (x y : ℤ) : Type 0 where
+-- the two numbers are a spot of a map with its frame, or the mark of none twice
+pub record IsKeptSpot (x y : ℤ) : Type 0 where
   pub none : x <ℤ negsuc 0 → (x ≡ negsuc 1) × (y ≡ negsuc 1)
   pub some : negsuc 0 ≤ℤ x → (x ≤ℤ pos 4097) × (negsuc 0 ≤ℤ y) × (y ≤ℤ pos 4097)
 
--- an obstacle as the cell (x, y) sees it, or none
+-- the cell (x, y) sees an obstacle so, or sees none
 abbrev pub seen_from : (ℕ → ℕ → ℕ) → ℕ → ℕ → Option Spot → Option Near
 seen_from distance x y None = None
 seen_from distance x y (Some spot) = Some (record { dist = spot_distance distance x y spot.x spot.y; cell = spot })
 
--- the obstacles of the rows y0 to y1 - 1, row by row, each row of so many cells
+-- a table has the obstacles of the rows y0 to y1 - 1, row by row, each row of so many cells
 pub record Obstacles : Type 0 where
   pub width : ℕ
   pub y0 : ℕ
@@ -36,25 +36,25 @@ pub record AreRows (table : Obstacles) : Type 0 where
   pub within : table.y1 ≤ 4096
   pub as_many : length table.cells ≡ (table.y1 - table.y0) * table.width
 
--- how many of so many rows stand before a strip, where they stand in strips of equal height, the last of which may have fewer
+-- so many of some rows stand before a strip, where they stand in strips of equal height, the last of which may have fewer
 abbrev pub rows_before : ℕ → ℕ → ℕ → ℕ
 rows_before rows height strip = min rows (strip * height)
 
--- the cell so many places after the first one, row by row, of rows of this width in strips of this height
+-- in strips of this height, with rows of this width, the cell so many places after the first one is this, counted row by row
 abbrev pub cell_in : ℕ → ℕ → List (List (Option Spot)) → ℕ → Option Spot
 cell_in width height strips place = slice_index_or (slice_index_or strips (place / (height * width)) []) (place % (height * width)) None
 
--- the cells of so many rows in strips, row by row
+-- the cells of so many rows in strips are listed row by row
 abbrev pub cells_in : ℕ → ℕ → ℕ → List (List (Option Spot)) → List (Option Spot)
 cells_in width height rows strips = map (cell_in width height strips) (range_with_len 0 (rows * width))
 
--- so many rows of this width stand in strips of this height
+-- the strips of this height hold so many rows of this width
 pub record AreStrips (width height rows : ℕ) (strips : List (List (Option Spot))) : Type 0 where
   pub some : 1 ≤ height
   pub enough : rows ≤ length strips * height
   pub each : (strip : ℕ) → strip < length strips → length (slice_index_or strips strip []) ≡ (rows_before rows height (strip + 1) - rows_before rows height strip) * width
 
--- the rows y0 to y1 - 1 as they stand in strips of this height
+-- the rows y0 to y1 - 1 stand so in strips of this height
 abbrev pub in_strips : ℕ → ℕ → ℕ → ℕ → List (List (Option Spot)) → Obstacles
 in_strips width y0 y1 height strips = record { width = width; y0 = y0; y1 = y1; cells = cells_in width height (y1 - y0) strips }
 
@@ -69,7 +69,7 @@ pub record HaveRows (width y0 y1 height : ℕ) (strips : List (List (Option Spot
 pub record AreStripAnswers (distance : ℕ → ℕ → ℕ) (cells : Cells) (edge : Edge) (y0 y1 height : ℕ) (strips : List (List (Option Spot))) : Type 0 where
   pub each : (strip : ℕ) → strip < length strips → AreAnswers seen_from None distance cells edge (y0 + rows_before (y1 - y0) height strip) (y0 + rows_before (y1 - y0) height (strip + 1)) (slice_index_or strips strip [])
 
--- the nearest obstacles that a table tells, row by row, by this distance
+-- a table tells these nearest obstacles, row by row, by this distance
 abbrev pub nears_told : (ℕ → ℕ → ℕ) → Obstacles → List (Option Near)
 nears_told distance table = map (λ k. seen_from distance (k % table.width) (table.y0 + k / table.width) (slice_index_or table.cells k None)) (range_with_len 0 (length table.cells))
 

@@ -8,7 +8,7 @@ use Rattle.bits.specs.Cells.{Cells}
 use Rattle.bits.specs.Edges.{IsBlocked}
 pub use Rattle.envelope.specs.Rows.{AreRowNears}
 
--- the nearest obstacles of all cells of the rows y0 to y1 - 1, row by row, or none
+-- the list has for each cell of the rows y0 to y1 - 1, row by row, its nearest obstacle, or none
 pub record AreNears (distance : ℕ → ℕ → ℕ) (cells : Cells) (edge : Edge) (y0 y1 : ℕ) (nears : List (Option Near)) : Type 0 where
   pub as_many : length nears ≡ (y1 - y0) * cells.width
   pub each : (x y : ℕ) → x < cells.width → y0 ≤ y → y < y1 → IsNear distance (IsBlocked cells edge) x y (slice_index_or nears ((y - y0) * cells.width + x) None)

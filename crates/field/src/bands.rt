@@ -8,7 +8,7 @@ ghost use Rattle.bits.specs.Edges.{IsBlocked};
 ghost use Rattle.metric.specs.Nearest.{IsNear};
 ghost use Rattle.metric.specs.declared.refusal.Refusal.TheVariants.{Memory};
 ghost use Rattle.field.specs.Bands.{AreBands, HasRoom, row_behind};
-ghost use Rattle.field.specs.Columns.{IsReady};
+ghost use Rattle.field.specs.Columns.{IsNextRow};
 ghost use Rattle.field.specs.Rows.{AreNears};
 
 use crate::columns::Columns;
@@ -166,7 +166,7 @@ fn fill_rows<M: Metric>(
 )
     requires bitmap { IsBitmap bitmap.now }
     requires room { HasRoom bitmap.now from to nears.old }
-    requires columns { IsReady bitmap.now edge columns.old (from + shift edge) }
+    requires columns { IsNextRow bitmap.now edge columns.old (from + shift edge) }
     requires to { columns.old.to ≡ to + shift edge }
     requires stack { bitmap.now.width + 2 * shift edge ≤ stack.old }
     ensures { AreNears M.distance bitmap.now edge from to nears.new }
@@ -189,13 +189,13 @@ fn fill_row_at<M: Metric>(
     nears: &mut [Option<Near>],
 )
     requires bitmap { IsBitmap bitmap.now }
-    requires columns { IsReady bitmap.now edge columns.old (y + shift edge) }
+    requires columns { IsNextRow bitmap.now edge columns.old (y + shift edge) }
     requires row { y + shift edge < columns.old.to }
     requires room { start + bitmap.now.width ≤ length nears.old }
     requires stack { bitmap.now.width + 2 * shift edge ≤ stack.old }
     ensures row { (x : ℕ) → x < bitmap.now.width → IsNear M.distance (IsBlocked bitmap.now edge) x y (slice_index_or nears.new (start + x) None) }
     ensures others { (k : ℕ) → (k < start) ⊎ (start + bitmap.now.width ≤ k) → slice_index_or nears.new k None ≡ slice_index_or nears.old k None }
-    ensures columns { IsReady bitmap.now edge columns.new (y + 1 + shift edge) }
+    ensures columns { IsNextRow bitmap.now edge columns.new (y + 1 + shift edge) }
     ensures to { columns.new.to ≡ columns.old.to }
     ensures stack { stack.new ≡ stack.old }
 {

@@ -8,7 +8,7 @@ ghost use Rattle.metric.specs.Edge.{shift};
 ghost use Rattle.bits.specs.Cells.{IsBitmap};
 ghost use Rattle.bits.specs.Edges.{framed};
 ghost use Rattle.column.specs.Columns.{IsRowOfTable};
-ghost use Rattle.field.specs.Columns.{IsReady};
+ghost use Rattle.field.specs.Columns.{IsNextRow};
 ghost use Rattle.metric.specs.declared.refusal.Refusal.TheVariants.{Memory};
 
 use bits::Bitmap;
@@ -56,7 +56,7 @@ impl Columns {
         requires above { shift edge ≤ from }
         requires order { from ≤ to }
         requires within { to ≤ bitmap.now.height + shift edge }
-        ensures ready { IfOk result (λ columns. IsReady bitmap.now edge columns from) }
+        ensures ready { IfOk result (λ columns. IsNextRow bitmap.now edge columns from) }
         ensures to { IfOk result (λ columns. columns.to ≡ to) }
         ensures memory { IfErr result (λ refusal. refusal ≡ Memory) }
     {
@@ -82,7 +82,7 @@ impl Columns {
         requires order { from ≤ to }
         requires within { to ≤ _bitmap.now.height + shift edge }
         requires width { length entries.items ≡ _bitmap.now.width + 2 * shift edge }
-        ensures ready { IsReady _bitmap.now edge result from }
+        ensures ready { IsNextRow _bitmap.now edge result from }
         ensures to { result.to ≡ to }
     {
         Columns {
@@ -104,7 +104,7 @@ impl Columns {
         requires above { shift edge ≤ from }
         requires order { from ≤ to }
         requires within { to ≤ bitmap.now.height + shift edge }
-        ensures ready { IfOk result (λ columns. IsReady bitmap.now edge columns from) }
+        ensures ready { IfOk result (λ columns. IsNextRow bitmap.now edge columns from) }
         ensures to { IfOk result (λ columns. columns.to ≡ to) }
         ensures memory { IfErr result (λ refusal. refusal ≡ Memory) }
     {
@@ -141,9 +141,9 @@ impl Columns {
     /// Looks at row `y`, which comes next: its entries are the row of a table of the bitmap then.
     pub fn look(&mut self, bitmap: &Bitmap, edge: Edge, y: u16)
         requires bitmap { IsBitmap bitmap.now }
-        requires ready { IsReady bitmap.now edge self.old y }
+        requires ready { IsNextRow bitmap.now edge self.old y }
         requires row { y < self.old.to }
-        ensures ready { IsReady bitmap.now edge self.new (y + 1) }
+        ensures ready { IsNextRow bitmap.now edge self.new (y + 1) }
         ensures to { self.new.to ≡ self.old.to }
         ensures entries { IsRowOfTable (framed edge bitmap.now) y self.new.entries.items }
     {
@@ -157,10 +157,10 @@ impl Columns {
 
     /// Looks at row `y` by itself.
     fn seek(&mut self, bitmap: &Bitmap, edge: Edge, y: u16)
-        requires ready { IsReady bitmap.now edge self.old y }
+        requires ready { IsNextRow bitmap.now edge self.old y }
         requires alone { self.old.seeks ≡ true }
         requires row { y < self.old.to }
-        ensures ready { IsReady bitmap.now edge self.new (y + 1) }
+        ensures ready { IsNextRow bitmap.now edge self.new (y + 1) }
         ensures to { self.new.to ≡ self.old.to }
         ensures entries { IsRowOfTable (framed edge bitmap.now) y self.new.entries.items }
     {
@@ -170,10 +170,10 @@ impl Columns {
     /// Begins the next band where row `y` lies after the one in hand.
     fn reach(&mut self, bitmap: &Bitmap, edge: Edge, y: u16)
         requires bitmap { IsBitmap bitmap.now }
-        requires ready { IsReady bitmap.now edge self.old y }
+        requires ready { IsNextRow bitmap.now edge self.old y }
         requires carried { self.old.seeks ≡ false }
         requires row { y < self.old.to }
-        ensures ready { IsReady bitmap.now edge self.new y }
+        ensures ready { IsNextRow bitmap.now edge self.new y }
         ensures carried { self.new.seeks ≡ false }
         ensures to { self.new.to ≡ self.old.to }
         ensures inside { y < self.new.known }
@@ -186,11 +186,11 @@ impl Columns {
     /// Begins the band whose first row is `y`.
     fn begin(&mut self, bitmap: &Bitmap, edge: Edge, y: u16)
         requires bitmap { IsBitmap bitmap.now }
-        requires ready { IsReady bitmap.now edge self.old y }
+        requires ready { IsNextRow bitmap.now edge self.old y }
         requires carried { self.old.seeks ≡ false }
         requires row { y < self.old.to }
         requires behind { y ≡ self.old.known }
-        ensures ready { IsReady bitmap.now edge self.new y }
+        ensures ready { IsNextRow bitmap.now edge self.new y }
         ensures carried { self.new.seeks ≡ false }
         ensures to { self.new.to ≡ self.old.to }
         ensures inside { y < self.new.known }
@@ -214,10 +214,10 @@ impl Columns {
     /// Picks the nearest obstacles of row `y`, a row of the band in hand.
     fn pick(&mut self, bitmap: &Bitmap, edge: Edge, y: u16)
         requires bitmap { IsBitmap bitmap.now }
-        requires ready { IsReady bitmap.now edge self.old y }
+        requires ready { IsNextRow bitmap.now edge self.old y }
         requires carried { self.old.seeks ≡ false }
         requires inside { y < self.old.known }
-        ensures ready { IsReady bitmap.now edge self.new (y + 1) }
+        ensures ready { IsNextRow bitmap.now edge self.new (y + 1) }
         ensures to { self.new.to ≡ self.old.to }
         ensures entries { IsRowOfTable (framed edge bitmap.now) y self.new.entries.items }
     {

@@ -4,7 +4,7 @@ ghost use Rattle.std.specs.Prelude.{◌≡◌, ◌≤◌, ◌≤ℤ◌, pos, neg
 ghost use Rattle.field.specs.Obstacles.{IsMeasured, seen_from};
 ghost use Rattle.metric.specs.declared.spot.Spot.{Spot};
 
-use envelope::Answer;
+use envelope::CellAnswer;
 use metric::{Metric, Near, Spot};
 use std::marker::Model;
 
@@ -24,11 +24,11 @@ impl Model for ObstacleCell {
 
     ghost Value = { Option Spot };
 
-    ghost use Rattle.field.specs.Obstacles.{spot_kept, IsKept};
+    ghost use Rattle.field.specs.Obstacles.{spot_kept, IsKeptSpot};
 
     ghost view = { λ kept. spot_kept kept.x kept.y };
 
-    ghost invariant = { λ kept. IsKept kept.x kept.y };
+    ghost invariant = { λ kept. IsKeptSpot kept.x kept.y };
 
     ghost inverse = { elim [ None ↦ record { x = negsuc 1; y = negsuc 1 } | Some cell ↦ record { x = cell.x; y = cell.y } ] };
 }
@@ -65,7 +65,7 @@ impl ObstacleCell {
     }
 }
 
-impl Answer for ObstacleCell {
+impl CellAnswer for ObstacleCell {
     ghost use Rattle.std.specs.Prelude.{refl};
     ghost use Rattle.field.specs.Obstacles.{seen_from};
 

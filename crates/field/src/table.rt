@@ -4,13 +4,13 @@ ghost use Rattle.std.specs.Prelude.{◌≡◌, ◌+◌, ◌*◌, ◌≤◌, [], 
 ghost use Rattle.metric.specs.Edge.{shift};
 ghost use Rattle.bits.specs.Cells.{IsBitmap};
 ghost use Rattle.field.specs.Bands.{AreAnswers};
-ghost use Rattle.field.specs.Columns.{IsReady};
+ghost use Rattle.field.specs.Columns.{IsNextRow};
 ghost use Rattle.field.specs.Rows.{AreNears};
 ghost use Rattle.metric.specs.declared.refusal.Refusal.TheVariants.{Memory};
 
 use crate::columns::Columns;
 use bits::Bitmap;
-use envelope::{Answer, Stack, row_from};
+use envelope::{CellAnswer, Stack, row_from};
 use metric::{Edge, Metric, Near, Refusal};
 use std::alloc::Global;
 
@@ -33,7 +33,7 @@ pub fn rows<M: Metric>(
 }
 
 /// What is kept of the nearest obstacles of the cells of rows `y0` to `y1 - 1`. Refused for want of memory alone.
-pub fn answers<M: Metric, A: Answer>(
+pub fn answers<M: Metric, A: CellAnswer>(
     alloc: Global,
     bitmap: &Bitmap,
     edge: Edge,
@@ -68,7 +68,7 @@ pub fn answers<M: Metric, A: Answer>(
 }
 
 /// Adds the rows `y0` to `y1 - 1`, those of the columns. The stack and `line` have room for a row; `answers` has room for all.
-fn push_rows<M: Metric, A: Answer>(
+fn push_rows<M: Metric, A: CellAnswer>(
     bitmap: &Bitmap,
     edge: Edge,
     y0: u16,
@@ -81,7 +81,7 @@ fn push_rows<M: Metric, A: Answer>(
     requires order { y0 ≤ y1 }
     requires bitmap { IsBitmap bitmap.now }
     requires within { y1 ≤ bitmap.now.height }
-    requires columns { IsReady bitmap.now edge columns.old (y0 + shift edge) }
+    requires columns { IsNextRow bitmap.now edge columns.old (y0 + shift edge) }
     requires to { columns.old.to ≡ y1 + shift edge }
     requires stack { bitmap.now.width + 2 * shift edge ≤ stack.old }
     requires line { length line.old ≡ bitmap.now.width }
@@ -99,7 +99,7 @@ fn push_rows<M: Metric, A: Answer>(
 }
 
 /// Adds one row's answers. Refused where there is no room for them.
-fn push_line<A: Answer>(line: &[A], answers: &mut Vec<A>) -> Result<(), Refusal>
+fn push_line<A: CellAnswer>(line: &[A], answers: &mut Vec<A>) -> Result<(), Refusal>
     ensures items { OnOk result (answers.new.items ≡ answers.old.items ++ line.now) }
     ensures memory { IfErr result (λ refusal. refusal ≡ Memory) }
 {

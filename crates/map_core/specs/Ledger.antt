@@ -40,7 +40,7 @@ pub record HasNowRoom (l : Ledger) : Type 0 where
   pub version : l.newest < 2 ^ 29
   pub slot : l.slot < 64
 
--- whether a command's entry takes room in the log; a checkpoint alone takes none
+-- the test says whether a command's entry takes room in the log; a checkpoint alone takes none
 abbrev pub takes_room : Command → Bool
 takes_room (Paint r black) = true
 takes_room (Stamp x y b) = true
@@ -49,15 +49,15 @@ takes_room Revert = true
 takes_room Collect = true
 takes_room Checkpoint = false
 
--- whether the log has as many entries after its last checkpoint as it may have
+-- the test says whether the log has as many entries after its last checkpoint as it may have
 abbrev pub has_no_room : Ledger → Bool
 has_no_room l = nat_le l.setting.log (l.places - l.base)
 
--- whether no place is left
+-- the test says whether no place is left
 abbrev pub has_no_place : Ledger → Bool
 has_no_place l = nat_le most_places l.places
 
--- whether as many versions are kept as there are slots
+-- the test says whether as many versions are kept as there are slots
 abbrev pub has_no_slot : Ledger → Bool
 has_no_slot l = nat_le l.setting.versions (length (members l.kept.slots))
 
@@ -70,7 +70,7 @@ refused_slots l Revert = None
 refused_slots l Collect = None
 refused_slots l Checkpoint = None
 
--- why a ledger refuses a command, blocks aside
+-- a ledger refuses a command for this reason, blocks aside
 unfoldable pub refused_by_ledger : Ledger → Command → Option Refusal
 refused_by_ledger l c = if lies_within l.width l.height c then (if takes_room c && has_no_room l then Some LogFull else (if has_no_place l then Some PlacesUsed else refused_slots l c)) else Some OutOfRange
 
@@ -83,7 +83,7 @@ refused_draw_blocks g s Revert = None
 refused_draw_blocks g s Collect = None
 refused_draw_blocks g s Checkpoint = None
 
--- the first of two refusals
+-- of two refusals the first is told, where there is one
 abbrev pub first_refusal : Option Refusal → Option Refusal → Option Refusal
 first_refusal (Some refusal) next = Some refusal
 first_refusal None next = next

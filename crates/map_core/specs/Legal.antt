@@ -10,23 +10,23 @@ use Rattle.map_core.specs.declared.command.Reply.TheVariants.{Painted, Published
 use Rattle.map_core.specs.declared.command.Entry.{Entry}
 use Rattle.map_core.specs.declared.setting.Setting.{Setting}
 use Rattle.map_core.specs.declared.kept.Kept.{Kept}
-use Rattle.map_core.specs.Kept.{first_free, IsIn, with_version, least_kept, IsPart}
+use Rattle.map_core.specs.Kept.{first_free, IsIn, with_version, least_kept, IsPartOfKept}
 use Rattle.map_core.specs.Drawing.{drawn, touched, cells_changed, is_inside}
 use Rattle.map_core.specs.Story.{Story, opened, most_places, kept_log, newest, bitmap_of, kept, with_kept, trues, either, new_ones, inuse}
 
--- how many new blocks a command needs: one for each position in which it changes a cell and that hasn't changed before
+-- a command needs so many new blocks: one for each position in which it changes a cell and that hasn't changed before
 unfoldable pub needed : Story → Command → ℕ
 needed s c = trues (new_ones (touched s.draft c) s.changed)
 
--- whether the log has as many entries after its last checkpoint as it may have
+-- the test says whether the log has as many entries after its last checkpoint as it may have
 abbrev pub is_log_full : Setting → Story → Bool
 is_log_full g s = nat_le g.log (kept_log s)
 
--- whether no place is left for another entry
+-- the test says whether no place is left for another entry
 abbrev pub are_places_used : Story → Bool
 are_places_used s = nat_le most_places s.places
 
--- whether as many versions are kept as there are slots
+-- the test says whether as many versions are kept as there are slots
 abbrev pub is_versions_full : Setting → Story → Bool
 is_versions_full g s = nat_le g.versions (length (kept s))
 
@@ -55,9 +55,10 @@ refused g s Revert = refused_log g s None
 refused g s Collect = refused_log g s None
 refused g s Checkpoint = refused_place s None
 
--- a collect's reply: some of the versions that were kept, newest among them, the least of them, and how many blocks fewer are in use then
+-- a collect's reply keeps some of the versions that were kept, newest among them, and tells the least of them and how many
+-- blocks fewer are in use
 pub record IsCollected (s : Story) (floor freed : ℕ) (kept : Kept) : Type 0 where
-  pub part : IsPart kept.slots s.kept.slots
+  pub part : IsPartOfKept kept.slots s.kept.slots
   pub newest_in : IsIn kept (newest s)
   pub floor_is : floor ≡ least_kept (newest s) kept
   pub freed_is : freed + inuse (with_kept s kept) ≡ inuse s
@@ -72,21 +73,21 @@ IsReply s Collect (Collected place floor freed kept) = (place ≡ s.places + 1) 
 IsReply s Checkpoint (Checkpointed place) = place ≡ s.places + 1
 IsReply s c reply = ⊥
 
--- an accepted answer to a command after a log
+-- this is an accepted answer to a command after a log
 pub record IsAnswer (g : Setting) (s : Story) (c : Command) (reply : Reply) : Type 0 where
   pub accepted : refused g s c ≡ None
   pub reply_is : IsReply s c reply
 
--- the story after a paint or a stamp
+-- a paint or a stamp leaves the story so
 abbrev pub after_draw : Story → Command → Story
 after_draw s c = record s { places = s.places + 1; draft = drawn s.draft c; changed = either s.changed (touched s.draft c) }
 
--- the versions that are kept after a reply
+-- these versions are kept after a reply
 abbrev pub kept_told : Story → Reply → Kept
 kept_told s (Collected place floor freed kept) = kept
 kept_told s reply = s.kept
 
--- the story after one more entry
+-- another entry leaves the story so
 unfoldable pub told : Story → Command → Reply → Story
 told s (Paint r black) reply = after_draw s (Paint r black)
 told s (Stamp x y b) reply = after_draw s (Stamp x y b)
@@ -95,7 +96,7 @@ told s Revert reply = record s { places = s.places + 1; draft = bitmap_of s (new
 told s Collect reply = record s { places = s.places + 1; kept = kept_told s reply }
 told s Checkpoint reply = record s { places = s.places + 1; base = s.places + 1 }
 
--- the story after some more entries
+-- some more entries leave the story so
 abbrev pub after : Story → List Entry → Story
 after s [] = s
 after s (e ∷ es) = after (told s e.command e.reply) es
@@ -105,6 +106,6 @@ abbrev pub IsLegalFrom : Setting → Story → List Entry → Type 0
 IsLegalFrom g s [] = Unit {0}
 IsLegalFrom g s (e ∷ es) = IsAnswer g s e.command e.reply × IsLegalFrom g (told s e.command e.reply) es
 
--- a legal log of a map that was opened with this bitmap
+-- this is a legal log of a map that was opened with this bitmap
 abbrev pub IsLegal : Setting → Cells → List Entry → Type 0
 IsLegal g b log = IsLegalFrom g (opened b) log

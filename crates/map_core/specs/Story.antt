@@ -6,7 +6,7 @@ use Rattle.bits.specs.Tiles.{tile_count}
 use Rattle.map_core.specs.declared.kept.Kept.{Kept}
 use Rattle.map_core.specs.Kept.{members, IsIn, first_kept}
 
--- a draft and a list of published bitmaps, with what is counted of them
+-- a story has a draft and a list of published bitmaps, with what is counted of them
 pub record Story : Type 0 where
   -- how many entries the log has: the place of its last entry
   pub places : ℕ
@@ -28,27 +28,27 @@ pub record Story : Type 0 where
 unfoldable pub opened : Cells → Story
 opened b = record { places = 0; base = 0; draft = b; published = b ∷ []; changed = replicate (tile_count b) false; changes = []; kept = first_kept; slots = 0 ∷ [] }
 
--- the most entries that a log may have: places count no further
+-- a log has at most so many entries, since places count no further
 abbrev pub most_places : ℕ
 most_places = 536870911
 
--- how many entries of the log count against its limit: those after the last checkpoint
+-- so many entries of the log count against its limit: those after the last checkpoint
 unfoldable pub kept_log : Story → ℕ
 kept_log s = s.places - s.base
 
--- the newest version
+-- the newest version is the last that was published
 unfoldable pub newest : Story → ℕ
 newest s = length s.published - 1
 
--- what stands for the bitmap of a version that was never published
+-- a version that was never published has this bitmap
 abbrev pub no_bitmap : Cells
 no_bitmap = record { width = 0; height = 0; rows = [] }
 
--- the bitmap that was published as version v
+-- this bitmap was published as version v
 unfoldable pub bitmap_of : Story → ℕ → Cells
 bitmap_of s v = slice_index_or s.published v no_bitmap
 
--- the versions that are kept
+-- these versions are kept
 unfoldable pub kept : Story → List ℕ
 kept s = members s.kept.slots
 
@@ -56,46 +56,46 @@ kept s = members s.kept.slots
 unfoldable pub IsKept : Story → ℕ → Type 0
 IsKept s v = IsIn s.kept v
 
--- a story with other versions kept
+-- the story keeps other versions, and is otherwise as it was
 abbrev pub with_kept : Story → Kept → Story
 with_kept s kept = record s { kept = kept }
 
--- how many of the answers are true
+-- so many of the answers are true
 abbrev pub trues : List Bool → ℕ
 trues [] = 0
 trues (true ∷ bs) = suc (trues bs)
 trues (false ∷ bs) = trues bs
 
--- the positions that are in one of two lists of answers
+-- these positions are in one of two lists of answers
 abbrev pub either : List Bool → List Bool → List Bool
 either [] bs = []
 either (a ∷ as') [] = []
 either (a ∷ as') (b ∷ bs) = (a || b) ∷ either as' bs
 
--- the positions that are in the first list of answers and not in the second
+-- these positions are in the first list of answers and not in the second
 abbrev pub new_ones : List Bool → List Bool → List Bool
 new_ones [] bs = []
 new_ones (a ∷ as') [] = []
 new_ones (a ∷ as') (b ∷ bs) = (a && not b) ∷ new_ones as' bs
 
--- how many different numbers a list has
+-- a list has so many different numbers
 abbrev pub number_of_values : List ℕ → ℕ
 number_of_values [] = 0
 number_of_values (n ∷ ns) = cond (list_any (λ m. n == m) ns) 0 1 + number_of_values ns
 
--- whether position k had changed at the publish of version v + 1
+-- the test says whether position k had changed at the publish of version v + 1
 abbrev pub changed_before : Story → ℕ → ℕ → Bool
 changed_before s v k = slice_index_or (slice_index_or s.changes v []) k false
 
--- the greatest version up to v at whose publish position k had changed; 0 where there is none
+-- this is the greatest version up to v at whose publish position k had changed; 0 where there is none
 abbrev pub came : Story → ℕ → ℕ → ℕ
 came s k zero = 0
 came s k (suc v) = if changed_before s v k then suc v else came s k v
 
--- how many different blocks some versions have at position k
+-- some versions have so many different blocks at position k
 abbrev pub blocks_at : Story → List ℕ → ℕ → ℕ
 blocks_at s versions k = number_of_values (map (came s k) versions)
 
--- how many blocks are in use: those of the versions that are kept, and one for each position that has changed
+-- so many blocks are in use: those of the versions that are kept, and one for each position that has changed
 unfoldable pub inuse : Story → ℕ
 inuse s = sum_by (blocks_at s (kept s)) (range_with_len 0 (tile_count s.draft)) + trues s.changed

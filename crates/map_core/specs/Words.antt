@@ -12,79 +12,80 @@ use Rattle.map_core.specs.declared.kept.Seen.TheVariants.{From, Exact}
 use Rattle.map_core.specs.Kept.{first_free}
 use Rattle.map_core.specs.Story.{Story, newest}
 
--- what a world was opened with
+-- a world was opened with this
 pub record Base : Type 0 where
   pub setting : Setting
   pub opening : Cells
 
--- how many positions the map has
+-- the map has so many positions
 abbrev pub tiles : Base → ℕ
 tiles k = tile_count k.opening
 
--- sizes that are those of a store
+-- these sizes are those of a store
 pub record IsPlan (k : Base) (plan : Plan) : Type 0 where
   pub setting_is : plan.setting ≡ k.setting
   pub tiles_is : plan.tiles ≡ tiles k
 
--- how many words there are
+-- there are so many words
 unfoldable pub word_count : Base → ℕ
 word_count k = 8 + 8 * k.setting.sessions + k.setting.versions * tiles k + 64 * k.setting.blocks
 
--- the place of the word NOW
+-- the word NOW stands at this place
 abbrev pub now_at : ℕ
 now_at = 0
 
--- the place of a reader's word
+-- a reader's word stands at this place
 unfoldable pub pin_at : ℕ → ℕ
 pin_at reader = 8 + 8 * reader
 
--- the place of the word that has the block of position p in a slot
+-- the word that has the block of position p in a slot stands at this place
 unfoldable pub map_at : Base → ℕ → ℕ → ℕ
 map_at k slot p = 8 + 8 * k.setting.sessions + (slot * tiles k + p)
 
--- the place of the word that has row i of a block
+-- the word that has row i of a block stands at this place
 unfoldable pub tile_at : Base → ℕ → ℕ → ℕ
 tile_at k block i = 8 + 8 * k.setting.sessions + k.setting.versions * tiles k + (block * 64 + i)
 
--- what NOW says: the place of the last entry, the newest version, and its slot
+-- NOW says the place of the last entry, the newest version, and its slot
 abbrev pub now_word : ℕ → ℕ → ℕ → ℕ
 now_word place version slot = place * 2 ^ 35 + version * 2 ^ 6 + slot
 
--- the place that NOW tells
+-- NOW tells this place
 abbrev pub place_told : ℕ → ℕ
 place_told word = word / 2 ^ 35
 
--- the version that NOW tells
+-- NOW tells this version
 abbrev pub version_told : ℕ → ℕ
 version_told word = word % 2 ^ 35 / 2 ^ 6
 
--- the slot that NOW tells
+-- NOW tells this slot
 abbrev pub slot_told : ℕ → ℕ
 slot_told word = word % 2 ^ 6
 
--- NOW after a log
+-- NOW is this word after a log
 unfoldable pub now_of : Story → ℕ
 now_of s = now_word s.places (newest s) (slice_index s.slots (newest s))
 
--- what a reader's word says: 0 where nothing is announced, an odd number for a version and those after it, and an even one for a version alone
+-- a reader's word is 0 where nothing is announced, an odd number for a version and those after it, and an even one for a version alone
 unfoldable pub pin_word : Option Seen → ℕ
 pin_word None = 0
 pin_word (Some (From version)) = 2 * version + 1
 pin_word (Some (Exact version)) = 2 * version + 2
 
--- what is announced by a word
+-- a word announces this
 unfoldable pub seen_in : ℕ → Option Seen
 seen_in word = if word == 0 then None else (if word % 2 == 1 then Some (From (word / 2)) else Some (Exact (word / 2 - 1)))
 
--- the slot of a version
+-- a version is in this slot
 unfoldable pub slot_of : Base → Story → ℕ → ℕ
 slot_of k s version = slice_index s.slots version
 
--- the slot that a publish writes
+-- a publish writes into this slot
 unfoldable pub next_slot : Base → Story → ℕ
 next_slot k s = first_free s.kept.slots
 
--- the bitmap that the words show in a slot: a cell's bit is that of its column, in the row of the block that the slot has for the cell's position
+-- the words show this bitmap in a slot: a cell's bit is that of its column, in the row of the block that the slot has for the
+-- cell's position
 unfoldable pub shown : Base → List ℕ → ℕ → Cells
 shown k words slot =
     cells_where k.opening.width k.opening.height

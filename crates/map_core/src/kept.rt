@@ -3,7 +3,7 @@
 ghost use Rattle.std.specs.Prelude.{◌≡◌, ℕ, ◌+◌, ◌^◌, ◌<◌, ◌≤◌, fold, length, map, slice_index, Some, Contains};
 ghost use Rattle.map_core.specs.declared.kept.Seen.TheVariants.{From, Exact};
 ghost use Rattle.map_core.specs.Words.{pin_word, seen_in};
-ghost use Rattle.map_core.specs.Kept.{members, IsIn, first_free, first_kept, with_version, lowered, slots_after, kept_after, is_stay, slot_after, asks, is_spanned, IsPart, IsApart, AreExact, announcements};
+ghost use Rattle.map_core.specs.Kept.{members, IsIn, first_free, first_kept, with_version, lowered, slots_after, kept_after, is_stay, slot_after, asks, is_spanned, IsPartOfKept, IsApart, AreExact, announcements};
 
 /// The versions that are kept, at most 64: for each slot 0 where it is free, or its version plus 1.
 #[derive(Clone, Copy, Debug, PartialEq, Eq)]
@@ -226,7 +226,7 @@ impl Kept {
         ensures newest { IsIn self.now newest → IsIn result newest }
         ensures exact { (v : ℕ) → Contains seen.now (Some (Exact v)) → IsIn self.now v → IsIn result v }
         ensures from { (a v : ℕ) → Contains seen.now (Some (From a)) → a ≤ v → IsIn self.now v → IsIn result v }
-        ensures part { IsPart result.slots self.now.slots }
+        ensures part { IsPartOfKept result.slots self.now.slots }
         ensures few { IsApart self.now → AreExact seen.now → length (members result.slots) ≤ 1 + announcements seen.now }
     {
         self.stays(newest, seen)

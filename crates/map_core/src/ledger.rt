@@ -42,7 +42,16 @@ pub struct Ledger {
 impl Ledger {
     /// The ledger of the empty log of a map that is opened on this bitmap.
     pub fn of(setting: Setting, map: &Bitmap) -> Ledger
-        ensures { result ≡ record { setting = setting; width = map.now.width; height = map.now.height; places = 0; base = 0; newest = 0; slot = 0; kept = first_kept } }
+        ensures { result ≡ record {
+          setting = setting;
+          width = map.now.width;
+          height = map.now.height;
+          places = 0;
+          base = 0;
+          newest = 0;
+          slot = 0;
+          kept = first_kept;
+        } }
     {
         Ledger {
             setting,
@@ -111,7 +120,12 @@ impl Ledger {
         requires balanced { IsBalanced self.old }
         requires place { HasPlace self.old }
         requires slot { length (members self.old.kept.slots) < 64 }
-        ensures entered { self.new ≡ record self.old { places = self.old.places + 1; newest = self.old.newest + 1; slot = first_free self.old.kept.slots; kept = with_version self.old.kept (self.old.newest + 1) } }
+        ensures entered { self.new ≡ record self.old {
+          places = self.old.places + 1;
+          newest = self.old.newest + 1;
+          slot = first_free self.old.kept.slots;
+          kept = with_version self.old.kept (self.old.newest + 1);
+        } }
         ensures reply { result ≡ Published (self.old.places + 1) (self.old.newest + 1) }
     {
         self.places += 1;

@@ -9,7 +9,7 @@ mod order;
 mod reads;
 mod words;
 
-use crate::blocks::Retired;
+use crate::blocks::RetiredBlock;
 use crate::command::{Command, Entry};
 use crate::event::{Event, NotEnabled, StepReply};
 use crate::ledger::Ledger;
@@ -45,7 +45,7 @@ pub struct World {
     own: Vec<Option<u32>>,
     // The free blocks, the next one first, and those that newest no longer maps.
     free: VecDeque<u32>,
-    retired: Vec<Retired>,
+    retired: Vec<RetiredBlock>,
 }
 
 impl Model for World {

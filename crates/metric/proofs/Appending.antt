@@ -1,4 +1,4 @@
--- One text written after another.
+-- A text that is written after another is written with it as one.
 use Rattle.std.proofs.Common.{ℕ, List, [], ◌++◌, Option, Some, None, refl, sym, ap, subst, ◌∙◌, append_assoc}
 use Rattle.std.proofs.lemmas.List.{append-nil}
 use Rattle.metric.specs.Stream.{Appends, AppendsFront}

@@ -1,4 +1,4 @@
--- Decimal numbers, two digits at a time.
+-- A decimal number is written two digits at a time.
 use Rattle.std.proofs.Common.{◌≡◌, ℕ, ◌+◌, ◌/◌, ◌%◌, ◌^◌, ◌<◌, ◌≤◌, ◌++◌, length, arith, ap, ◌∙◌, append_assoc, length-append, lit<}
 use Rattle.std.specs.Fmt.{decimal}
 use Rattle.std.proofs.lemmas.Fmt.{decimal_digit, decimal_step, length-decimal-le}

@@ -1,4 +1,4 @@
--- Eight numbers side by side, number by number.
+-- Eight numbers side by side are worked number by number.
 use Rattle.std.proofs.Common.{◌≡◌, ℕ, ◌-◌, ◌^◌, ◌<◌, Bool, false, cond, ltb, max, min, List, length, get_or, map, ap, sym, ◌∙◌, arith, w16}
 use Rattle.std.proofs.lemmas.Bool.Decides.{nat_tests}
 use Rattle.std.specs.Simd.Lanes.{sel_l, top, zip2}

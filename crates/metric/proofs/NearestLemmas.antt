@@ -39,7 +39,7 @@ IsNoGreater-both p q there back =
 pub IsNoGreater-distance : (p q : SpotKey) → IsNoGreater p q → p.distance ≤ q.distance
 IsNoGreater-distance p q most = elim most.order [ inl less ↦ omega arith | inr same ↦ let e = same.0 in omega arith ]
 
--- an obstacle at this distance, at the spot (a, b)
+-- the obstacle at the spot (a, b) has this distance
 abbrev near_at : ℕ → ℤ → ℤ → Near
 near_at dist a b = record { dist = dist; cell = record { x = a; y = b } }
 

@@ -1,4 +1,4 @@
--- Bytes taken one after another.
+-- Bytes that are taken one after another are taken together.
 use Rattle.std.proofs.Common.{◌≡◌, ℕ, List, [], ◌∷◌, ◌++◌, Option, Some, None, refl, sym, subst, ◌∙◌, append_assoc}
 use Rattle.metric.specs.Stream.{Takes, TakesByte}
 

@@ -3,14 +3,14 @@ use Rattle.std.specs.Prelude.{◌≡◌, ℕ, ◌<◌, ◌≤◌, ◌⊎◌}
 use Rattle.std.specs.Int.{abs_diff}
 use Rattle.metric.specs.Distance.{distance_between}
 
--- what decides between two obstacles of one cell
+-- this decides between two obstacles of one cell
 pub record Key : Type 0 where
   pub distance : ℕ
   pub column : ℕ
   pub row_difference : ℕ
   pub row : ℕ
 
--- the key of the obstacle (a, b) as it is seen from the cell (x, y)
+-- the obstacle (a, b) has this key as it is seen from the cell (x, y)
 abbrev pub key_of : (ℕ → ℕ → ℕ) → ℕ → ℕ → ℕ → ℕ → Key
 key_of distance x y a b = record { distance = distance_between distance x y a b; column = a; row_difference = abs_diff y b; row = b }
 

@@ -7,11 +7,11 @@ use Rattle.std.proofs.Math.Nat.{mul-le-mul_left}
 use Rattle.std.proofs.lemmas.Bool.{cases_lt}
 use Rattle.metric.specs.Distance.{euclid2, city, chess}
 
--- the distance from the cell in column x to the obstacle of column i that lies g rows away
+-- the cell in column x has this distance to the obstacle of column i that lies g rows away
 abbrev pub at_column : (ℕ → ℕ → ℕ) → ℕ → ℕ → ℕ → ℕ
 at_column distance i g x = distance (abs_diff x i) g
 
--- two columns of a map, i on the left and u on the right, with how many rows away their obstacles lie
+-- the column i is on the left and u on the right, and their obstacles lie so many rows away
 pub record AreColumns (i gi u gu : ℕ) : Type 0 where
   pub order : i < u
   pub within : u ≤ 4097
@@ -26,7 +26,7 @@ pub record IsRightNearer (distance : ℕ → ℕ → ℕ) (i gi u gu x : ℕ) : 
 abbrev pub StaysNearer : (ℕ → ℕ → ℕ) → Type 0
 StaysNearer distance = (i gi u gu x z : ℕ) → AreColumns i gi u gu → x ≤ z → z ≤ 4097 → IsRightNearer distance i gi u gu x → IsRightNearer distance i gi u gu z
 
--- the last cell from 0 to 4097 at which the left one of two columns isn't worse than the right one, or -1 where there is none
+-- this is the last cell from 0 to 4097 at which the left one of two columns isn't worse than the right one, or -1 where there is none
 abbrev pub IsLastNotWorse : (ℕ → ℕ → ℕ) → ℕ → ℕ → ℕ → ℕ → ℤ → Type 0
 IsLastNotWorse distance i gi u gu (pos last) = (last ≤ 4097) × (at_column distance i gi last ≤ at_column distance u gu last) × ((x : ℕ) → last < x → x ≤ 4097 → IsRightNearer distance i gi u gu x)
 IsLastNotWorse distance i gi u gu (negsuc before) = (before ≡ 0) × ((x : ℕ) → x ≤ 4097 → IsRightNearer distance i gi u gu x)

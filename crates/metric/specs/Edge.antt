@@ -4,24 +4,24 @@ use Rattle.metric.specs.declared.edge.Edge.{Edge}
 use Rattle.metric.specs.declared.edge.Edge.TheVariants.{Open, Wall}
 use Rattle.metric.specs.declared.spot.Spot.{Spot}
 
--- the edge of this name
+-- each edge has a name
 abbrev pub edge_named : List ℕ → Option Edge
 edge_named name =
     if bytes_eq name (codes "open") then Some Open
     else if bytes_eq name (codes "wall") then Some Wall
     else None
 
--- by so many columns and rows a cell is moved where the frame is counted too
+-- a cell is moved by so many columns and rows where the frame is counted too
 abbrev pub shift : Edge → ℕ
 shift Open = 0
 shift Wall = 1
 
--- one less, as a whole number
+-- the whole number is one less than the natural one
 abbrev pub less_one : ℕ → ℤ
 less_one zero = negsuc 0
 less_one (suc n) = pos n
 
--- the spot of a cell that is counted with the frame
+-- a cell that is counted with the frame is this spot
 abbrev pub spot_of : Edge → ℕ → ℕ → Spot
 spot_of Open a b = record { x = pos a; y = pos b }
 spot_of Wall a b = record { x = less_one a; y = less_one b }

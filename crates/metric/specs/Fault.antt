@@ -5,7 +5,7 @@ use Rattle.metric.specs.declared.fault.PbmFault.TheVariants as faults
 use Rattle.metric.specs.declared.refusal.Field.{Field}
 use Rattle.metric.specs.declared.refusal.Field.TheVariants as fields
 
--- the name of a fault of an image
+-- each fault of an image has a name
 abbrev pub fault_name : PbmFault → List ℕ
 fault_name faults.BadMagic = codes "BadMagic"
 fault_name faults.MissingSpace = codes "MissingSpace"
@@ -18,7 +18,7 @@ fault_name faults.Truncated = codes "Truncated"
 fault_name faults.JunkNotSpaced = codes "JunkNotSpaced"
 fault_name faults.Memory = codes "Memory"
 
--- the name of a setting
+-- each field of a setting has a name
 abbrev pub field_name : Field → List ℕ
 field_name fields.Blocks = codes "Blocks"
 field_name fields.Versions = codes "Versions"

@@ -4,7 +4,7 @@ use Rattle.metric.specs.Distance.{euclid2, city, chess}
 use Rattle.metric.specs.declared.kind.MetricKind.{MetricKind}
 use Rattle.metric.specs.declared.kind.MetricKind.TheVariants.{Euclid2, City, Chess}
 
--- the metric of this name
+-- each metric has a name
 abbrev pub metric_named : List ℕ → Option MetricKind
 metric_named name =
     if bytes_eq name (codes "euclid2") then Some Euclid2
@@ -12,7 +12,7 @@ metric_named name =
     else if bytes_eq name (codes "chess") then Some Chess
     else None
 
--- the distance of this metric
+-- each metric has its own distance
 abbrev pub distance_of : MetricKind → ℕ → ℕ → ℕ
 distance_of Euclid2 = euclid2
 distance_of City = city

@@ -22,11 +22,11 @@ Reaches distance reach = (dx : ℕ) → dx ≤ 97 → reach dx ≡ distance dx 0
 abbrev pub AreUpTo : ℕ → List ℕ → Type 0
 AreUpTo most lanes = (i : ℕ) → i < 8 → slice_index lanes i ≤ most
 
--- the part of a row difference in the square of the straight distance
+-- a row difference has this part in the square of the straight distance
 abbrev pub square_part : ℕ → ℕ
 square_part g = min g 180 * min g 180
 
--- the part of a row difference where it is added, or where the larger difference counts
+-- a row difference has this part where it is added, or where the larger difference counts
 abbrev pub plain_part : ℕ → ℕ
 plain_part g = min g 32400
 

@@ -11,3 +11,4 @@ pub mod Rect
 pub mod Refusal
 pub mod Stream
 pub mod Told
+pub mod Wire

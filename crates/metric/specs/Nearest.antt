@@ -3,23 +3,23 @@ use Rattle.std.specs.Prelude.{◌≡◌, ℕ, suc, ◌+◌, ◌<◌, ◌≤◌, 
 use Rattle.std.specs.Int.{abs_diff}
 use Rattle.metric.specs.declared.near.Near.{Near}
 
--- how far a cell's column or row and a spot's are apart
+-- a cell's column or row and a spot's are so far apart
 abbrev pub apart : ℕ → ℤ → ℕ
 apart x (pos a) = abs_diff x a
 apart x (negsuc a) = x + suc a
 
--- the distance of the cell (x, y) and the spot (a, b)
+-- the cell (x, y) and the spot (a, b) have the distance of their column difference and their row difference
 abbrev pub spot_distance : (ℕ → ℕ → ℕ) → ℕ → ℕ → ℤ → ℤ → ℕ
 spot_distance distance x y a b = distance (apart x a) (apart y b)
 
--- what decides between two obstacles of one cell
+-- this decides between two obstacles of one cell
 pub record SpotKey : Type 0 where
   pub distance : ℕ
   pub column : ℤ
   pub row_difference : ℕ
   pub row : ℤ
 
--- the key of the obstacle (a, b) as it is seen from the cell (x, y)
+-- the obstacle (a, b) has this key as it is seen from the cell (x, y)
 abbrev pub spot_key : (ℕ → ℕ → ℕ) → ℕ → ℕ → ℤ → ℤ → SpotKey
 spot_key distance x y a b = record { distance = spot_distance distance x y a b; column = a; row_difference = apart y b; row = b }
 
@@ -27,13 +27,13 @@ spot_key distance x y a b = record { distance = spot_distance distance x y a b; 
 pub record IsNoGreater (p q : SpotKey) : Type 0 where
   pub order : (p.distance < q.distance) ⊎ ((p.distance ≡ q.distance) × ((p.column <ℤ q.column) ⊎ ((p.column ≡ q.column) × ((p.row_difference < q.row_difference) ⊎ ((p.row_difference ≡ q.row_difference) × (p.row ≤ℤ q.row))))))
 
--- an obstacle with its distance from the cell (x, y), whose key is the least
+-- this obstacle has its distance from the cell (x, y), and its key is the least
 pub record IsNearest (distance : ℕ → ℕ → ℕ) (Obstacle : ℤ → ℤ → Type 0) (x y : ℕ) (near : Near) : Type 0 where
   pub obstacle : Obstacle near.cell.x near.cell.y
   pub distance_is : near.dist ≡ spot_distance distance x y near.cell.x near.cell.y
   pub least : (a b : ℤ) → Obstacle a b → IsNoGreater (spot_key distance x y near.cell.x near.cell.y) (spot_key distance x y a b)
 
--- the nearest obstacle of the cell (x, y); none where there is no obstacle
+-- this is the nearest obstacle of the cell (x, y); none where there is no obstacle
 abbrev pub IsNear : (ℕ → ℕ → ℕ) → (ℤ → ℤ → Type 0) → ℕ → ℕ → Option Near → Type 0
 IsNear distance Obstacle x y None = (a b : ℤ) → Obstacle a b → ⊥
 IsNear distance Obstacle x y (Some near) = IsNearest distance Obstacle x y near
@@ -49,7 +49,7 @@ pub record IsReached (distance : ℕ → ℕ → ℕ) (Obstacle : ℤ → ℤ �
 abbrev pub IsLowerBound : (ℕ → ℕ → ℕ) → (ℤ → ℤ → Type 0) → ℕ → ℕ → ℕ → Type 0
 IsLowerBound distance Obstacle x y d = (a b : ℤ) → Obstacle a b → d ≤ spot_distance distance x y a b
 
--- the least distance of the cell (x, y) to an obstacle; none where there is no obstacle
+-- this is the least distance of the cell (x, y) to an obstacle; none where there is no obstacle
 abbrev pub IsLeastDistance : (ℕ → ℕ → ℕ) → (ℤ → ℤ → Type 0) → ℕ → ℕ → Option ℕ → Type 0
 IsLeastDistance distance Obstacle x y None = (a b : ℤ) → Obstacle a b → ⊥
 IsLeastDistance distance Obstacle x y (Some d) = IsReached distance Obstacle x y d × IsLowerBound distance Obstacle x y d

@@ -7,7 +7,7 @@ use Rattle.metric.specs.declared.fault.PbmFault.TheVariants as faults
 use Rattle.metric.specs.declared.refusal.Refusal.{Refusal}
 use Rattle.metric.specs.declared.refusal.Refusal.TheVariants as refusals
 
--- the number and the name of a refusal, after `ERR`; an image for which there was no memory is told as want of memory
+-- a refusal starts with `ERR`, its number and its name; an image for which there was no memory is told as want of memory
 abbrev pub refusal_title : Refusal → List ℕ
 refusal_title refusals.OutOfRange = codes "ERR 1 OutOfRange"
 refusal_title (refusals.BlocksFull needed free) = codes "ERR 2 BlocksFull"
@@ -27,7 +27,7 @@ refusal_title (refusals.BadImage fault) = codes "ERR 15 BadImage"
 refusal_title (refusals.BadSetting field) = codes "ERR 16 BadSetting"
 refusal_title refusals.PlacesUsed = codes "ERR 17 PlacesUsed"
 
--- what belongs to a refusal, each word of it after a blank
+-- what belongs to a refusal comes word by word, each after a blank
 abbrev pub refusal_details : Refusal → List ℕ
 refusal_details (refusals.BlocksFull needed free) = (32 ∷ decimal needed) ++ (32 ∷ decimal free)
 refusal_details (refusals.Crooked index) = 32 ∷ decimal index
@@ -36,10 +36,10 @@ refusal_details (refusals.BadImage fault) = 32 ∷ fault_name fault
 refusal_details (refusals.BadSetting field) = 32 ∷ field_name field
 refusal_details other = []
 
--- the line of a refusal, without its LF
+-- the line of a refusal is this, without its LF
 abbrev pub refusal_text : Refusal → List ℕ
 refusal_text refusal = refusal_title refusal ++ refusal_details refusal
 
--- the line of a refused image; where there was no memory for it, that of want of memory
+-- a refused image is told in this line; where there was no memory for it, want of memory is
 abbrev pub image_text : PbmFault → List ℕ
 image_text fault = refusal_text (refusals.BadImage fault)

@@ -2,7 +2,7 @@
 -- A stream may tell its bytes, as `Some` of the bytes that are left to read or that were written, or tell nothing, as `None`. One that doesn't tell stays so.
 use Rattle.std.specs.Prelude.{◌≡◌, ◌≢◌, ℕ, ◌+◌, ◌<◌, ◌≤◌, ◌^◌, List, [], ◌∷◌, ◌++◌, length, take, Option, Some, None, Result, Ok, Err}
 
--- what is left after one byte is taken from the front, or after the end is met
+-- this is left after one byte is taken from the front, or after the end is met
 abbrev pub TakesByte : Option (List ℕ) → Option ℕ → Option (List ℕ) → Type 0
 TakesByte None byte rest = rest ≡ None
 TakesByte (Some []) byte rest = (byte ≡ None) × (rest ≡ Some [])
@@ -25,7 +25,7 @@ abbrev pub Counts : {T E : Type 0} → ℕ → Result T E → ℕ → Type 0
 Counts before (Ok value) after = after ≡ before
 Counts before (Err fault) after = after ≡ before + 1
 
--- one more failed call can be counted
+-- another failed call can be counted
 abbrev pub CanFail : ℕ → Type 0
 CanFail count = count + 1 < 2 ^ 64
 
@@ -34,7 +34,7 @@ abbrev pub Takes : Option (List ℕ) → List ℕ → Option (List ℕ) → Type
 Takes None bytes rest = rest ≡ None
 Takes (Some told) bytes rest = (left : List ℕ) × (rest ≡ Some left) × (told ≡ bytes ++ left)
 
--- all that the stream had left to read are these bytes
+-- the stream had just these bytes left to read
 abbrev pub AreAll : Option (List ℕ) → List ℕ → Type 0
 AreAll None bytes = Unit {0}
 AreAll (Some told) bytes = bytes ≡ told

@@ -1,12 +1,12 @@
 -- What a contract sees of a stream in memory: this project's own rule.
 use Rattle.std.specs.Prelude.{ℕ, List}
 
--- the bytes that are left to read or that were written, and how many calls have failed
+-- a stream in memory tells the bytes that are left to read or that were written, and how many calls have failed
 pub record Told : Type 0 where
   pub bytes : List ℕ
   pub failed : ℕ
 
--- a reader and a writer
+-- what a stream reads and what it writes are both told
 pub record BothTold : Type 0 where
   pub read : Told
   pub written : Told

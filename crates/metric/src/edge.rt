@@ -3,6 +3,7 @@
 ghost use Rattle.std.specs.Prelude.{◌≡◌, ◌≤◌};
 ghost use Rattle.metric.specs.Edge.{edge_named, shift, spot_of};
 
+use crate::limits::LAST_FRAMED;
 use crate::spot::Spot;
 
 /// What lies round a map.
@@ -42,8 +43,8 @@ impl Edge {
     /// The spot of a cell that is counted with the frame. Column and row are at most 4097.
     #[inline(always)]
     pub fn spot(self, column: u16, row: u16) -> Spot
-        requires column { column ≤ 4097 }
-        requires row { row ≤ 4097 }
+        requires column { column ≤ LAST_FRAMED }
+        requires row { row ≤ LAST_FRAMED }
         ensures { result ≡ spot_of self column row }
     {
         match self {

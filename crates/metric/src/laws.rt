@@ -7,10 +7,13 @@ ghost use Rattle.metric.specs.declared.near.Near.{Near};
 
 /// A cell has one nearest obstacle, or none: the rule for ties leaves no choice.
 pub fn one_nearest()
-    ensures { (distance : ℕ → ℕ → ℕ) (test : ℤ → ℤ → Bool) (x y : ℕ) (p q : Option Near) → IsNear distance (λ a b. test a b ≡ true) x y p → IsNear distance (λ a b. test a b ≡ true) x y q → p ≡ q }
+    ensures { (distance : ℕ → ℕ → ℕ) (test : ℤ → ℤ → Bool) (x y : ℕ) (p q : Option Near)
+        → IsNear distance (λ a b. test a b ≡ true) x y p → IsNear distance (λ a b. test a b ≡ true) x y q → p ≡ q }
 {}
 
 /// The distance of the nearest obstacle is the least distance to an obstacle; where the one is none, so is the other.
 pub fn nearest_is_least()
-    ensures { (distance : ℕ → ℕ → ℕ) (test : ℤ → ℤ → Bool) (x y : ℕ) (near : Option Near) → IsNear distance (λ a b. test a b ≡ true) x y near → IsLeastDistance distance (λ a b. test a b ≡ true) x y (option_map (λ n. n.dist) near) }
+    ensures { (distance : ℕ → ℕ → ℕ) (test : ℤ → ℤ → Bool) (x y : ℕ) (near : Option Near)
+        → IsNear distance (λ a b. test a b ≡ true) x y near
+        → IsLeastDistance distance (λ a b. test a b ≡ true) x y (option_map (λ n. n.dist) near) }
 {}

@@ -10,6 +10,7 @@ mod fault;
 mod gate;
 mod kind;
 mod laws;
+mod limits;
 mod measure;
 mod memory;
 mod near;
@@ -26,6 +27,9 @@ pub use fault::PbmFault;
 pub use gate::Gate;
 pub use kind::MetricKind;
 pub use laws::{nearest_is_least, one_nearest};
+pub use limits::{
+    BAND_ROWS, FRAMED_SIDE, LAST_FRAMED, MOST_SIDE, MOST_TILES, TILE_SIDE, WORD_BITS, WORD_CELLS,
+};
 pub use measure::{Chess, City, Euclid2, Metric};
 pub use memory::{MemorySink, MemorySource, MemoryStream};
 pub use near::Near;

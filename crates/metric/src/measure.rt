@@ -1,10 +1,11 @@
 //! Distances between cells, as whole numbers.
 
-ghost use Rattle.std.specs.Prelude.{◌≡◌, ℕ, ◌*◌, ◌/◌, ◌<◌, ◌≤◌, refl, slice_index};
-ghost use Rattle.metric.specs.Distance.{Grows, chess, chess_grows, city, city_grows, euclid2, euclid2_grows};
+ghost use Rattle.std.specs.Prelude.{◌≡◌, ℕ, ◌*◌, ◌/◌, ◌<◌, ◌≤◌, refl, slice_index, true};
+ghost use Rattle.metric.specs.Distance.{Grows, IsSum, chess, chess_grows, city, city_grows, euclid2, euclid2_grows};
 ghost use Rattle.metric.specs.Lanes.{AreUpTo, IsSmall, Reaches, added, chess_small, city_small, euclid2_small, larger, plain_part, square_part};
 ghost use Rattle.metric.specs.Crossing.{AreColumns, IsLastNotWorse, StaysNearer, chess_stays_nearer, city_stays_nearer, euclid2_stays_nearer};
 
+use crate::limits::LAST_FRAMED;
 use std::simd::prelude::*;
 
 /// What is added up of a row difference in a distance of 16 bits is at most this, and this stands for no obstacle too.
@@ -17,8 +18,8 @@ pub trait Metric {
 
     /// The distance of two cells that are `dx` columns and `g` rows apart, each at most 4097, the most in a map.
     fn of(dx: u16, g: u16) -> u32
-        requires columns { dx ≤ 4097 }
-        requires rows { g ≤ 4097 }
+        requires columns { dx ≤ LAST_FRAMED }
+        requires rows { g ≤ LAST_FRAMED }
         ensures { result ≡ distance dx g };
 
     /// The last cell of a row, from 0 to 4097, at which column `i` isn't worse than column `u`; -1 where there is none.
@@ -27,6 +28,13 @@ pub trait Metric {
     fn last_not_worse(i: u16, gi: u16, u: u16, gu: u16) -> i64
         requires { AreColumns i gi u gu }
         ensures { IsLastNotWorse distance i gi u gu result };
+
+    /// Whether the distance is columns and rows added. The rows of such a metric are worked by two scans where many columns have an obstacle some rows away.
+    fn is_sum() -> bool
+        ensures { result ≡ true → IsSum distance }
+    {
+        false
+    }
 
     /// The part that a row difference has in a distance of 16 bits.
     ghost part_of: { ℕ → ℕ };
@@ -149,6 +157,11 @@ impl Metric for City {
         } else {
             i64::from((gu + u + i - gi) / 2)
         }
+    }
+
+    #[inline(always)]
+    fn is_sum() -> bool {
+        true
     }
 
     ghost part_of = { plain_part };

@@ -3,6 +3,7 @@
 //! An engine reads byte by byte or by blocks, and writes whole texts. A stream may tell its bytes to contracts, as one in memory does, or tell nothing.
 
 ghost use Rattle.std.specs.Prelude.{◌≡◌, ℕ, List, Option, IfOk, OnOk, OnErr};
+ghost use Rattle.metric.specs.Wire.{Wire};
 ghost use Rattle.metric.specs.Stream.{TakesByte, TakesBlock, Appends, AppendsFront, Counts, CanFail};
 
 /// A read failed.
@@ -92,6 +93,12 @@ pub trait Sink {
 
 /// A reader and a writer in one, neither of which touches the other.
 pub trait Stream: Source + Sink {
+    /// What a contract sees of the stream: what is left to read, what was written, and how many reads and writes have failed.
+    ghost wire: { Self → Wire };
+
+    /// The wire shows what the source and the sink tell.
+    ghost shown: { (s : Self) → Self.wire s ≡ record { rest = Self.rest s; held = Self.held s; failed_reads = Self.failed_reads s; failed_writes = Self.failed_writes s } };
+
     /// A write leaves what is left to read, and its count of failures.
     ghost reading: { (s : Self) → Self.unread s ≡ (Self.rest s, Self.failed_reads s) };
 

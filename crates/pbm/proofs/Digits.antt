@@ -29,7 +29,7 @@ below_trailing word k fits below few = elim (cases_lt (word + 1) (2 ^ 64)) [
       ap (λ (n : ℕ). bit_at n k) all ∙ bit_at_ones 64 k (omega arith)
 ]
 
--- a byte of the first block
+-- a byte of the first block is the byte at its place
 block_byte : (bytes block : List ℕ) (k : ℕ) → block ≡ chunk 0 64 (take 64 bytes) → k < 64 → get_or block k 0 ≡ get_or bytes k 0
 block_byte bytes block k front within =
     let place : 0 + k ≡ k = omega arith in
@@ -37,7 +37,7 @@ block_byte bytes block k front within =
     ∙ (get_or-chunk 0 64 (take 64 bytes) k 0 within
     ∙ (ap (λ (n : ℕ). get_or (take 64 bytes) n 0) place ∙ get_or-take 64 bytes k 0 within))
 
--- the bytes of a block as far as each is a digit
+-- the bytes of a block are digits as far as each one's bit says so
 pub AreDigits-block : (count : ℕ) (bytes block : List ℕ) (ones zeros : ℕ) → 64 ≤ length bytes → block ≡ chunk 0 64 (take 64 bytes)
     → ((k : ℕ) → k < 64 → bit_at ones k ≡ cond (get_or block k 0 == 49) 1 0) → ((k : ℕ) → k < 64 → bit_at zeros k ≡ cond (get_or block k 0 == 48) 1 0)
     → count ≤ 64 → ((k : ℕ) → k < count → bit_at (bit_or ones zeros) k ≡ 1) → AreDigits count bytes ones
@@ -49,18 +49,18 @@ AreDigits-block count bytes block ones zeros enough front is_one is_zero few som
       sym at ∙ digit_is (get_or block k 0) (bit_at ones k) (bit_at zeros k) (is_one k within) (is_zero k within) (sym (bit_at_or ones zeros k) ∙ some k before);
 }
 
--- bits behind those of a word fit
+-- the bits after those of a word fit into as many places as both take
 pub behind-fits : (word place bits count : ℕ) → word < 2 ^ place → bits < 2 ^ count → bits * 2 ^ place + word < 2 ^ (place + count)
 behind-fits word place bits count small few =
     let up : (bits + 1) * 2 ^ place ≤ 2 ^ count * 2 ^ place = mul-le-mul_right (2 ^ place) (omega arith) in
     let all : 2 ^ (place + count) ≡ 2 ^ place * 2 ^ count = pow-add 2 place count in
     omega (arith, up, all)
 
--- and with them a word
+-- what fits into some places fits into a word of 64 places
 pub within-word : (place count : ℕ) → place + count ≤ 64 → 2 ^ (place + count) ≤ 2 ^ 64
 within-word place count room = pow-le-pow_right (omega arith) room
 
--- the first of some digits, without the bits of the others
+-- the first of some digits are read as their number without the bits of the others
 pub AreSomeRead-digits : (run most count : ℕ) (bytes : List ℕ) (number : ℕ) → 0 < count → count ≤ most → count ≤ run → count ≤ 64 → AreDigits run bytes number
     → AreSomeRead most bytes count (bit_and number ((2 ^ 64 - 1) / 2 ^ (64 - count))) (drop count bytes)
 AreSomeRead-digits run most count bytes number some few within room are =

@@ -1,35 +1,22 @@
 -- Eight pixels of a word, as a byte and as digits.
-use Rattle.std.proofs.Common.{◌≡◌, ℕ, ◌+◌, ◌-◌, ◌*◌, ◌/◌, ◌%◌, ◌^◌, ◌<◌, ◌≤◌, ◌==◌, Bool, true, false, cond, eqb, bit_and, List, [], ◌∷◌, ◌++◌, length, take, get_or, refl, sym, ap, ◌∙◌, inl, inr, arith}
+use Rattle.std.proofs.Common.{◌≡◌, ℕ, ◌+◌, ◌-◌, ◌*◌, ◌^◌, ◌<◌, ◌≤◌, ◌==◌, Bool, true, false, cond, eqb, bit_and, List, [], ◌∷◌, ◌++◌, length, take, get_or, refl, ap, ◌∙◌, inl, inr, arith}
 use Rattle.std.specs.Int.{bit_at}
 use Rattle.std.specs.Simd.Lanes.{top}
 use Rattle.std.proofs.lemmas.Bool.{cases_lt}
 use Rattle.std.proofs.lemmas.Bool.Decides.{nat_tests}
 use Rattle.std.proofs.lemmas.List.{get_or-append_right, length-take-le, get_or_append_left}
-use Rattle.std.proofs.lemmas.Nat.{div-add-mod', mod_below, pow_pos}
-use Rattle.std.proofs.lemmas.Nat.Bits.{and_pow, bit_at-lt, bit_at_and, bit_at_cat_high, bit_at_ones}
+use Rattle.std.proofs.lemmas.Nat.{pow_pos}
+use Rattle.std.proofs.lemmas.Nat.Bits.{and_pow, bit_at-lt, bit_at_and, bit_at_ones}
 use Rattle.pbm.proofs.Words.{each_of_eight}
 
--- a bit of eight, cut out of a word
-pub bit_of_eight : (word part i : ℕ) → i < 8 → bit_at (bit_and (word / 2 ^ (8 * part)) 255) i ≡ bit_at word (8 * part + i)
-bit_of_eight word part i within =
-    let ones : bit_at 255 i ≡ 1 = bit_at_ones 8 i within in
-    let bit = bit_at-lt (word / 2 ^ (8 * part)) i in
-    let cut : bit_at (bit_and (word / 2 ^ (8 * part)) 255) i ≡ bit_at (word / 2 ^ (8 * part)) i = rw (bit_at_and (word / 2 ^ (8 * part)) 255 i, ones) (omega (arith, bit)) in
-    let back : 8 * part + i - 8 * part ≡ i = omega arith in
-    let whole : bit_at word (8 * part + i) ≡ bit_at (word / 2 ^ (8 * part)) i =
-    ap (λ (n : ℕ). bit_at n (8 * part + i)) (sym (div-add-mod' word (2 ^ (8 * part))))
-    ∙ (bit_at_cat_high (word / 2 ^ (8 * part)) (8 * part) (word % 2 ^ (8 * part)) (8 * part + i) (mod_below word (2 ^ (8 * part)) (pow_pos (8 * part))) (omega arith)
-    ∙ ap (bit_at (word / 2 ^ (8 * part))) back) in
-    cut ∙ sym whole
-
--- a bit of the lowest eight
+-- a bit of the lowest eight is a bit of the word
 pub bit_of_lowest : (word i : ℕ) → i < 8 → bit_at (bit_and word 255) i ≡ bit_at word i
 bit_of_lowest word i within =
     let ones : bit_at 255 i ≡ 1 = bit_at_ones 8 i within in
     let bit = bit_at-lt word i in
     rw (bit_at_and word 255 i, ones) (omega (arith, bit))
 
--- the top bit of a lane that is all ones, or none
+-- the top bit of a lane that is all ones, or none, is the test that chose it
 top_of_lane : (test : Bool) → top 7 (cond test 255 0) ≡ test
 top_of_lane true = refl
 top_of_lane false = refl
@@ -45,7 +32,7 @@ digit_by_bit b n few some = elim (cases_lt b 1) [
   | inr set ↦ let one : b ≡ 1 = omega arith in rw one (grind (arith, nat_tests))
 ]
 
--- it is that of the bit
+-- the digit of a lane is that of its bit
 lane_digit-is : (eight i : ℕ) → lane_digit eight (2 ^ i) ≡ 48 + bit_at eight i
 lane_digit-is eight i =
     ap (λ (t : Bool). cond {A = ℕ} t 49 48) (top_of_lane (eqb (bit_and eight (2 ^ i)) (2 ^ i)))
@@ -55,7 +42,7 @@ lane_digit-is eight i =
 abbrev pub lane_digits : ℕ → List ℕ
 lane_digits eight = lane_digit eight 1 ∷ lane_digit eight 2 ∷ lane_digit eight 4 ∷ lane_digit eight 8 ∷ lane_digit eight 16 ∷ lane_digit eight 32 ∷ lane_digit eight 64 ∷ lane_digit eight 128 ∷ []
 
--- each is that of its bit
+-- each of eight lanes' digits is that of its bit
 pub lane_digits-are : (eight i : ℕ) → i < 8 → get_or (lane_digits eight) i 0 ≡ 48 + bit_at eight i
 lane_digits-are eight i within =
     each_of_eight (λ k. get_or (lane_digits eight) k 0 ≡ 48 + bit_at eight k)

@@ -103,7 +103,7 @@ gap-again text byte rest is end =
     let one : gap ((is.first ∷ is.others) ++ byte ∷ rest) ≡ Ok (byte ∷ rest) = rw is.first_is (filling-again false is.others byte rest is.others_are end) in
     ap (λ (t : List ℕ). gap (t ++ byte ∷ rest)) is.is_text ∙ one
 
--- behind what fills a gap more may fill it
+-- after what fills a gap more may fill it
 pub fills-append : (in_comment : Bool) (text more : List ℕ) → fills in_comment text ≡ true → fills in_comment (text ++ more) ≡ fills false more
 unfolding fills
 fills-append true [] more is = absurd cc
@@ -119,7 +119,7 @@ fills-append false (first ∷ others) more is =
           rw (no, begins) (fills-append true others more parts.1)
     ]
 
--- a gap fills a gap
+-- what is a gap fills a gap
 pub fills-gap : (text : List ℕ) → IsGap text → fills false text ≡ true
 unfolding fills
 fills-gap text is =

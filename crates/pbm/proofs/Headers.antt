@@ -7,7 +7,7 @@ use Rattle.metric.specs.declared.fault.PbmFault.TheVariants.{BadMagic, Truncated
 use Rattle.bits.specs.Cells.{IsSide}
 use Rattle.pbm.specs.declared.header.Form.{Form}
 use Rattle.pbm.specs.declared.header.Form.TheVariants.{Plain, Raw}
-use Rattle.pbm.specs.Faults.{◌>>=◌, magic, gap, number, before_raster, header}
+use Rattle.pbm.specs.Faults.{◌>>=◌, magic, gap, number_and_rest, before_raster, header}
 use Rattle.metric.specs.Digits.{is_digit}
 use Rattle.pbm.specs.Image.{is_whitespace, IsGap, IsNumber}
 use Rattle.pbm.specs.Writing.{form_digit}
@@ -101,19 +101,19 @@ HeaderRead-from bytes named before_width width before_height height raster_bytes
           ∙ ap (λ (t : List ℕ). 80 ∷ second ∷ (g.text ++ (w.text ++ (k.text ++ (h.text ++ t))))) r.split;
     }
 
--- the steps behind the height
-abbrev behind_height : Form → ℕ → ℕ × List ℕ → Result (Form × ℕ × ℕ × List ℕ) PbmFault
+-- the steps after the height
+abbrev pub behind_height : Form → ℕ → ℕ × List ℕ → Result (Form × ℕ × ℕ × List ℕ) PbmFault
 behind_height form width height = before_raster form height.1 >>= λ raster_bytes. Ok (form, width, height.0, raster_bytes)
 
--- the steps behind the width
-abbrev behind_width : Form → ℕ × List ℕ → Result (Form × ℕ × ℕ × List ℕ) PbmFault
-behind_width form width = gap width.1 >>= λ before_height. number before_height >>= behind_height form width.0
+-- the steps after the width
+abbrev pub behind_width : Form → ℕ × List ℕ → Result (Form × ℕ × ℕ × List ℕ) PbmFault
+behind_width form width = gap width.1 >>= λ before_height. number_and_rest before_height >>= behind_height form width.0
 
--- the steps behind the magic number
-abbrev behind_magic : Form × List ℕ → Result (Form × ℕ × ℕ × List ℕ) PbmFault
-behind_magic named = gap named.1 >>= λ before_width. number before_width >>= behind_width named.0
+-- the steps after the magic number
+abbrev pub behind_magic : Form × List ℕ → Result (Form × ℕ × ℕ × List ℕ) PbmFault
+behind_magic named = gap named.1 >>= λ before_width. number_and_rest before_width >>= behind_width named.0
 
--- what comes behind the gap after the height
+-- where the steps after the height find something, a header was read
 behind_height-read : (bytes : List ℕ) (named : Form × List ℕ) (before_width : List ℕ) (width : ℕ × List ℕ) (before_height : List ℕ) (height : ℕ × List ℕ) (found : Form × ℕ × ℕ × List ℕ) → bytes ≡ 80 ∷ form_digit named.0 ∷ named.1
     → GapRead named.1 before_width → NumberRead before_width width → GapRead width.1 before_height → NumberRead before_height height
     → behind_height named.0 width.0 height ≡ Ok found → HeaderRead bytes found
@@ -121,13 +121,13 @@ behind_height-read bytes named before_width width before_height height found spl
     let r = bind_ok (before_raster named.0 height.1) (λ raster_bytes. Ok (named.0, width.0, height.0, raster_bytes)) found e in
     subst (λ (f : Form × ℕ × ℕ × List ℕ). HeaderRead bytes f) (ok_is (named.0, width.0, height.0, r.0) found r.2) (HeaderRead-from bytes named before_width width before_height height r.0 split g w k h (before_raster-read named.0 height.1 r.0 r.1))
 
--- what comes behind the width
+-- where the steps after the width find something, a header was read
 behind_width-read : (bytes : List ℕ) (named : Form × List ℕ) (before_width : List ℕ) (width : ℕ × List ℕ) (found : Form × ℕ × ℕ × List ℕ) → bytes ≡ 80 ∷ form_digit named.0 ∷ named.1
     → GapRead named.1 before_width → NumberRead before_width width
     → behind_width named.0 width ≡ Ok found → HeaderRead bytes found
 behind_width-read bytes named before_width width found split g w e =
-    let k = bind_ok (gap width.1) (λ before_height. number before_height >>= behind_height named.0 width.0) found e in
-    let h = bind_ok (number k.0) (behind_height named.0 width.0) found k.2 in
+    let k = bind_ok (gap width.1) (λ before_height. number_and_rest before_height >>= behind_height named.0 width.0) found e in
+    let h = bind_ok (number_and_rest k.0) (behind_height named.0 width.0) found k.2 in
     behind_height-read bytes named before_width width k.0 h.0 found split g w (gap-read width.1 k.0 k.1) (number-read k.0 h.0 h.1) h.2
 
 -- all that is read before a raster is spelled so
@@ -135,8 +135,8 @@ pub header-read : (bytes : List ℕ) (found : Form × ℕ × ℕ × List ℕ) �
 unfolding header
 header-read bytes found e =
     let m = bind_ok (magic bytes) behind_magic found e in
-    let g = bind_ok (gap m.0.1) (λ before_width. number before_width >>= behind_width m.0.0) found m.2 in
-    let w = bind_ok (number g.0) (behind_width m.0.0) found g.2 in
+    let g = bind_ok (gap m.0.1) (λ before_width. number_and_rest before_width >>= behind_width m.0.0) found m.2 in
+    let w = bind_ok (number_and_rest g.0) (behind_width m.0.0) found g.2 in
     behind_width-read bytes m.0 g.0 w.0 found (magic-read bytes m.0 m.1) (gap-read m.0.1 g.0 g.1) (number-read g.0 w.0 w.1) w.2
 
 -- a gap ends at a digit
@@ -147,18 +147,18 @@ digit-ends byte is = record { no_whitespace = grind (arith, nat_tests); no_comme
 whitespace-ends : (byte : ℕ) → is_whitespace byte ≡ true → is_digit byte ≡ false
 whitespace-ends byte is = grind (arith, nat_tests)
 
--- the text begins with whitespace
+-- the text starts with whitespace
 record BeginsSpaced (text : List ℕ) : Type 0 where
   first : ℕ
   others : List ℕ
   is_text : text ≡ first ∷ others
   first_is : is_whitespace first ≡ true
 
--- a gap begins with whitespace
+-- a gap starts with whitespace
 BeginsSpaced-gap : (text : List ℕ) → IsGap text → BeginsSpaced text
 BeginsSpaced-gap text is = record { first = is.first; others = is.others; is_text = is.is_text; first_is = is.first_is }
 
--- what stands between the height and the raster begins with whitespace
+-- what stands between the height and the raster starts with whitespace
 BeginsSpaced-before_raster : (form : Form) (text : List ℕ) → IsBeforeRaster form text → BeginsSpaced text
 BeginsSpaced-before_raster Plain text is = BeginsSpaced-gap text is
 BeginsSpaced-before_raster Raw text is = record { first = is.byte; others = []; is_text = is.is_text; first_is = is.byte_is }
@@ -170,10 +170,10 @@ gap-before_number text digits value rest is_gap is =
     ap (λ (t : List ℕ). gap (text ++ t)) begins ∙ gap-again text is.first (is.others ++ rest) is_gap (digit-ends is.first is.first_is) ∙ ap (λ (t : List ℕ). Ok t) (sym begins)
 
 -- a number before whitespace is read
-number-before_space : (digits text : List ℕ) (value : ℕ) (rest : List ℕ) → IsNumber digits value → IsSide value → BeginsSpaced text → number (digits ++ (text ++ rest)) ≡ Ok (value, text ++ rest)
+number-before_space : (digits text : List ℕ) (value : ℕ) (rest : List ℕ) → IsNumber digits value → IsSide value → BeginsSpaced text → number_and_rest (digits ++ (text ++ rest)) ≡ Ok (value, text ++ rest)
 number-before_space digits text value rest is side spaced =
     let begins : text ++ rest ≡ spaced.first ∷ (spaced.others ++ rest) = ap (λ (t : List ℕ). t ++ rest) spaced.is_text in
-    ap (λ (t : List ℕ). number (digits ++ t)) begins ∙ number-again digits value spaced.first (spaced.others ++ rest) is (whitespace-ends spaced.first spaced.first_is) side ∙ ap (λ (t : List ℕ). Ok (value, t)) (sym begins)
+    ap (λ (t : List ℕ). number_and_rest (digits ++ t)) begins ∙ number-again digits value spaced.first (spaced.others ++ rest) is (whitespace-ends spaced.first spaced.first_is) side ∙ ap (λ (t : List ℕ). Ok (value, t)) (sym begins)
 
 -- a magic number is read
 header-named : (form : Form) (rest : List ℕ) → header (80 ∷ form_digit form ∷ rest) ≡ behind_magic (form, rest)
@@ -214,10 +214,10 @@ header-of_bytes : (bytes : List ℕ) → IsOfBytes (header bytes)
 unfolding header
 header-of_bytes bytes =
     bind-of_bytes (magic bytes) behind_magic (magic-of_bytes bytes) (λ named.
-    bind-of_bytes (gap named.1) (λ before_width. number before_width >>= behind_width named.0) (gap-of_bytes named.1) (λ before_width.
-    bind-of_bytes (number before_width) (behind_width named.0) (number-of_bytes before_width) (λ width.
-    bind-of_bytes (gap width.1) (λ before_height. number before_height >>= behind_height named.0 width.0) (gap-of_bytes width.1) (λ before_height.
-    bind-of_bytes (number before_height) (behind_height named.0 width.0) (number-of_bytes before_height) (λ height.
+    bind-of_bytes (gap named.1) (λ before_width. number_and_rest before_width >>= behind_width named.0) (gap-of_bytes named.1) (λ before_width.
+    bind-of_bytes (number_and_rest before_width) (behind_width named.0) (number-of_bytes before_width) (λ width.
+    bind-of_bytes (gap width.1) (λ before_height. number_and_rest before_height >>= behind_height named.0 width.0) (gap-of_bytes width.1) (λ before_height.
+    bind-of_bytes (number_and_rest before_height) (behind_height named.0 width.0) (number-of_bytes before_height) (λ height.
     bind-of_bytes (before_raster named.0 height.1) (λ raster_bytes. Ok (named.0, width.0, height.0, raster_bytes)) (before_raster-of_bytes named.0 height.1) (λ raster_bytes. tt))))))
 
 -- all before a raster doesn't ask for memory

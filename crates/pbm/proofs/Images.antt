@@ -7,7 +7,7 @@ use Rattle.bits.specs.Cells.{Cells, IsSide, IsBitmap}
 use Rattle.bits.proofs.CellsLemmas.{IsBitmap-cells_where}
 use Rattle.pbm.specs.declared.header.Form.{Form}
 use Rattle.pbm.specs.declared.header.Form.TheVariants.{Plain, Raw}
-use Rattle.pbm.specs.Faults.{◌>>=◌, header, pixels, ended, cells_of, plain_raster, raw_raster, raster, image}
+use Rattle.pbm.specs.Faults.{◌>>=◌, header, pixels, ended, cells_of_pixels, plain_raster, raw_raster, raster, image}
 use Rattle.pbm.specs.Image.{is_whitespace, IsGap, IsNumber, IsBetween, IsRaster, pixels_of, IsPlain, IsRaw, IsImage, IsEnd, Reads}
 use Rattle.pbm.proofs.Steps.{ok_is, bind_ok, chosen}
 use Rattle.pbm.proofs.Gaps.{space-again, fills-append, fills-gap}
@@ -16,7 +16,7 @@ use Rattle.pbm.proofs.RawRasters.{RawRead, raw_raster-read, raw_raster-again}
 use Rattle.pbm.proofs.Pixels.{place-below, length-pixels_of, cells_of-pixels_of, pixels_of-cells_of}
 use Rattle.pbm.proofs.Headers.{HeaderRead, header-read, header-again}
 
--- a gap, and nothing or a gap behind it, are a gap
+-- a gap, and nothing or a gap after it, are a gap
 IsGap-append : (text between : List ℕ) → IsGap text → IsBetween between → IsGap (text ++ between)
 IsGap-append text between is is_between =
     elim is_between [
@@ -32,7 +32,7 @@ IsGap-append text between is is_between =
       }
     ]
 
--- what is accepted behind an image ends it
+-- what is accepted after an image ends it
 ended-read : (bytes rest : List ℕ) → ended bytes ≡ Ok rest → (bytes ≡ rest) × IsEnd rest
 ended-read [] rest e = let same = ok_is [] rest e in (same, subst (λ (t : List ℕ). IsEnd t) same tt)
 ended-read (byte ∷ others) rest e =
@@ -41,7 +41,7 @@ ended-read (byte ∷ others) rest e =
       | inr junk ↦ absurd (let no = junk.1 in cc)
     ]
 
--- what ends an image is accepted behind it
+-- what ends an image is accepted after it
 ended-again : (rest : List ℕ) → IsEnd rest → ended rest ≡ Ok rest
 ended-again [] end = refl
 ended-again (byte ∷ others) end = rw end refl
@@ -51,15 +51,15 @@ raster-read : (n : ℕ) (bytes : List ℕ) (found : List Bool × List ℕ) → 0
 raster-read zero bytes found some e = absurd (omega arith)
 raster-read (suc n) bytes found some e = pixels-read n bytes found e
 
--- the parts of an image and what is behind it, where a gap was read in two parts
+-- the parts of an image and what follows it regroup, where a gap was read in two parts
 regroup-two_gaps : (a b c d e f g rest : List ℕ) → (80 ∷ 49 ∷ (a ++ (b ++ (c ++ (d ++ ((e ++ f) ++ g)))))) ++ rest ≡ 80 ∷ 49 ∷ (a ++ (b ++ (c ++ (d ++ (e ++ (f ++ (g ++ rest)))))))
 regroup-two_gaps a b c d e f g rest = simp append_assoc
 
--- the parts of an image and what is behind it
+-- the parts of an image and what follows it regroup
 regroup : (a b c d e g rest : List ℕ) → (80 ∷ 49 ∷ (a ++ (b ++ (c ++ (d ++ (e ++ g)))))) ++ rest ≡ 80 ∷ 49 ∷ (a ++ (b ++ (c ++ (d ++ (e ++ (g ++ rest))))))
 regroup a b c d e g rest = simp append_assoc
 
--- the parts of a raw image and what is behind it
+-- the parts of a raw image and what follows it regroup
 regroup-raw : (a b c d : List ℕ) (space : ℕ) (g rest : List ℕ) → (80 ∷ 52 ∷ (a ++ (b ++ (c ++ (d ++ (space ∷ g)))))) ++ rest ≡ 80 ∷ 52 ∷ (a ++ (b ++ (c ++ (d ++ ((space ∷ []) ++ (g ++ rest))))))
 regroup-raw a b c d space g rest = simp append_assoc
 
@@ -75,7 +75,7 @@ pub record ImageRead (bytes : List ℕ) (found : Cells × List ℕ) : Type 0 whe
   pub end : IsPlain text found.0 → IsEnd found.1
 
 -- a header, a plain raster and an end are an image
-ImageRead-plain : (bytes : List ℕ) (width height : ℕ) (raster_bytes : List ℕ) (all : List Bool × List ℕ) → HeaderRead bytes (Plain, width, height, raster_bytes) → RasterRead (width * height) raster_bytes all → IsEnd all.1 → ImageRead bytes (cells_of width height all.0, all.1)
+ImageRead-plain : (bytes : List ℕ) (width height : ℕ) (raster_bytes : List ℕ) (all : List Bool × List ℕ) → HeaderRead bytes (Plain, width, height, raster_bytes) → RasterRead (width * height) raster_bytes all → IsEnd all.1 → ImageRead bytes (cells_of_pixels width height all.0, all.1)
 ImageRead-plain bytes width height raster_bytes all h r end =
     record {
       text = 80 ∷ 49 ∷ (h.before_width ++ (h.width ++ (h.before_height ++ (h.height ++ ((h.before_raster ++ r.between) ++ r.text)))));
@@ -105,14 +105,14 @@ ImageRead-plain bytes width height raster_bytes all h r end =
 some_pixels : (width height : ℕ) → IsSide width → IsSide height → 0 < width * height
 some_pixels width height width_is height_is = omega (arith, place-below width height 0 0 width_is.some height_is.some)
 
--- what comes behind the pixels of a plain image
+-- where what comes after the pixels of a plain image is accepted, an image was read
 behind_pixels : (bytes : List ℕ) (width height : ℕ) (raster_bytes : List ℕ) (all : List Bool × List ℕ) (found : Cells × List ℕ) → HeaderRead bytes (Plain, width, height, raster_bytes) → RasterRead (width * height) raster_bytes all
-    → (ended all.1 >>= λ rest. Ok (cells_of width height all.0, rest)) ≡ Ok found → ImageRead bytes found
+    → (ended all.1 >>= λ rest. Ok (cells_of_pixels width height all.0, rest)) ≡ Ok found → ImageRead bytes found
 behind_pixels bytes width height raster_bytes all found h r e =
-    let d = bind_ok (ended all.1) (λ rest. Ok (cells_of width height all.0, rest)) found e in
+    let d = bind_ok (ended all.1) (λ rest. Ok (cells_of_pixels width height all.0, rest)) found e in
     let end = ended-read all.1 d.0 d.1 in
     let end_is : IsEnd all.1 = subst (λ (t : List ℕ). IsEnd t) (sym end.0) end.1 in
-    let same : ◌≡◌ {A = Cells × List ℕ} (cells_of width height all.0, all.1) found = ap (λ (t : List ℕ). (cells_of width height all.0, t)) end.0 ∙ ok_is (cells_of width height all.0, d.0) found d.2 in
+    let same : ◌≡◌ {A = Cells × List ℕ} (cells_of_pixels width height all.0, all.1) found = ap (λ (t : List ℕ). (cells_of_pixels width height all.0, t)) end.0 ∙ ok_is (cells_of_pixels width height all.0, d.0) found d.2 in
     subst (λ (f : Cells × List ℕ). ImageRead bytes f) same (ImageRead-plain bytes width height raster_bytes all h r end_is)
 
 -- a header and a raw raster are an image
@@ -145,16 +145,16 @@ ImageRead-raw bytes width height raster_bytes found h r =
       end = λ plain. absurd (one_form text found.0 is plain);
     }
 
--- what comes behind a header
+-- where a raster is found after a header, an image was read
 behind_header : (bytes : List ℕ) (form : Form) (width height : ℕ) (raster_bytes : List ℕ) (found : Cells × List ℕ) → HeaderRead bytes (form, width, height, raster_bytes) → raster form width height raster_bytes ≡ Ok found → ImageRead bytes found
 unfolding plain_raster
 behind_header bytes Plain width height raster_bytes found h e =
-    let p = bind_ok (pixels (width * height) raster_bytes) (λ all. ended all.1 >>= λ rest. Ok (cells_of width height all.0, rest)) found e in
+    let p = bind_ok (pixels (width * height) raster_bytes) (λ all. ended all.1 >>= λ rest. Ok (cells_of_pixels width height all.0, rest)) found e in
     behind_pixels bytes width height raster_bytes p.0 found h (raster-read (width * height) raster_bytes p.0 (some_pixels width height h.width_side h.height_side) p.1) p.2
 behind_header bytes Raw width height raster_bytes found h e = ImageRead-raw bytes width height raster_bytes found h (raw_raster-read width height raster_bytes found e)
 
 -- an image that is read is an image
-pub image-read : (bytes : List ℕ) (found : Cells × List ℕ) → image bytes ≡ Ok found → ImageRead bytes found
+image-read : (bytes : List ℕ) (found : Cells × List ℕ) → image bytes ≡ Ok found → ImageRead bytes found
 unfolding image
 image-read bytes found e =
     let h = bind_ok (header bytes) (λ front. raster front.0 front.1 front.2 front.3) found e in
@@ -219,14 +219,14 @@ raw-again bytes text rest cells split is =
     rw h r
 
 -- an image is read
-pub image-again : (bytes text rest : List ℕ) (cells : Cells) → bytes ≡ text ++ rest → IsImage text cells → (IsPlain text cells → IsEnd rest) → image bytes ≡ Ok (cells, rest)
+image-again : (bytes text rest : List ℕ) (cells : Cells) → bytes ≡ text ++ rest → IsImage text cells → (IsPlain text cells → IsEnd rest) → image bytes ≡ Ok (cells, rest)
 image-again bytes text rest cells split is end =
     elim is [
       | inl plain ↦ plain-again bytes text rest cells split plain (end plain)
       | inr raw ↦ raw-again bytes text rest cells split raw
     ]
 
--- what is left behind an image is no longer than the bytes
+-- what is left after an image is no longer than the bytes
 pub image-shorter : (bytes : List ℕ) (found : Cells × List ℕ) → image bytes ≡ Ok found → length found.1 ≤ length bytes
 image-shorter bytes found e =
     let r = image-read bytes found e in

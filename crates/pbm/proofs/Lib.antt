@@ -1,20 +1,24 @@
 pub mod Steps
-pub mod Words
-pub mod Eights
-pub mod Numbers
-pub mod Digits
-pub mod Gaps
-pub mod Rasters
-pub mod PartReads
-pub mod Pixels
-pub mod RawRasters
-pub mod Headers
+mod Words
+mod RasterRows
+mod Eights
+mod Numbers
+mod Digits
+mod Gaps
+mod Rasters
+mod PartReads
+mod Pixels
+mod RawRasters
+mod Headers
 pub mod Images
-pub mod Progress
-pub mod Decimals
+mod Progress
+mod Decimals
 pub mod Ranges
-pub mod RawTexts
-pub mod PlainTexts
-pub mod Lines
-pub mod RawRows
-pub mod PlainWords
+mod RawTexts
+mod PlainTexts
+mod Lines
+mod RawRows
+mod PlainWords
+pub mod Following
+mod Prefixes
+mod Taken

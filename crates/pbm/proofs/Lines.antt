@@ -13,7 +13,7 @@ use Rattle.pbm.specs.Image.{pixel_byte}
 use Rattle.pbm.specs.Writing.{ends_line, digit_text, plain_digit}
 use Rattle.pbm.proofs.Ranges.{range-append}
 
--- a line: each place a digit, and the last one LF besides
+-- a line has a digit at each place, and LF after the last one
 line_text : (f : ℕ → List ℕ) (digit : ℕ → ℕ) (start n : ℕ) → ((k : ℕ) → start ≤ k → k < start + n → f k ≡ digit k ∷ []) → f (start + n) ≡ digit (start + n) ∷ 10 ∷ []
     → flat_map f (range_with_len start (suc n)) ≡ map digit (range_with_len start (suc n)) ++ 10 ∷ []
 line_text f digit start zero inner last =
@@ -36,7 +36,7 @@ last_column width start end aligned some last = grind (arith, nat_tests)
 abbrev digit_at : Cells → ℕ → ℕ
 digit_at cells k = pixel_byte (has cells (k % cells.width) (k / cells.width))
 
--- the digit of column x and row y
+-- the digit of column x and row y is that of its cell
 digit_at-is : (cells : Cells) (y x : ℕ) → x < cells.width → digit_at cells (y * cells.width + x) ≡ pixel_byte (has cells x y)
 digit_at-is cells y x within =
     let width : ℕ = cells.width in

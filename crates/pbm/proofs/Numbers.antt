@@ -4,7 +4,7 @@ use Rattle.std.specs.List.{list_all}
 use Rattle.std.proofs.lemmas.Bool.{eqb-false, ltb-false, lt-ltb, le-ltb, ne_eqb, and_parts, and_from}
 use Rattle.metric.specs.declared.fault.PbmFault.TheVariants.{BadNumber, ZeroSize, TooLarge}
 use Rattle.bits.specs.Cells.{IsSide}
-use Rattle.pbm.specs.Faults.{side, digits, number}
+use Rattle.pbm.specs.Faults.{side, digits, number_and_rest}
 use Rattle.metric.specs.Digits.{is_digit, value_from}
 use Rattle.pbm.specs.Image.{IsNumber}
 use Rattle.pbm.proofs.Steps.{ok_is, chosen, IsOfBytes, cond-of_bytes}
@@ -23,7 +23,7 @@ digits-over a b (byte ∷ rest) p q =
       | false ↦ side-over a (byte ∷ rest) p ∙ sym (side-over b (byte ∷ rest) q)
     ]
 
--- a digit behind a value over the longest side is passed over
+-- a digit after a value over the longest side is passed over
 pub digits-pass : (value byte : ℕ) (bytes rest : List ℕ) → bytes ≡ byte ∷ rest → is_digit byte ≡ true → 4096 < value → digits value bytes ≡ digits value rest
 unfolding digits
 digits-pass value byte bytes rest split is over =
@@ -79,8 +79,8 @@ pub record NumberRead (bytes : List ℕ) (found : ℕ × List ℕ) : Type 0 wher
   pub is_side : IsSide found.0
 
 -- a number that is read is spelled so
-pub number-read : (bytes : List ℕ) (found : ℕ × List ℕ) → number bytes ≡ Ok found → NumberRead bytes found
-unfolding number
+pub number-read : (bytes : List ℕ) (found : ℕ × List ℕ) → number_and_rest bytes ≡ Ok found → NumberRead bytes found
+unfolding number_and_rest
 number-read [] found e = absurd cc
 number-read (byte ∷ rest) found e =
     elim (chosen (is_digit byte) (digits (byte - 48) rest) (Err BadNumber) (Ok found) e) [
@@ -108,12 +108,12 @@ digits-again so_far (digit ∷ others) byte rest all end is =
     rw parts.0 (digits-again (10 * so_far + (digit - 48)) others byte rest parts.1 end is)
 
 -- a number that is spelled so is read, up to a byte that is no digit
-pub number-again : (text : List ℕ) (value : ℕ) (byte : ℕ) (rest : List ℕ) → IsNumber text value → is_digit byte ≡ false → IsSide value → number (text ++ byte ∷ rest) ≡ Ok (value, byte ∷ rest)
-unfolding number
+pub number-again : (text : List ℕ) (value : ℕ) (byte : ℕ) (rest : List ℕ) → IsNumber text value → is_digit byte ≡ false → IsSide value → number_and_rest (text ++ byte ∷ rest) ≡ Ok (value, byte ∷ rest)
+unfolding number_and_rest
 number-again text value byte rest is end side_is =
     let long : IsSide (value_from (is.first - 48) is.others) = rw is.value_is side_is in
-    let one : number ((is.first ∷ is.others) ++ byte ∷ rest) ≡ Ok (value_from (is.first - 48) is.others, byte ∷ rest) = rw is.first_is (digits-again (is.first - 48) is.others byte rest is.others_are end long) in
-    ap (λ (t : List ℕ). number (t ++ byte ∷ rest)) is.is_text ∙ one ∙ ap (λ (v : ℕ). Ok (v, byte ∷ rest)) is.value_is
+    let one : number_and_rest ((is.first ∷ is.others) ++ byte ∷ rest) ≡ Ok (value_from (is.first - 48) is.others, byte ∷ rest) = rw is.first_is (digits-again (is.first - 48) is.others byte rest is.others_are end long) in
+    ap (λ (t : List ℕ). number_and_rest (t ++ byte ∷ rest)) is.is_text ∙ one ∙ ap (λ (v : ℕ). Ok (v, byte ∷ rest)) is.value_is
 
 -- no side tells want of memory
 side-of_bytes : (value : ℕ) (rest : List ℕ) → IsOfBytes (side value rest)
@@ -126,7 +126,7 @@ digits-of_bytes so_far [] = side-of_bytes so_far []
 digits-of_bytes so_far (byte ∷ rest) = cond-of_bytes (is_digit byte) (digits (10 * so_far + (byte - 48)) rest) (side so_far (byte ∷ rest)) (digits-of_bytes (10 * so_far + (byte - 48)) rest) (side-of_bytes so_far (byte ∷ rest))
 
 -- no number tells want of memory
-pub number-of_bytes : (bytes : List ℕ) → IsOfBytes (number bytes)
-unfolding number
+pub number-of_bytes : (bytes : List ℕ) → IsOfBytes (number_and_rest bytes)
+unfolding number_and_rest
 number-of_bytes [] = λ e. cc
 number-of_bytes (byte ∷ rest) = cond-of_bytes (is_digit byte) (digits (byte - 48) rest) (Err BadNumber) (digits-of_bytes (byte - 48) rest) (λ e. cc)

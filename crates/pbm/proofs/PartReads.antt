@@ -10,7 +10,7 @@ use Rattle.pbm.specs.Plain.{AreBitsRead, AreDigits, AreSomeRead}
 use Rattle.pbm.proofs.Rasters.{with_front, with_front-nil, pixels-more, pixels-fault, pixels-done}
 use Rattle.pbm.proofs.Steps.{ok_is, bind_ok}
 
--- a step that fails, or a step behind one that doesn't
+-- where two steps fail, the first one fails, or the second after the first one has not
 bind_err : {A B : Type 0} (r : Result A PbmFault) (f : A → Result B PbmFault) (fault : PbmFault) → (r >>= f) ≡ Err fault → (r ≡ Err fault) ⊎ ((x : A) × (r ≡ Ok x) × (f x ≡ Err fault))
 bind_err (Ok x) f fault e = inr (x, refl, e)
 bind_err (Err d) f fault e = inl (let same : Err d ≡ Err fault = e in cc)
@@ -25,7 +25,7 @@ pub front-append : (front more : List Bool) (read : Result (List Bool × List �
 front-append front more (Ok x) = ap (λ (all : List Bool). Ok (all, x.1)) (simp append_assoc)
 front-append front more (Err fault) = refl
 
--- so many pixels, and then others
+-- pixels and then others are read as all of them at once
 pub pixels-add : (m n : ℕ) (bytes : List ℕ) (front : List Bool) (rest : List ℕ) → pixels m bytes ≡ Ok (front, rest) → pixels (m + n) bytes ≡ with_front front (pixels n rest)
 unfolding pixels
 pixels-add zero n bytes front rest read =
@@ -68,7 +68,7 @@ IsPartRead-none count bytes bit =
     record { front = []; size = refl; others = sym (with_front-nil (pixels (count - 0) bytes) ∙ ap (λ (n : ℕ). pixels n bytes) all); bits = λ i before. absurd (omega arith) }
 
 -- one pixel more was read
-pub IsPartRead-more : (count : ℕ) (bytes : List ℕ) (k : ℕ) (bit next : ℕ → ℕ) (rest : List ℕ) (value : Bool) (after : List ℕ) → k < count → next_pixel rest ≡ Ok (value, after)
+IsPartRead-more : (count : ℕ) (bytes : List ℕ) (k : ℕ) (bit next : ℕ → ℕ) (rest : List ℕ) (value : Bool) (after : List ℕ) → k < count → next_pixel rest ≡ Ok (value, after)
     → ((i : ℕ) → i < k → next i ≡ bit i) → (next k == 1) ≡ value → IsPartRead count bytes k bit rest → IsPartRead count bytes (k + 1) next after
 IsPartRead-more count bytes k bit next rest value after few read kept here so_far = record {
   front = so_far.front ++ value ∷ [];
@@ -84,7 +84,7 @@ IsPartRead-more count bytes k bit next rest value after few read kept here so_fa
   ];
 }
 
--- a pixel behind those that were read before
+-- a pixel after those that were read before is one of the others
 behind_front : (front more : List Bool) (i k : ℕ) → length front ≡ k → k ≤ i → get_or more (i - k) false ≡ get_or (front ++ more) i false
 behind_front front more i k size later = sym (get_or-append_right front more k i false size later)
 
@@ -114,7 +114,7 @@ IsPartRead-add count bytes k n bit next rest number after few read kept here so_
 pub IsPartRead-fault_one : (count : ℕ) (bytes : List ℕ) (k : ℕ) (bit : ℕ → ℕ) (rest : List ℕ) (fault : PbmFault) → k < count → next_pixel rest ≡ Err fault → IsPartRead count bytes k bit rest → pixels count bytes ≡ Err fault
 IsPartRead-fault_one count bytes k bit rest fault few read so_far = pixels-fault so_far.front count k rest fault (pixels count bytes) few read so_far.others
 
--- all pixels were read
+-- where as many pixels were read as are wanted, all are read
 pub IsPartRead-all : (count : ℕ) (bytes : List ℕ) (k : ℕ) (bit : ℕ → ℕ) (number : ℕ) (rest : List ℕ) → k ≡ count → ((i : ℕ) → i < count → bit_at number i ≡ bit i) → IsPartRead count bytes k bit rest → AreBitsRead count bytes number rest
 IsPartRead-all count bytes k bit number rest all same so_far = record {
   all = so_far.front;
@@ -130,7 +130,7 @@ digit-pixel zero rest small = refl
 digit-pixel (suc zero) rest small = refl
 digit-pixel (suc (suc n)) rest small = absurd (omega arith)
 
--- the bits of a first pixel and of others
+-- the bits of a first pixel and of others are those of all pixels
 first_and_others : (n : ℕ) (bit : ℕ → ℕ) (all : List Bool) → ((i : ℕ) → i < n → (bit (suc i) == 1) ≡ get_or all i false) → (i : ℕ) → i < suc n → (bit i == 1) ≡ get_or ((bit 0 == 1) ∷ all) i false
 first_and_others n bit all bits zero before = refl
 first_and_others n bit all bits (suc i) before = bits i (omega arith)
@@ -158,7 +158,7 @@ AreBitsRead-digits count bytes number are =
     let (all, size, read, bits) = digits-read count bytes (bit_at number) are.enough (λ k before. bit_at-lt number k) are.digits in
     record { all = all; size = size; read = read; bits = bits }
 
--- the lowest bit of 1 and of 0
+-- the lowest bit of 1 is set, and that of 0 is not
 lowest_is : (number : ℕ) (value : Bool) → number ≡ cond value 1 0 → (bit_at number 0 == 1) ≡ value
 lowest_is number true is = rw is refl
 lowest_is number false is = rw is refl
@@ -168,7 +168,7 @@ bit_below : (number : ℕ) (value : Bool) → number ≡ cond value 1 0 → numb
 bit_below number true is = omega arith
 bit_below number false is = omega arith
 
--- one pixel as the lowest bit of a number
+-- one pixel that is read is the lowest bit of a number
 pub AreSomeRead-one : (bytes : List ℕ) (value : Bool) (number : ℕ) (rest : List ℕ) → next_pixel bytes ≡ Ok (value, rest) → number ≡ cond value 1 0 → AreSomeRead 1 bytes 1 number rest
 AreSomeRead-one bytes value number rest read is = record {
   some = omega arith;

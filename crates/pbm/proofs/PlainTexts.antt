@@ -16,7 +16,7 @@ use Rattle.pbm.proofs.Pixels.{place-below}
 use Rattle.pbm.proofs.Ranges.{flat_map-more, flat_map-row}
 use Rattle.pbm.proofs.RawTexts.{regroup-front, IsGap-line_feed, IsGap-blank}
 
--- what stands behind a digit: LF, where its line ends
+-- what stands after a digit: LF, where its line ends
 abbrev line_end : Bool → List ℕ
 line_end ends = cond ends (10 ∷ []) []
 
@@ -25,12 +25,12 @@ IsBetween-line_end : (ends : Bool) → IsBetween (line_end ends)
 IsBetween-line_end true = inr IsGap-line_feed
 IsBetween-line_end false = inl refl
 
--- the digits of n + 1 pixels from one on, each but the last with what stands behind it
+-- the digits of n + 1 pixels from one on, each but the last with what stands after it
 digits_from : (ℕ → Bool) → (ℕ → Bool) → ℕ → ℕ → List ℕ
 digits_from black ends start zero = pixel_byte (black start) ∷ []
 digits_from black ends start (suc n) = pixel_byte (black start) ∷ (line_end (ends start) ++ digits_from black ends (start + 1) n)
 
--- the text of n + 1 pixels ends with what stands behind the last
+-- the text of n + 1 pixels ends with what stands after the last
 digits_from-text : (black ends : ℕ → Bool) (start n : ℕ) → flat_map (λ k. digit_text (black k) (ends k)) (range_with_len start (suc n)) ≡ digits_from black ends start n ++ line_end (ends (start + n))
 unfolding digits_from
 digits_from-text black ends start zero =
@@ -41,7 +41,7 @@ digits_from-text black ends start (suc n) =
     ap (λ (t : List ℕ). pixel_byte (black start) ∷ (line_end (ends start) ++ t)) (digits_from-text black ends (start + 1) n ∙ ap (λ (k : ℕ). digits_from black ends (start + 1) n ++ line_end (ends k)) on)
     ∙ ap (λ (t : List ℕ). pixel_byte (black start) ∷ t) (sym (append_assoc (line_end (ends start)) (digits_from black ends (start + 1) n) (line_end (ends (start + suc n)))))
 
--- they are a raster
+-- such digits are a raster
 digits_from-raster : (black ends : ℕ → Bool) (start n : ℕ) → IsRaster (digits_from black ends start n) (map black (range_with_len start (suc n)))
 unfolding digits_from IsRaster
 digits_from-raster black ends start zero = refl
@@ -70,8 +70,8 @@ some_cells width height some_columns some_rows =
     let first = place-below width height 0 0 some_columns some_rows in
     (height * width - 1, omega (arith, first))
 
--- the pixel of column x and row y
-pub plain_digit-at : (cells : Cells) (y x : ℕ) → x < cells.width → digit_text (has cells x y) (ends_line cells.width x) ≡ plain_digit cells (y * cells.width + x)
+-- the text of the digit of column x and row y is that of its cell
+plain_digit-at : (cells : Cells) (y x : ℕ) → x < cells.width → digit_text (has cells x y) (ends_line cells.width x) ≡ plain_digit cells (y * cells.width + x)
 plain_digit-at cells y x within =
     let width : ℕ = cells.width in
     sym (ap (λ (a : ℕ). digit_text (has cells a ((y * width + x) / width)) (ends_line width a)) (mod-mul-add y width x within) ∙ ap (λ (b : ℕ). digit_text (has cells x b) (ends_line width x)) (div-mul-add y width x within))
@@ -88,16 +88,16 @@ LinesLength-more width x count true inside long is =
 LinesLength-more width x count false inside long is =
     record { within = λ more. grind (arith, nat_tests); all = λ last. grind (arith, nat_tests) }
 
--- how long the text of a pixel is
+-- the text of a pixel has one byte, or two where a line ends
 digit_text-length : (black ends : Bool) → length (digit_text black ends) ≡ cond ends 2 1
 digit_text-length black true = refl
 digit_text-length black false = refl
 
--- the text of the first pixels of a row
+-- the text that the first pixels of a row have
 row_front : Cells → ℕ → ℕ → List ℕ
 row_front cells y x = flat_map (plain_digit cells) (range_with_len (y * cells.width) x)
 
--- the text of one pixel more
+-- the text of one pixel more is two bytes longer where its line ends, and otherwise one
 row_front-more : (cells : Cells) (y x : ℕ) → x < cells.width → length (row_front cells y (x + 1)) ≡ length (row_front cells y x) + cond (ends_line cells.width x) 2 1
 unfolding row_front
 row_front-more cells y x within =
@@ -105,7 +105,7 @@ row_front-more cells y x within =
     ∙ (length-append (flat_map (plain_digit cells) (range_with_len (y * cells.width) x)) (digit_text (has cells x y) (ends_line cells.width x))
     ∙ ap (λ (n : ℕ). length (flat_map (plain_digit cells) (range_with_len (y * cells.width) x)) + n) (digit_text-length (has cells x y) (ends_line cells.width x)))
 
--- how long that text is
+-- the text of a row's first pixels is as long as their lines
 row_front-length : (cells : Cells) (y x : ℕ) → x ≤ cells.width → LinesLength cells.width x (length (row_front cells y x))
 unfolding row_front
 row_front-length cells y zero below = record { within = λ some. refl; all = λ none. omega arith }
@@ -116,7 +116,7 @@ row_front-length cells y (suc x) below =
     let more = LinesLength-more cells.width x (length (row_front cells y x)) (ends_line cells.width x) inside (before.within inside) refl in
     rw next at (subst (λ (n : ℕ). LinesLength cells.width (x + 1) n) (sym (row_front-more cells y x inside)) more)
 
--- how long the lines of some rows are
+-- the lines of some rows are as long as so many times one row's
 pub rows-length : (cells : Cells) (count : ℕ) → length (flat_map (plain_digit cells) (range_with_len 0 (count * cells.width))) ≡ count * row_length cells.width
 unfolding row_front
 rows-length cells zero = let none : zero * cells.width ≡ 0 = omega arith in rw none (omega arith)
@@ -129,7 +129,7 @@ rows-length cells (suc count) =
     ∙ (length-append (flat_map (plain_digit cells) (range_with_len 0 (count * cells.width))) (flat_map (plain_digit cells) (range_with_len (count * cells.width) cells.width))
     ∙ omega (arith, row, before)))
 
--- a plain image was written, and LF behind it
+-- a plain image was written, and LF after it
 pub record PlainWritten (cells : Cells) : Type 0 where
   pub text : List ℕ
   pub is_text : plain_text cells ≡ text ++ 10 ∷ []

@@ -8,7 +8,7 @@ use Rattle.metric.specs.declared.fault.PbmFault.{PbmFault}
 use Rattle.bits.specs.Cells.{Cells, has}
 use Rattle.bits.specs.Writes.{with_word}
 use Rattle.bits.proofs.CellsLemmas.{has-cells_where, cells_where-same}
-use Rattle.pbm.specs.Faults.{pixels, cells_of}
+use Rattle.pbm.specs.Faults.{pixels, cells_of_pixels}
 use Rattle.pbm.specs.Plain.{AreBitsRead}
 use Rattle.pbm.proofs.PartReads.{pixels-add, pixels-add_fault, front-append}
 use Rattle.pbm.proofs.Progress.{IsReadTo}
@@ -31,12 +31,12 @@ word_within : (width height y index count : ℕ) → 64 * index < width → y < 
 word_within width height y index count column row count_is = let rows : width * (y + 1) ≤ width * height = mul-le-mul_left width (omega arith) in omega (arith, rows, count_is)
 
 -- one word more is its cells more
-pub cells_of-word : (width height y index count word : ℕ) (front more : List Bool) → 64 * index < width → y < height → count ≡ min (width - 64 * index) 64
+cells_of-word : (width height y index count word : ℕ) (front more : List Bool) → 64 * index < width → y < height → count ≡ min (width - 64 * index) 64
     → length front ≡ y * width + 64 * index → length more ≡ count → ((i : ℕ) → i < count → (bit_at word i == 1) ≡ get_or more i false)
-    → with_word (cells_of width height front) y index word ≡ cells_of width height (front ++ more)
+    → with_word (cells_of_pixels width height front) y index word ≡ cells_of_pixels width height (front ++ more)
 cells_of-word width height y index count word front more column row count_is size more_size bits =
-    cells_where-same width height (λ a b. cond (eqb b y && eqb (a / 64) index) (bit_at word (a % 64) == 1) (has (cells_of width height front) a b)) (λ a b. get_or (front ++ more) (b * width + a) false) (λ a b ha hb.
-    let before : has (cells_of width height front) a b ≡ get_or front (b * width + a) false = has-cells_where width height (λ x y. get_or front (y * width + x) false) a b ha hb in
+    cells_where-same width height (λ a b. cond (eqb b y && eqb (a / 64) index) (bit_at word (a % 64) == 1) (has (cells_of_pixels width height front) a b)) (λ a b. get_or (front ++ more) (b * width + a) false) (λ a b ha hb.
+    let before : has (cells_of_pixels width height front) a b ≡ get_or front (b * width + a) false = has-cells_where width height (λ x y. get_or front (y * width + x) false) a b ha hb in
     elim (cases_eq b y) [
       | inr other_row ↦
           let no : (eqb b y && eqb (a / 64) index) ≡ false = false_from_ne_true (eqb b y && eqb (a / 64) index) (λ both. other_row (eqb-true b y (and_parts (eqb b y) (eqb (a / 64) index) both).0)) in

@@ -15,42 +15,36 @@ range-append a (suc m) n =
     let on : (a + 1) + m ≡ a + suc m = omega arith in
     rw more (ap (λ (t : List ℕ). a ∷ t) (range-append (a + 1) m n ∙ ap (λ (k : ℕ). range_with_len (a + 1) m ++ range_with_len k n) on))
 
--- the rows up to y, and row y, are the rows up to the one behind it
+-- the rows up to y, and row y, are the rows up to the one after it
 range-row : (across y : ℕ) → range_with_len 0 ((y + 1) * across) ≡ range_with_len 0 (y * across) ++ range_with_len (y * across) across
 range-row across y =
     let both : (y + 1) * across ≡ y * across + across = omega arith in
     let start : 0 + y * across ≡ y * across = omega arith in
     ap (range_with_len 0) both ∙ range-append 0 (y * across) across ∙ ap (λ (k : ℕ). range_with_len 0 (y * across) ++ range_with_len k across) start
 
--- one row more, of a list that has an item for each place
+-- a list that has an item for each place has one row more after the next row's items
 pub map-row : (f : ℕ → ℕ) (before : List ℕ) (across y : ℕ) → (before ++ map f (range_with_len 0 (y * across))) ++ map f (range_with_len (y * across) across) ≡ before ++ map f (range_with_len 0 ((y + 1) * across))
 map-row f before across y =
     append_assoc before (map f (range_with_len 0 (y * across))) (map f (range_with_len (y * across) across))
     ∙ ap (λ (t : List ℕ). before ++ t) (sym (ap (map f) (range-row across y) ∙ map-append f (range_with_len 0 (y * across)) (range_with_len (y * across) across)))
 
--- one row more, of a list that has some items for each place
+-- a list that has some items for each place has one row more after the next row's items
 pub flat_map-row : (f : ℕ → List ℕ) (before : List ℕ) (across y : ℕ) → (before ++ flat_map f (range_with_len 0 (y * across))) ++ flat_map f (range_with_len (y * across) across) ≡ before ++ flat_map f (range_with_len 0 ((y + 1) * across))
 flat_map-row f before across y =
     append_assoc before (flat_map f (range_with_len 0 (y * across))) (flat_map f (range_with_len (y * across) across))
     ∙ ap (λ (t : List ℕ). before ++ t) (sym (ap (flat_map f) (range-row across y) ∙ flat_map-append f (range_with_len 0 (y * across)) (range_with_len (y * across) across)))
 
--- one place more
+-- a range with one place more has its end as the last place
 range-more : (a n : ℕ) → range_with_len a (n + 1) ≡ range_with_len a n ++ (a + n) ∷ []
 range-more a n = range-append a n 1
 
--- one item more
-pub map-more : (f : ℕ → ℕ) (before : List ℕ) (a n item : ℕ) → item ≡ f (a + n) → (before ++ map f (range_with_len a n)) ++ item ∷ [] ≡ before ++ map f (range_with_len a (n + 1))
-map-more f before a n item is =
-    append_assoc before (map f (range_with_len a n)) (item ∷ [])
-    ∙ ap (λ (t : List ℕ). before ++ t) (ap (λ (k : ℕ). map f (range_with_len a n) ++ k ∷ []) is ∙ sym (ap (map f) (range-more a n) ∙ map-append f (range_with_len a n) ((a + n) ∷ [])))
-
--- some items more
+-- a list of parts with the next one added is that of one place more
 pub flat_map-more : (f : ℕ → List ℕ) (before : List ℕ) (a n : ℕ) (items : List ℕ) → items ≡ f (a + n) → (before ++ flat_map f (range_with_len a n)) ++ items ≡ before ++ flat_map f (range_with_len a (n + 1))
 flat_map-more f before a n items is =
     append_assoc before (flat_map f (range_with_len a n)) items
     ∙ ap (λ (t : List ℕ). before ++ t) (ap (λ (t : List ℕ). flat_map f (range_with_len a n) ++ t) (is ∙ sym (append-nil (f (a + n)))) ∙ sym (ap (flat_map f) (range-more a n) ∙ flat_map-append f (range_with_len a n) ((a + n) ∷ [])))
 
--- one row more, of the rows from one on, of a list that has some items for each place
+-- a list that has some items for each place from a row on has one row more after the next row's items
 pub flat_map-row_from : (f : ℕ → List ℕ) (before : List ℕ) (across from y : ℕ) → from ≤ y → (before ++ flat_map f (range_with_len (from * across) ((y - from) * across))) ++ flat_map f (range_with_len (y * across) across) ≡ before ++ flat_map f (range_with_len (from * across) ((y + 1 - from) * across))
 flat_map-row_from f before across from y order =
     let up : from + (y - from) ≡ y = omega (arith, order) in
@@ -64,7 +58,7 @@ flat_map-row_from f before across from y order =
     ∙ (ap (λ (m : ℕ). flat_map f (range_with_len (from * across) m)) both
     ∙ ap (λ (m : ℕ). flat_map f (range_with_len (from * across) (m * across))) (sym next)))))
 
--- some rows more, of a list that has some items for each place
+-- a list that has some items for each place has some rows more after those rows' items
 pub flat_map-rows : (f : ℕ → List ℕ) (across from to : ℕ) → from ≤ to → flat_map f (range_with_len 0 (from * across)) ++ flat_map f (range_with_len (from * across) ((to - from) * across)) ≡ flat_map f (range_with_len 0 (to * across))
 flat_map-rows f across from to order =
     let up : from + (to - from) ≡ to = omega (arith, order) in

@@ -21,7 +21,7 @@ pixel_at-read (byte ∷ rest) found e =
       ]
     ]
 
--- a pixel was read, behind nothing or a gap
+-- a pixel was read, after nothing or a gap
 record PixelRead (bytes : List ℕ) (found : Bool × List ℕ) : Type 0 where
   between : List ℕ
   is_between : IsBetween between
@@ -43,7 +43,7 @@ next_pixel-read (byte ∷ rest) found e =
       ]
     ]
 
--- a raster of this many pixels was read, behind nothing or a gap
+-- a raster of this many pixels was read, after nothing or a gap
 pub record RasterRead (n : ℕ) (bytes : List ℕ) (found : List Bool × List ℕ) : Type 0 where
   pub between : List ℕ
   pub text : List ℕ
@@ -98,18 +98,18 @@ pixel_at-again : (pixel : Bool) (rest : List ℕ) → pixel_at (pixel_byte pixel
 pixel_at-again true rest = refl
 pixel_at-again false rest = refl
 
--- a pixel is read behind nothing
+-- a pixel is read after nothing
 next_pixel-here : (pixel : Bool) (rest : List ℕ) → next_pixel (pixel_byte pixel ∷ rest) ≡ Ok (pixel, rest)
 unfolding next_pixel
 next_pixel-here true rest = refl
 next_pixel-here false rest = refl
 
--- a pixel is read behind a gap
+-- a pixel is read after a gap
 next_pixel-spaced : (first : ℕ) (others : List ℕ) (pixel : Bool) (rest : List ℕ) → is_whitespace first ≡ true → filling false (others ++ pixel_byte pixel ∷ rest) ≡ Ok (pixel_byte pixel ∷ rest) → next_pixel ((first ∷ others) ++ pixel_byte pixel ∷ rest) ≡ Ok (pixel, rest)
 unfolding next_pixel
 next_pixel-spaced first others pixel rest is h = rw (is, h) (pixel_at-again pixel rest)
 
--- a pixel is read behind nothing or a gap
+-- a pixel is read after nothing or a gap
 next_pixel-again : (between : List ℕ) (pixel : Bool) (rest : List ℕ) → IsBetween between → next_pixel (between ++ pixel_byte pixel ∷ rest) ≡ Ok (pixel, rest)
 next_pixel-again between pixel rest is =
     elim is [
@@ -119,7 +119,7 @@ next_pixel-again between pixel rest is =
           ∙ next_pixel-spaced spaced.first spaced.others pixel rest spaced.first_is (filling-again false spaced.others (pixel_byte pixel) rest spaced.others_are (pixel-ends pixel))
     ]
 
--- a raster is read behind nothing or a gap
+-- a raster is read after nothing or a gap
 raster-again : (all : List Bool) (pixel : Bool) (between text rest : List ℕ) → IsBetween between → IsRaster text (pixel ∷ all) → pixels (suc (length all)) (between ++ (text ++ rest)) ≡ Ok (pixel ∷ all, rest)
 unfolding pixels IsRaster
 raster-again [] pixel between text rest is_between is =
@@ -135,7 +135,7 @@ pub pixels-again : (all : List Bool) (n : ℕ) (text rest : List ℕ) → length
 pixels-again [] n text rest count some is = absurd (omega arith)
 pixels-again (pixel ∷ all) n text rest count some is = ap (λ (m : ℕ). pixels m (text ++ rest)) (sym count) ∙ raster-again all pixel [] text rest (inl refl) is
 
--- a raster begins with its first pixel
+-- a raster starts with its first pixel
 raster-front : (all : List Bool) (pixel : Bool) (text : List ℕ) → IsRaster text (pixel ∷ all) → (more : List ℕ) × (text ≡ pixel_byte pixel ∷ more)
 unfolding IsRaster
 raster-front [] pixel text is = ([], is)
@@ -153,12 +153,12 @@ gap-before_raster (pixel ∷ all) text gap_text rest some is is_gap =
 abbrev pub with_front : List Bool → Result (List Bool × List ℕ) PbmFault → Result (List Bool × List ℕ) PbmFault
 with_front front read = read >>= λ x. Ok (front ++ x.0, x.1)
 
--- nothing was read before
+-- where nothing was read before, what is still read is all
 pub with_front-nil : (read : Result (List Bool × List ℕ) PbmFault) → with_front [] read ≡ read
 with_front-nil (Ok x) = refl
 with_front-nil (Err fault) = refl
 
--- one more pixel was read
+-- a pixel that is read after a front belongs to the front
 with_front-cons : (front : List Bool) (pixel : Bool) (read : Result (List Bool × List ℕ) PbmFault) → with_front front (read >>= λ x. Ok (pixel ∷ x.0, x.1)) ≡ with_front (front ++ pixel ∷ []) read
 with_front-cons front pixel (Ok x) = ap (λ (all : List Bool). Ok (all, x.1)) (simp append_assoc)
 with_front-cons front pixel (Err fault) = refl
@@ -179,7 +179,7 @@ pixels-fault front count k bytes fault whole few h so_far =
     let one : with_front front (pixels (count - k) bytes) ≡ Err fault = rw (more, h) refl in
     so_far ∙ one
 
--- all pixels were read
+-- where no pixel is left to read, all pixels are those of the front
 pub pixels-done : (front : List Bool) (count : ℕ) (bytes : List ℕ) (whole : Result (List Bool × List ℕ) PbmFault) → whole ≡ with_front front (pixels (count - count) bytes) → whole ≡ Ok (front, bytes)
 unfolding pixels
 pixels-done front count bytes whole so_far =

@@ -3,7 +3,6 @@ use Rattle.std.proofs.Common.{◌≡◌, ℕ, zero, suc, ◌+◌, ◌-◌, ◌*�
 use Rattle.std.specs.Fmt.{decimal}
 use Rattle.std.specs.Int.{bit_at}
 use Rattle.std.specs.List.{range_with_len}
-use Rattle.std.proofs.Math.Nat.{pow-le-pow_right}
 use Rattle.std.proofs.lemmas.Nat.{div-mul-add, mod-mul-add}
 use Rattle.std.proofs.lemmas.Nat.Bits.{bit_at_lowest, bit_at-suc}
 use Rattle.std.proofs.lemmas.List.FromFn.{get_or-map-range_with_len, length-map-range_with_len}
@@ -17,13 +16,8 @@ use Rattle.pbm.proofs.Pixels.{place-below}
 abbrev pub one : Bool → ℕ
 one black = cond black 1 0
 
--- a pixel more
-pub packed-suc : (cells : Cells) (x y n : ℕ) → packed cells x y (n + 1) ≡ 2 * packed cells x y n + one (has cells (x + n) y)
-unfolding packed
-packed-suc cells x y n = let more : n + 1 ≡ suc n = omega arith in rw more refl
-
 -- the number of one pixel is small
-pub one-small : (black : Bool) → one black ≤ 1
+one-small : (black : Bool) → one black ≤ 1
 one-small true = omega arith
 one-small false = omega arith
 
@@ -36,19 +30,7 @@ packed-below cells x y (suc n) =
     let before = packed-below cells x y n in
     omega (arith, small, before)
 
--- seven pixels or fewer leave room for one more in a byte
-pub packed-small : (cells : Cells) (x y n : ℕ) → n < 8 → packed cells x y n < 128
-packed-small cells x y n few =
-    let below = packed-below cells x y n in
-    let larger : 2 ^ n ≤ 2 ^ 7 = pow-le-pow_right {n = 2} (omega arith) {i = n} {j = 7} (omega arith) in
-    omega (arith, below, larger)
-
--- no pixel is 0
-pub packed-none : (cells : Cells) (x y : ℕ) → 0 ≡ packed cells x y 0
-unfolding packed
-packed-none cells x y = refl
-
--- the lowest digit, and those above it
+-- a number of a lowest digit and those above it has that digit as its rest, and those as its half
 lowest : (high : ℕ) (black : Bool) → ((2 * high + one black) % 2 ≡ one black) × ((2 * high + one black) / 2 ≡ high)
 lowest high true = (omega arith, omega arith)
 lowest high false = (omega arith, omega arith)

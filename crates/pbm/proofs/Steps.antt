@@ -18,7 +18,7 @@ pub bind_ok : {A B : Type 0} (r : Result A PbmFault) (f : A → Result B PbmFaul
 bind_ok (Ok x) f y e = (x, refl, e)
 bind_ok (Err d) f y e = absurd cc
 
--- which side of a test was taken
+-- the side of a test that was taken says how the test came out
 pub chosen : {A : Type 0} (b : Bool) (x y z : A) → cond b x y ≡ z → ((b ≡ true) × (x ≡ z)) ⊎ ((b ≡ false) × (y ≡ z))
 chosen true x y z e = inl (refl, e)
 chosen false x y z e = inr (refl, e)
@@ -28,12 +28,12 @@ abbrev pub IsOfBytes : {A : Type 0} → Result A PbmFault → Type 0
 IsOfBytes (Ok x) = Unit {0}
 IsOfBytes (Err fault) = fault ≢ Memory
 
--- two steps of which neither tells want of memory
+-- where neither of two steps tells want of memory, both together don't
 pub bind-of_bytes : {A B : Type 0} (r : Result A PbmFault) (f : A → Result B PbmFault) → IsOfBytes r → ((x : A) → IsOfBytes (f x)) → IsOfBytes (r >>= f)
 bind-of_bytes (Ok x) f h k = k x
 bind-of_bytes (Err d) f h k = h
 
--- a test between two steps of which neither tells want of memory
+-- where neither of two steps tells want of memory, a test between them doesn't
 pub cond-of_bytes : {A : Type 0} (b : Bool) (x y : Result A PbmFault) → IsOfBytes x → IsOfBytes y → IsOfBytes (cond b x y)
 cond-of_bytes true x y h k = h
 cond-of_bytes false x y h k = k

@@ -1,18 +1,16 @@
 -- Eight bytes as a word, and the words of a bitmap that is being read.
-use Rattle.std.proofs.Common.{◌≡◌, ℕ, zero, suc, ◌+◌, ◌-◌, ◌*◌, ◌/◌, ◌%◌, ◌^◌, ◌<◌, ◌≤◌, ◌==◌, ◌&&◌, Bool, true, false, cond, eqb, ltb, List, [], ◌∷◌, length, get_or, set, refl, sym, ap, ◌∙◌, inl, inr, arith}
+use Rattle.std.proofs.Common.{◌≡◌, ℕ, zero, suc, ◌+◌, ◌-◌, ◌*◌, ◌/◌, ◌%◌, ◌^◌, ◌<◌, ◌≤◌, ◌==◌, ◌&&◌, Bool, true, ltb, List, [], ◌∷◌, length, get_or, set, refl, sym, ap, ◌∙◌, inl, inr, arith}
 use Rattle.std.specs.Int.{bit_at, reverse_bits_onto}
-use Rattle.std.proofs.lemmas.Bool.{cases_lt, cases_eq, and_parts, eq-eqb, eqb-true, false_from_ne_true, le-ltb, lt-ltb}
+use Rattle.std.proofs.lemmas.Bool.{cases_lt, lt-ltb}
 use Rattle.std.proofs.Math.Nat.{mul-le-mul_left}
 use Rattle.std.proofs.lemmas.List.{get_or_past, get_or-set_other, get_or-set_same}
-use Rattle.std.proofs.lemmas.Nat.{same_from_place}
 use Rattle.std.proofs.lemmas.Nat.Bits.{bit_at-suc, bit_at-zero, bit_at_lowest, bit_at_cat_low, bit_at_cat_high}
-use Rattle.bits.specs.Cells.{Cells, has, cells_where}
+use Rattle.bits.specs.Cells.{Cells, cells_where}
 use Rattle.bits.specs.Words.{words_across}
-use Rattle.bits.specs.Writes.{with_word}
 use Rattle.pbm.specs.Image.{raw_pixel}
-use Rattle.bits.proofs.CellsLemmas.{has-cells_where, cells_where-same}
+use Rattle.bits.proofs.CellsLemmas.{cells_where-same}
 
--- the bits of a number onto which another's are turned, from the last of those on
+-- where another number's bits are turned onto a number, its own stand above those
 bit_at-reverse_high : (k n front i : ℕ) → k ≤ i → bit_at (reverse_bits_onto k n front) i ≡ bit_at front (i - k)
 unfolding reverse_bits_onto
 bit_at-reverse_high zero n front i beyond = let same : i ≡ i - 0 = omega arith in ap (bit_at front) same
@@ -21,7 +19,7 @@ bit_at-reverse_high (suc k) n front i beyond =
     let half : (front * 2 + n % 2) / 2 ≡ front = omega arith in
     bit_at-reverse_high k (n / 2) (front * 2 + n % 2) i (omega arith) ∙ (ap (bit_at (front * 2 + n % 2)) next ∙ (bit_at-suc (front * 2 + n % 2) (i - suc k) ∙ ap (λ (m : ℕ). bit_at m (i - suc k)) half))
 
--- each bit of a number whose bits are turned round
+-- a number whose bits are turned round has each bit at the place counted from the other end
 pub bit_at-reverse_low : (k n front i : ℕ) → i < k → bit_at (reverse_bits_onto k n front) i ≡ bit_at n (k - 1 - i)
 unfolding reverse_bits_onto
 bit_at-reverse_low zero n front i within = absurd (omega arith)
@@ -43,7 +41,7 @@ horner [] = 0
 horner (byte ∷ bytes) = horner bytes * 2 ^ 8 + byte
 
 -- the bits of such a number are those of its bytes
-pub bit_at-horner : (bytes : List ℕ) → ((k : ℕ) → get_or bytes k 0 < 2 ^ 8) → (i : ℕ) → bit_at (horner bytes) i ≡ bit_at (get_or bytes (i / 8) 0) (i % 8)
+bit_at-horner : (bytes : List ℕ) → ((k : ℕ) → get_or bytes k 0 < 2 ^ 8) → (i : ℕ) → bit_at (horner bytes) i ≡ bit_at (get_or bytes (i / 8) 0) (i % 8)
 bit_at-horner [] small i = bit_at-zero i ∙ sym (bit_at-zero (i % 8))
 bit_at-horner (byte ∷ bytes) small i = elim (cases_lt i 8) [
   | inl low ↦
@@ -69,71 +67,43 @@ each_of_eight P a b c d e f g h (suc (suc (suc (suc (suc (suc zero)))))) within 
 each_of_eight P a b c d e f g h (suc (suc (suc (suc (suc (suc (suc zero))))))) within = h
 each_of_eight P a b c d e f g h (suc (suc (suc (suc (suc (suc (suc (suc k)))))))) within = absurd (omega arith)
 
--- eight bytes turned round, as a word
-pub bit_at-word : (bytes : List ℕ) (a b c d e f g h word : ℕ) → word ≡ horner (a ∷ b ∷ c ∷ d ∷ e ∷ f ∷ g ∷ h ∷ [])
-    → ((k : ℕ) → get_or (a ∷ b ∷ c ∷ d ∷ e ∷ f ∷ g ∷ h ∷ []) k 0 < 2 ^ 8)
-    → ((k : ℕ) → k < 8 → get_or (a ∷ b ∷ c ∷ d ∷ e ∷ f ∷ g ∷ h ∷ []) k 0 ≡ reverse_bits_onto 8 (get_or bytes k 0) 0)
-    → (i : ℕ) → i < 64 → bit_at word i ≡ bit_at (get_or bytes (i / 8) 0) (7 - i % 8)
-bit_at-word bytes a b c d e f g h word is small turned i within =
-    let byte : i / 8 < 8 = omega arith in
-    let place : i % 8 < 8 = omega arith in
-    ap (λ (w : ℕ). bit_at w i) is
-    ∙ (bit_at-horner (a ∷ b ∷ c ∷ d ∷ e ∷ f ∷ g ∷ h ∷ []) small i
-    ∙ (ap (λ (n : ℕ). bit_at n (i % 8)) (turned (i / 8) byte) ∙ bit_at-reverse_low 8 (get_or bytes (i / 8) 0) 0 (i % 8) place))
-
 -- past eight bytes there is none
 past_eight : (a b c d e f g h k : ℕ) → 8 ≤ k → get_or (a ∷ b ∷ c ∷ d ∷ e ∷ f ∷ g ∷ h ∷ []) k 0 ≡ 0
 past_eight a b c d e f g h k past = get_or_past (a ∷ b ∷ c ∷ d ∷ e ∷ f ∷ g ∷ h ∷ []) k 0 past
 
 -- eight bytes are small
-pub small_of_eight : (a b c d e f g h : ℕ) → a < 256 → b < 256 → c < 256 → d < 256 → e < 256 → f < 256 → g < 256 → h < 256 → (k : ℕ) → get_or (a ∷ b ∷ c ∷ d ∷ e ∷ f ∷ g ∷ h ∷ []) k 0 < 2 ^ 8
+small_of_eight : (a b c d e f g h : ℕ) → a < 256 → b < 256 → c < 256 → d < 256 → e < 256 → f < 256 → g < 256 → h < 256 → (k : ℕ) → get_or (a ∷ b ∷ c ∷ d ∷ e ∷ f ∷ g ∷ h ∷ []) k 0 < 2 ^ 8
 small_of_eight a b c d e f g h sa sb sc sd se sf sg sh k = elim (cases_lt k 8) [
   | inl within ↦ each_of_eight (λ n. get_or (a ∷ b ∷ c ∷ d ∷ e ∷ f ∷ g ∷ h ∷ []) n 0 < 256) sa sb sc sd se sf sg sh k within
   | inr past ↦ rw (past_eight a b c d e f g h k past) (omega arith)
 ]
 
+-- the word of eight bytes, whose number's bits are turned round, has each byte's bits from the highest down
+pub bit_at-word : (bytes : List ℕ) (number word : ℕ) → number ≡ horner (get_or bytes 7 0 ∷ get_or bytes 6 0 ∷ get_or bytes 5 0 ∷ get_or bytes 4 0 ∷ get_or bytes 3 0 ∷ get_or bytes 2 0 ∷ get_or bytes 1 0 ∷ get_or bytes 0 0 ∷ [])
+    → ((k : ℕ) → get_or bytes k 0 < 2 ^ 8) → word ≡ reverse_bits_onto 64 number 0 → (i : ℕ) → i < 64 → bit_at word i ≡ bit_at (get_or bytes (i / 8) 0) (7 - i % 8)
+bit_at-word bytes number word is small turned i within =
+    let byte : i / 8 < 8 = omega arith in
+    let place : (64 - 1 - i) / 8 ≡ 7 - i / 8 = omega arith in
+    let bit : (64 - 1 - i) % 8 ≡ 7 - i % 8 = omega arith in
+    let all = get_or bytes 7 0 ∷ get_or bytes 6 0 ∷ get_or bytes 5 0 ∷ get_or bytes 4 0 ∷ get_or bytes 3 0 ∷ get_or bytes 2 0 ∷ get_or bytes 1 0 ∷ get_or bytes 0 0 ∷ [] in
+    let each : get_or all (7 - i / 8) 0 ≡ get_or bytes (i / 8) 0 = each_of_eight (λ k. get_or all (7 - k) 0 ≡ get_or bytes k 0) refl refl refl refl refl refl refl refl (i / 8) byte in
+    ap (λ (w : ℕ). bit_at w i) turned
+    ∙ (bit_at-reverse_low 64 number 0 i within
+    ∙ (ap (λ (n : ℕ). bit_at n (64 - 1 - i)) is
+    ∙ (bit_at-horner all (small_of_eight (get_or bytes 7 0) (get_or bytes 6 0) (get_or bytes 5 0) (get_or bytes 4 0) (get_or bytes 3 0) (get_or bytes 2 0) (get_or bytes 1 0) (get_or bytes 0 0) (small 7) (small 6) (small 5) (small 4) (small 3) (small 2) (small 1) (small 0)) (64 - 1 - i)
+    ∙ (ap (λ (k : ℕ). bit_at (get_or all k 0) ((64 - 1 - i) % 8)) place ∙ (ap (λ (n : ℕ). bit_at n ((64 - 1 - i) % 8)) each ∙ ap (bit_at (get_or bytes (i / 8) 0)) bit)))))
+
 -- the bitmap whose cells pass the test, as far as its first words, row by row from the top
 abbrev pub drawn_words : ℕ → ℕ → (ℕ → ℕ → Bool) → ℕ → Cells
 drawn_words width height test n = cells_where width height (λ a b. ltb (b * words_across width + a / 64) n && test a b)
 
--- what isn't before a place, nor at it, is not before the next
-beyond : (m k n : ℕ) → k ≤ m → (m ≡ k → ⊥) → n ≡ k + 1 → n ≤ m
-beyond m k n from apart next = elim (cases_lt k m) [ inl more ↦ omega arith | inr same ↦ absurd (apart (omega arith)) ]
-
 -- a place of a row is one of all rows' places
-place-below_row : (across height k b : ℕ) → k < across → b < height → b * across + k < height * across
+pub place-below_row : (across height k b : ℕ) → k < across → b < height → b * across + k < height * across
 place-below_row across height k b column row = let most : across * (b + 1) ≤ across * height = mul-le-mul_left across (omega arith) in omega (arith, most)
 
 -- a word of a cell is one of the bitmap's
 place-below_words : (width height a b : ℕ) → a < width → b < height → b * words_across width + a / 64 < height * words_across width
 place-below_words width height a b ha hb = place-below_row (words_across width) height (a / 64) b (omega arith) hb
-
--- one word more is drawn
-pub drawn_words-more : (width height y index n word : ℕ) (test : ℕ → ℕ → Bool) → n ≡ y * words_across width + (index + 1) → index < words_across width
-    → ((i : ℕ) → i < 64 → 64 * index + i < width → (bit_at word i == 1) ≡ test (64 * index + i) y)
-    → with_word (drawn_words width height test (y * words_across width + index)) y index word ≡ drawn_words width height test n
-drawn_words-more width height y index n word test place column bits =
-    let across = words_across width in
-    cells_where-same width height (λ a b. cond (eqb b y && eqb (a / 64) index) (bit_at word (a % 64) == 1) (has (drawn_words width height test (y * across + index)) a b)) (λ a b. ltb (b * across + a / 64) n && test a b) (λ a b ha hb.
-    let before : has (drawn_words width height test (y * across + index)) a b ≡ (ltb (b * across + a / 64) (y * across + index) && test a b) = has-cells_where width height (λ a b. ltb (b * across + a / 64) (y * across + index) && test a b) a b ha hb in
-    elim (cases_eq (b * across + a / 64) (y * across + index)) [
-      | inl here ↦
-          let at = same_from_place b (a / 64) y index across (omega arith) column here in
-          let row = at.0 in
-          let word_is = at.1 in
-          let yes : ltb (b * across + a / 64) n ≡ true = lt-ltb (b * across + a / 64) n (omega (arith, here, place)) in
-          let cell : 64 * index + a % 64 ≡ a = omega arith in
-          let bit : (bit_at word (a % 64) == 1) ≡ test (64 * index + a % 64) y = bits (a % 64) (omega arith) (omega arith) in
-          rw (eq-eqb b y row, eq-eqb (a / 64) index word_is, yes) (bit ∙ (ap (λ (i : ℕ). test i y) cell ∙ ap (λ (i : ℕ). test a i) (sym row)))
-      | inr there ↦
-          let no : (eqb b y && eqb (a / 64) index) ≡ false = false_from_ne_true (eqb b y && eqb (a / 64) index) (λ both.
-          let parts = and_parts (eqb b y) (eqb (a / 64) index) both in
-          there (ap (λ (k : ℕ). k * across + a / 64) (eqb-true b y parts.0) ∙ ap (λ (k : ℕ). y * across + k) (eqb-true (a / 64) index parts.1))) in
-          rw no (before ∙ ap (λ (t : Bool). t && test a b) (elim (cases_lt (b * across + a / 64) (y * across + index)) [
-            | inl less ↦ lt-ltb (b * across + a / 64) (y * across + index) less ∙ sym (lt-ltb (b * across + a / 64) n (omega (arith, less, place)))
-            | inr more ↦ le-ltb (b * across + a / 64) (y * across + index) more ∙ sym (le-ltb (b * across + a / 64) n (beyond (b * across + a / 64) (y * across + index) n more there (omega (arith, place))))
-          ]))
-    ])
 
 -- all cells are drawn
 pub drawn_words-all : (width height n : ℕ) (test : ℕ → ℕ → Bool) → n ≡ height * words_across width → drawn_words width height test n ≡ cells_where width height test

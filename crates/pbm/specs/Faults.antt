@@ -31,7 +31,7 @@ filling in_comment [] = Err Truncated
 filling true (byte ∷ rest) = filling (not (is_line_end byte)) rest
 filling false (byte ∷ rest) = if is_whitespace byte then filling false rest else if byte == 35 then filling true rest else Ok (byte ∷ rest)
 
--- a gap, which begins with one whitespace byte
+-- a gap, which starts with one whitespace byte
 unfoldable pub gap : List ℕ → Result (List ℕ) PbmFault
 gap bytes = space bytes >>= filling false
 
@@ -44,10 +44,10 @@ unfoldable pub digits : ℕ → List ℕ → Result (ℕ × List ℕ) PbmFault
 digits value [] = side value []
 digits value (byte ∷ rest) = if is_digit byte then digits (10 * value + (byte - 48)) rest else side value (byte ∷ rest)
 
--- a number, which begins with a digit
-unfoldable pub number : List ℕ → Result (ℕ × List ℕ) PbmFault
-number [] = Err Truncated
-number (byte ∷ rest) = if is_digit byte then digits (byte - 48) rest else Err BadNumber
+-- a number, which starts with a digit
+unfoldable pub number_and_rest : List ℕ → Result (ℕ × List ℕ) PbmFault
+number_and_rest [] = Err Truncated
+number_and_rest (byte ∷ rest) = if is_digit byte then digits (byte - 48) rest else Err BadNumber
 
 -- what stands between the height and the raster: a gap in a plain image, exactly one whitespace byte in a raw one
 abbrev pub before_raster : Form → List ℕ → Result (List ℕ) PbmFault
@@ -59,9 +59,9 @@ unfoldable pub header : List ℕ → Result (Form × ℕ × ℕ × List ℕ) Pbm
 header bytes = do
   named ← magic bytes
   before_width ← gap named.1
-  width ← number before_width
+  width ← number_and_rest before_width
   before_height ← gap width.1
-  height ← number before_height
+  height ← number_and_rest before_height
   raster_bytes ← before_raster named.0 height.1
   Ok (named.0, width.0, height.0, raster_bytes)
 
@@ -70,7 +70,7 @@ abbrev pub pixel_at : List ℕ → Result (Bool × List ℕ) PbmFault
 pixel_at [] = Err Truncated
 pixel_at (byte ∷ rest) = if byte == 48 then Ok (false, rest) else if byte == 49 then Ok (true, rest) else Err BadPixel
 
--- the next pixel, behind nothing or a gap; a `#` directly in its place is refused
+-- the next pixel, after nothing or a gap; a `#` directly in its place is refused
 unfoldable pub next_pixel : List ℕ → Result (Bool × List ℕ) PbmFault
 next_pixel [] = Err Truncated
 next_pixel (byte ∷ rest) = if is_whitespace byte then filling false rest >>= pixel_at else if byte == 35 then Err BadComment else pixel_at (byte ∷ rest)
@@ -83,36 +83,36 @@ pixels (suc n) bytes = do
   others ← pixels n first.1
   Ok (first.0 ∷ others.0, others.1)
 
--- what stands behind the last pixel of a plain image
+-- what stands after the last pixel of a plain image
 abbrev pub ended : List ℕ → Result (List ℕ) PbmFault
 ended [] = Ok []
 ended (byte ∷ rest) = if is_whitespace byte then Ok (byte ∷ rest) else Err JunkNotSpaced
 
 -- the bitmap whose pixels are these, row by row from the top
-abbrev pub cells_of : ℕ → ℕ → List Bool → Cells
-cells_of width height all = cells_where width height (λ x y. slice_index_or all (y * width + x) false)
+abbrev pub cells_of_pixels : ℕ → ℕ → List Bool → Cells
+cells_of_pixels width height all = cells_where width height (λ x y. slice_index_or all (y * width + x) false)
 
--- a plain raster and what stands behind it
+-- a plain raster and what stands after it
 unfoldable pub plain_raster : ℕ → ℕ → List ℕ → Result (Cells × List ℕ) PbmFault
 plain_raster width height bytes = do
   all ← pixels (width * height) bytes
   rest ← ended all.1
-  Ok (cells_of width height all.0, rest)
+  Ok (cells_of_pixels width height all.0, rest)
 
 -- the bitmap that the bytes of a raw raster spell
 abbrev pub raw_cells : ℕ → ℕ → List ℕ → Cells
 raw_cells width height raster = cells_where width height (raw_pixel (bytes_across width) raster)
 
--- a raw raster, as many bytes as it needs; what stands behind it isn't looked at
+-- a raw raster, as many bytes as it needs; what stands after it isn't looked at
 unfoldable pub raw_raster : ℕ → ℕ → List ℕ → Result (Cells × List ℕ) PbmFault
 raw_raster width height bytes = let needed = height * bytes_across width in if nat_lt (length bytes) needed then Err Truncated else Ok (raw_cells width height (take needed bytes), drop needed bytes)
 
--- the raster of an image of this form and these sides, and what is left behind it
+-- the raster of an image of this form and these sides, and what is left after it
 abbrev pub raster : Form → ℕ → ℕ → List ℕ → Result (Cells × List ℕ) PbmFault
 raster Plain width height bytes = plain_raster width height bytes
 raster Raw width height bytes = raw_raster width height bytes
 
--- the image at the front, and what is left behind it
+-- the image at the front, and what is left after it
 unfoldable pub image : List ℕ → Result (Cells × List ℕ) PbmFault
 image bytes = do
   front ← header bytes

@@ -1,5 +1,5 @@
 -- The image grammar: which text of bytes spells which bitmap.
--- Source: pbm(5), the Netpbm manual's page of the PBM format, its plain and its raw form; in this project's profile: whitespace is the blank, TAB, LF and CR alone, sides are from 1 to 4096, a comment stands only within a gap that has begun with whitespace, and none behind the height of a raw image.
+-- Source: pbm(5), the Netpbm manual's page of the PBM format, its plain and its raw form; in this project's profile: whitespace is the blank, TAB, LF and CR alone, sides are from 1 to 4096, a comment stands only within a gap that has started with whitespace, and none after the height of a raw image.
 use Rattle.std.specs.Prelude.{◌≡◌, ℕ, ◌+◌, ◌-◌, ◌*◌, ◌/◌, ◌%◌, ◌<◌, ◌==◌, ◌&&◌, ◌||◌, Bool, true, false, not, List, [], ◌∷◌, ◌++◌, length, map, slice_index, ◌⊎◌, if◌then◌else◌}
 use Rattle.std.specs.Int.{bit_at}
 use Rattle.std.specs.List.{range_with_len, list_all}
@@ -108,12 +108,12 @@ pub record IsRaw (text : List ℕ) (cells : Cells) : Type 0 where
 abbrev pub IsImage : List ℕ → Cells → Type 0
 IsImage text cells = IsPlain text cells ⊎ IsRaw text cells
 
--- behind a plain image the input ends, or a whitespace byte stands
+-- after a plain image the input ends, or a whitespace byte stands
 abbrev pub IsEnd : List ℕ → Type 0
 IsEnd [] = Unit {0}
 IsEnd (byte ∷ rest) = is_whitespace byte ≡ true
 
--- the first n bytes are an image of this bitmap; behind a plain one the input ends, or whitespace stands, and behind a raw one anything may stand
+-- the first n bytes are an image of this bitmap; after a plain one the input ends, or whitespace stands, and after a raw one anything may stand
 pub record Reads (bytes : List ℕ) (n : ℕ) (cells : Cells) : Type 0 where
   pub text : List ℕ
   pub rest : List ℕ

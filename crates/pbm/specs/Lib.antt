@@ -1,4 +1,5 @@
 pub mod Faults
 pub mod Image
 pub mod Plain
+pub mod Windows
 pub mod Writing

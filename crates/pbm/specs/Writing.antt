@@ -29,7 +29,7 @@ raw_byte cells k = packed cells (8 * (k % bytes_across cells.width)) (k / bytes_
 unfoldable pub raw_text : Cells → List ℕ
 raw_text cells = front_text Raw cells ++ map (raw_byte cells) (range_with_len 0 (cells.height * bytes_across cells.width))
 
--- whether a line ends behind the digit of column x: after each 70 digits, and with the row
+-- whether a line ends after the digit of column x: after each 70 digits, and with the row
 abbrev pub ends_line : ℕ → ℕ → Bool
 ends_line width x = (x + 1) % 70 == 0 || x + 1 == width
 

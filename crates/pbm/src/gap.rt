@@ -20,7 +20,7 @@ fn is_line_end(byte: u8) -> bool
     matches!(byte, b'\n' | b'\r')
 }
 
-/// What stands behind one whitespace byte.
+/// What stands after one whitespace byte.
 pub fn after_space(bytes: &[u8]) -> Result<&[u8], PbmFault>
     ensures { MatchResult result (λ rest. space bytes.now ≡ Ok rest.now) (λ fault. space bytes.now ≡ Err fault) }
 {
@@ -32,7 +32,7 @@ pub fn after_space(bytes: &[u8]) -> Result<&[u8], PbmFault>
     }
 }
 
-/// What stands behind the rest of a gap, behind its comments too.
+/// What stands after the rest of a gap, after its comments too.
 #[tactic(auto, unfolding(crate::specs::Faults::filling))]
 pub fn after_filling(bytes: &[u8]) -> Result<&[u8], PbmFault>
     ensures { MatchResult result (λ rest. filling false bytes.now ≡ Ok rest.now) (λ fault. filling false bytes.now ≡ Err fault) }
@@ -52,7 +52,7 @@ pub fn after_filling(bytes: &[u8]) -> Result<&[u8], PbmFault>
     Err(PbmFault::Truncated)
 }
 
-/// What stands behind a gap.
+/// What stands after a gap.
 #[tactic(auto, unfolding(crate::specs::Faults::gap))]
 pub fn after_gap(bytes: &[u8]) -> Result<&[u8], PbmFault>
     ensures { MatchResult result (λ rest. gap bytes.now ≡ Ok rest.now) (λ fault. gap bytes.now ≡ Err fault) }

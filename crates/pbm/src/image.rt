@@ -12,7 +12,7 @@ use bits::Bitmap;
 use metric::PbmFault;
 use std::alloc::Global;
 
-/// Reads the raster of an image of this form into a blank bitmap, and gives what stands behind the image. On a fault some of the pixels may have been read.
+/// Reads the raster of an image of this form into a blank bitmap, and gives what stands after the image. On a fault some of the pixels may have been read.
 fn read_raster<'a>(form: Form, bitmap: &mut Bitmap, bytes: &'a [u8]) -> Result<&'a [u8], PbmFault>
     requires { bitmap.old ≡ cells_where bitmap.old.width bitmap.old.height (λ x y. false) }
     ensures raster { IfOk result (λ rest. raster form bitmap.old.width bitmap.old.height bytes.now ≡ Ok (bitmap.new, rest.now)) }
@@ -24,7 +24,7 @@ fn read_raster<'a>(form: Form, bitmap: &mut Bitmap, bytes: &'a [u8]) -> Result<&
     }
 }
 
-/// The image at the front, and what stands behind it.
+/// The image at the front, and what stands after it.
 #[tactic(auto, unfolding(crate::specs::Faults::image))]
 fn read_front(alloc: Global, bytes: &[u8]) -> Result<(Bitmap, &[u8]), PbmFault>
     ensures found { MatchResult result (λ found. image bytes.now ≡ Ok (found.0, found.1.now)) (λ fault. fault ≢ PbmFault.Memory → image bytes.now ≡ Err fault) }
@@ -38,7 +38,7 @@ fn read_front(alloc: Global, bytes: &[u8]) -> Result<(Bitmap, &[u8]), PbmFault>
 
 /// Reads the image at the front of the bytes, and says how many bytes it took.
 ///
-/// Images in the plain form and in the raw form are read, those that begin with `P1` and with `P4`, of sides from 1 to 4096. A comment may stand behind whitespace or behind another comment, but not behind the height of a raw image: the byte after the one whitespace byte there is raster, whatever it is. The bytes taken end with the last pixel, or with the last byte of a raw raster.
+/// Images in the plain form and in the raw form are read, those that start with `P1` and with `P4`, of sides from 1 to 4096. A comment may stand after whitespace or after another comment, but not after the height of a raw image: the byte after the one whitespace byte there is raster, whatever it is. The bytes taken end with the last pixel, or with the last byte of a raw raster.
 ///
 /// Of more than one fault the first in the order of the bytes is answered. Memory is asked for directly before the raster, so `Memory` means that all before it is good.
 pub fn read_image(alloc: Global, bytes: &[u8]) -> Result<(Bitmap, usize), PbmFault>

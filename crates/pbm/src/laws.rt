@@ -11,7 +11,7 @@ pub fn one_image()
     ensures { (bytes : List ℕ) (m n : ℕ) (a b : Cells) → Reads bytes m a → Reads bytes n b → (m ≡ n) × (a ≡ b) }
 {}
 
-/// The fault table finds an image exactly where the grammar has one, and leaves what stands behind it.
+/// The fault table finds an image exactly where the grammar has one, and leaves what stands after it.
 pub fn reads_what_is_found()
     ensures found { (bytes rest : List ℕ) (cells : Cells) → image bytes ≡ Ok (cells, rest) → (read : Reads bytes (length bytes - length rest) cells) × (read.rest ≡ rest) }
     ensures read { (bytes : List ℕ) (n : ℕ) (cells : Cells) (read : Reads bytes n cells) → image bytes ≡ Ok (cells, read.rest) }
@@ -22,7 +22,7 @@ pub fn raw_text_is_an_image()
     ensures { (cells : Cells) → IsBitmap cells → IsRaw (raw_text cells) cells }
 {}
 
-/// What a bitmap is written as in the plain form is a plain image of it, and LF behind that.
+/// What a bitmap is written as in the plain form is a plain image of it, and LF after that.
 pub fn plain_text_is_an_image()
     ensures { (cells : Cells) → IsBitmap cells → (text : List ℕ) × (plain_text cells ≡ text ++ 10 ∷ []) × IsPlain text cells }
 {}

@@ -1,7 +1,7 @@
 //! The numbers of an image: the sides of its bitmap, in cells.
 
 ghost use Rattle.std.specs.Prelude.{◌≡◌, Ok, Err, MatchResult};
-ghost use Rattle.pbm.specs.Faults.{digits, number, side};
+ghost use Rattle.pbm.specs.Faults.{digits, number_and_rest, side};
 
 use metric::PbmFault;
 
@@ -21,7 +21,7 @@ fn side_of(value: u16, rest: &[u8]) -> Result<(u16, &[u8]), PbmFault>
 
 /// The side whose first digits have this value.
 ///
-/// Digits behind a value over the longest side are passed over: no more of them makes it good.
+/// Digits after a value over the longest side are passed over: no more of them makes it good.
 #[tactic(auto, unfolding(crate::specs::Faults::digits))]
 fn read_digits(mut value: u16, bytes: &[u8]) -> Result<(u16, &[u8]), PbmFault>
     ensures { MatchResult result (λ found. digits value bytes.now ≡ Ok (found.0, found.1.now)) (λ fault. digits value bytes.now ≡ Err fault) }
@@ -40,9 +40,9 @@ fn read_digits(mut value: u16, bytes: &[u8]) -> Result<(u16, &[u8]), PbmFault>
 }
 
 /// The side that the digits at the front tell.
-#[tactic(auto, unfolding(crate::specs::Faults::number))]
+#[tactic(auto, unfolding(crate::specs::Faults::number_and_rest))]
 pub fn read_number(bytes: &[u8]) -> Result<(u16, &[u8]), PbmFault>
-    ensures { MatchResult result (λ found. number bytes.now ≡ Ok (found.0, found.1.now)) (λ fault. number bytes.now ≡ Err fault) }
+    ensures { MatchResult result (λ found. number_and_rest bytes.now ≡ Ok (found.0, found.1.now)) (λ fault. number_and_rest bytes.now ≡ Err fault) }
 {
     match bytes.split_first() {
         None => Err(PbmFault::Truncated),

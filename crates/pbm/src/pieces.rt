@@ -38,7 +38,7 @@ pub fn plain_length(bitmap: &Bitmap, first: &[u8]) -> usize
     first.len() + usize::from(bitmap.height()) * row_length(bitmap.width())
 }
 
-/// The row behind those that one piece holds from a row on, where there are so many.
+/// The row after those that one piece holds from a row on, where there are so many.
 fn end_of_piece(bitmap: &Bitmap, from: u16) -> u16
     requires { from < bitmap.now.height }
     ensures more { from < result }
@@ -49,7 +49,7 @@ fn end_of_piece(bitmap: &Bitmap, from: u16) -> u16
     (usize::from(from) + rows).min(usize::from(bitmap.height())) as u16
 }
 
-/// Puts the next piece in place of one: the lines of the rows from one on, as many as 64 KB hold. Answers the row behind them.
+/// Puts the next piece in place of one: the lines of the rows from one on, as many as 64 KB hold. Answers the row after them.
 pub fn next_piece(bitmap: &Bitmap, from: u16, piece: &mut Vec<u8>) -> u16
     requires inside { from < bitmap.now.height }
     requires room { 65536 ≤ vec_capacity piece.old }

@@ -12,7 +12,7 @@ use std::simd::prelude::*;
 /// How many bytes are looked at side by side.
 const LANES: usize = 64;
 
-/// Whether the pixel at the front is black, and what stands behind it.
+/// Whether the pixel at the front is black, and what stands after it.
 fn read_pixel(bytes: &[u8]) -> Result<(bool, &[u8]), PbmFault>
     ensures { MatchResult result (λ found. pixel_at bytes.now ≡ Ok (found.0, found.1.now)) (λ fault. pixel_at bytes.now ≡ Err fault) }
 {
@@ -24,7 +24,7 @@ fn read_pixel(bytes: &[u8]) -> Result<(bool, &[u8]), PbmFault>
     }
 }
 
-/// The same of the next pixel, behind nothing or a gap.
+/// The same of the next pixel, after nothing or a gap.
 #[tactic(auto, unfolding(crate::specs::Faults::next_pixel))]
 fn read_next(bytes: &[u8]) -> Result<(bool, &[u8]), PbmFault>
     ensures { MatchResult result (λ found. next_pixel bytes.now ≡ Ok (found.0, found.1.now)) (λ fault. next_pixel bytes.now ≡ Err fault) }
@@ -89,7 +89,7 @@ fn read_some(bytes: &[u8], most: u16) -> Result<(u16, u64, &[u8]), PbmFault>
     Ok((count, digits, &bytes[usize::from(count)..]))
 }
 
-/// So many bits more behind the first ones of a word.
+/// So many bits more after the first ones of a word.
 fn with_bits(word: u64, place: u16, bits: u64, count: u16) -> u64
     requires room { place + count ≤ 64 }
     requires some { 0 < count }

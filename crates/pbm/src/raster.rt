@@ -2,7 +2,7 @@
 
 ghost use Rattle.std.specs.Prelude.{◌≡◌, ◌*◌, List, Bool, false, Ok, Err, IfOk, IfErr, MatchResult};
 ghost use Rattle.bits.specs.Cells.{cells_where};
-ghost use Rattle.pbm.specs.Faults.{cells_of, ended, pixels, plain_raster};
+ghost use Rattle.pbm.specs.Faults.{cells_of_pixels, ended, pixels, plain_raster};
 
 use crate::gap::is_whitespace;
 use crate::plain_word::read_word;
@@ -10,10 +10,10 @@ use crate::raw_raster::WORD_PIXELS;
 use bits::Bitmap;
 use metric::PbmFault;
 
-/// Reads the pixels of a blank bitmap into it, a word at a time, and gives what stands behind the last of them. On a fault those of the words before it were read.
+/// Reads the pixels of a blank bitmap into it, a word at a time, and gives what stands after the last of them. On a fault those of the words before it were read.
 fn read_pixels<'a>(bitmap: &mut Bitmap, bytes: &'a [u8]) -> Result<&'a [u8], PbmFault>
     requires { bitmap.old ≡ cells_where bitmap.old.width bitmap.old.height (λ x y. false) }
-    ensures raster { IfOk result (λ rest. (all : List Bool) × (pixels (bitmap.old.width * bitmap.old.height) bytes.now ≡ Ok (all, rest.now)) × (bitmap.new ≡ cells_of bitmap.old.width bitmap.old.height all)) }
+    ensures raster { IfOk result (λ rest. (all : List Bool) × (pixels (bitmap.old.width * bitmap.old.height) bytes.now ≡ Ok (all, rest.now)) × (bitmap.new ≡ cells_of_pixels bitmap.old.width bitmap.old.height all)) }
     ensures fault { IfErr result (λ fault. pixels (bitmap.old.width * bitmap.old.height) bytes.now ≡ Err fault) }
 {
     let width = bitmap.width();
@@ -30,8 +30,8 @@ fn read_pixels<'a>(bitmap: &mut Bitmap, bytes: &'a [u8]) -> Result<&'a [u8], Pbm
     Ok(rest)
 }
 
-/// What stands behind a plain image, where it may stand there.
-fn after_image(bytes: &[u8]) -> Result<&[u8], PbmFault>
+/// What stands after a plain image, where it may stand there.
+pub fn after_image(bytes: &[u8]) -> Result<&[u8], PbmFault>
     ensures { MatchResult result (λ rest. ended bytes.now ≡ Ok rest.now) (λ fault. ended bytes.now ≡ Err fault) }
 {
     match bytes.first() {
@@ -40,7 +40,7 @@ fn after_image(bytes: &[u8]) -> Result<&[u8], PbmFault>
     }
 }
 
-/// Reads a plain raster into a blank bitmap, and gives what stands behind it. On a fault some of its pixels were read.
+/// Reads a plain raster into a blank bitmap, and gives what stands after it. On a fault some of its pixels were read.
 #[tactic(auto, unfolding(crate::specs::Faults::plain_raster))]
 pub fn read_plain<'a>(bitmap: &mut Bitmap, bytes: &'a [u8]) -> Result<&'a [u8], PbmFault>
     requires { bitmap.old ≡ cells_where bitmap.old.width bitmap.old.height (λ x y. false) }

@@ -28,16 +28,7 @@ pub fn bytes_across(width: u16) -> u16
 fn word_of(bytes: [u8; 8]) -> u64
     ensures { (i : ℕ) → i < 64 → bit_at result i ≡ bit_at (slice_index bytes (i / 8)) (7 - i % 8) }
 {
-    u64::from_le_bytes([
-        bytes[0].reverse_bits(),
-        bytes[1].reverse_bits(),
-        bytes[2].reverse_bits(),
-        bytes[3].reverse_bits(),
-        bytes[4].reverse_bits(),
-        bytes[5].reverse_bits(),
-        bytes[6].reverse_bits(),
-        bytes[7].reverse_bits(),
-    ])
+    u64::from_be_bytes(bytes).reverse_bits()
 }
 
 /// The word of eight bytes from `start` on.
@@ -86,7 +77,20 @@ fn word_at(raster: &[u8], start: usize, end: usize) -> u64
     }
 }
 
-/// Reads the bytes of a raster into a blank bitmap, a word at a time.
+/// Reads a row of `across` bytes, the first of them at `start`, as words.
+#[inline(always)]
+fn read_row(raster: &[u8], start: usize, across: usize, words: &mut [u64; 64])
+    requires few { across ≤ 512 }
+    requires within { start + across ≤ length raster.now }
+    ensures { (k : ℕ) → k < 64 → (i : ℕ) → i < 64 → 8 * k + i / 8 < across → bit_at (slice_index words.new k) i ≡ bit_at (slice_index raster.now (start + 8 * k + i / 8)) (7 - i % 8) }
+{
+    let end = start + across;
+    'words: for index in 0..across.div_ceil(8) {
+        words[index] = word_at(raster, start + 8 * index, end);
+    }
+}
+
+/// Reads the bytes of a raster into a blank bitmap, a row at a time.
 fn read_words(bitmap: &mut Bitmap, raster: &[u8])
     requires blank { bitmap.old ≡ cells_where bitmap.old.width bitmap.old.height (λ x y. false) }
     requires all { length raster.now ≡ bitmap.old.height * bytes_across bitmap.old.width }
@@ -95,16 +99,15 @@ fn read_words(bitmap: &mut Bitmap, raster: &[u8])
     let width = bitmap.width();
     let height = bitmap.height();
     let across = usize::from(bytes_across(width));
+    let mut words = [0; 64];
     'rows: for y in 0..height {
         let start = usize::from(y) * across;
-        'words: for index in 0..width.div_ceil(WORD_PIXELS) {
-            let word = word_at(raster, start + 8 * usize::from(index), start + across);
-            bitmap.set_word(y, index, word);
-        }
+        read_row(raster, start, across, &mut words);
+        bitmap.set_row(y, &words);
     }
 }
 
-/// Reads a raw raster into a blank bitmap, and gives what stands behind it. On a fault nothing was read.
+/// Reads a raw raster into a blank bitmap, and gives what stands after it. On a fault nothing was read.
 #[tactic(auto, unfolding(crate::specs::Faults::raw_raster))]
 pub fn read_raw<'a>(bitmap: &mut Bitmap, bytes: &'a [u8]) -> Result<&'a [u8], PbmFault>
     requires { bitmap.old ≡ cells_where bitmap.old.width bitmap.old.height (λ x y. false) }

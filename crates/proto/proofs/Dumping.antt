@@ -5,7 +5,7 @@ use Rattle.std.specs.Prelude.{OnOk, OnErr, Vec}
 use Rattle.std.proofs.lemmas.List.{append-nil}
 use Rattle.metric.specs.declared.refusal.Refusal.{Refusal}
 use Rattle.metric.specs.declared.refusal.Refusal.TheVariants.{NotPinned}
-use Rattle.proto.specs.Said.{Said}
+use Rattle.proto.specs.Said.{LineView}
 use Rattle.proto.specs.Said as saids
 use Rattle.metric.specs.declared.stream.WriteFault.{WriteFault}
 use Rattle.bits.specs.Cells.{Cells}
@@ -20,10 +20,11 @@ use Rattle.proto.specs.Replies.{reply_line}
 use Rattle.proto.specs.Callers.{CallerValue, bitmap_held}
 use Rattle.proto.specs.Exchanges.{IsDump, body_of}
 use Rattle.proto.specs.Served.{HasAnswered, IsDumpSaid, IsSaid, end_after}
-use Rattle.proto.specs.Wire.{Wire, HasNotWritten, HasWritten}
+use Rattle.metric.specs.Wire.{Wire}
+use Rattle.proto.specs.Wire.{HasNotWritten, HasWritten}
 use Rattle.proto.proofs.Wires.{failed_first, failed_on, written_on}
 
--- the lines of the first rows
+-- the lines of the first rows are their digits, one row after another
 abbrev pub rows_text : Cells → ℕ → List ℕ
 rows_text cells y = flat_map (plain_digit cells) (range_with_len 0 (y * cells.width))
 
@@ -57,7 +58,7 @@ pub said_alone : (written : Result (Unit {0}) WriteFault) (end : Option End) (ol
 said_alone written end old new text is whole front = subst (λ (t : List ℕ). IsSaid end old t new) (sym (append-nil text)) (said_after written end old new text is whole front)
 
 -- what follows the reply line of a dump is the image of the version that is pinned
-pub dump_body : (store : StoreId) (old : CallerValue) (answer : Answer) (body : List ℕ) → IsDump (bitmap_held store old) answer body → body ≡ body_of store old answer
+dump_body : (store : StoreId) (old : CallerValue) (answer : Answer) (body : List ℕ) → IsDump (bitmap_held store old) answer body → body ≡ body_of store old answer
 dump_body store old (answers.Dumped n) body is = is.0
 dump_body store old (answers.Near near) body is = is.1
 dump_body store old (answers.Found found) body is = is.1
@@ -88,8 +89,8 @@ dump_answered store kept end wire wire_after seat (Some version) said =
     }
 
 -- where a line says DUMP, and its dump was said, the line was answered
-pub dumped : {A : Type 0} (store : StoreId) (heard : Result Said Refusal) (kept : Option (Vec ℕ A)) (end : Option End) (wire wire_after : Wire) (old new : CallerValue) → heard ≡ Ok saids.dump → new ≡ old
+pub dumped : {A : Type 0} (store : StoreId) (heard : Result LineView Refusal) (kept : Option (Vec ℕ A)) (end : Option End) (wire wire_after : Wire) (old new : CallerValue) → heard ≡ Ok saids.dump → new ≡ old
     → IsDumpSaid store end wire old wire_after → HasAnswered store heard kept end wire old wire_after new
 dumped store heard kept end wire wire_after old new is same said =
-    subst (λ (h : Result Said Refusal). HasAnswered store h kept end wire old wire_after new) (sym is)
+    subst (λ (h : Result LineView Refusal). HasAnswered store h kept end wire old wire_after new) (sym is)
     (subst (λ (v : CallerValue). HasAnswered store (Ok saids.dump) kept end wire old wire_after v) (sym same) (dump_answered store kept end wire wire_after old.seat old.pin said))

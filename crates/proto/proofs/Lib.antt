@@ -1,10 +1,10 @@
-pub mod Alone
-pub mod Numbering
-pub mod Pointing
-pub mod Pooling
-pub mod Serving
-pub mod Speaking
+mod Alone
+mod Numbering
+mod Pointing
+mod Pooling
+mod Serving
+mod Speaking
 pub mod Splitting
-pub mod Wires
-pub mod Writing
-pub mod Dumping
+mod Wires
+mod Writing
+mod Dumping

@@ -1,11 +1,11 @@
--- Numbers of a line, one after another.
+-- The numbers of a line are read one after another.
 use Rattle.std.proofs.Common.{◌≡◌, ℕ, List, ◌∷◌, Option, Some, None, refl, sym, ap, ◌∙◌}
 use Rattle.std.specs.Prelude.{option_map}
 use Rattle.proto.specs.Numbers.{number, join_number, numbers, only_number}
 use Rattle.proto.specs.Words.{words}
 use Rattle.proto.proofs.Splitting.{words-some}
 
--- a number before others
+-- a number is put before others, where there are any to be read
 abbrev before : ℕ → Option (List ℕ) → Option (List ℕ)
 before n others = option_map (λ ns. n ∷ ns) others
 

@@ -1,4 +1,4 @@
--- Points of a line, one after another.
+-- The points of a line are read one after another.
 use Rattle.std.proofs.Common.{◌≡◌, ℕ, zero, suc, ◌+◌, ◌^◌, ◌≤◌, ◌<◌, true, List, [], ◌∷◌, ◌++◌, length, Option, Some, None, refl, sym, ap, ◌∙◌, inl, inr, arith, append_assoc}
 use Rattle.std.specs.Prelude.{is_some, option_map, IsSomeAnd}
 use Rattle.std.specs.Borrow.{Bor}
@@ -7,7 +7,7 @@ use Rattle.proto.specs.Numbers.{point, join_point, points, HasNoFirst, only}
 use Rattle.proto.specs.Words.{words, words_left}
 use Rattle.proto.proofs.Splitting.{words-some}
 
--- a point before others
+-- a point is put before others, where they could be read
 abbrev before : Cell → Option (List Cell) → Option (List Cell)
 before cell others = option_map (λ cells. cell ∷ cells) others
 
@@ -34,11 +34,6 @@ pub points-none : (rest : Option (Bor (List ℕ))) → is_some rest ≡ true →
 points-none None some first = absurd cc
 points-none (Some bytes) some (inr none) = none
 points-none (Some bytes) some (inl empty) = absurd (let word = words-some bytes.now in let e = sym empty ∙ word.2 in cc)
-
--- with a point more, as many points are counted as before and one
-pub counted-more : (count : ℕ) (cell : Cell) (others : Option (List Cell)) → option_map (λ cells. count + length cells) (before cell others) ≡ option_map (λ cells. (count + 1) + length cells) others
-counted-more count cell None = refl
-counted-more count cell (Some cells) = let e : count + length (cell ∷ cells) ≡ (count + 1) + length cells = omega arith in ap (λ (n : ℕ). Some n) e
 
 -- adding a point, and then the others, adds the point before the others
 pub added-more : (cells : List Cell) (cell : Cell) (others : Option (List Cell)) → option_map (λ more. cells ++ more) (before cell others) ≡ option_map (λ more. (cells ++ cell ∷ []) ++ more) others

@@ -9,7 +9,7 @@ use Rattle.proto.specs.declared.serve.end.End.TheVariants as ends
 use Rattle.proto.specs.Callers.{free}
 use Rattle.proto.specs.Served.{IsServed}
 use Rattle.proto.specs.Pools.{AreBoth, AreEach, AreRelated, AreStreamsServed, HasWorked, IsStreamServed}
-use Rattle.proto.specs.Wire.{Wire}
+use Rattle.metric.specs.Wire.{Wire}
 
 -- a worker that has served no stream has its session as it was
 pub HasWorked-none : {S : Type 0} (fresh : S → Type 0) (wire : S → Wire) (store : StoreId) (old : ReaderView) → HasWorked fresh wire store old old

@@ -6,7 +6,7 @@ use Rattle.std.proofs.lemmas.List.{append-nil}
 use Rattle.std.proofs.lemmas.Grind.{flat_map-append}
 use Rattle.metric.specs.Stream.{Appends, AppendsFront, Takes}
 use Rattle.metric.proofs.Appending.{Appends-nothing, Appends-more}
-use Rattle.metric.proofs.Taking.{Takes-nothing}
+use Rattle.metric.proofs.Taking.{Takes-behind}
 use Rattle.metric.specs.declared.refusal.Refusal.{Refusal}
 use Rattle.metric.specs.declared.refusal.Refusal.TheVariants.{Memory, NotPinned}
 use Rattle.metric.specs.declared.refusal.Refusal.TheVariants as refusals
@@ -15,15 +15,16 @@ use Rattle.proto.specs.declared.answer.Answer.{Answer}
 use Rattle.proto.specs.declared.answer.Answer.TheVariants as answers
 use Rattle.proto.specs.declared.serve.end.End.{End}
 use Rattle.proto.specs.declared.serve.end.End.TheVariants as ends
-use Rattle.proto.specs.Asked.{Asked}
-use Rattle.proto.specs.Said.{Said, HasPoints}
+use Rattle.proto.specs.Asked.{QueryView}
+use Rattle.proto.specs.Said.{LineView, SaysPoints}
 use Rattle.proto.specs.Said as saids
 use Rattle.proto.specs.Replies.{reply_line}
 use Rattle.proto.specs.Callers.{CallerValue, IsRefusedAs}
 use Rattle.proto.specs.Exchanges.{Exchange, IsExchange, IsLine, IsLineAnswer, IsQueryAnswer, line_said, counts, with_pin}
-use Rattle.proto.specs.Served.{AreExchanges, HasAnswered, HasCounted, HasMoved, HasSaid, IsCut, IsCutShort, IsHeard, IsLineStop, IsQuit, IsSaid, IsServed, IsShort, IsFarewell, IsTail, IsTooLong, IsTooMuch, IsUnsaid, IsWritten, bytes_of, text_of}
-use Rattle.proto.specs.Wire.{Wire, CanGoOn, HasNotWritten, HasRead, HasWritten}
-use Rattle.proto.proofs.Wires.{Takes-append, read_on}
+use Rattle.proto.specs.Served.{AreExchanges, HasAnswered, HasCounted, HasMoved, HasSaid, IsCutOff, IsCutShort, IsHeard, IsLineStop, IsQuit, IsSaid, IsServed, IsShort, IsFarewell, IsTail, IsTooLong, IsTooMuch, IsUnsaid, IsWritten, bytes_of, text_of}
+use Rattle.metric.specs.Wire.{Wire}
+use Rattle.proto.specs.Wire.{HasNotWritten, HasRead, HasWritten}
+use Rattle.proto.proofs.Wires.{read_on}
 
 -- exchanges, and more after them, are exchanges one after another
 exchanges_on : (store : StoreId) (xs ys : List Exchange) (a b c : CallerValue) → AreExchanges store xs a b → AreExchanges store ys b c → AreExchanges store (xs ++ ys) a c
@@ -63,7 +64,7 @@ unsaid_behind (Some ends.Memory) xs ys tail last unsaid none = none
 moved_on : (end : Option End) (old between new : Wire) (b1 t1 u1 b2 t2 u2 : List ℕ) → HasMoved None old b1 t1 u1 between → HasMoved end between b2 t2 u2 new → HasMoved end old (b1 ++ b2) (t1 ++ t2) u2 new
 moved_on end old between new b1 t1 u1 b2 t2 u2 first next =
     record {
-      taken = Takes-append old.rest between.rest new.rest b1 b2 first.taken next.taken;
+      taken = Takes-behind old.rest between.rest new.rest b1 b2 first.taken next.taken;
       reached = next.reached;
       written = written_behind end old.held between.held new.held t1 t2 u2 first.written next.written;
       reads = (let e = first.reads in let f = next.reads in omega arith);
@@ -97,17 +98,6 @@ serves_on store end w1 w2 w3 a b c first next =
       moved = moved_on end w1 w2 w3 first.bytes first.said first.unsaid next.bytes next.said next.unsaid first.moved next.moved;
     }
 
--- a stream of which nothing was read has served nothing
-pub serves_nothing : (store : StoreId) (w : Wire) (a : CallerValue) → IsServed store None w a w a
-serves_nothing store w a =
-    record {
-      bytes = [];
-      said = [];
-      unsaid = [];
-      served = record { exchanges = []; tail = []; last = []; behind = a; run = refl; left = refl; ends = (refl, refl); bytes_are = refl; texts_are = refl; unsaid_is = refl };
-      moved = record { taken = Takes-nothing w.rest; reached = tt; written = Appends-nothing w.held; reads = omega arith; writes = omega arith };
-    }
-
 -- a stream that ends after these bytes with a last text, said or unsaid, was served to its end
 ended : (store : StoreId) (end : End) (w1 w2 : Wire) (tail last said unsaid : List ℕ) (a b : CallerValue) → b.seat ≡ a.seat → IsTail (Some end) tail last → said ++ unsaid ≡ last → IsUnsaid (Some end) [] tail last unsaid
     → HasMoved (Some end) w1 tail said unsaid w2 → IsServed store (Some end) w1 a w2 b
@@ -137,7 +127,7 @@ unsaid_end store w1 w2 w3 tail last a b same farewell read written =
     ended store ends.WriteFailed w1 w3 tail last [] last a b same (inr farewell) refl (inr (farewell, refl)) (unsaid_moved w1 w2 w3 tail last read written)
 
 -- nothing is written where the input is cut off
-cut_moved : (end : End) (w1 w2 : Wire) (bytes : List ℕ) → IsCut end w1 bytes w2 → HasMoved (Some end) w1 bytes [] [] w2
+cut_moved : (end : End) (w1 w2 : Wire) (bytes : List ℕ) → IsCutOff end w1 bytes w2 → HasMoved (Some end) w1 bytes [] [] w2
 cut_moved ends.EndOfInput w1 w2 bytes (read, out) =
     record { taken = read.taken; reached = out; written = subst (λ h. Appends w1.held [] h) (sym read.held) (Appends-nothing w1.held); reads = read.reads; writes = (let e = read.writes in omega arith) }
 cut_moved ends.ReadFailed w1 w2 bytes read =
@@ -149,7 +139,7 @@ cut_moved ends.WriteFailed w1 w2 bytes cut = absurd cut
 cut_moved ends.Memory w1 w2 bytes cut = absurd cut
 
 -- where the input is cut off in an exchange, the part of it that was read is the tail
-cut_tail : (end : End) (w1 w2 : Wire) (read bytes : List ℕ) → IsCut end w1 read w2 → IsLine bytes ⊎ IsShort bytes → IsTail (Some end) bytes []
+cut_tail : (end : End) (w1 w2 : Wire) (read bytes : List ℕ) → IsCutOff end w1 read w2 → IsLine bytes ⊎ IsShort bytes → IsTail (Some end) bytes []
 cut_tail ends.EndOfInput w1 w2 read bytes cut part = (part, refl)
 cut_tail ends.ReadFailed w1 w2 read bytes cut part = (part, refl)
 cut_tail ends.Quit w1 w2 read bytes cut part = absurd cut
@@ -159,7 +149,7 @@ cut_tail ends.WriteFailed w1 w2 read bytes cut part = absurd cut
 cut_tail ends.Memory w1 w2 read bytes cut part = absurd cut
 
 -- nothing is left unsaid where the input is cut off
-cut_unsaid : (end : End) (w1 w2 : Wire) (read bytes : List ℕ) → IsCut end w1 read w2 → IsUnsaid (Some end) [] bytes [] []
+cut_unsaid : (end : End) (w1 w2 : Wire) (read bytes : List ℕ) → IsCutOff end w1 read w2 → IsUnsaid (Some end) [] bytes [] []
 cut_unsaid ends.EndOfInput w1 w2 read bytes cut = refl
 cut_unsaid ends.ReadFailed w1 w2 read bytes cut = refl
 cut_unsaid ends.Quit w1 w2 read bytes cut = absurd cut
@@ -169,7 +159,7 @@ cut_unsaid ends.WriteFailed w1 w2 read bytes cut = absurd cut
 cut_unsaid ends.Memory w1 w2 read bytes cut = absurd cut
 
 -- where the input is cut off after more bytes, it is cut off after all of them
-cut_on : (end : End) (w1 w2 w3 : Wire) (a b : List ℕ) → HasRead 0 w1 a w2 → IsCut end w2 b w3 → IsCut end w1 (a ++ b) w3
+cut_on : (end : End) (w1 w2 w3 : Wire) (a b : List ℕ) → HasRead 0 w1 a w2 → IsCutOff end w2 b w3 → IsCutOff end w1 (a ++ b) w3
 cut_on ends.EndOfInput w1 w2 w3 a b first (read, out) = (read_on 0 w1 w2 w3 a b first read, out)
 cut_on ends.ReadFailed w1 w2 w3 a b first read = read_on 1 w1 w2 w3 a b first read
 cut_on ends.Quit w1 w2 w3 a b first cut = absurd cut
@@ -179,7 +169,7 @@ cut_on ends.WriteFailed w1 w2 w3 a b first cut = absurd cut
 cut_on ends.Memory w1 w2 w3 a b first cut = absurd cut
 
 -- a line that is cut off ends the stream
-line_cut : (store : StoreId) (end : End) (w1 w2 : Wire) (bytes : List ℕ) (a : CallerValue) → IsLine bytes × IsCut end w1 bytes w2 → IsServed store (Some end) w1 a w2 a
+line_cut : (store : StoreId) (end : End) (w1 w2 : Wire) (bytes : List ℕ) (a : CallerValue) → IsLine bytes × IsCutOff end w1 bytes w2 → IsServed store (Some end) w1 a w2 a
 line_cut store end w1 w2 bytes a (line, cut) = ended store end w1 w2 bytes [] [] [] a a refl (cut_tail end w1 w2 bytes bytes cut (inl line)) refl (cut_unsaid end w1 w2 bytes bytes cut) (cut_moved end w1 w2 bytes cut)
 
 -- a line that wasn't read to its LF, and isn't too long, ends the stream
@@ -230,13 +220,13 @@ pub counted_cut : (store : StoreId) (end : End) (w1 w2 w3 : Wire) (line : List �
 counted_cut store end w1 w2 w3 line a is read most short =
     let whole = line ++ (10 ∷ short.bytes) in
     let e : (line ++ 10 ∷ []) ++ short.bytes ≡ whole = append_assoc line (10 ∷ []) short.bytes in
-    let cut : IsCut end w1 whole w3 = subst (λ t. IsCut end w1 t w3) e (cut_on end w1 w2 w3 (line ++ 10 ∷ []) short.bytes read short.cut) in
+    let cut : IsCutOff end w1 whole w3 = subst (λ t. IsCutOff end w1 t w3) e (cut_on end w1 w2 w3 (line ++ 10 ∷ []) short.bytes read short.cut) in
     ended store end w1 w3 whole [] [] [] a a refl
     (cut_tail end w1 w3 whole whole cut (inr record { line = line; line_is = is; most = most; counted = short.bytes; few = short.few; bytes_are = refl }))
     refl (cut_unsaid end w1 w3 whole whole cut) (cut_moved end w1 w3 whole cut)
 
 -- what was heard counts as many bytes as the line
-pub heard_counts : (said heard : Result Said Refusal) → IsHeard said heard → counts heard ≡ counts said
+pub heard_counts : (said heard : Result LineView Refusal) → IsHeard said heard → counts heard ≡ counts said
 heard_counts said heard (inl e) = ap counts e
 heard_counts (Ok (saids.asked query)) heard (inr (e, points)) = ap counts e
 heard_counts (Ok (saids.told t)) heard (inr (e, points)) = absurd points
@@ -248,19 +238,19 @@ heard_counts (Ok saids.quit) heard (inr (e, points)) = absurd points
 heard_counts (Err refusal) heard (inr (e, points)) = absurd points
 
 -- where QUIT was heard, the line says QUIT
-pub heard_quit : (said heard : Result Said Refusal) → IsHeard said heard → heard ≡ Ok saids.quit → said ≡ Ok saids.quit
+pub heard_quit : (said heard : Result LineView Refusal) → IsHeard said heard → heard ≡ Ok saids.quit → said ≡ Ok saids.quit
 heard_quit said heard (inl e) quit = sym e ∙ quit
 heard_quit said heard (inr (e, points)) quit = let no_quit : Err Memory ≡ Ok saids.quit = sym e ∙ quit in absurd (cc)
 
 -- want of memory for the points of a query is answered as the query may be
-points_refused : (store : StoreId) (query : Asked) (pin : Option ℕ) (old : CallerValue) (answer : Answer) (new : CallerValue) → old.pin ≡ pin → HasPoints (saids.asked query)
+points_refused : (store : StoreId) (query : QueryView) (pin : Option ℕ) (old : CallerValue) (answer : Answer) (new : CallerValue) → old.pin ≡ pin → SaysPoints (saids.asked query)
     → IsRefusedAs (with_pin (is_some pin) Memory) old answer new
     → (elim pin as (λ _. Type 0) [ None ↦ IsRefusedAs NotPinned old answer new | Some version ↦ IsQueryAnswer store query old answer new ])
 points_refused store query None old answer new is points refused = refused
 points_refused store query (Some v) old answer new is points refused = record { answered = inr (points, refused.answer_is); same = refused.same }
 
 -- an answer to what was heard is an answer to what the line says
-heard_answer : (store : StoreId) (said heard : Result Said Refusal) (bytes : List ℕ) (old : CallerValue) (answer : Answer) (new : CallerValue) → IsHeard said heard → IsLineAnswer store heard bytes old answer new → IsLineAnswer store said bytes old answer new
+heard_answer : (store : StoreId) (said heard : Result LineView Refusal) (bytes : List ℕ) (old : CallerValue) (answer : Answer) (new : CallerValue) → IsHeard said heard → IsLineAnswer store heard bytes old answer new → IsLineAnswer store said bytes old answer new
 heard_answer store said heard bytes old answer new (inl e) answered = subst (λ h. IsLineAnswer store h bytes old answer new) e answered
 heard_answer store (Ok (saids.asked query)) heard bytes old answer new (inr (e, points)) answered =
     points_refused store query old.pin old answer new refl points (subst (λ h. IsLineAnswer store h bytes old answer new) e answered)
@@ -303,7 +293,7 @@ exchanged_by store (Some ends.ReadFailed) w1 w2 w3 x a b is read written = absur
 exchanged_by store (Some ends.Memory) w1 w2 w3 x a b is read written = absurd written
 
 -- a line is served where its counted bytes were read, it was answered, and its answer was said
-pub exchanged : {A : Type 0} (store : StoreId) (end : Option End) (w1 w2 w3 w4 : Wire) (line : List ℕ) (heard : Result Said Refusal) (count : ℕ) (kept : Option (Vec ℕ A)) (a b : CallerValue)
+pub exchanged : {A : Type 0} (store : StoreId) (end : Option End) (w1 w2 w3 w4 : Wire) (line : List ℕ) (heard : Result LineView Refusal) (count : ℕ) (kept : Option (Vec ℕ A)) (a b : CallerValue)
     → IsLine line → HasRead 0 w1 (line ++ 10 ∷ []) w2 → IsHeard (line_said line) heard → count ≡ counts heard → count ≤ 17100000 → HasCounted count kept w2 w3
     → HasAnswered store heard kept end w3 a w4 b → IsServed store end w1 a w4 b
 exchanged store end w1 w2 w3 w4 line heard count kept a b is read hears count_is few counted done =
@@ -321,12 +311,6 @@ exchanged store end w1 w2 w3 w4 line heard count kept a b is read hears count_is
     (subst (λ t. HasRead 0 w1 t w3) e (read_on 0 w1 w2 w3 (line ++ 10 ∷ []) counted.bytes read counted.read))
     done.said
 
--- a stream that could go on can go on after what it has served
-pub serves_further : (store : StoreId) (w1 w2 : Wire) (a b : CallerValue) → CanGoOn w1 → IsServed store None w1 a w2 b → CanGoOn w2
-serves_further store w1 w2 a b can served =
-    let m = served.moved in
-    record { reads = (let e = m.reads in let f = can.reads in omega arith); writes = (let e = m.writes in let f = can.writes in omega arith) }
-
 -- a stream that has ended was served so whatever pin its caller then has
 pub serves_left : (store : StoreId) (end : End) (w1 w2 : Wire) (a b c : CallerValue) → c.seat ≡ b.seat → IsServed store (Some end) w1 a w2 b → IsServed store (Some end) w1 a w2 c
 serves_left store end w1 w2 a b c same served =
@@ -338,13 +322,3 @@ serves_left store end w1 w2 a b c same served =
       served = record { exchanges = s.exchanges; tail = s.tail; last = s.last; behind = s.behind; run = s.run; left = same ∙ s.left; ends = s.ends; bytes_are = s.bytes_are; texts_are = s.texts_are; unsaid_is = s.unsaid_is };
       moved = served.moved;
     }
-
--- no stream that is served ends for want of memory
-pub never_memory : (store : StoreId) (end : End) (w1 w2 : Wire) (a b : CallerValue) → IsServed store (Some end) w1 a w2 b → end ≢ ends.Memory
-never_memory store ends.Memory w1 w2 a b served same = served.served.ends
-never_memory store ends.Quit w1 w2 a b served same = absurd (cc)
-never_memory store ends.EndOfInput w1 w2 a b served same = absurd (cc)
-never_memory store ends.LineTooLong w1 w2 a b served same = absurd (cc)
-never_memory store ends.TooMuchData w1 w2 a b served same = absurd (cc)
-never_memory store ends.ReadFailed w1 w2 a b served same = absurd (cc)
-never_memory store ends.WriteFailed w1 w2 a b served same = absurd (cc)

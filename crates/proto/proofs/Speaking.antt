@@ -7,11 +7,11 @@ use Rattle.metric.specs.declared.refusal.Refusal.TheVariants.{Memory, AlreadyPin
 use Rattle.shelf.specs.Store.{StoreId}
 use Rattle.proto.specs.declared.answer.Answer.{Answer}
 use Rattle.proto.specs.declared.answer.Answer.TheVariants as answers
-use Rattle.proto.specs.Asked.{Asked}
+use Rattle.proto.specs.Asked.{QueryView}
 use Rattle.proto.specs.Asked as queries
 use Rattle.proto.specs.Queries.{IsAnswerBy}
 use Rattle.bits.specs.Cells.{Cells}
-use Rattle.proto.specs.Said.{Said}
+use Rattle.proto.specs.Said.{LineView}
 use Rattle.proto.specs.Said as saids
 use Rattle.proto.specs.Callers.{CallerValue, HasPinned, HasUnpinned, IsRefusedAs}
 use Rattle.proto.specs.Exchanges.{IsLineAnswer, IsQueryAnswer, body_of}
@@ -22,7 +22,7 @@ refusal_dumps : (refusal : Refusal) (old new : CallerValue) (n : ℕ) → IsRefu
 refusal_dumps refusal old new n refused = let e = refused.answer_is in cc
 
 -- no query is answered by a dump
-query_dumps : (distance : ℕ → ℕ → ℕ) (cells : Cells) (edge : Edge) (query : Asked) (n : ℕ) → IsAnswerBy distance cells edge query (answers.Dumped n) → ⊥
+query_dumps : (distance : ℕ → ℕ → ℕ) (cells : Cells) (edge : Edge) (query : QueryView) (n : ℕ) → IsAnswerBy distance cells edge query (answers.Dumped n) → ⊥
 query_dumps distance cells edge (queries.at metric cell) n answered = answered
 query_dumps distance cells edge (queries.rect metric x0 y0 x1 y1) n answered = answered
 query_dumps distance cells edge (queries.path metric points) n answered = answered
@@ -42,7 +42,7 @@ pin_dumps store None old new n (inr refused) = refusal_dumps Memory old new n re
 pin_dumps store (Some v) old new n refused = refusal_dumps AlreadyPinned old new n refused
 
 -- no line but DUMP is answered by a dump
-line_dumps : (store : StoreId) (said : Result Said Refusal) (bytes : List ℕ) (old new : CallerValue) (n : ℕ) → said ≢ Ok saids.dump → IsLineAnswer store said bytes old (answers.Dumped n) new → ⊥
+line_dumps : (store : StoreId) (said : Result LineView Refusal) (bytes : List ℕ) (old new : CallerValue) (n : ℕ) → said ≢ Ok saids.dump → IsLineAnswer store said bytes old (answers.Dumped n) new → ⊥
 line_dumps store (Err refusal) bytes old new n other refused = refusal_dumps _ old new n refused
 line_dumps store (Ok (saids.told t)) bytes old new n other (c, is, commanded) = commanded.answered
 line_dumps store (Ok (saids.stamp x y m)) bytes old new n other (inl (taken, cells, reads, commanded)) = commanded.answered
@@ -55,7 +55,7 @@ line_dumps store (Ok saids.dump) bytes old new n other answered = other refl
 line_dumps store (Ok saids.quit) bytes old new n other answered = answered
 
 -- nothing follows the reply line of another line than DUMP
-pub plain_body : (store : StoreId) (said : Result Said Refusal) (bytes : List ℕ) (old new : CallerValue) (answer : Answer) → said ≢ Ok saids.dump → IsLineAnswer store said bytes old answer new → [] ≡ body_of store old answer
+pub plain_body : (store : StoreId) (said : Result LineView Refusal) (bytes : List ℕ) (old new : CallerValue) (answer : Answer) → said ≢ Ok saids.dump → IsLineAnswer store said bytes old answer new → [] ≡ body_of store old answer
 plain_body store said bytes old new (answers.Near near) other answered = refl
 plain_body store said bytes old new (answers.Found found) other answered = refl
 plain_body store said bytes old new (answers.Clear found) other answered = refl

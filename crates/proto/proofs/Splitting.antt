@@ -1,12 +1,13 @@
--- The words of a line, one after another.
+-- The words of a line are split off one after another.
 use Rattle.std.proofs.Common.{◌≡◌, ◌≢◌, ℕ, ◌+◌, ◌-◌, ◌≤◌, Bool, true, false, cond, eqb, ltb, List, [], ◌∷◌, length, take, drop, Some, None, All, not, refl, ap, ◌∙◌, inl, inr, arith}
-use Rattle.std.specs.Prelude.{◌⊎◌, position}
+use Rattle.std.specs.Prelude.{position}
 use Rattle.std.specs.List.{slice_split, onto_first, position_or_len, join_with_byte}
 use Rattle.std.proofs.lemmas.Bool.{ltb-true, ltb-false, eqb-false, ne_eqb}
 use Rattle.std.proofs.lemmas.List.{take_rest}
 use Rattle.std.proofs.lemmas.List.Elements.{All-cons, All-nil, All-head, All-tail}
 use Rattle.std.proofs.lemmas.List.Splits.{slice_split_first, slice_split_none, slice_split_at, join_with_byte-slice_split}
 use Rattle.proto.specs.Words.{words, IsWord}
+use Rattle.pbm.proofs.Steps.{chosen}
 
 -- a byte is a blank
 abbrev is_blank : ℕ → Bool
@@ -15,11 +16,6 @@ is_blank byte = eqb byte 32
 -- a byte is the one at which bytes are split
 abbrev is_at : ℕ → ℕ → Bool
 is_at separator byte = eqb byte separator
-
--- where a choice gives a value, the test is true and the first side is that value, or it is false and the second is
-chosen : {A : Type 0} (b : Bool) (x y z : A) → cond b x y ≡ z → ((b ≡ true) × (x ≡ z)) ⊎ ((b ≡ false) × (y ≡ z))
-chosen true x y z e = inl (refl, e)
-chosen false x y z e = inr (refl, e)
 
 -- a byte that doesn't split, before bytes that aren't split, makes them one part still
 whole-more : (separator byte : ℕ) (bytes : List ℕ) (b : Bool) → (length bytes ≤ position_or_len (is_at separator) bytes → slice_split (is_at separator) bytes ≡ bytes ∷ [])

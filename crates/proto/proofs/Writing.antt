@@ -1,4 +1,4 @@
--- Numbers in a text, a digit at a time.
+-- A number is written into a text a digit at a time.
 use Rattle.std.proofs.Common.{◌≡◌, ℕ, zero, suc, ◌+◌, ◌-◌, ◌/◌, ◌%◌, ◌^◌, ◌<◌, ◌≤◌, List, [], ◌∷◌, ◌++◌, length, false, sym, ap, ◌∙◌, arith, append_assoc, lit<}
 use Rattle.std.specs.Fmt.{decimal, digit_glyph}
 use Rattle.std.proofs.lemmas.Fmt.{decimal_step, length-decimal-le}

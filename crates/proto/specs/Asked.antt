@@ -12,28 +12,28 @@ use Rattle.proto.specs.declared.verb.QueryKind.TheVariants as kinds
 use Rattle.proto.specs.Numbers.{number, points, only, pair}
 use Rattle.proto.specs.Corners.{corners_of}
 
--- a query: the distance of a cell, the least over a rectangle or a path, or whether a path is clear of d
-pub data Asked : Type 0 where
-  at : MetricKind → Cell → Asked
-  rect : MetricKind → (x0 y0 x1 y1 : ℕ) → Asked
-  path : MetricKind → List Cell → Asked
-  clear_of : MetricKind → ℕ → List Cell → Asked
+-- a query asks for the distance of a cell, the least over a rectangle or a path, or whether a path is clear of d
+pub data QueryView : Type 0 where
+  at : MetricKind → Cell → QueryView
+  rect : MetricKind → (x0 y0 x1 y1 : ℕ) → QueryView
+  path : MetricKind → List Cell → QueryView
+  clear_of : MetricKind → ℕ → List Cell → QueryView
 
--- what a query of the program asks
-abbrev pub asked_by : Query → Asked
+-- a query of the program asks this
+abbrev pub asked_by : Query → QueryView
 asked_by (queries.At metric cell) = at metric cell
 asked_by (queries.Rect metric r) = rect metric r.x0 r.y0 r.x1 r.y1
 asked_by (queries.Path metric points) = path metric points.items
 asked_by (queries.ClearOf metric d points) = clear_of metric d points.items
 
 -- a query has points, for which memory is needed
-abbrev pub HasPoints : Asked → Type 0
+abbrev pub HasPoints : QueryView → Type 0
 HasPoints (at metric cell) = ⊥
 HasPoints (rect metric x0 y0 x1 y1) = ⊥
 HasPoints (path metric points) = Unit {0}
 HasPoints (clear_of metric d points) = Unit {0}
 
--- the query of this name, in capital letters
+-- each query has a name in capital letters
 abbrev pub query_named : List ℕ → Option QueryKind
 query_named word =
     if bytes_eq word (codes "AT") then Some kinds.At
@@ -42,13 +42,13 @@ query_named word =
     else if bytes_eq word (codes "CLEAROF") then Some kinds.ClearOf
     else None
 
--- arguments of the wrong number or form
+-- arguments of the wrong number or form are refused
 abbrev pub or_bad : {A : Type 0} → Option A → Result A Refusal
 or_bad None = Err BadArguments
 or_bad (Some x) = Ok x
 
--- what is asked of a rectangle by two corners
-abbrev pub rect_of : MetricKind → Cell × Cell → Option Asked
+-- two corners that are good ask this of a rectangle
+abbrev pub rect_of : MetricKind → Cell × Cell → Option QueryView
 rect_of metric corners = option_map (λ c. rect metric c.x0 c.y0 c.x1 c.y1) (corners_of corners)
 
 -- a path has 1 to 1000 points
@@ -56,25 +56,25 @@ abbrev pub path_of : Option (List Cell) → Result (List Cell) Refusal
 path_of None = Err BadArguments
 path_of (Some points) = if length points == 0 || nat_lt 1000 (length points) then Err BadPath else Ok points
 
--- what is asked of good points
-abbrev pub about : (List Cell → Asked) → Result (List Cell) Refusal → Result Asked Refusal
+-- good points ask this
+abbrev pub about : (List Cell → QueryView) → Result (List Cell) Refusal → Result QueryView Refusal
 about ask (Ok points) = Ok (ask points)
 about ask (Err refusal) = Err refusal
 
--- what the first word tells, and the words after it
+-- the first word tells this, and these words are left after it
 abbrev pub first_of : {A : Type 0} → (List ℕ → Option A) → List (List ℕ) → Option (A × List (List ℕ))
 first_of told [] = None
 first_of told (word ∷ others) = option_map (λ value. (value, others)) (told word)
 
--- what a query asks of the words after the metric
-abbrev pub query_asked : QueryKind → MetricKind → List (List ℕ) → Result Asked Refusal
+-- the words after the metric ask this of a query
+abbrev pub query_asked : QueryKind → MetricKind → List (List ℕ) → Result QueryView Refusal
 query_asked kinds.At metric words = or_bad (option_map (λ cell. at metric cell) (only (points words)))
 query_asked kinds.Rect metric words = or_bad (option_and_then (λ corners. rect_of metric corners) (pair (points words)))
 query_asked kinds.Path metric words = about (path metric) (path_of (points words))
 query_asked kinds.ClearOf metric words =
-    elim (first_of number words) as (λ _. Result Asked Refusal) [ None ↦ Err BadArguments | Some distance ↦ about (clear_of metric distance.0) (path_of (points distance.1)) ]
+    elim (first_of number words) as (λ _. Result QueryView Refusal) [ None ↦ Err BadArguments | Some distance ↦ about (clear_of metric distance.0) (path_of (points distance.1)) ]
 
--- the arguments of a query: a metric first
-abbrev pub arguments_asked : QueryKind → List (List ℕ) → Result Asked Refusal
+-- the arguments of a query start with a metric
+abbrev pub arguments_asked : QueryKind → List (List ℕ) → Result QueryView Refusal
 arguments_asked kind words =
-    elim (first_of metric_named words) as (λ _. Result Asked Refusal) [ None ↦ Err BadArguments | Some metric ↦ query_asked kind metric.0 metric.1 ]
+    elim (first_of metric_named words) as (λ _. Result QueryView Refusal) [ None ↦ Err BadArguments | Some metric ↦ query_asked kind metric.0 metric.1 ]

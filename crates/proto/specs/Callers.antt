@@ -9,23 +9,23 @@ use Rattle.map_core.specs.declared.command.Reply.{Reply}
 use Rattle.map_core.specs.Story.{newest, bitmap_of, no_bitmap}
 use Rattle.map_core.specs.Ledger.{takes_room}
 use Rattle.map_core.specs.Legal.{refused, IsAnswer, IsLegal}
-use Rattle.shelf.specs.declared.signed.Signed.{Signed}
+use Rattle.shelf.specs.declared.store_entry.StoreEntry.{StoreEntry}
 use Rattle.shelf.specs.Store.{StoreId}
 use Rattle.shelf.specs.Roles.{ReaderView, entries}
 use Rattle.desk.specs.Desks.{story_told}
 use Rattle.proto.specs.declared.answer.Answer.{Answer}
 use Rattle.proto.specs.declared.answer.Answer.TheVariants as answers
 
--- a caller: its session's seat, as it is once a pin is left, and the version that it has pinned, if it has
+-- a caller has its session's seat, as it is once a pin is left, and the version that it has pinned, if it has
 pub record CallerValue : Type 0 where
   pub seat : ReaderView
   pub pin : Option ℕ
 
--- a caller without a pin
+-- a caller that is free has no pin
 abbrev pub free : ReaderView → CallerValue
 free seat = record { seat = seat; pin = None }
 
--- the bitmap of the version that a caller has pinned, by what it has seen; nothing stands for it without a pin
+-- a caller that has a pin sees the bitmap of the version, by what it has seen; without a pin nothing stands for it
 abbrev pub bitmap_held : StoreId → CallerValue → Cells
 bitmap_held store c = elim c.pin as (λ _. Cells) [ None ↦ no_bitmap | Some version ↦ bitmap_of (story_told store c.seat.seen) version ]
 
@@ -35,16 +35,16 @@ pub record HasSeenMore (store : StoreId) (old new : ReaderView) : Type 0 where
   pub legal : IsLegal store.base.setting store.base.opening (entries new.seen)
   pub seat_is : new ≡ record old { seen = new.seen }
 
--- an accepted command: the caller has seen a legal log, which starts with all that it had seen, goes on with what others put between,
+-- a command is accepted: the caller has seen a legal log, which starts with all that it had seen, goes on with what others put between,
 -- and ends with the command and its reply; the reply is an answer there
-pub record IsDone (store : StoreId) (old : ReaderView) (c : Command) (reply : Reply) (new : ReaderView) : Type 0 where
-  pub before : List Signed
+pub record IsCommandDone (store : StoreId) (old : ReaderView) (c : Command) (reply : Reply) (new : ReaderView) : Type 0 where
+  pub before : List StoreEntry
   pub began : IsPrefix old.seen before
   pub answer : IsAnswer store.base.setting (story_told store before) c reply
   pub legal : IsLegal store.base.setting store.base.opening (entries new.seen)
   pub seat_is : new ≡ record old { seen = before ++ record { by = old.number; entry = record { command = c; reply = reply } } ∷ []; made = old.made + 1 }
 
--- a refused command: the caller has seen a legal log, and the refusal is the log's answer,
+-- a command is refused: the caller has seen a legal log, and the refusal is the log's answer,
 -- or want of memory, where the log doesn't refuse the command and the command takes room in it
 pub record IsNotDone (store : StoreId) (old : ReaderView) (c : Command) (refusal : Refusal) (new : ReaderView) : Type 0 where
   pub seen : HasSeenMore store old new
@@ -55,9 +55,9 @@ abbrev pub told_as : Result Reply Refusal → Answer
 told_as (Ok reply) = answers.Done reply
 told_as (Err refusal) = answers.Refused refusal
 
--- what a command is answered, and what its caller has then seen
+-- a command is answered so, and its caller has then seen this
 abbrev pub IsCommandAnswer : StoreId → Command → ReaderView → Answer → ReaderView → Type 0
-IsCommandAnswer store c old (answers.Done reply) new = IsDone store old c reply new
+IsCommandAnswer store c old (answers.Done reply) new = IsCommandDone store old c reply new
 IsCommandAnswer store c old (answers.Refused refusal) new = IsNotDone store old c refusal new
 IsCommandAnswer store c old answer new = ⊥
 
@@ -77,7 +77,7 @@ pub record IsRefusedAs (refusal : Refusal) (old : CallerValue) (answer : Answer)
   pub answer_is : answer ≡ answers.Refused refusal
   pub same : new ≡ old
 
--- what PIN is answered
+-- PIN is answered so
 abbrev pub IsPinAnswer : StoreId → CallerValue → Answer → CallerValue → Type 0
 IsPinAnswer store old answer new =
     elim old.pin as (λ _. Type 0) [ None ↦ HasPinned store old answer new ⊎ IsRefusedAs Memory old answer new | Some version ↦ IsRefusedAs AlreadyPinned old answer new ]
@@ -87,6 +87,6 @@ pub record HasUnpinned (version : ℕ) (old : CallerValue) (answer : Answer) (ne
   pub answer_is : answer ≡ answers.Version version
   pub new_is : new ≡ free old.seat
 
--- what UNPIN is answered
+-- UNPIN is answered so
 abbrev pub IsUnpinAnswer : CallerValue → Answer → CallerValue → Type 0
 IsUnpinAnswer old answer new = elim old.pin as (λ _. Type 0) [ None ↦ IsRefusedAs NotPinned old answer new | Some version ↦ HasUnpinned version old answer new ]

@@ -14,67 +14,67 @@ use Rattle.map_core.specs.declared.command.Command.TheVariants as commands
 use Rattle.shelf.specs.Store.{StoreId}
 use Rattle.proto.specs.declared.answer.Answer.{Answer}
 use Rattle.proto.specs.declared.answer.Answer.TheVariants as answers
-use Rattle.proto.specs.Asked.{Asked, HasPoints}
+use Rattle.proto.specs.Asked.{QueryView, HasPoints}
 use Rattle.proto.specs.Queries.{IsAnswerBy, metric_asked}
 use Rattle.proto.specs.Told.{told_by}
 use Rattle.proto.specs.declared.line.Line.{Line}
-use Rattle.proto.specs.Said.{Said, said, said_by}
+use Rattle.proto.specs.Said.{LineView, said, said_by}
 use Rattle.proto.specs.Said as saids
 use Rattle.proto.specs.Callers.{CallerValue, bitmap_held, IsCommanded, IsPinAnswer, IsRefusedAs, IsUnpinAnswer}
 
--- what a line of a stream says: without the CR at its end, if it has one
-abbrev pub line_said : List ℕ → Result Said Refusal
+-- a line of a stream says what it says without the CR at its end, if it has one
+abbrev pub line_said : List ℕ → Result LineView Refusal
 line_said line = said (strip_carriage_return line)
 
--- how many bytes after its LF a line counts: those of a stamp's image
-abbrev pub counts : Result Said Refusal → ℕ
+-- a line counts so many bytes after its LF: those of a stamp's image
+abbrev pub counts : Result LineView Refusal → ℕ
 counts (Ok (saids.stamp x y n)) = n
 counts other = 0
 
--- a refusal of a line that is about its points, or want of memory for them: without a pin that is refused first
+-- a line without a pin is refused for that before it is refused for its points, or for want of memory for them
 abbrev pub with_pin : Bool → Refusal → Refusal
 with_pin false BadPath = NotPinned
 with_pin false Memory = NotPinned
 with_pin pinned refusal = refusal
 
--- what a line of the program says, or why it was refused
-abbrev pub seen_in : Result Line Refusal → Result Said Refusal
-seen_in (Ok line) = Ok (said_by line)
-seen_in (Err refusal) = Err refusal
+-- a line of the program says this, or was refused for this
+abbrev pub line_seen_in : Result Line Refusal → Result LineView Refusal
+line_seen_in (Ok line) = Ok (said_by line)
+line_seen_in (Err refusal) = Err refusal
 
 -- a line that needs a pin is answered so for the version that the caller has pinned, and is refused where it has none
 abbrev pub WithPin : (ℕ → Type 0) → CallerValue → Answer → CallerValue → Type 0
 WithPin answered old answer new = elim old.pin as (λ _. Type 0) [ None ↦ IsRefusedAs NotPinned old answer new | Some version ↦ answered version ]
 
--- what a stamp of these bytes is answered: as the command where an image stands at their front, else the first fault; or want of memory
+-- a stamp of these bytes is answered as the command where an image stands at their front, else by the first fault, or by want of memory
 abbrev pub IsStampAnswer : StoreId → ℕ → ℕ → List ℕ → CallerValue → Answer → CallerValue → Type 0
 IsStampAnswer store x y bytes old answer new =
     ((n : ℕ) × (cells : Cells) × Reads bytes n cells × IsCommanded store (commands.Stamp x y cells) old answer new)
     ⊎ ((fault : PbmFault) × (image bytes ≡ Err fault) × IsRefusedAs (BadImage fault) old answer new)
     ⊎ IsRefusedAs Memory old answer new
 
--- what a query is answered with a pin: by its metric, of the pinned version's bitmap with the store's edge, or want of memory for points
-pub record IsQueryAnswer (store : StoreId) (query : Asked) (old : CallerValue) (answer : Answer) (new : CallerValue) : Type 0 where
+-- a query with a pin is answered by its metric, of the pinned version's bitmap with the store's edge, or by want of memory for points
+pub record IsQueryAnswer (store : StoreId) (query : QueryView) (old : CallerValue) (answer : Answer) (new : CallerValue) : Type 0 where
   pub answered : IsAnswerBy (distance_of (metric_asked query)) (bitmap_held store old) store.base.setting.edge query answer ⊎ (HasPoints query × (answer ≡ answers.Refused Memory))
   pub same : new ≡ old
 
--- what follows a reply line: the plain image of the pinned version's bitmap, where its bytes were counted
+-- a reply line is followed by the plain image of the pinned version's bitmap, where its bytes were counted
 abbrev pub body_of : StoreId → CallerValue → Answer → List ℕ
 body_of store old (answers.Dumped n) = plain_text (bitmap_held store old)
 body_of store old answer = []
 
--- a bitmap's dump: its plain image after the number of its bytes, or want of memory
+-- a bitmap's dump is its plain image after the number of its bytes, or want of memory
 abbrev pub IsDump : Cells → Answer → List ℕ → Type 0
 IsDump cells (answers.Dumped n) body = (body ≡ plain_text cells) × (n ≡ length body)
 IsDump cells answer body = (answer ≡ answers.Refused Memory) × (body ≡ [])
 
--- what DUMP is answered with a pin: how many bytes the plain image of the pinned version's bitmap has, or want of memory
+-- DUMP with a pin is answered by how many bytes the plain image of the pinned version's bitmap has, or by want of memory
 pub record IsDumpAnswer (store : StoreId) (old : CallerValue) (answer : Answer) (new : CallerValue) : Type 0 where
   pub answered : IsDump (bitmap_held store old) answer (body_of store old answer)
   pub same : new ≡ old
 
--- what a line, with the bytes that it counts, is answered; QUIT is the end of the stream
-abbrev pub IsLineAnswer : StoreId → Result Said Refusal → List ℕ → CallerValue → Answer → CallerValue → Type 0
+-- a line, with the bytes that it counts, is answered so; QUIT is the end of the stream
+abbrev pub IsLineAnswer : StoreId → Result LineView Refusal → List ℕ → CallerValue → Answer → CallerValue → Type 0
 IsLineAnswer store (Err refusal) bytes old answer new = IsRefusedAs (with_pin (is_some old.pin) refusal) old answer new
 IsLineAnswer store (Ok (saids.told t)) bytes old answer new = (c : Command) × (told_by c ≡ t) × IsCommanded store c old answer new
 IsLineAnswer store (Ok (saids.stamp x y n)) bytes old answer new = IsStampAnswer store x y bytes old answer new
@@ -84,12 +84,12 @@ IsLineAnswer store (Ok (saids.asked query)) bytes old answer new = WithPin (λ _
 IsLineAnswer store (Ok saids.dump) bytes old answer new = WithPin (λ _. IsDumpAnswer store old answer new) old answer new
 IsLineAnswer store (Ok saids.quit) bytes old answer new = ⊥
 
--- a line of a stream: at most 16,384 bytes before its LF
+-- a line of a stream has at most 16,384 bytes before its LF
 pub record IsLine (line : List ℕ) : Type 0 where
   pub plain : All (λ byte. byte ≢ 10) line
   pub few : length line ≤ 16384
 
--- a line of a stream with the bytes that it counts, what it was answered, and what followed the reply line
+-- an exchange is a line with the bytes that it counts, what it was answered, and what followed the reply line
 pub record Exchange : Type 0 where
   pub line : List ℕ
   pub counted : List ℕ

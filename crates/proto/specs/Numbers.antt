@@ -4,16 +4,16 @@ use Rattle.std.specs.List.{list_all}
 use Rattle.metric.specs.Digits.{is_digit, value_from}
 use Rattle.metric.specs.declared.cell.Cell.{Cell}
 
--- a number: 1 to 10 digits, and at most 4294967295
+-- a number has 1 to 10 digits, and is at most 4294967295
 unfoldable pub number : List ℕ → Option ℕ
 number word =
     if (nat_le 1 (length word) && nat_le (length word) 10) && (list_all is_digit word && nat_lt (value_from 0 word) 4294967296) then Some (value_from 0 word) else None
 
--- a number before others, where all are numbers
+-- a number joins others, where all are numbers
 abbrev pub join_number : Option ℕ → Option (List ℕ) → Option (List ℕ)
 join_number first others = option_and_then (λ n. option_map (λ ns. n ∷ ns) others) first
 
--- the numbers that words are; none where one of them is no number
+-- the words are these numbers; none where one of them is no number
 unfoldable pub numbers : List (List ℕ) → Option (List ℕ)
 numbers [] = Some []
 numbers (word ∷ others) = join_number (number word) (numbers others)
@@ -22,38 +22,38 @@ numbers (word ∷ others) = join_number (number word) (numbers others)
 abbrev pub HasNoNumber : List (List ℕ) → Type 0
 HasNoNumber words = (words ≡ []) ⊎ (numbers words ≡ None)
 
--- the number, where there is just one
+-- the number is given where there is just one
 abbrev pub only_number : Option (List ℕ) → Option ℕ
 only_number (Some (n ∷ [])) = Some n
 only_number other = None
 
--- the two numbers, where there are just two
+-- the two numbers are given where there are just two
 abbrev pub number_pair : Option (List ℕ) → Option (ℕ × ℕ)
 number_pair (Some (first ∷ second ∷ [])) = Some (first, second)
 number_pair other = None
 
--- the three numbers, where there are just three
+-- the three numbers are given where there are just three
 abbrev pub number_triple : Option (List ℕ) → Option (ℕ × ℕ × ℕ)
 number_triple (Some (first ∷ second ∷ third ∷ [])) = Some (first, second, third)
 number_triple other = None
 
--- a coordinate; one over 65535 stands as 65535, which is outside of every map and every rectangle as well
+-- a number is a coordinate, and one over 65535 stands as 65535, which is outside of every map and every rectangle as well
 abbrev pub coordinate : ℕ → ℕ
 coordinate n = min n 65535
 
--- the cell of two numbers
+-- two numbers are the column and the row of a cell
 abbrev pub cell_of : ℕ → ℕ → Cell
 cell_of x y = record { x = coordinate x; y = coordinate y }
 
--- the point of two words, where both are numbers
+-- two words are a point where both are numbers
 abbrev pub point : List ℕ → List ℕ → Option Cell
 point x y = option_and_then (λ column. option_map (λ row. cell_of column row) (number y)) (number x)
 
--- a point before others, where all are points
+-- a point joins others, where all are points
 abbrev pub join_point : Option Cell → Option (List Cell) → Option (List Cell)
 join_point first others = option_and_then (λ cell. option_map (λ cells. cell ∷ cells) others) first
 
--- the points of words: an even number of them, all of them numbers
+-- the words are these points where there is an even number of them and all are numbers
 unfoldable pub points : List (List ℕ) → Option (List Cell)
 points [] = Some []
 points (x ∷ []) = None
@@ -63,12 +63,12 @@ points (x ∷ y ∷ others) = join_point (point x y) (points others)
 abbrev pub HasNoFirst : List (List ℕ) → Type 0
 HasNoFirst words = (words ≡ []) ⊎ (points words ≡ None)
 
--- the point, where there is just one
+-- the point is given where there is just one
 abbrev pub only : Option (List Cell) → Option Cell
 only (Some (cell ∷ [])) = Some cell
 only other = None
 
--- the two points, where there are just two
+-- the two points are given where there are just two
 abbrev pub pair : Option (List Cell) → Option (Cell × Cell)
 pair (Some (first ∷ second ∷ [])) = Some (first, second)
 pair other = None

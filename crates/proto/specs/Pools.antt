@@ -5,7 +5,7 @@ use Rattle.shelf.specs.Roles.{ReaderView}
 use Rattle.proto.specs.declared.serve.end.End.{End}
 use Rattle.proto.specs.Callers.{free}
 use Rattle.proto.specs.Served.{IsServed}
-use Rattle.proto.specs.Wire.{Wire}
+use Rattle.metric.specs.Wire.{Wire}
 
 -- a fresh stream was served with a session, from its first byte to its end
 pub record IsStreamServed {S : Type 0} (fresh : S → Type 0) (wire : S → Wire) (store : StoreId) (stream : S) (old new : ReaderView) : Type 0 where
@@ -20,7 +20,7 @@ AreStreamsServed fresh wire store [] old new = new ≡ old
 AreStreamsServed fresh wire store (stream ∷ streams) old new =
     (between : ReaderView) × IsStreamServed fresh wire store stream old between × AreStreamsServed fresh wire store streams between new
 
--- a worker did nothing with its session but serve fresh streams, each once
+-- a worker has done nothing with its session but serve fresh streams, each once
 pub record HasWorked {S : Type 0} (fresh : S → Type 0) (wire : S → Wire) (store : StoreId) (old new : ReaderView) : Type 0 where
   pub streams : List S
   pub served : AreStreamsServed fresh wire store streams old new

@@ -7,12 +7,12 @@ use Rattle.bits.specs.Cells.{Cells, IsInside}
 use Rattle.bits.specs.Edges.{IsBlocked}
 use Rattle.clearance.specs.Answers.{IsClearOf, IsLeastOf, IsRefusalFor, cells_of_rect}
 use Rattle.clearance.specs.Paths.{IsPathRefusal, cells_of_path, path_refusal}
-use Rattle.proto.specs.Asked.{Asked, at, rect, path, clear_of}
+use Rattle.proto.specs.Asked.{QueryView, at, rect, path, clear_of}
 use Rattle.proto.specs.declared.answer.Answer.{Answer}
 use Rattle.proto.specs.declared.answer.Answer.TheVariants.{Near, Found, Clear, Refused}
 
--- the metric of a query
-abbrev pub metric_asked : Asked → MetricKind
+-- each query asks by a metric
+abbrev pub metric_asked : QueryView → MetricKind
 metric_asked (at metric cell) = metric
 metric_asked (rect metric x0 y0 x1 y1) = metric
 metric_asked (path metric points) = metric
@@ -23,7 +23,7 @@ abbrev pub HasCorners : Cells → ℕ → ℕ → Type 0
 HasCorners cells x1 y1 = (x1 ≤ cells.width) × (y1 ≤ cells.height)
 
 -- an answer to a query on the bitmap with this edge, by this distance: its value, or why it is refused
-abbrev pub IsAnswerBy : (ℕ → ℕ → ℕ) → Cells → Edge → Asked → Answer → Type 0
+abbrev pub IsAnswerBy : (ℕ → ℕ → ℕ) → Cells → Edge → QueryView → Answer → Type 0
 IsAnswerBy distance cells edge (at metric cell) (Near near) = IsInside cells cell.x cell.y × IsNear distance (IsBlocked cells edge) cell.x cell.y near
 IsAnswerBy distance cells edge (at metric cell) (Refused refusal) = IsRefusalFor (IsInside cells cell.x cell.y) refusal
 IsAnswerBy distance cells edge (rect metric x0 y0 x1 y1) (Found found) = HasCorners cells x1 y1 × IsLeastOf distance (IsBlocked cells edge) (cells_of_rect x0 y0 x1 y1) found

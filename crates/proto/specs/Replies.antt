@@ -11,28 +11,28 @@ use Rattle.map_core.specs.declared.command.Reply.TheVariants.{Painted, Published
 use Rattle.proto.specs.declared.answer.Answer.{Answer}
 use Rattle.proto.specs.declared.answer.Answer.TheVariants as answers
 
--- the column and the row of a cell
+-- a cell is told by its column and its row
 abbrev pub cell_text : Cell → List ℕ
 cell_text cell = decimal cell.x ++ (32 ∷ decimal cell.y)
 
--- the column and the row of an obstacle, each with a `-` before it where it is negative
+-- an obstacle's place is told by its column and its row, each with a `-` before it where it is negative
 abbrev pub spot_text : Spot → List ℕ
 spot_text spot = signed_decimal spot.x ++ (32 ∷ signed_decimal spot.y)
 
--- a distance and its obstacle
+-- a near obstacle is told by its distance and its place
 abbrev pub near_text : Near → List ℕ
 near_text near = codes "OK " ++ (decimal near.dist ++ (32 ∷ spot_text near.cell))
 
--- a distance, the cell that has it, and its obstacle
+-- a least distance is told with the cell that has it and its obstacle
 abbrev pub found_text : Cell × Near → List ℕ
 found_text found = codes "OK " ++ (decimal found.1.dist ++ (32 ∷ (cell_text found.0 ++ (32 ∷ spot_text found.1.cell))))
 
--- numbers after `OK`, each after a blank
+-- the numbers after `OK` are each put after a blank
 abbrev pub numbers_text : List ℕ → List ℕ
 numbers_text [] = []
 numbers_text (number ∷ numbers) = (32 ∷ decimal number) ++ numbers_text numbers
 
--- the numbers of a reply to a command: its place, and what belongs to it
+-- the reply to a command has its place, and what belongs to it
 abbrev pub numbers_of : Reply → List ℕ
 numbers_of (Painted place changed) = place ∷ changed ∷ []
 numbers_of (Published place version) = place ∷ version ∷ []
@@ -40,11 +40,11 @@ numbers_of (Reverted place) = place ∷ []
 numbers_of (Collected place floor freed kept) = place ∷ floor ∷ freed ∷ []
 numbers_of (Checkpointed place) = place ∷ []
 
--- a number after `OK`
+-- a reply of one number has it after `OK`
 abbrev pub one_text : ℕ → List ℕ
 one_text number = codes "OK" ++ numbers_text (number ∷ [])
 
--- the reply to a line, without its LF; the bytes of a dump are no part of it
+-- a line is answered so, without the LF; the bytes of a dump are no part of it
 abbrev pub answer_text : Answer → List ℕ
 answer_text (answers.Near None) = codes "NONE"
 answer_text (answers.Near (Some near)) = near_text near
@@ -58,6 +58,6 @@ answer_text (answers.Dumped bytes) = one_text bytes
 answer_text answers.Bye = codes "BYE"
 answer_text (answers.Refused refusal) = refusal_text refusal
 
--- the reply line
+-- a reply line is the answer's text and LF
 abbrev pub reply_line : Answer → List ℕ
 reply_line answer = answer_text answer ++ 10 ∷ []

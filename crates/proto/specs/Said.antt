@@ -9,24 +9,24 @@ use Rattle.proto.specs.declared.line.Line.TheVariants as lines
 use Rattle.proto.specs.declared.verb.Verb.{Verb}
 use Rattle.proto.specs.declared.verb.Verb.TheVariants as verbs
 use Rattle.proto.specs.Asked as queries
-use Rattle.proto.specs.Asked.{Asked, arguments_asked, asked_by, or_bad, query_named}
+use Rattle.proto.specs.Asked.{QueryView, arguments_asked, asked_by, or_bad, query_named}
 use Rattle.proto.specs.Numbers.{coordinate, number_triple, numbers}
-use Rattle.proto.specs.Told.{Told, alone, order_named, order_told, told_by}
+use Rattle.proto.specs.Told.{CommandView, alone, order_named, order_told, told_by}
 use Rattle.proto.specs.Words.{words}
 
--- what a line says: a command to the keeper of the map, a stamp with its place and the number of its bytes, a pin or its end,
--- a query, a dump, or the end of the stream
-pub data Said : Type 0 where
-  told : Told → Said
-  stamp : (x y n : ℕ) → Said
-  pin : Said
-  unpin : Said
-  asked : Asked → Said
-  dump : Said
-  quit : Said
+-- a line says a command to the keeper of the map, a stamp with its place and its number of bytes, a pin or its end, a query, a dump, or
+-- the end of the stream
+pub data LineView : Type 0 where
+  told : CommandView → LineView
+  stamp : (x y n : ℕ) → LineView
+  pin : LineView
+  unpin : LineView
+  asked : QueryView → LineView
+  dump : LineView
+  quit : LineView
 
--- what a line of the program says
-abbrev pub said_by : Line → Said
+-- a line of the program says this
+abbrev pub said_by : Line → LineView
 said_by (lines.Command command) = told (told_by command)
 said_by (lines.Stamp x y n) = stamp x y n
 said_by lines.Pin = pin
@@ -36,11 +36,11 @@ said_by lines.Dump = dump
 said_by lines.Quit = quit
 
 -- a line has a query with points, for which memory is needed
-abbrev pub HasPoints : Said → Type 0
-HasPoints (asked query) = queries.HasPoints query
-HasPoints other = ⊥
+abbrev pub SaysPoints : LineView → Type 0
+SaysPoints (asked query) = queries.HasPoints query
+SaysPoints other = ⊥
 
--- the command of this name that is neither an order nor a query
+-- each command that is neither an order nor a query has a name
 abbrev pub bare_named : List ℕ → Option Verb
 bare_named word =
     if bytes_eq word (codes "STAMP") then Some verbs.Stamp
@@ -50,7 +50,7 @@ bare_named word =
     else if bytes_eq word (codes "QUIT") then Some verbs.Quit
     else None
 
--- the command of this name, in capital letters: an order, a query, or one of the others
+-- each command has a name in capital letters, whether it is an order, a query, or one of the others
 abbrev pub verb_named : List ℕ → Option Verb
 verb_named word =
     elim (order_named word) as (λ _. Option Verb) [
@@ -58,39 +58,39 @@ verb_named word =
       | None ↦ elim (query_named word) as (λ _. Option Verb) [ Some kind ↦ Some (verbs.Ask kind) | None ↦ bare_named word ]
     ]
 
--- the command that words name: the first of them
+-- the first of some words is the name of the command
 abbrev pub first_verb : List (List ℕ) → Option Verb
 first_verb [] = None
 first_verb (word ∷ others) = verb_named word
 
--- the command that a line names, whatever follows it
+-- a line names this command, whatever follows it
 unfoldable pub verb_in : List ℕ → Option Verb
 verb_in bytes = first_verb (words bytes)
 
--- a stamp at a place, with so many bytes
-abbrev pub stamp_of : ℕ × ℕ × ℕ → Said
+-- three numbers give a stamp's place and how many bytes it has
+abbrev pub stamp_of : ℕ × ℕ × ℕ → LineView
 stamp_of (x, y, n) = stamp (coordinate x) (coordinate y) n
 
--- what is said by a query, or why it is refused
-abbrev pub asks : Result Asked Refusal → Result Said Refusal
-asks (Ok query) = Ok (asked query)
-asks (Err refusal) = Err refusal
+-- a query says what it asks, or why it is refused
+abbrev pub said_by_query : Result QueryView Refusal → Result LineView Refusal
+said_by_query (Ok query) = Ok (asked query)
+said_by_query (Err refusal) = Err refusal
 
--- what a command says with the words after its name
-abbrev pub verb_said : Verb → List (List ℕ) → Result Said Refusal
+-- a command with the words after its name says this
+abbrev pub verb_said : Verb → List (List ℕ) → Result LineView Refusal
 verb_said (verbs.Order order) words = or_bad (option_map (λ command. told command) (order_told order words))
-verb_said (verbs.Ask kind) words = asks (arguments_asked kind words)
+verb_said (verbs.Ask kind) words = said_by_query (arguments_asked kind words)
 verb_said verbs.Stamp words = or_bad (option_map stamp_of (number_triple (numbers words)))
 verb_said verbs.Pin words = or_bad (alone pin words)
 verb_said verbs.Unpin words = or_bad (alone unpin words)
 verb_said verbs.Dump words = or_bad (alone dump words)
 verb_said verbs.Quit words = or_bad (alone quit words)
 
--- what words say
-abbrev pub said_of : List (List ℕ) → Result Said Refusal
+-- the words of a line say this
+abbrev pub said_of : List (List ℕ) → Result LineView Refusal
 said_of [] = Err UnknownCommand
-said_of (word ∷ arguments) = elim (verb_named word) as (λ _. Result Said Refusal) [ None ↦ Err UnknownCommand | Some verb ↦ verb_said verb arguments ]
+said_of (word ∷ arguments) = elim (verb_named word) as (λ _. Result LineView Refusal) [ None ↦ Err UnknownCommand | Some verb ↦ verb_said verb arguments ]
 
--- what a line says, without its LF and the CR before it
-unfoldable pub said : List ℕ → Result Said Refusal
+-- a line says this, without its LF and the CR before it
+unfoldable pub said : List ℕ → Result LineView Refusal
 said bytes = said_of (words bytes)

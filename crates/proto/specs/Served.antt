@@ -12,26 +12,27 @@ use Rattle.proto.specs.declared.serve.end.End.TheVariants as ends
 use Rattle.proto.specs.declared.answer.Answer.{Answer}
 use Rattle.proto.specs.declared.answer.Answer.TheVariants as answers
 use Rattle.proto.specs.Replies.{reply_line}
-use Rattle.proto.specs.Said.{Said, HasPoints}
+use Rattle.proto.specs.Said.{LineView, SaysPoints}
 use Rattle.proto.specs.Said as saids
 use Rattle.proto.specs.Callers.{CallerValue, bitmap_held}
 use Rattle.proto.specs.Exchanges.{Exchange, IsDump, IsExchange, IsLine, IsLineAnswer, line_said, body_of, counts}
-use Rattle.proto.specs.Wire.{Wire, HasNotWritten, HasRead, HasWritten, IsReadOut}
+use Rattle.metric.specs.Wire.{Wire}
+use Rattle.proto.specs.Wire.{HasNotWritten, HasRead, HasWritten, IsReadOut}
 
--- the bytes of an exchange: its line, LF, and the bytes that it counts
+-- the bytes of an exchange are its line, LF, and the bytes that it counts
 abbrev pub bytes_of : Exchange → List ℕ
 bytes_of x = x.line ++ (10 ∷ x.counted)
 
--- the text of an exchange: its reply line, and what follows it
+-- the text of an exchange is its reply line, and what follows it
 abbrev pub text_of : Exchange → List ℕ
 text_of x = reply_line x.answer ++ x.body
 
--- exchanges of one caller, one after another
+-- the caller has had these exchanges, one after another
 abbrev pub AreExchanges : StoreId → List Exchange → CallerValue → CallerValue → Type 0
 AreExchanges store [] old new = new ≡ old
 AreExchanges store (x ∷ xs) old new = (between : CallerValue) × IsExchange store x old between × AreExchanges store xs between new
 
--- a line with its LF, and fewer bytes than it counts, which aren't more than a stamp may have
+-- these bytes are a line with its LF, and fewer bytes than it counts, which aren't more than a stamp may have
 pub record IsShort (bytes : List ℕ) : Type 0 where
   pub line : List ℕ
   pub line_is : IsLine line
@@ -40,60 +41,60 @@ pub record IsShort (bytes : List ℕ) : Type 0 where
   pub few : length counted < counts (line_said line)
   pub bytes_are : bytes ≡ line ++ (10 ∷ counted)
 
--- a part of an exchange: a beginning of a line, or a line with fewer bytes than it counts
-abbrev pub IsPart : List ℕ → Type 0
-IsPart bytes = IsLine bytes ⊎ IsShort bytes
+-- a part of an exchange is a beginning of a line, or a line with fewer bytes than it counts
+abbrev pub IsPartOfExchange : List ℕ → Type 0
+IsPartOfExchange bytes = IsLine bytes ⊎ IsShort bytes
 
--- a line with its LF that says QUIT
+-- these bytes are a line with its LF that says QUIT
 pub record IsQuit (bytes : List ℕ) : Type 0 where
   pub line : List ℕ
   pub line_is : IsLine line
   pub bytes_are : bytes ≡ line ++ (10 ∷ [])
   pub quits : line_said line ≡ Ok saids.quit
 
--- more bytes than a line may have, and no LF among them
+-- these are more bytes than a line may have, and no LF is among them
 pub record IsTooLong (bytes : List ℕ) : Type 0 where
   pub plain : All (λ byte. byte ≢ 10) bytes
   pub many : length bytes ≡ 16385
 
--- a line with its LF that counts more bytes than a stamp may have
+-- these bytes are a line with its LF that counts more bytes than a stamp may have
 pub record IsTooMuch (bytes : List ℕ) : Type 0 where
   pub line : List ℕ
   pub line_is : IsLine line
   pub bytes_are : bytes ≡ line ++ (10 ∷ [])
   pub many : 17100000 < counts (line_said line)
 
--- a last text after the exchanges, which the bytes after them are answered: that of QUIT, of a line too long, of too many bytes
+-- the bytes after the exchanges are answered by a last text: that of QUIT, of a line too long, of too many bytes
 abbrev pub IsFarewell : List ℕ → List ℕ → Type 0
 IsFarewell tail last =
     (IsQuit tail × (last ≡ reply_line answers.Bye))
     ⊎ (IsTooLong tail × (last ≡ reply_line (answers.Refused refusals.LineTooLong)))
     ⊎ (IsTooMuch tail × (last ≡ reply_line (answers.Refused refusals.TooMuchData)))
 
--- what stands after the exchanges where a stream ends so, or goes on: the bytes that were read, and a last text
+-- after the exchanges a stream that ends so, or goes on, has read these bytes and has this last text
 abbrev pub IsTail : Option End → List ℕ → List ℕ → Type 0
 IsTail None tail last = (tail ≡ []) × (last ≡ [])
 IsTail (Some ends.Quit) tail last = IsQuit tail × (last ≡ reply_line answers.Bye)
-IsTail (Some ends.EndOfInput) tail last = IsPart tail × (last ≡ [])
+IsTail (Some ends.EndOfInput) tail last = IsPartOfExchange tail × (last ≡ [])
 IsTail (Some ends.LineTooLong) tail last = IsTooLong tail × (last ≡ reply_line (answers.Refused refusals.LineTooLong))
 IsTail (Some ends.TooMuchData) tail last = IsTooMuch tail × (last ≡ reply_line (answers.Refused refusals.TooMuchData))
-IsTail (Some ends.ReadFailed) tail last = IsPart tail × (last ≡ [])
+IsTail (Some ends.ReadFailed) tail last = IsPartOfExchange tail × (last ≡ [])
 IsTail (Some ends.WriteFailed) tail last = ((tail ≡ []) × (last ≡ [])) ⊎ IsFarewell tail last
 IsTail (Some ends.Memory) tail last = ⊥
 
--- the caller after the last exchange: at an end its pin is left
+-- after the last exchange the caller is as it was, and at an end its pin is left
 abbrev pub IsLeft : Option End → CallerValue → CallerValue → Type 0
 IsLeft None last new = new ≡ last
 IsLeft (Some end) last new = new.seat ≡ last.seat
 
--- the text whose write failed: that of the last exchange, or a last text after it; none was, at another end
+-- the write of this text failed: that of the last exchange, or a last text after it; at another end none failed
 abbrev pub IsUnsaid : Option End → List Exchange → List ℕ → List ℕ → List ℕ → Type 0
 IsUnsaid (Some ends.WriteFailed) exchanges tail last unsaid =
     ((before : List Exchange) × (x : Exchange) × (exchanges ≡ before ++ x ∷ []) × (last ≡ []) × (unsaid ≡ text_of x)) ⊎ (IsFarewell tail last × (unsaid ≡ last))
 IsUnsaid end exchanges tail last unsaid = unsaid ≡ []
 
--- a stream that has ended so, or goes on: what was read is whole exchanges and a tail, and what is written is their texts and a last text,
--- up to the one whose write failed
+-- a stream that has ended so, or goes on, has read whole exchanges and a tail, and has written their texts and a last text, up to the one
+-- whose write failed
 pub record Served (store : StoreId) (end : Option End) (bytes : List ℕ) (old new : CallerValue) (said unsaid : List ℕ) : Type 0 where
   pub exchanges : List Exchange
   pub tail : List ℕ
@@ -107,21 +108,21 @@ pub record Served (store : StoreId) (end : Option End) (bytes : List ℕ) (old n
   pub unsaid_is : IsUnsaid end exchanges tail last unsaid
 
 -- at the end of the input nothing is left to read
-abbrev pub IsReached : Option End → Option (List ℕ) → Type 0
-IsReached (Some ends.EndOfInput) rest = IsReadOut rest
-IsReached end rest = Unit {0}
+abbrev pub IsEndReached : Option End → Option (List ℕ) → Type 0
+IsEndReached (Some ends.EndOfInput) rest = IsReadOut rest
+IsEndReached end rest = Unit {0}
 
 -- what was said stands after what was written before, and then, where a write failed, a beginning of the text that it was to write
 abbrev pub IsWritten : Option End → Option (List ℕ) → List ℕ → List ℕ → Option (List ℕ) → Type 0
 IsWritten (Some ends.WriteFailed) before said unsaid after = (between : Option (List ℕ)) × Appends before said between × AppendsFront between unsaid after
 IsWritten end before said unsaid after = Appends before said after
 
--- how many reads fail before such an end
+-- so many reads fail before such an end
 abbrev pub read_faults : Option End → ℕ
 read_faults (Some ends.ReadFailed) = 1
 read_faults end = 0
 
--- how many writes fail before such an end
+-- so many writes fail before such an end
 abbrev pub write_faults : Option End → ℕ
 write_faults (Some ends.WriteFailed) = 1
 write_faults end = 0
@@ -129,28 +130,28 @@ write_faults end = 0
 -- these bytes were read and this was said, up to such an end
 pub record HasMoved (end : Option End) (old : Wire) (bytes said unsaid : List ℕ) (new : Wire) : Type 0 where
   pub taken : Takes old.rest bytes new.rest
-  pub reached : IsReached end new.rest
+  pub reached : IsEndReached end new.rest
   pub written : IsWritten end old.held said unsaid new.held
   pub reads : new.failed_reads ≡ old.failed_reads + read_faults end
   pub writes : new.failed_writes ≡ old.failed_writes + write_faults end
 
 -- the input was cut off after these bytes: it ended, or a read failed
-abbrev pub IsCut : End → Wire → List ℕ → Wire → Type 0
-IsCut ends.EndOfInput old bytes new = HasRead 0 old bytes new × IsReadOut new.rest
-IsCut ends.ReadFailed old bytes new = HasRead 1 old bytes new
-IsCut end old bytes new = ⊥
+abbrev pub IsCutOff : End → Wire → List ℕ → Wire → Type 0
+IsCutOff ends.EndOfInput old bytes new = HasRead 0 old bytes new × IsReadOut new.rest
+IsCutOff ends.ReadFailed old bytes new = HasRead 1 old bytes new
+IsCutOff end old bytes new = ⊥
 
 -- why a line wasn't read to its LF: these bytes are too many, or the input was cut off after them
 abbrev pub IsLineStop : End → Wire → List ℕ → Wire → Type 0
 IsLineStop ends.LineTooLong old bytes new = IsTooLong bytes × HasRead 0 old bytes new
-IsLineStop end old bytes new = IsLine bytes × IsCut end old bytes new
+IsLineStop end old bytes new = IsLine bytes × IsCutOff end old bytes new
 
 -- the bytes that were counted are kept, where there was memory for them
 abbrev pub AreKept : {A : Type 0} → Option (Vec ℕ A) → List ℕ → Type 0
 AreKept None bytes = Unit {0}
 AreKept (Some kept) bytes = kept.items ≡ bytes
 
--- so many bytes were read, and kept where there was memory for them
+-- as many bytes were read as are counted, and kept where there was memory for them
 pub record HasCounted {A : Type 0} (count : ℕ) (kept : Option (Vec ℕ A)) (old new : Wire) : Type 0 where
   pub bytes : List ℕ
   pub as_many : length bytes ≡ count
@@ -161,15 +162,15 @@ pub record HasCounted {A : Type 0} (count : ℕ) (kept : Option (Vec ℕ A)) (ol
 pub record IsCutShort (count : ℕ) (end : End) (old new : Wire) : Type 0 where
   pub bytes : List ℕ
   pub few : length bytes < count
-  pub cut : IsCut end old bytes new
+  pub cut : IsCutOff end old bytes new
 
 -- a last text was written, and the stream ends after it as it was to, or a write failed
 abbrev pub HasSaid : End → End → Wire → List ℕ → Wire → Type 0
 HasSaid planned end old text new = ((end ≡ planned) × HasWritten old text new) ⊎ ((end ≡ ends.WriteFailed) × HasNotWritten old text new)
 
--- what a line was parsed as: what it says; or there was no memory for its points
-abbrev pub IsHeard : Result Said Refusal → Result Said Refusal → Type 0
-IsHeard said heard = (heard ≡ said) ⊎ ((heard ≡ Err refusals.Memory) × IsOkAnd said HasPoints)
+-- a line was parsed as what it says, or there was no memory for its points
+abbrev pub IsHeard : Result LineView Refusal → Result LineView Refusal → Type 0
+IsHeard said heard = (heard ≡ said) ⊎ ((heard ≡ Err refusals.Memory) × IsOkAnd said SaysPoints)
 
 -- what was said is written whole, and the stream goes on; or a write failed
 abbrev pub IsSaid : Option End → Wire → List ℕ → Wire → Type 0
@@ -177,7 +178,7 @@ IsSaid None old text new = HasWritten old text new
 IsSaid (Some ends.WriteFailed) old text new = HasNotWritten old text new
 IsSaid end old text new = ⊥
 
--- how a stream ends after a write of this outcome, if it does
+-- a stream ends so after a write of this outcome, if it does
 abbrev pub end_after : Result (Unit {0}) WriteFault → Option End
 end_after (Ok done) = None
 end_after (Err fault) = Some ends.WriteFailed
@@ -195,7 +196,7 @@ IsDumpSaid store end wire old wire_after =
     elim old.pin as (λ _. Type 0) [ None ↦ IsSaid end wire (reply_line (answers.Refused refusals.NotPinned)) wire_after | Some version ↦ IsDumped (bitmap_held store old) end wire wire_after ]
 
 -- a line, with the bytes that were kept, was answered, and its answer was said
-pub record HasAnswered {A : Type 0} (store : StoreId) (heard : Result Said Refusal) (kept : Option (Vec ℕ A)) (end : Option End) (wire : Wire) (old : CallerValue) (wire_after : Wire) (new : CallerValue) : Type 0 where
+pub record HasAnswered {A : Type 0} (store : StoreId) (heard : Result LineView Refusal) (kept : Option (Vec ℕ A)) (end : Option End) (wire : Wire) (old : CallerValue) (wire_after : Wire) (new : CallerValue) : Type 0 where
   pub answer : Answer
   pub body : List ℕ
   pub answered : (bytes : List ℕ) → AreKept kept bytes → IsLineAnswer store heard bytes old answer new

@@ -2,23 +2,23 @@
 use Rattle.std.specs.Prelude.{ℕ, Bool, true, false, List, [], ◌∷◌, Option, Some, None, bytes_eq, codes, option_and_then, option_map, if◌then◌else◌}
 use Rattle.map_core.specs.declared.command.Command.{Command}
 use Rattle.map_core.specs.declared.command.Command.TheVariants as commands
-use Rattle.proto.specs.declared.verb.Order.{Order}
-use Rattle.proto.specs.declared.verb.Order.TheVariants as orders
+use Rattle.proto.specs.declared.verb.CommandName.{CommandName}
+use Rattle.proto.specs.declared.verb.CommandName.TheVariants as orders
 use Rattle.proto.specs.Corners.{Corners, corners_of, seen_corners}
 use Rattle.proto.specs.Numbers.{points, pair}
 
--- what the keeper is told: to give the cells of a rectangle one value, to stamp, which no line tells by itself, to publish, to revert,
+-- the keeper is told to give the cells of a rectangle one value, to stamp, which no line tells by itself, to publish, to revert,
 -- to collect, or to drop the entries that are kept
-pub data Told : Type 0 where
-  draw : Bool → Corners → Told
-  stamp : Told
-  publish : Told
-  revert : Told
-  collect : Told
-  checkpoint : Told
+pub data CommandView : Type 0 where
+  draw : Bool → Corners → CommandView
+  stamp : CommandView
+  publish : CommandView
+  revert : CommandView
+  collect : CommandView
+  checkpoint : CommandView
 
--- what a command of the program tells
-abbrev pub told_by : Command → Told
+-- a command of the program tells this
+abbrev pub told_by : Command → CommandView
 told_by (commands.Paint rect black) = draw black (seen_corners rect)
 told_by (commands.Stamp x y bitmap) = stamp
 told_by commands.Publish = publish
@@ -26,8 +26,8 @@ told_by commands.Revert = revert
 told_by commands.Collect = collect
 told_by commands.Checkpoint = checkpoint
 
--- the command of this name, in capital letters
-abbrev pub order_named : List ℕ → Option Order
+-- each command to the keeper has a name in capital letters
+abbrev pub order_named : List ℕ → Option CommandName
 order_named word =
     if bytes_eq word (codes "PAINT") then Some orders.Paint
     else if bytes_eq word (codes "CLEAR") then Some orders.Clear
@@ -37,17 +37,17 @@ order_named word =
     else if bytes_eq word (codes "CHECKPOINT") then Some orders.Checkpoint
     else None
 
--- what has no arguments, with the words after its name
+-- a command without arguments is told only where no words are left after its name
 abbrev pub alone : {A : Type 0} → A → List (List ℕ) → Option A
 alone value [] = Some value
 alone value (word ∷ words) = None
 
--- the rectangle of the words after a name
+-- the words after a name give a rectangle if they are its two corners
 abbrev pub rect_told : List (List ℕ) → Option Corners
 rect_told words = option_and_then corners_of (pair (points words))
 
--- what a command tells with the words after its name
-abbrev pub order_told : Order → List (List ℕ) → Option Told
+-- a command with the words after its name tells this
+abbrev pub order_told : CommandName → List (List ℕ) → Option CommandView
 order_told orders.Paint words = option_map (draw true) (rect_told words)
 order_told orders.Clear words = option_map (draw false) (rect_told words)
 order_told orders.Publish words = alone publish words

@@ -1,19 +1,9 @@
--- What a contract sees of a stream that is read and written: this project's own rule.
+-- What happens to the wire of a stream as it is read and written: this project's own rule.
 use Rattle.std.specs.Prelude.{◌≡◌, ℕ, ◌+◌, List, [], ◌∷◌, Option, Some, None}
+use Rattle.metric.specs.Wire.{Wire}
 use Rattle.metric.specs.Stream.{Appends, AppendsFront, CanFail, Takes}
 
--- what is left to read and what was written, where the stream tells them, and how many reads and writes have failed
-pub record Wire : Type 0 where
-  pub rest : Option (List ℕ)
-  pub held : Option (List ℕ)
-  pub failed_reads : ℕ
-  pub failed_writes : ℕ
-
--- the wire of a stream, by what the stream tells
-abbrev pub wire_of : {S : Type 0} → (S → Option (List ℕ)) → (S → Option (List ℕ)) → (S → ℕ) → (S → ℕ) → S → Wire
-wire_of rest held failed_reads failed_writes s = record { rest = rest s; held = held s; failed_reads = failed_reads s; failed_writes = failed_writes s }
-
--- one more failed read and one more failed write can be counted
+-- another failed read and another failed write can be counted
 pub record CanGoOn (w : Wire) : Type 0 where
   pub reads : CanFail w.failed_reads
   pub writes : CanFail w.failed_writes

@@ -3,16 +3,16 @@ use Rattle.std.specs.Prelude.{◌≢◌, ℕ, ◌+◌, ◌==◌, List, [], lengt
 use Rattle.std.specs.Borrow.{Bor}
 use Rattle.std.specs.List.{All, slice_split}
 
--- the words of a line: one more than it has blanks, some of which may be empty
+-- a line has one word more than it has blanks, and some of them may be empty
 unfoldable pub words : List ℕ → List (List ℕ)
 words bytes = slice_split (λ byte. byte == 32) bytes
 
--- the words of what is left of a line; none where all of it was taken
+-- these words are left of a line; none where all of it was taken
 abbrev pub words_left : Option (Bor (List ℕ)) → List (List ℕ)
 words_left None = []
 words_left (Some bytes) = words bytes.now
 
--- how much is left of a line, counting the blank before it
+-- so many bytes are left of a line, counting the blank before them
 abbrev pub bytes_left : Option (Bor (List ℕ)) → ℕ
 bytes_left None = 0
 bytes_left (Some bytes) = length bytes.now + 1

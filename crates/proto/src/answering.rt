@@ -24,7 +24,8 @@ pub fn answer_query(alloc: Global, bitmap: &Bitmap, edge: Edge, query: &Query) -
 
 /// As `answer_query`, of a bitmap or of the version that a pin holds. A fresh pin looks at the words that the query touches alone.
 pub fn answer_of<Q: Queried>(alloc: Global, map: &mut Q, query: &Query) -> Answer
-    ensures answer { IsAnswerBy (distance_of (metric_asked (asked_by query.now))) (Q.cells map.old) (Q.edge map.old) (asked_by query.now) result }
+    ensures answer { IsAnswerBy (distance_of (metric_asked (asked_by query.now))) (Q.cells map.old) (Q.edge map.old)
+        (asked_by query.now) result }
     ensures map { map.new ≡ map.old }
 {
     match query.metric() {

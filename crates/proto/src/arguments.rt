@@ -13,7 +13,8 @@ use metric::{MetricKind, Rect};
 
 /// The metric that the next word names, and what is left after it.
 pub fn read_metric(rest: Option<&[u8]>) -> Option<(MetricKind, Option<&[u8]>)>
-    ensures { MatchOption result (first_of metric_named (words_left rest.entry) ≡ None) (λ found. first_of metric_named (words_left rest.entry) ≡ Some (found.0, words_left found.1)) }
+    ensures { MatchOption result (first_of metric_named (words_left rest.entry) ≡ None)
+        (λ found. first_of metric_named (words_left rest.entry) ≡ Some (found.0, words_left found.1)) }
 {
     let (word, rest) = next_word(rest)?;
     let metric = MetricKind::named(word)?;

@@ -10,20 +10,20 @@ use crate::arguments::read_rect;
 use crate::line::Line;
 use crate::numbers::number_triple;
 use crate::points::coordinate;
-use crate::verb::Order;
+use crate::verb::CommandName;
 use map_core::Command;
 
 /// The command to the keeper of this name, with what is left of the line as its arguments; none where their number or form is another one.
-pub fn read_order(order: Order, rest: Option<&[u8]>) -> Option<Command>
+pub fn read_order(order: CommandName, rest: Option<&[u8]>) -> Option<Command>
     ensures { option_map told_by result ≡ order_told order (words_left rest.entry) }
 {
     match order {
-        Order::Paint => paint(rest, true),
-        Order::Clear => paint(rest, false),
-        Order::Publish => bare_order(rest, Command::Publish),
-        Order::Revert => bare_order(rest, Command::Revert),
-        Order::Collect => bare_order(rest, Command::Collect),
-        Order::Checkpoint => bare_order(rest, Command::Checkpoint),
+        CommandName::Paint => paint(rest, true),
+        CommandName::Clear => paint(rest, false),
+        CommandName::Publish => bare_order(rest, Command::Publish),
+        CommandName::Revert => bare_order(rest, Command::Revert),
+        CommandName::Collect => bare_order(rest, Command::Collect),
+        CommandName::Checkpoint => bare_order(rest, Command::Checkpoint),
     }
 }
 

@@ -12,5 +12,6 @@ pub fn words_of_line()
 
 /// Words, one at least, are those of the line that they make with one blank between two.
 pub fn line_of_words()
-    ensures { (word : List ℕ) (others : List (List ℕ)) → All IsWord (word ∷ others) → words (join_with_byte 32 (word ∷ others)) ≡ word ∷ others }
+    ensures { (word : List ℕ) (others : List (List ℕ)) → All IsWord (word ∷ others)
+        → words (join_with_byte 32 (word ∷ others)) ≡ word ∷ others }
 {}

@@ -33,6 +33,6 @@ pub use query::{Query, read_query};
 pub use reply::{put_answer, reply_text};
 pub use serve::{End, MOST_COUNTED, serve_stream};
 pub use text::Text;
-pub use verb::{Order, QueryKind, Verb, split_verb, verb_of};
+pub use verb::{CommandName, QueryKind, Verb, split_verb, verb_of};
 pub use words::{split_word, without_cr};
 pub use workers::{Streams, pool};

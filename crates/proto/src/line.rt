@@ -2,7 +2,7 @@
 
 ghost use Rattle.std.specs.Prelude.{◌≡◌, ◌≢◌, IfOk, IfErr, IsOkAnd, Ok, Err};
 ghost use Rattle.metric.specs.declared.refusal.Refusal.{Refusal};
-ghost use Rattle.proto.specs.Said.{said, said_by, verb_said, HasPoints};
+ghost use Rattle.proto.specs.Said.{said, said_by, verb_said, SaysPoints};
 ghost use Rattle.proto.specs.Words.{words_left};
 
 use crate::command::{bare_line, read_order, read_stamp};
@@ -36,7 +36,7 @@ pub enum Line {
 fn line_of(alloc: Global, verb: Verb, rest: Option<&[u8]>) -> Result<Line, Refusal>
     ensures line { IfOk result (λ line. verb_said verb (words_left rest.entry) ≡ Ok (said_by line)) }
     ensures refusal { IfErr result (λ refusal. refusal ≢ Refusal.Memory → verb_said verb (words_left rest.entry) ≡ Err refusal) }
-    ensures memory { result ≡ Err Refusal.Memory → IsOkAnd (verb_said verb (words_left rest.entry)) HasPoints }
+    ensures memory { result ≡ Err Refusal.Memory → IsOkAnd (verb_said verb (words_left rest.entry)) SaysPoints }
 {
     match verb {
         Verb::Order(order) => match read_order(order, rest) {
@@ -59,7 +59,7 @@ fn line_of(alloc: Global, verb: Verb, rest: Option<&[u8]>) -> Result<Line, Refus
 pub fn parse_line(alloc: Global, bytes: &[u8]) -> Result<Line, Refusal>
     ensures line { IfOk result (λ line. said bytes.now ≡ Ok (said_by line)) }
     ensures refusal { IfErr result (λ refusal. refusal ≢ Refusal.Memory → said bytes.now ≡ Err refusal) }
-    ensures memory { result ≡ Err Refusal.Memory → IsOkAnd (said bytes.now) HasPoints }
+    ensures memory { result ≡ Err Refusal.Memory → IsOkAnd (said bytes.now) SaysPoints }
 {
     match split_verb(bytes) {
         Some((verb, rest)) => line_of(alloc, verb, rest),

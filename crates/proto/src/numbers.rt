@@ -11,8 +11,10 @@ use crate::words::next_word;
 /// The number that the next word is, and what is left after it.
 #[tactic(auto, unfolding(crate::specs::Numbers::numbers))]
 pub fn next_number(rest: Option<&[u8]>) -> Option<(u32, Option<&[u8]>)>
-    ensures first { MatchOption result (first_of number (words_left rest.entry) ≡ None) (λ found. first_of number (words_left rest.entry) ≡ Some (found.0, words_left found.1)) }
-    ensures numbers { MatchOption result (HasNoNumber (words_left rest.entry)) (λ found. numbers (words_left rest.entry) ≡ option_map (λ others. found.0 ∷ others) (numbers (words_left found.1))) }
+    ensures first { MatchOption result (first_of number (words_left rest.entry) ≡ None)
+        (λ found. first_of number (words_left rest.entry) ≡ Some (found.0, words_left found.1)) }
+    ensures numbers { MatchOption result (HasNoNumber (words_left rest.entry))
+        (λ found. numbers (words_left rest.entry) ≡ option_map (λ others. found.0 ∷ others) (numbers (words_left found.1))) }
 {
     let (word, rest) = next_word(rest)?;
     let number = read_number(word)?;

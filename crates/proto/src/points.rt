@@ -24,7 +24,8 @@ pub fn coordinate(number: u32) -> u16
 /// The point at the front of what is left of a line, and what is left after it.
 #[tactic(auto, unfolding(crate::specs::Numbers::points))]
 fn next_point(rest: Option<&[u8]>) -> Option<(Cell, Option<&[u8]>)>
-    ensures points { MatchOption result (HasNoFirst (words_left rest.entry)) (λ found. points (words_left rest.entry) ≡ option_map (λ cells. found.0 ∷ cells) (points (words_left found.1))) }
+    ensures points { MatchOption result (HasNoFirst (words_left rest.entry))
+        (λ found. points (words_left rest.entry) ≡ option_map (λ cells. found.0 ∷ cells) (points (words_left found.1))) }
     ensures fewer { IfSome result (λ found. bytes_left found.1 + 2 ≤ bytes_left rest.entry) }
     ensures small { bytes_left rest.entry ≤ 2 ^ 64 }
 {

@@ -36,7 +36,8 @@ pub trait Queried {
         rect: Rect,
     ) -> Result<Option<(Cell, Near)>, Refusal>
         ensures inside { IfOk result (λ _. LiesIn (cells self.old) rect) }
-        ensures least { IfOk result (IsLeastOf M.distance (IsBlocked (cells self.old) (edge self.old)) (cells_of_rect rect.x0 rect.y0 rect.x1 rect.y1)) }
+        ensures least { IfOk result (IsLeastOf M.distance (IsBlocked (cells self.old) (edge self.old))
+            (cells_of_rect rect.x0 rect.y0 rect.x1 rect.y1)) }
         ensures refused { IfErr result (IsRefusalFor (LiesIn (cells self.old) rect)) }
         ensures map { self.new ≡ self.old };
 

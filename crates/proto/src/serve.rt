@@ -3,7 +3,7 @@
 ghost use Rattle.std.specs.Prelude.{◌≡◌, ◌≢◌, Some};
 ghost use Rattle.proto.specs.Callers.{free};
 ghost use Rattle.proto.specs.Served.{IsServed};
-ghost use Rattle.proto.specs.Wire.{CanGoOn, wire_of};
+ghost use Rattle.proto.specs.Wire.{CanGoOn};
 
 mod caller;
 mod counted;
@@ -42,10 +42,11 @@ pub fn serve_stream<Id: StoreName, R: Wait, S: Stream>(
     session: Session<Id>,
     stream: &mut S,
 ) -> (Session<Id>, End)
-    requires { CanGoOn (wire_of S.rest S.held S.failed_reads S.failed_writes stream.old) }
-    ensures served { result.1 ≢ End.Memory → IsServed Id.store (Some result.1) (wire_of S.rest S.held S.failed_reads S.failed_writes stream.old) (free session) (wire_of S.rest S.held S.failed_reads S.failed_writes stream.new) (free result.0) }
+    requires { CanGoOn (S.wire stream.old) }
+    ensures served { result.1 ≢ End.Memory → IsServed Id.store (Some result.1) (S.wire stream.old) (free session)
+        (S.wire stream.new) (free result.0) }
     ensures session { result.1 ≡ End.Memory → result.0 ≡ session }
-    ensures untouched { result.1 ≡ End.Memory → wire_of S.rest S.held S.failed_reads S.failed_writes stream.new ≡ wire_of S.rest S.held S.failed_reads S.failed_writes stream.old }
+    ensures untouched { result.1 ≡ End.Memory → S.wire stream.new ≡ S.wire stream.old }
 {
     let Ok(mut line) = LineBuffer::new(alloc) else {
         return (session, End::Memory);

@@ -13,7 +13,7 @@ use crate::words::split_word;
 #[derive(Clone, Copy, Debug, PartialEq, Eq)]
 pub enum Verb {
     /// A command to the keeper of the map that has no bytes after its line.
-    Order(Order),
+    Order(CommandName),
     /// A query on the pinned version.
     Ask(QueryKind),
     /// A command to the keeper of the map, with the bytes of an image after its line.
@@ -26,7 +26,7 @@ pub enum Verb {
 
 /// A command to the keeper of the map, by its name alone.
 #[derive(Clone, Copy, Debug, PartialEq, Eq)]
-pub enum Order {
+pub enum CommandName {
     Paint,
     Clear,
     Publish,
@@ -57,7 +57,8 @@ pub fn verb_of(bytes: &[u8]) -> Option<Verb>
 #[tactic(auto, unfolding(crate::specs::Said::said, crate::specs::Said::verb_in))]
 pub fn split_verb(bytes: &[u8]) -> Option<(Verb, Option<&[u8]>)>
     ensures verb { MatchOption result (verb_in bytes.now ≡ None) (λ found. verb_in bytes.now ≡ Some found.0) }
-    ensures said { MatchOption result (said bytes.now ≡ Err UnknownCommand) (λ found. said bytes.now ≡ verb_said found.0 (words_left found.1)) }
+    ensures said { MatchOption result (said bytes.now ≡ Err UnknownCommand)
+        (λ found. said bytes.now ≡ verb_said found.0 (words_left found.1)) }
 {
     let (word, rest) = split_word(bytes);
     let verb = verb_named(word)?;
@@ -97,21 +98,21 @@ fn bare_named(word: &[u8]) -> Option<Verb>
 }
 
 /// The command to the keeper of this name.
-fn order_named(word: &[u8]) -> Option<Order>
+fn order_named(word: &[u8]) -> Option<CommandName>
     ensures { result ≡ order_named word.now }
 {
     if word == b"PAINT".as_slice() {
-        Some(Order::Paint)
+        Some(CommandName::Paint)
     } else if word == b"CLEAR".as_slice() {
-        Some(Order::Clear)
+        Some(CommandName::Clear)
     } else if word == b"PUBLISH".as_slice() {
-        Some(Order::Publish)
+        Some(CommandName::Publish)
     } else if word == b"REVERT".as_slice() {
-        Some(Order::Revert)
+        Some(CommandName::Revert)
     } else if word == b"COLLECT".as_slice() {
-        Some(Order::Collect)
+        Some(CommandName::Collect)
     } else if word == b"CHECKPOINT".as_slice() {
-        Some(Order::Checkpoint)
+        Some(CommandName::Checkpoint)
     } else {
         None
     }

@@ -3,7 +3,7 @@
 ghost use Rattle.std.specs.Prelude.{◌≡◌, ◌≤◌, [], All, length, map, reverse, vec_capacity, Some, IfOk, IfErr, IfSome, IsSome};
 ghost use Rattle.metric.specs.declared.refusal.Refusal.TheVariants.{Memory};
 ghost use Rattle.proto.specs.Pools.{AreBoth, AreEach, AreRelated, HasWorked};
-ghost use Rattle.proto.specs.Wire.{CanGoOn, wire_of};
+ghost use Rattle.proto.specs.Wire.{CanGoOn};
 
 use crate::serve::serve_stream;
 use metric::{Refusal, Stream};
@@ -24,7 +24,7 @@ pub trait Streams {
     /// The next stream, which is fresh, and no call of which has failed; `None` where no more come.
     fn next(&mut self) -> Option<Self::S>
         ensures fresh { IfSome result (λ stream. Self.fresh stream) }
-        ensures can_go_on { IfSome result (λ stream. CanGoOn (wire_of Self.S.rest Self.S.held Self.S.failed_reads Self.S.failed_writes stream)) };
+        ensures can_go_on { IfSome result (λ stream. CanGoOn (Self.S.wire stream)) };
 }
 
 /// Serves streams until no more come, with one worker for each session: each asks for the next stream, lets the others ask, and serves it. Where a thread can't be started, the calling thread is that worker.
@@ -38,7 +38,7 @@ pub fn pool<Id: StoreName + Send + Sync, R: Wait + Threads + Sync, T: Streams + 
     sessions: Vec<Session<Id>>,
     streams: T,
 ) -> Result<Vec<Session<Id>>, (Vec<Session<Id>>, Refusal)>
-    ensures worked { IfOk result (λ back. AreRelated (HasWorked T.fresh (wire_of T.S.rest T.S.held T.S.failed_reads T.S.failed_writes) Id.store) sessions.items back.items) }
+    ensures worked { IfOk result (λ back. AreRelated (HasWorked T.fresh T.S.wire Id.store) sessions.items back.items) }
     ensures refused { IfErr result (λ back. (back.0.items ≡ sessions.items) × (back.1 ≡ Memory)) }
 {
     let Ok(room) = Vec::with_capacity(alloc, sessions.len()) else {
@@ -59,7 +59,7 @@ fn work_all<Id: StoreName + Send + Sync, R: Wait + Threads + Sync, T: Streams + 
     seats: &mut [Option<Session<Id>>],
 )
     requires { All IsSome seats.old }
-    ensures worked { AreEach (AreBoth (HasWorked T.fresh (wire_of T.S.rest T.S.held T.S.failed_reads T.S.failed_writes) Id.store)) seats.old seats.new }
+    ensures worked { AreEach (AreBoth (HasWorked T.fresh T.S.wire Id.store)) seats.old seats.new }
     ensures full { All IsSome seats.new }
     ensures as_many { length seats.new ≡ length seats.old }
 {
@@ -71,7 +71,7 @@ fn work_all<Id: StoreName + Send + Sync, R: Wait + Threads + Sync, T: Streams + 
         &|_, seat: &mut Option<Session<Id>>|
             requires { IsSome seat.now }
             ensures full { IsSome seat.exit.now }
-            ensures worked { AreBoth (HasWorked T.fresh (wire_of T.S.rest T.S.held T.S.failed_reads T.S.failed_writes) Id.store) seat.entry.now seat.exit.now }
+            ensures worked { AreBoth (HasWorked T.fresh T.S.wire Id.store) seat.entry.now seat.exit.now }
         { work(rt, alloc, store, streams, seat) },
     );
 }
@@ -86,7 +86,7 @@ fn work<Id: StoreName, R: Wait, T: Streams>(
 )
     requires { IsSome seat.old }
     ensures full { IsSome seat.new }
-    ensures worked { AreBoth (HasWorked T.fresh (wire_of T.S.rest T.S.held T.S.failed_reads T.S.failed_writes) Id.store) seat.old seat.new }
+    ensures worked { AreBoth (HasWorked T.fresh T.S.wire Id.store) seat.old seat.new }
 {
     let Some(session) = seat.take() else {
         return;
@@ -106,7 +106,7 @@ fn serve_all<Id: StoreName, R: Wait, T: Streams>(
     streams: &Mutex<T>,
     session: Session<Id>,
 ) -> Session<Id>
-    ensures { HasWorked T.fresh (wire_of T.S.rest T.S.held T.S.failed_reads T.S.failed_writes) Id.store session result }
+    ensures { HasWorked T.fresh T.S.wire Id.store session result }
 {
     let mut session = session;
     'streams: for _ in rt.forever() {

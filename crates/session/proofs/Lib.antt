@@ -1,5 +1,5 @@
-pub mod CommandLemmas
-pub mod PinLemmas
-pub mod ReadingLemmas
-pub mod OpeningLemmas
-pub mod ClosingLemmas
+mod CommandLemmas
+mod PinLemmas
+mod ReadingLemmas
+mod OpeningLemmas
+mod ClosingLemmas

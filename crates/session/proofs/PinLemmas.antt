@@ -15,14 +15,14 @@ use Rattle.map_core.specs.Views as core
 use Rattle.map_core.specs.Steps.{next_hold, to_confirm}
 use Rattle.map_core.specs.Legal.{IsLegal}
 use Rattle.map_core.specs.Tidy.{IsReady, IsOfMap}
-use Rattle.map_core.proofs.LogLemmas.{newest-beginning, bitmap-beginning, slot-beginning}
-use Rattle.map_core.proofs.TidyLog.{IsTidy-legal}
-use Rattle.shelf.specs.declared.signed.Signed.{Signed}
+use Rattle.map_core.proofs.logs.LogLemmas.{newest-beginning, bitmap-beginning, slot-beginning}
+use Rattle.map_core.proofs.invariants.TidyLog.{IsTidy-legal}
+use Rattle.shelf.specs.declared.store_entry.StoreEntry.{StoreEntry}
 use Rattle.shelf.specs.Store.{StoreId}
-use Rattle.shelf.proofs.LogParts.{prefix-entries}
+use Rattle.shelf.proofs.logs.LogParts.{prefix-entries}
 use Rattle.shelf.specs.Roles.{ReaderView, entries, as_reader}
 use Rattle.shelf.specs.Steps.{announcing, confirming, loaded, newest_slot}
-use Rattle.shelf.proofs.ReaderSeats.{hold_stays}
+use Rattle.shelf.proofs.seats.ReaderSeats.{hold_stays}
 use Rattle.session.specs.Sessions.{PinView, IsPin, bitmap_pinned}
 
 -- a load by a seat that holds, or has announced nothing, changes what it has seen alone
@@ -53,14 +53,14 @@ may_confirm z x a b d version quiet free first told last is =
     ap (λ (q : ReaderView). to_confirm q.announced q.holds) (taken_seat z x a b d quiet free first told last) ∙ ap (λ (n : ℕ). Some n) (sym is)
 
 -- a seat that loads, announces, loads again and confirms holds the newest version, and has announced it alone
-pub pinned_seat : (z : Base) (x a b d y : ReaderView) (version : ℕ) → x.announced ≡ None → x.holds ≡ None → a ≡ loaded z a.seen x → b ≡ announcing z a → d ≡ loaded z d.seen b
+pinned_seat : (z : Base) (x a b d y : ReaderView) (version : ℕ) → x.announced ≡ None → x.holds ≡ None → a ≡ loaded z a.seen x → b ≡ announcing z a → d ≡ loaded z d.seen b
     → version ≡ newest (story z (entries d.seen)) → y ≡ confirming version d → y ≡ record x { seen = d.seen; announced = Some (Exact version); holds = Some version }
 pinned_seat z x a b d y version quiet free first told last is confirmed =
     confirmed ∙ (ap (confirming version) (taken_seat z x a b d quiet free first told last)
     ∙ ap (λ (n : ℕ). record x { seen = d.seen; announced = Some (Exact version); holds = Some n }) (sym is))
 
 -- a bitmap that was published is of the map's size
-pub published_size : (z : Base) (x : ReaderView) (v : ℕ) → IsReady z → IsLegal z.setting z.opening (entries x.seen) → v ≤ newest (story z (entries x.seen)) → IsOfMap z (bitmap_of (story z (entries x.seen)) v)
+published_size : (z : Base) (x : ReaderView) (v : ℕ) → IsReady z → IsLegal z.setting z.opening (entries x.seen) → v ≤ newest (story z (entries x.seen)) → IsOfMap z (bitmap_of (story z (entries x.seen)) v)
 published_size z x v ready legal within = (IsTidy-legal z (entries x.seen) ready legal).published v within
 
 -- the bitmap of a pin stays where its session sees more of the log
@@ -99,17 +99,17 @@ pin_made store x a b d y version slot bitmap ready quiet free first told last is
     let z = store.base in
     let y_is = pinned_seat z x a b d y version quiet free first told last is confirmed in
     let seen : d.seen ≡ y.seen = sym (ap (λ (q : ReaderView). q.seen) confirmed) in
-    let newest_is : version ≡ newest (story z (entries y.seen)) = is ∙ ap (λ (l : List Signed). newest (story z (entries l))) seen in
+    let newest_is : version ≡ newest (story z (entries y.seen)) = is ∙ ap (λ (l : List StoreEntry). newest (story z (entries l))) seen in
     record {
       announced = ap (λ (q : ReaderView). q.announced) y_is;
       held = ap (λ (q : ReaderView). q.holds) y_is;
       published = omega arith;
       slot_is = record {
-        slot_is = slot_is ∙ (ap (λ (l : List Signed). newest_slot z l) seen ∙ ap (λ (v : ℕ). slot_of z (story z (entries y.seen)) v) (sym newest_is));
+        slot_is = slot_is ∙ (ap (λ (l : List StoreEntry). newest_slot z l) seen ∙ ap (λ (v : ℕ). slot_of z (story z (entries y.seen)) v) (sym newest_is));
         below = below;
       };
       ready = ready;
-      of_map = published_size z y version ready (subst (λ (l : List Signed). IsLegal z.setting z.opening (entries l)) seen legal) (omega arith);
+      of_map = published_size z y version ready (subst (λ (l : List StoreEntry). IsLegal z.setting z.opening (entries l)) seen legal) (omega arith);
       width_is = width;
       height_is = height;
       bitmap_is = λ read. absurd (cc);

@@ -11,50 +11,50 @@ use Rattle.map_core.specs.Story.{newest, bitmap_of}
 use Rattle.map_core.specs.Words.{slot_of}
 use Rattle.map_core.specs.Views.{story}
 use Rattle.map_core.specs.Tidy.{IsReady, IsOfMap}
-use Rattle.shelf.specs.declared.signed.Signed.{Signed}
+use Rattle.shelf.specs.declared.store_entry.StoreEntry.{StoreEntry}
 use Rattle.shelf.specs.Store.{StoreId, readers_of}
-use Rattle.shelf.specs.Roles.{ReaderView, entries, fresh_reader, made_by}
+use Rattle.shelf.specs.Roles.{ReaderView, entries, reader_at_opening, made_by}
 use Rattle.map_core.specs.Legal.{IsLegal}
 use Rattle.desk.specs.Desks.{DeskView, IsApplied, base_place}
 
--- a pin: its session's seat, and the version that it holds
+-- a pin has its session's seat, and the version that it holds
 pub record PinView : Type 0 where
   pub seat : ReaderView
   pub version : ℕ
 
--- the newest version of what a session has seen
-abbrev pub newest_seen : StoreId → ReaderView → ℕ
-newest_seen store seat = newest (story store.base (entries seat.seen))
+-- a session has seen this newest version
+abbrev pub newest_of_session : StoreId → ReaderView → ℕ
+newest_of_session store seat = newest (story store.base (entries seat.seen))
 
--- the bitmap that was published as this version, by what a session has seen
+-- this bitmap was published as the version, by what a session has seen
 abbrev pub bitmap_seen : StoreId → ReaderView → ℕ → Cells
 bitmap_seen store seat version = bitmap_of (story store.base (entries seat.seen)) version
 
--- the bitmap that was published as the version that a pin holds, by what it has seen
+-- this bitmap was published as the version that a pin holds, by what it has seen
 abbrev pub bitmap_pinned : StoreId → PinView → Cells
 bitmap_pinned store p = bitmap_seen store p.seat p.version
 
 -- the sessions of a store that was just opened, by number
 abbrev pub all_fresh : StoreId → List ReaderView
-all_fresh store = map fresh_reader (range_with_len 0 (readers_of store))
+all_fresh store = map reader_at_opening (range_with_len 0 (readers_of store))
 
 -- a log starts with what a session has seen, and has as many entries by it as it counts
-abbrev pub IsIn : List Signed → ReaderView → Type 0
-IsIn log s = IsPrefix s.seen log × (made_by s.number log ≡ s.made)
+abbrev pub IsInLog : List StoreEntry → ReaderView → Type 0
+IsInLog log s = IsPrefix s.seen log × (made_by s.number log ≡ s.made)
 
 -- what closing a store returns is the last part of one log: the place of its last checkpoint, and the entries after it
-pub record IsHandedOut (store : StoreId) (handed : List ReaderView) (base : ℕ) (kept : List Signed) : Type 0 where
-  pub log : List Signed
+pub record IsHandedOut (store : StoreId) (handed : List ReaderView) (base : ℕ) (kept : List StoreEntry) : Type 0 where
+  pub log : List StoreEntry
   pub legal : IsLegal store.base.setting store.base.opening (entries log)
   -- it starts with what each session has seen, and has as many entries by it as it counts
-  pub sessions : All (IsIn log) handed
+  pub sessions : All (IsInLog log) handed
   -- where all sessions were given to the close, what they count adds up to its length
   pub made : length handed ≡ readers_of store → sum_by (λ s. s.made) handed ≡ length log
   pub base_is : base ≡ base_place store log
   pub kept_is : kept ≡ drop base log
   pub last_is : base + length kept ≡ length log
 
--- the size of a map
+-- the size of a map is its width and its height
 pub record Size : Type 0 where
   pub width : ℕ
   pub height : ℕ
@@ -77,7 +77,7 @@ pub record IsSession (store : StoreId) (x : ReaderView) (size : Size) : Type 0 w
 pub record IsPin (store : StoreId) (p : PinView) (slot : ℕ) (bitmap : Cells) (is_read : Bool) : Type 0 where
   pub announced : p.seat.announced ≡ Some (Exact p.version)
   pub held : p.seat.holds ≡ Some p.version
-  pub published : p.version ≤ newest_seen store p.seat
+  pub published : p.version ≤ newest_of_session store p.seat
   pub slot_is : HasSlot store p.seat p.version slot
   pub ready : IsReady store.base
   pub of_map : IsOfMap store.base (bitmap_pinned store p)

@@ -43,7 +43,8 @@ fn parts(
 ) -> Result<(FreshDesk, Vec<FreshReader>), Refusal>
     ensures base { IfOk result (λ parts. parts.0.base ≡ record { setting = setting; opening = map.now }) }
     ensures readers { IfOk result (λ parts. parts.1.items ≡ all_newcomers parts.0) }
-    ensures refused { MatchOption (bad_field (tile_count map.now) setting) (IfErr result (λ refusal. refusal ≡ Memory)) (λ field. result ≡ Err (BadSetting field)) }
+    ensures refused { MatchOption (bad_field (tile_count map.now) setting) (IfErr result (λ refusal. refusal ≡ Memory))
+        (λ field. result ≡ Err (BadSetting field)) }
 {
     setting.fits(map)?;
     let Opening { keeper, readers } = Opening::of(alloc, setting, map)?;
@@ -58,7 +59,8 @@ impl Blank {
     /// the limits), and for want of memory; the bitmap is returned.
     pub fn of(alloc: Global, setting: Setting, map: Bitmap) -> Result<Blank, (Bitmap, Refusal)>
         ensures base { IfOk result (λ blank. blank.base ≡ record { setting = setting; opening = map }) }
-        ensures refused { MatchOption (bad_field (tile_count map) setting) (IfErr result (λ back. back.1 ≡ Memory)) (λ field. result ≡ Err (map, BadSetting field)) }
+        ensures refused { MatchOption (bad_field (tile_count map) setting) (IfErr result (λ back. back.1 ≡ Memory))
+            (λ field. result ≡ Err (map, BadSetting field)) }
         ensures back { IfErr result (λ back. back.0 ≡ map) }
     {
         match parts(alloc, setting, &map) {

@@ -7,7 +7,7 @@ ghost use Rattle.map_core.specs.Legal.{IsLegal};
 ghost use Rattle.shelf.specs.Roles.{entries};
 ghost use Rattle.shelf.specs.Steps.{leaving};
 ghost use Rattle.std.specs.Borrow.{sem};
-ghost use Rattle.session.specs.Sessions.{bitmap_pinned, newest_seen};
+ghost use Rattle.session.specs.Sessions.{bitmap_pinned, newest_of_session};
 
 mod commands;
 mod queries;
@@ -52,7 +52,7 @@ impl<Id: StoreName> Pinned<Id> {
     /// The version that it holds.
     pub fn version(&self) -> u32
         ensures version { result ≡ self.now.version }
-        ensures published { result ≤ newest_seen Id.store self.now.seat }
+        ensures published { result ≤ newest_of_session Id.store self.now.seat }
         ensures holds { (self.now.seat.holds ≡ Some result) × (self.now.seat.announced ≡ Some (Exact result)) }
     {
         self.version

@@ -75,7 +75,7 @@ fn read_version<Id: StoreName>(
     }
 }
 
-/// Reads the held version into a bitmap of the map's size, unless it is read already.
+/// Reads the held version into a bitmap of the map's size, unless it is read already. The bitmap is cleared first, so that it forgets the bands of what it held before.
 pub fn read_once<Id: StoreName>(
     seat: &mut ReaderSeat<Id>,
     version: u32,
@@ -93,6 +93,7 @@ pub fn read_once<Id: StoreName>(
     ensures bitmap { bitmap.new ≡ bitmap_seen Id.store seat.old version }
 {
     if !is_read {
+        bitmap.clear();
         read_version(seat, version, slot, bitmap);
     }
 }

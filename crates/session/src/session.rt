@@ -6,7 +6,7 @@ ghost use Rattle.metric.specs.declared.refusal.Refusal.TheVariants.{Memory};
 ghost use Rattle.map_core.specs.declared.kept.Seen.TheVariants.{Exact};
 ghost use Rattle.map_core.specs.Legal.{IsLegal};
 ghost use Rattle.shelf.specs.Roles.{entries};
-ghost use Rattle.session.specs.Sessions.{newest_seen};
+ghost use Rattle.session.specs.Sessions.{newest_of_session};
 
 mod commands;
 
@@ -63,10 +63,14 @@ impl<Id: StoreName> Session<Id> {
     /// Refused for want of memory alone; the session is returned, and nothing was announced.
     pub fn pin(self, alloc: Global) -> Result<Pinned<Id>, (Session<Id>, Refusal)>
         ensures free { (self.announced ≡ None) × (self.holds ≡ None) }
-        ensures seat { IfOk result (λ pinned. pinned.seat ≡ record self { seen = pinned.seat.seen; announced = pinned.seat.announced; holds = Some pinned.version }) }
+        ensures seat { IfOk result (λ pinned. pinned.seat ≡ record self {
+          seen = pinned.seat.seen;
+          announced = pinned.seat.announced;
+          holds = Some pinned.version;
+        }) }
         ensures announced { IfOk result (λ pinned. pinned.seat.announced ≡ Some (Exact pinned.version)) }
         ensures began { IfOk result (λ pinned. IsPrefix self.seen pinned.seat.seen) }
-        ensures version { IfOk result (λ pinned. pinned.version ≡ newest_seen Id.store pinned.seat) }
+        ensures version { IfOk result (λ pinned. pinned.version ≡ newest_of_session Id.store pinned.seat) }
         ensures legal { IfOk result (λ pinned. IsLegal Id.store.base.setting Id.store.base.opening (entries pinned.seat.seen)) }
         ensures refused { IfErr result (λ back. (back.0 ≡ self) × (back.1 ≡ Memory)) }
     {

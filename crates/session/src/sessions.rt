@@ -4,7 +4,7 @@ ghost use Rattle.std.specs.Prelude.{◌≡◌, ◌+◌, ◌≤◌, [], All, leng
 ghost use Rattle.std.specs.Vec.{vec_capacity};
 ghost use Rattle.shelf.specs.Open.{all_newcomers};
 ghost use Rattle.shelf.specs.Store.{readers_of};
-ghost use Rattle.session.specs.Sessions.{IsIn, all_fresh};
+ghost use Rattle.session.specs.Sessions.{IsInLog, all_fresh};
 
 use crate::room::Room;
 use crate::session::Session;
@@ -34,8 +34,11 @@ pub fn sessions_of<Id: StoreName>(
 
 /// Gives sessions up, one after another.
 pub fn give_up<Id: StoreName>(closing: &mut Closing<Id>, mut sessions: Vec<Session<Id>>)
-    ensures counts { closing.new ≡ record closing.old { readers = closing.old.readers + length sessions.items; made = closing.old.made + sum_by (λ s. s.made) sessions.items } }
-    ensures sessions { All (IsIn closing.old.log) sessions.items }
+    ensures counts { closing.new ≡ record closing.old {
+      readers = closing.old.readers + length sessions.items;
+      made = closing.old.made + sum_by (λ s. s.made) sessions.items;
+    } }
+    ensures sessions { All (IsInLog closing.old.log) sessions.items }
 {
     while let Some(session) = sessions.pop() {
         closing.give_up(session.into_seat());

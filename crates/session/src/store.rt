@@ -9,7 +9,7 @@ use crate::session::Session;
 use crate::sessions::{give_up, sessions_of};
 use desk::Desk;
 use metric::Refusal;
-use shelf::{Signed, StoreName};
+use shelf::{StoreEntry, StoreName};
 use std::alloc::Global;
 use std::sync::{Mutex, MutexGuard, Wait};
 
@@ -51,7 +51,7 @@ impl<Id: StoreName> Store<Id> {
     /// The log starts with what each session has seen, and has as many entries by it as it counts.
     ///
     /// Where all sessions are given to this call, their counts add up to the log's length.
-    pub fn close(self, sessions: Vec<Session<Id>>) -> (u32, Vec<Signed>)
+    pub fn close(self, sessions: Vec<Session<Id>>) -> (u32, Vec<StoreEntry>)
         ensures { IsHandedOut Id.store sessions.items result.0 result.1.items }
     {
         let Store { desk } = self;

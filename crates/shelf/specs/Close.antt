@@ -1,12 +1,12 @@
 -- A store that is closed, reader by reader: this project's own rule.
 use Rattle.std.specs.Prelude.{◌≡◌, ℕ, ◌≤◌, List, length, sum_by, None}
 use Rattle.map_core.specs.Safe.{times}
-use Rattle.shelf.specs.declared.signed.Signed.{Signed}
+use Rattle.shelf.specs.declared.store_entry.StoreEntry.{StoreEntry}
 use Rattle.shelf.specs.Roles.{KeeperView, made_by}
 
--- what callers see of a store that is closed
+-- callers see this of a store that is closed
 pub record Closed : Type 0 where
-  pub log : List Signed
+  pub log : List StoreEntry
   -- how many readers were given up, and how many entries these have made
   pub readers : ℕ
   pub made : ℕ

@@ -1,5 +1,5 @@
 -- What the rule of a table comes to, in the core's words: this project's own rule.
-use Rattle.shelf.specs.declared.signed.Signed.{Signed}
+use Rattle.shelf.specs.declared.store_entry.StoreEntry.{StoreEntry}
 use Rattle.map_core.specs.Blocks.{directory_of}
 use Rattle.map_core.specs.Legal.{refused}
 use Rattle.map_core.specs.declared.command.Command.{Command}
@@ -19,10 +19,10 @@ use Rattle.map_core.specs.Views.{Keeper, Reader, story, newest_seen, blocks}
 use Rattle.map_core.specs.Views as core
 use Rattle.map_core.specs.Sound.{IsWhole}
 use Rattle.map_core.specs.Safe.{IsSafe, SparesLive, IsBeginning}
-use Rattle.shelf.specs.declared.asked.Asked.{Asked}
-use Rattle.shelf.specs.Roles.{Task, KeeperView, ReaderView, Role, keeping, reading, meeting, entries, as_keeper, as_reader, learning, ticket, idle, resting, fresh_reader, core_of}
+use Rattle.shelf.specs.declared.request.Request.{Request}
+use Rattle.shelf.specs.Roles.{Task, KeeperView, ReaderView, Role, keeping, reading, meeting, entries, as_keeper, as_reader, learning, ticket, idle, resting, reader_at_opening, core_of}
 use Rattle.shelf.specs.Rule.{HasReader, HasKeeper, IsSomeSeat, Agrees}
-use Rattle.shelf.specs.Steps.{announcing, confirming, leaving, scanned, committed, signed_of, MayCommit, loaded, ordered, wrote, met, met_by, without}
+use Rattle.shelf.specs.Steps.{announcing, confirming, leaving, scanned, committed, signed_of, MayCommit, loaded, with_command, wrote, met, met_by, without}
 
 -- a seat of this role has this reader, of number r
 abbrev pub ShowsReader : ℕ → Reader → Role → Type 0
@@ -38,7 +38,7 @@ ShowsKeeper y (meeting k x) = y ≡ as_keeper k
 ShowsKeeper y role = ⊥
 
 -- this state of the core is whole and safe, its words are the table's, its keeper is the keeper's view, and its readers are the readers'
-pub record IsStateOf (z : Base) (s : State Asked Role) (w : core.State) : Type 0 where
+pub record IsStateOf (z : Base) (s : State Request Role) (w : core.State) : Type 0 where
   pub whole : IsWhole w
   pub safe : IsSafe w
   pub base_is : w.base ≡ z
@@ -47,10 +47,10 @@ pub record IsStateOf (z : Base) (s : State Asked Role) (w : core.State) : Type 0
   pub keeper : (j : ℕ) (k : KeeperView) → get_elem? s.views j ≡ maybe.some (keeping k) → w.keeper ≡ as_keeper k
   pub reader : (j : ℕ) (x : ReaderView) → get_elem? s.views j ≡ maybe.some (reading x) → slice_get w.readers x.number ≡ Some (as_reader x)
   pub together : (j : ℕ) (k : KeeperView) (x : ReaderView) → get_elem? s.views j ≡ maybe.some (meeting k x) → (w.keeper ≡ as_keeper k) × (slice_get w.readers x.number ≡ Some (as_reader x))
-  pub taught : (j : ℕ) (x : ReaderView) (seen : List Signed) → get_elem? s.views j ≡ maybe.some (learning x seen)
+  pub taught : (j : ℕ) (x : ReaderView) (seen : List StoreEntry) → get_elem? s.views j ≡ maybe.some (learning x seen)
       → (slice_get w.readers x.number ≡ Some (as_reader x)) × IsBeginning (entries seen) w.keeper.log
   -- what a ticket has seen is a beginning of the log
-  pub tickets : (j : ℕ) (seen : List Signed) → get_elem? s.views j ≡ maybe.some (ticket seen) → IsBeginning (entries seen) w.keeper.log
+  pub tickets : (j : ℕ) (seen : List StoreEntry) → get_elem? s.views j ≡ maybe.some (ticket seen) → IsBeginning (entries seen) w.keeper.log
   -- each reader is the view of a seat, or its word is 0
   pub each_reader : (r : ℕ) (y : Reader) → slice_get w.readers r ≡ Some y → IsSomeSeat (ShowsReader r y) s.views ⊎ (slice_index s.words (pin_at r) ≡ 0)
   -- no two seats have one reader's view, and one seat at most has the keeper's
@@ -58,20 +58,20 @@ pub record IsStateOf (z : Base) (s : State Asked Role) (w : core.State) : Type 0
   pub one_keeper : (i j : ℕ) (u v : Role) → get_elem? s.views i ≡ maybe.some u → get_elem? s.views j ≡ maybe.some v → HasKeeper u → HasKeeper v → i ≡ j
 
 -- there is a state of the core that is the table's
-pub record IsAState (z : Base) (s : State Asked Role) : Type 0 where
+pub record IsAState (z : Base) (s : State Request Role) : Type 0 where
   pub w : core.State
   pub is : IsStateOf z s w
 
--- what the table becomes where a seat stores a word and has another view
-abbrev pub after_step : State Asked Role → ℕ → ℕ → ℕ → Role → State Asked Role
+-- the table becomes this where a seat stores a word and has another view
+abbrev pub after_step : State Request Role → ℕ → ℕ → ℕ → Role → State Request Role
 after_step s at word id v = record { words = slice_set s.words at word; homes = s.homes; views = slice_set s.views id v }
 
--- the state of the core that a proof of the rule has
-abbrev pub ruled : (z : Base) (s : State Asked Role) → Agrees z s → core.State
+-- a proof of the rule has this state of the core
+abbrev pub ruled : (z : Base) (s : State Request Role) → Agrees z s → core.State
 ruled z s r = core_of z s.words r.k r.readers
 
 -- a step of the table is this event of the core, in whatever state of the core the rule has before it
-pub record IsEvent (z : Base) (s : State Asked Role) (r : Agrees z s) (t : State Asked Role) (e : Event) (answer : StepReply) : Type 0 where
+pub record IsEvent (z : Base) (s : State Request Role) (r : Agrees z s) (t : State Request Role) (e : Event) (answer : StepReply) : Type 0 where
   pub after : Agrees z t
   pub stored : Option ℕ
   pub was : IsStateOf z s (ruled z s r)
@@ -80,16 +80,16 @@ pub record IsEvent (z : Base) (s : State Asked Role) (r : Agrees z s) (t : State
   pub spares : SparesLive (ruled z s r) stored
 
 -- words and seats of a table become others, and no event of the core has happened: the state of the core is the same
-pub record IsNoEvent (z : Base) (s : State Asked Role) (r : Agrees z s) (t : State Asked Role) : Type 0 where
+pub record IsNoEvent (z : Base) (s : State Request Role) (r : Agrees z s) (t : State Request Role) : Type 0 where
   pub after : Agrees z t
   pub same : ruled z t after ≡ ruled z s r
 
--- what the table becomes where its seats have other views
-abbrev pub with_views : State Asked Role → List Role → State Asked Role
+-- the table becomes this where its seats have other views
+abbrev pub with_views : State Request Role → List Role → State Request Role
 with_views s views = record { words = s.words; homes = s.homes; views = views }
 
 -- each step of a seat is the event of its kind
-pub record StepsAreEvents (z : Base) (s : State Asked Role) (r : Agrees z s) (id : ℕ) : Type 0 where
+pub record StepsAreEvents (z : Base) (s : State Request Role) (r : Agrees z s) (id : ℕ) : Type 0 where
   pub announce : (x : ReaderView) → get_elem? s.views id ≡ maybe.some (reading x) → x.announced ≡ None
       → IsEvent z s r (after_step s (pin_at x.number) (pin_word (Some (From (newest_seen z (as_reader x))))) id (reading (announcing z x))) (Announce x.number) (says.Announced (newest_seen z (as_reader x)))
   -- what a reader holds and has announced not exactly
@@ -100,7 +100,7 @@ pub record StepsAreEvents (z : Base) (s : State Asked Role) (r : Agrees z s) (id
   pub load : (x : ReaderView) → get_elem? s.views id ≡ maybe.some (reading x)
       → IsEvent z s r (after_step s now_at (slice_index s.words now_at) id (reading (loaded z r.k.log x))) (Load x.number) (says.Now (place_told (slice_index s.words now_at)) (version_told (slice_index s.words now_at)))
   -- the load by which a reader learns what a ticket has seen, and that of a meeting, whose reader counts its entry
-  pub learn : (x : ReaderView) (seen : List Signed) → get_elem? s.views id ≡ maybe.some (learning x seen)
+  pub learn : (x : ReaderView) (seen : List StoreEntry) → get_elem? s.views id ≡ maybe.some (learning x seen)
       → IsEvent z s r (after_step s now_at (slice_index s.words now_at) id (reading (loaded z r.k.log x))) (Load x.number) (says.Now (place_told (slice_index s.words now_at)) (version_told (slice_index s.words now_at)))
   pub meet : (k : KeeperView) (x : ReaderView) → get_elem? s.views id ≡ maybe.some (meeting k x) → (k.unmet ≡ None) ⊎ (k.unmet ≡ Some x.number)
       → IsEvent z s r (after_step s now_at (slice_index s.words now_at) id (meeting (met k) (met_by z k x))) (Load x.number) (says.Now (place_told (slice_index s.words now_at)) (version_told (slice_index s.words now_at)))
@@ -109,7 +109,7 @@ pub record StepsAreEvents (z : Base) (s : State Asked Role) (r : Agrees z s) (id
   pub look_tile : (x : ReaderView) (v p b i : ℕ) → get_elem? s.views id ≡ maybe.some (reading x) → x.holds ≡ Some v → p < tiles z → b ≡ slice_index (directory_of (blocks z (entries x.seen)) v) p → i < 64
       → IsEvent z s r (after_step s (tile_at z b i) (slice_index s.words (tile_at z b i)) id (reading x)) (LookTile x.number b i) (says.Word (slice_index s.words (tile_at z b i)))
   pub order : (k : KeeperView) (by : ℕ) (c : Command) → get_elem? s.views id ≡ maybe.some (keeping k) → k.task ≡ None → refused z.setting (story z (entries k.log)) c ≡ None
-      → IsEvent z s r (after_step s now_at (slice_index s.words now_at) id (keeping (ordered k by c))) (Order c) (says.Ordered (steps_before z (blocks z (entries k.log)) c + 1))
+      → IsEvent z s r (after_step s now_at (slice_index s.words now_at) id (keeping (with_command k by c))) (Order c) (says.Ordered (steps_before z (blocks z (entries k.log)) c + 1))
   pub write : (k : KeeperView) (t : Task) → get_elem? s.views id ≡ maybe.some (keeping k) → k.task ≡ Some t → t.hand.command ≡ Publish → t.hand.done < steps_before z (blocks z (entries k.log)) Publish
       → let next = write_of z (story z (entries k.log)) (blocks z (entries k.log)) t.hand.done in IsEvent z s r (after_step s next.at next.word id (keeping (wrote k t))) Keep says.Written
   pub scan : (k : KeeperView) (t : Task) → get_elem? s.views id ≡ maybe.some (keeping k) → k.task ≡ Some t → t.hand.command ≡ Collect → t.hand.done < z.setting.sessions
@@ -120,38 +120,38 @@ pub record StepsAreEvents (z : Base) (s : State Asked Role) (r : Agrees z s) (id
       (says.Committed (signed_of z k may.task).entry.reply)
 
 -- what seats give one another, and the last loads of a store that is closed, are no events
-pub record HandingsAreNone (z : Base) (s : State Asked Role) (r : Agrees z s) (id other : ℕ) : Type 0 where
+pub record HandingsAreNone (z : Base) (s : State Request Role) (r : Agrees z s) (id other : ℕ) : Type 0 where
   -- a reader's view is laid in the keeper's seat, and parted from it again
   pub together : (k : KeeperView) (x : ReaderView) → get_elem? s.views id ≡ maybe.some (keeping k) → other ≢ id → get_elem? (slice_set s.views id (meeting k x)) other ≡ maybe.some (reading x)
       → IsNoEvent z s r (with_views s (slice_set (slice_set s.views id (meeting k x)) other idle))
   pub apart : (k : KeeperView) (x : ReaderView) → get_elem? s.views id ≡ maybe.some (meeting k x) → IsNoEvent z s r (with_views s (slice_set s.views id (keeping k) ++ reading x ∷ []))
   -- a ticket is cut from the keeper's seat, and laid in a reader's
   pub cut : (k : KeeperView) → get_elem? s.views id ≡ maybe.some (keeping k) → IsNoEvent z s r (with_views s (slice_set s.views id (keeping k) ++ ticket k.log ∷ []))
-  pub hand : (x : ReaderView) (seen : List Signed) → get_elem? s.views id ≡ maybe.some (reading x) → other ≢ id → get_elem? (slice_set s.views id (learning x seen)) other ≡ maybe.some (ticket seen)
+  pub hand : (x : ReaderView) (seen : List StoreEntry) → get_elem? s.views id ≡ maybe.some (reading x) → other ≢ id → get_elem? (slice_set s.views id (learning x seen)) other ≡ maybe.some (ticket seen)
       → IsNoEvent z s r (with_views s (slice_set (slice_set s.views id (learning x seen)) other idle))
   -- the next reader is dealt
   pub deal : (n : ℕ) → n < z.setting.sessions → get_elem? s.views id ≡ maybe.some (keeping (resting n []))
-      → IsNoEvent z s r (with_views s (slice_set s.views id (keeping (resting (n + 1) [])) ++ reading (fresh_reader n) ∷ []))
+      → IsNoEvent z s r (with_views s (slice_set s.views id (keeping (resting (n + 1) [])) ++ reading (reader_at_opening n) ∷ []))
   -- a reader is given up, and the keeper's last load
   pub give_up : (k : KeeperView) (x : ReaderView) → get_elem? s.views id ≡ maybe.some (meeting k x) → x.announced ≡ None
       → IsNoEvent z s r (after_step s now_at (slice_index s.words now_at) id (keeping (without k x)))
   pub end : (k : KeeperView) → get_elem? s.views id ≡ maybe.some (keeping k) → IsNoEvent z s r (after_step s now_at (slice_index s.words now_at) id (keeping k))
 
 -- a table becomes another by an event of the core, or by none, whatever state of the core the rule has before
-abbrev pub Moves : (z : Base) → State Asked Role → State Asked Role → Type 0
+abbrev pub Moves : (z : Base) → State Request Role → State Request Role → Type 0
 Moves z s t = (r : Agrees z s) → ((e : Event) × (answer : StepReply) × IsEvent z s r t e answer) ⊎ IsNoEvent z s r t
 
--- tables one after another, each of which the one before has become
-abbrev pub IsSchedule : Base → State Asked Role → List (State Asked Role) → Type 0
+-- the tables come one after another, and each is what the one before has become
+abbrev pub IsSchedule : Base → State Request Role → List (State Request Role) → Type 0
 IsSchedule z s [] = Unit {0}
 IsSchedule z s (t ∷ ts) = Moves z s t × IsSchedule z t ts
 
--- the last table of a schedule, which is the first where it has no step
-abbrev pub last_table : State Asked Role → List (State Asked Role) → State Asked Role
+-- a schedule ends with this table, which is the first where it has no step
+abbrev pub last_table : State Request Role → List (State Request Role) → State Request Role
 last_table s [] = s
 last_table s (t ∷ ts) = last_table t ts
 
--- events of the core one after another, each enabled, none of which stored in a live block
+-- the core does these events one after another, each is enabled, and none stores in a live block
 abbrev pub IsCoreRun : core.State → List Event → List StepReply → core.State → Type 0
 IsCoreRun w [] [] v = v ≡ w
 IsCoreRun w [] (a ∷ answers) v = ⊥
@@ -160,7 +160,7 @@ IsCoreRun w (e ∷ events) (a ∷ answers) v =
     (mid : core.State) × (stored : Option ℕ) × (does w e ≡ Some record { state = mid; answer = a; stored = stored }) × SparesLive w stored × IsCoreRun mid events answers v
 
 -- a schedule of the table is one run of the core
-pub record IsOneRun (z : Base) (s : State Asked Role) (r : Agrees z s) (ts : List (State Asked Role)) : Type 0 where
+pub record IsOneRun (z : Base) (s : State Request Role) (r : Agrees z s) (ts : List (State Request Role)) : Type 0 where
   pub after : Agrees z (last_table s ts)
   pub events : List Event
   pub answers : List StepReply

@@ -9,14 +9,14 @@ use Rattle.map_core.specs.Legal.{IsLegal}
 use Rattle.map_core.specs.Words.{Base, now_at, now_word}
 use Rattle.map_core.specs.Views.{story}
 use Rattle.map_core.specs.Safe.{IsBeginning}
-use Rattle.shelf.specs.declared.signed.Signed.{Signed}
-use Rattle.shelf.specs.declared.asked.Asked.{Asked}
+use Rattle.shelf.specs.declared.store_entry.StoreEntry.{StoreEntry}
+use Rattle.shelf.specs.declared.request.Request.{Request}
 use Rattle.shelf.specs.Roles.{KeeperView, ReaderView, Role, keeping, reading, meeting, learning, ticket, entries, made_by, unmet_by}
 use Rattle.shelf.specs.Rule.{HasReader, HasKeeper, IsSomeSeat}
 use Rattle.shelf.specs.Steps.{newest_slot}
 
--- what a reader knows of the log, where an entry of the named reader is unmet: a beginning of it, and how many entries of it are its own
-pub record IsBehind (log : List Signed) (unmet : Option ℕ) (x : ReaderView) : Type 0 where
+-- a reader has seen a beginning of the log, and counts its own entries there but for an unmet one
+pub record IsBehind (log : List StoreEntry) (unmet : Option ℕ) (x : ReaderView) : Type 0 where
   pub began : IsPrefix x.seen log
   pub without_callers : IsBeginning (entries x.seen) (entries log)
   -- it counts its entries, but for one that is unmet, and has seen those that it counts
@@ -26,14 +26,14 @@ pub record IsBehind (log : List Signed) (unmet : Option ℕ) (x : ReaderView) : 
   pub whole : unmet ≢ Some x.number → (made_by x.number log ≡ x.made) × (made_by x.number x.seen ≡ x.made)
 
 -- a seat of this role has the keeper's view, which knows this log and this unmet entry
-abbrev pub KnowsLog : List Signed → Option ℕ → Role → Type 0
+abbrev pub KnowsLog : List StoreEntry → Option ℕ → Role → Type 0
 KnowsLog log unmet (keeping k) = (k.log ≡ log) × (k.unmet ≡ unmet)
 KnowsLog log unmet (meeting k x) = (k.log ≡ log) × (k.unmet ≡ unmet)
 KnowsLog log unmet role = ⊥
 
 -- the words and the seats of a table have one log, of which one entry at most is unmet
-pub record HasOneLog (z : Base) (s : State Asked Role) : Type 0 where
-  pub log : List Signed
+pub record HasOneLog (z : Base) (s : State Request Role) : Type 0 where
+  pub log : List StoreEntry
   pub unmet : Option ℕ
   -- the log is legal and shorter than 2^32, and each caller is a session
   pub legal : IsLegal z.setting z.opening (entries log)
@@ -48,10 +48,10 @@ pub record HasOneLog (z : Base) (s : State Asked Role) : Type 0 where
   -- each reader's seat has seen a beginning of the log, and counts its entries, also where its view stands in the keeper's seat
   pub reader : (j : ℕ) (x : ReaderView) → get_elem? s.views j ≡ maybe.some (reading x) → IsBehind log unmet x
   -- a reader's seat has seen so much too while a ticket's view stands in it
-  pub taught : (j : ℕ) (x : ReaderView) (seen : List Signed) → get_elem? s.views j ≡ maybe.some (learning x seen) → IsBehind log unmet x × IsPrefix seen log
+  pub taught : (j : ℕ) (x : ReaderView) (seen : List StoreEntry) → get_elem? s.views j ≡ maybe.some (learning x seen) → IsBehind log unmet x × IsPrefix seen log
   pub together : (j : ℕ) (k : KeeperView) (x : ReaderView) → get_elem? s.views j ≡ maybe.some (meeting k x) → (k.log ≡ log) × (k.unmet ≡ unmet) × IsBehind log unmet x
   -- a ticket has seen a beginning of the log
-  pub tickets : (j : ℕ) (seen : List Signed) → get_elem? s.views j ≡ maybe.some (ticket seen) → IsPrefix seen log
+  pub tickets : (j : ℕ) (seen : List StoreEntry) → get_elem? s.views j ≡ maybe.some (ticket seen) → IsPrefix seen log
   -- no two seats have one reader's view
   pub apart : (i j r : ℕ) (u v : Role) → get_elem? s.views i ≡ maybe.some u → get_elem? s.views j ≡ maybe.some v → HasReader r u → HasReader r v → i ≡ j
   -- one seat at most has the keeper's view

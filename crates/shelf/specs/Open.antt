@@ -3,19 +3,19 @@ use Rattle.std.specs.Prelude.{ℕ, List, map}
 use Rattle.std.specs.List.{range_with_len}
 use Rattle.shelf.specs.Store.{StoreId, readers_of}
 
--- a reader at an opening: its number, and the store that it is of
+-- a reader at an opening has a number, and a store that it is of
 pub record Newcomer : Type 0 where
   pub number : ℕ
   pub store : StoreId
 
--- the reader of this number
+-- a newcomer has this number in this store
 abbrev pub newcomer : ℕ → StoreId → Newcomer
 newcomer number store = record { number = number; store = store }
 
--- the first readers of a store, so many, by number
+-- the first readers of a store are so many, by number
 abbrev pub newcomers : StoreId → ℕ → List Newcomer
 newcomers store count = map (λ n. newcomer n store) (range_with_len 0 count)
 
--- all readers of a store
+-- a store has these readers
 abbrev pub all_newcomers : StoreId → List Newcomer
 all_newcomers store = newcomers store (readers_of store)

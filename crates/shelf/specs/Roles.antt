@@ -6,17 +6,17 @@ use Rattle.map_core.specs.Words.{Base}
 use Rattle.map_core.specs.Views.{Hand, Keeper, Reader}
 use Rattle.map_core.specs.Views as core
 use Rattle.map_core.specs.Safe.{times}
-use Rattle.shelf.specs.declared.signed.Signed.{Signed}
+use Rattle.shelf.specs.declared.store_entry.StoreEntry.{StoreEntry}
 
--- the command that the keeper has in hand: the core's, and whose it is
+-- a task is the core's command in hand, with whose it is
 pub record Task : Type 0 where
   pub by : ℕ
   pub hand : Hand
 
--- what the keeper's seat knows
+-- the keeper's seat knows this
 pub record KeeperView : Type 0 where
   -- the log
-  pub log : List Signed
+  pub log : List StoreEntry
   -- the command in hand, what is done of it, and what its scan has seen
   pub task : Option Task
   -- the reader of the last commit, until it has met the keeper
@@ -26,18 +26,18 @@ pub record KeeperView : Type 0 where
   -- the readers that were given up, the last one first
   pub gone : List ℕ
 
--- what a reader's seat knows
+-- a reader's seat knows this
 pub record ReaderView : Type 0 where
   pub number : ℕ
   -- a beginning of the log
-  pub seen : List Signed
+  pub seen : List StoreEntry
   -- how many entries of the log are by this reader, as far as it has met the keeper
   pub made : ℕ
   -- what it has announced, and the version that it holds
   pub announced : Option Seen
   pub holds : Option ℕ
 
--- what a seat is for
+-- each seat is for one of these
 pub data Role : Type 0 where
   idle : Role
   keeping : KeeperView → Role
@@ -45,52 +45,52 @@ pub data Role : Type 0 where
   -- the keeper's seat while a reader's view stands in it
   meeting : KeeperView → ReaderView → Role
   -- a ticket: what the keeper's log was
-  ticket : List Signed → Role
+  ticket : List StoreEntry → Role
   -- a reader's seat while a ticket's view stands in it
-  learning : ReaderView → List Signed → Role
+  learning : ReaderView → List StoreEntry → Role
 
--- a log without its callers
-abbrev pub entries : List Signed → List Entry
+-- the entries of a log are what it has without its callers
+abbrev pub entries : List StoreEntry → List Entry
 entries log = map (λ e. e.entry) log
 
--- how many entries of a log are by this reader
-abbrev pub made_by : ℕ → List Signed → ℕ
+-- so many entries of a log are by this reader
+abbrev pub made_by : ℕ → List StoreEntry → ℕ
 made_by reader log = times reader (map (λ e. e.by) log)
 
--- the entries by this reader that it hasn't counted yet: the one that was committed since it met the keeper
+-- the reader hasn't counted these entries of its own yet: the one that was committed since it met the keeper
 abbrev pub unmet_by : ℕ → Option ℕ → ℕ
 unmet_by reader None = 0
 unmet_by reader (Some other) = cond (reader == other) 1 0
 
--- the keeper of the core: the view without callers
+-- the keeper of the core is the keeper's view without callers
 abbrev pub as_keeper : KeeperView → Keeper
 as_keeper k = record { log = entries k.log; hand = option_map (λ t. t.hand) k.task }
 
--- the reader of the core: the view without callers
+-- the reader of the core is the reader's view without callers
 abbrev pub as_reader : ReaderView → Reader
 as_reader x = record { seen = entries x.seen; announced = x.announced; holds = x.holds }
 
--- the state of the core: these words, the keeper's view, and these readers
+-- the state of the core has these words, the keeper's view without callers, and these readers
 abbrev pub core_of : Base → List ℕ → KeeperView → List Reader → core.State
 core_of z words k readers = record { base = z; words = words; keeper = as_keeper k; readers = readers }
 
--- the keeper at rest: so many readers are dealt, nothing is in hand, each commit was met, and no reader is given up
-abbrev pub resting : ℕ → List Signed → KeeperView
+-- the keeper is at rest: so many readers are dealt, nothing is in hand, each commit was met, and no reader is given up
+abbrev pub resting : ℕ → List StoreEntry → KeeperView
 resting dealt log = record { log = log; task = None; unmet = None; dealt = dealt; gone = [] }
 
--- a reader at the opening: it has seen the empty log
-abbrev pub fresh_reader : ℕ → ReaderView
-fresh_reader number = record { number = number; seen = []; made = 0; announced = None; holds = None }
+-- a reader at the opening has seen the empty log
+abbrev pub reader_at_opening : ℕ → ReaderView
+reader_at_opening number = record { number = number; seen = []; made = 0; announced = None; holds = None }
 
--- the keeper in a seat: in a seat of another role there is none, and one at rest stands in for it
+-- a seat of the keeper has the keeper in it; in a seat of another role there is none, and one at rest stands in for it
 abbrev pub keeper_in : Role → KeeperView
 keeper_in (keeping k) = k
 keeper_in (meeting k x) = k
 keeper_in role = resting 0 []
 
--- the reader in a seat
+-- this reader is in the seat, where it is a reader's
 abbrev pub reader_in : Role → ReaderView
 reader_in (reading x) = x
 reader_in (meeting k x) = x
 reader_in (learning x seen) = x
-reader_in role = fresh_reader 0
+reader_in role = reader_at_opening 0

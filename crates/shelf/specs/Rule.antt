@@ -10,10 +10,10 @@ use Rattle.map_core.specs.Views.{Reader, story}
 use Rattle.map_core.specs.Runs.{fresh_reader}
 use Rattle.map_core.specs.Safe.{times}
 use Rattle.map_core.specs.Sound.{IsWhole}
-use Rattle.shelf.specs.declared.asked.Asked.{Asked}
+use Rattle.shelf.specs.declared.request.Request.{Request}
 use Rattle.shelf.specs.Roles.{KeeperView, ReaderView, Role, idle, keeping, reading, meeting, ticket, learning, entries, made_by, unmet_by, as_reader, core_of}
 
--- what holds between the keeper, the core's readers and a reader's seat
+-- this holds between the keeper, the core's readers and a reader's seat
 pub record Fits (z : Base) (k : KeeperView) (readers : List Reader) (x : ReaderView) : Type 0 where
   -- the reader was dealt, and isn't given up
   pub dealt : x.number < k.dealt
@@ -81,7 +81,7 @@ pub record AreSeats (z : Base) (k : KeeperView) (readers : List Reader) (views :
 
 -- the rule of the table of a store with this setting and opening bitmap: there is a state of the core whose words are the table's,
 -- and whose keeper and readers are what the seats know
-pub record Agrees (z : Base) (s : State Asked Role) : Type 0 where
+pub record Agrees (z : Base) (s : State Request Role) : Type 0 where
   pub k : KeeperView
   pub readers : List Reader
   pub whole : IsWhole (core_of z s.words k readers)

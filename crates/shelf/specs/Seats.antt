@@ -7,28 +7,28 @@ use Rattle.map_core.specs.Words.{Base, IsPlan, word_count}
 use Rattle.map_core.specs.Views.{story}
 use Rattle.map_core.specs.Legal.{IsLegal, refused}
 use Rattle.map_core.specs.Tidy.{IsReady}
-use Rattle.shelf.specs.declared.signed.Signed.{Signed}
+use Rattle.shelf.specs.declared.store_entry.StoreEntry.{StoreEntry}
 use Rattle.map_core.specs.declared.command.Command.{Command}
 use Rattle.map_core.specs.declared.command.Command.TheVariants.{Publish}
 use Rattle.shelf.specs.Store.{StoreId, readers_of}
-use Rattle.shelf.specs.declared.asked.Asked.{Asked}
+use Rattle.shelf.specs.declared.request.Request.{Request}
 use Rattle.shelf.specs.declared.table.Basis.{Basis}
 use Rattle.map_core.specs.declared.plan.Plan.{Plan}
-use Rattle.shelf.specs.Roles.{Task, KeeperView, ReaderView, Role, keeping, reading, ticket, entries, keeper_in, reader_in, fresh_reader, resting}
+use Rattle.shelf.specs.Roles.{Task, KeeperView, ReaderView, Role, keeping, reading, ticket, entries, keeper_in, reader_in, reader_at_opening, resting}
 use Rattle.shelf.specs.Close.{IsClosing}
 use Rattle.shelf.specs.Steps.{newest_slot}
 
--- whether a command is a publish
+-- the test says whether a command is a publish
 abbrev pub is_publish : Command → Bool
 is_publish Publish = true
 is_publish command = false
 
--- the reader whose view a seat without slots has, if it has one
+-- a seat without slots has the view of this reader, if it has one
 abbrev pub reader_on : List Role → ReaderView
-reader_on [] = fresh_reader 0
+reader_on [] = reader_at_opening 0
 reader_on (role ∷ roles) = reader_in role
 
--- what a table was told as it was made
+-- a table was told this as it was made
 abbrev pub base_of : Basis → Base
 base_of basis = record { setting = basis.setting; opening = basis.opening.value }
 
@@ -48,7 +48,7 @@ pub record ReaderSays (k : Base) (x : ReaderView) (number made version : ℕ) : 
   pub made_is : made ≡ x.made
   pub version_is : version ≡ newest (story k (entries x.seen))
 
--- a reader's seat in a store
+-- this is a reader's seat in a store
 abbrev pub IsReaderSeat : StoreId → TableId → Basis → TableId → Plan → List Role → ℕ → ℕ → ℕ → Type 0
 IsReaderSeat store table basis seat plan views number made version =
     IsOf store table basis seat plan × (views ≡ reading (reader_on views) ∷ []) × ReaderSays store.base (reader_on views) number made version
@@ -63,13 +63,13 @@ pub record KeeperSays (z : Base) (k : KeeperView) (place version slot : ℕ) (pu
   pub accepted : (t : Task) → k.task ≡ Some t → refused z.setting (story z (entries k.log)) t.hand.command ≡ None
   pub unmet_is : unmet ≡ is_some k.unmet
 
--- the keeper's seat in a store
-abbrev pub IsKeeperSeat : StoreId → TableId → Basis → TableId → Plan → Me Asked Role → ℕ → ℕ → ℕ → Bool → Bool → Type 0
+-- this is the keeper's seat in a store
+abbrev pub IsKeeperSeat : StoreId → TableId → Basis → TableId → Plan → Me Request Role → ℕ → ℕ → ℕ → Bool → Bool → Type 0
 IsKeeperSeat store table basis seat plan me place version slot publishes unmet =
     IsOf store table basis seat plan × (me ≡ (keeping (keeper_in me.0), [])) × KeeperSays store.base (keeper_in me.0) place version slot publishes unmet
 
--- what a ticket's seat has seen
-abbrev pub ticket_on : List Role → List Signed
+-- a ticket's seat has seen this
+abbrev pub ticket_on : List Role → List StoreEntry
 ticket_on (ticket seen ∷ roles) = seen
 ticket_on roles = []
 
@@ -77,8 +77,8 @@ ticket_on roles = []
 abbrev pub AreAt : TableId → TableId → TableId → Type 0
 AreAt table keeper reader = (keeper ≡ table) × (reader ≡ table) × (0 < table.words)
 
--- of two seats without slots one is the keeper's, and the other a reader's
-abbrev pub AreKeeperAndReader : Me Asked Role → List Role → Type 0
+-- two seats without slots are the keeper's and a reader's
+abbrev pub AreKeeperAndReader : Me Request Role → List Role → Type 0
 AreKeeperAndReader keeper reader = (keeper ≡ (keeping (keeper_in keeper.0), [])) × (reader ≡ reading (reader_on reader) ∷ [])
 
 -- the store of a table with this id, which was told this
@@ -86,16 +86,16 @@ abbrev pub store_at : TableId → Basis → StoreId
 store_at table basis = record { table = table; base = base_of basis }
 
 -- the keeper's seat in a store that is closed
-abbrev pub IsClosingSeat : StoreId → TableId → Basis → TableId → Plan → Me Asked Role → Type 0
+abbrev pub IsClosingSeat : StoreId → TableId → Basis → TableId → Plan → Me Request Role → Type 0
 IsClosingSeat store table basis seat plan me =
     IsOf store table basis seat plan × (me ≡ (keeping (keeper_in me.0), [])) × IsClosing (keeper_in me.0) × ((keeper_in me.0).dealt ≡ readers_of store)
 
--- the keeper's seat at an opening: it is at this table, and at rest with all readers dealt
-abbrev pub IsFreshKeeper : TableId → Basis → TableId → Plan → Me Asked Role → Type 0
+-- the keeper's seat at an opening is at this table, and at rest with all readers dealt
+abbrev pub IsFreshKeeper : TableId → Basis → TableId → Plan → Me Request Role → Type 0
 IsFreshKeeper table basis seat plan me =
     IsOf (store_at seat basis) table basis seat plan × (me ≡ (keeping (resting (readers_of (store_at seat basis)) []), []))
 
--- a reader's seat at an opening: it is at this table, and has seen nothing
+-- a reader's seat at an opening is at this table, and has seen nothing
 abbrev pub IsFreshReader : TableId → Basis → TableId → Plan → List Role → ℕ → Type 0
 IsFreshReader table basis seat plan views number =
-    IsOf (store_at seat basis) table basis seat plan × (views ≡ reading (fresh_reader number) ∷ []) × (number < readers_of (store_at seat basis))
+    IsOf (store_at seat basis) table basis seat plan × (views ≡ reading (reader_at_opening number) ∷ []) × (number < readers_of (store_at seat basis))

@@ -15,63 +15,63 @@ use Rattle.map_core.specs.Views.{story, blocks, newest_seen}
 use Rattle.map_core.specs.Steps.{next_hold, steps_before, own_positions, write_of, entry_of}
 use Rattle.map_core.specs.Safe.{times}
 use Rattle.map_core.specs.Tidy.{IsReady}
-use Rattle.shelf.specs.declared.signed.Signed.{Signed}
-use Rattle.shelf.specs.declared.asked.Asked.{Asked}
-use Rattle.shelf.specs.Roles.{Task, KeeperView, ReaderView, Role, idle, keeping, reading, meeting, ticket, learning, entries, made_by, unmet_by, fresh_reader, as_reader}
+use Rattle.shelf.specs.declared.store_entry.StoreEntry.{StoreEntry}
+use Rattle.shelf.specs.declared.request.Request.{Request}
+use Rattle.shelf.specs.Roles.{Task, KeeperView, ReaderView, Role, idle, keeping, reading, meeting, ticket, learning, entries, made_by, unmet_by, reader_at_opening, as_reader}
 
 -- ---- what views become
 
--- the reader once it has announced the newest version that it has seen
+-- the reader has announced the newest version that it has seen
 abbrev pub announcing : Base → ReaderView → ReaderView
 announcing z x = record x { announced = Some (From (newest_seen z (as_reader x))) }
 
--- the reader once it has announced this version exactly
+-- the reader has announced this version exactly
 abbrev pub confirming : ℕ → ReaderView → ReaderView
 confirming version x = record x { announced = Some (Exact version) }
 
--- the reader once it has loaded NOW: it has seen this log, and where it has announced and held nothing it holds the newest version
-abbrev pub loaded : Base → List Signed → ReaderView → ReaderView
+-- the reader has loaded NOW: it has seen this log, and where it has announced and held nothing it holds the newest version
+abbrev pub loaded : Base → List StoreEntry → ReaderView → ReaderView
 loaded z log x = record x { seen = log; holds = next_hold (as_reader x) (newest (story z (entries log))) }
 
--- the reader once it has left
+-- the reader has left
 abbrev pub leaving : ReaderView → ReaderView
 leaving x = record x { announced = None; holds = None }
 
--- the keeper with a command in hand
-abbrev pub ordered : KeeperView → ℕ → Command → KeeperView
-ordered k by command = record k { task = Some record { by = by; hand = record { command = command; done = 0; scanned = [] } } }
+-- the keeper has this command in hand
+abbrev pub with_command : KeeperView → ℕ → Command → KeeperView
+with_command k by command = record k { task = Some record { by = by; hand = record { command = command; done = 0; scanned = [] } } }
 
--- the keeper once a word is stored
+-- the keeper has stored one word more
 abbrev pub wrote : KeeperView → Task → KeeperView
 wrote k t = record k { task = Some record t { hand = record t.hand { done = t.hand.done + 1 } } }
 
--- the keeper once a reader's word is loaded
+-- the keeper has loaded one reader's word more
 abbrev pub scanned : KeeperView → Task → ℕ → KeeperView
 scanned k t word = record k { task = Some record t { hand = record t.hand { done = t.hand.done + 1; scanned = t.hand.scanned ++ word ∷ [] } } }
 
--- the slot of the newest version of a log
-abbrev pub newest_slot : Base → List Signed → ℕ
+-- the newest version of a log is in this slot
+abbrev pub newest_slot : Base → List StoreEntry → ℕ
 newest_slot z log = slot_of z (story z (entries log)) (newest (story z (entries log)))
 
--- the entry that the command in hand commits
-abbrev pub signed_of : Base → KeeperView → Task → Signed
+-- the command in hand commits this entry, with its caller
+abbrev pub signed_of : Base → KeeperView → Task → StoreEntry
 signed_of z k t = record { by = t.by; entry = entry_of (story z (entries k.log)) t.hand }
 
--- the keeper once the command in hand is committed: the log ends with it, and its reader is to meet the keeper
+-- the keeper has committed the command in hand: the log ends with it, and its reader is to meet the keeper
 abbrev pub committed : Base → KeeperView → Task → KeeperView
 committed z k t = record k { log = k.log ++ signed_of z k t ∷ []; task = None; unmet = Some t.by }
 
 -- ---- what a step tells
 
--- a seat's view, and its slots: none
+-- a seat has a view, and no slots
 abbrev Sat : Type 0
-Sat = Me Asked Role
+Sat = Me Request Role
 
--- the step
+-- a step says what it is asked
 abbrev At : Type 0
-At = Step Asked
+At = Step Request
 
--- a reader's store of what it announces
+-- a reader stores what it announces
 abbrev pub announces : Base → At → Sat → ℕ → Sat → Type 0
 announces z st m word m' = (x : ReaderView) → m.0 ≡ reading x → m' ≡ (reading (announcing z x), m.1)
 
@@ -79,21 +79,21 @@ announces z st m word m' = (x : ReaderView) → m.0 ≡ reading x → m' ≡ (re
 abbrev pub confirms : At → Sat → ℕ → Sat → Type 0
 confirms st m word m' = (x : ReaderView) (v : ℕ) → m.0 ≡ reading x → x.holds ≡ Some v → m' ≡ (reading (confirming v x), m.1)
 
--- a reader's store of 0
+-- a reader stores 0
 abbrev pub leaves : At → Sat → ℕ → Sat → Type 0
 leaves st m word m' = (x : ReaderView) → m.0 ≡ reading x → m' ≡ (reading (leaving x), m.1)
 
--- what a load of a reader's tells: NOW is that of this log, which starts with what the reader had seen
-pub record Sees (z : Base) (x : ReaderView) (word : ℕ) (log : List Signed) : Type 0 where
+-- a load of a reader's tells that NOW is that of this log, which starts with what the reader had seen
+pub record Sees (z : Base) (x : ReaderView) (word : ℕ) (log : List StoreEntry) : Type 0 where
   pub ready : IsReady z
   pub began : IsPrefix x.seen log
   pub now : word ≡ now_of (story z (entries log))
   pub legal : IsLegal z.setting z.opening (entries log)
   pub counts : x.made ≤ made_by x.number log
 
--- a reader's load of NOW
+-- a reader loads NOW
 abbrev pub taken : Base → At → Sat → ℕ → Sat → Type 0
-taken z st m word m' = (x : ReaderView) → m.0 ≡ reading x → (log : List Signed) × (m' ≡ (reading (loaded z log x), m.1)) × Sees z x word log
+taken z st m word m' = (x : ReaderView) → m.0 ≡ reading x → (log : List StoreEntry) × (m' ≡ (reading (loaded z log x), m.1)) × Sees z x word log
 
 -- the version that a reader holds has this block at a position
 pub record HasBlock (z : Base) (x : ReaderView) (block : ℕ) : Type 0 where
@@ -112,9 +112,9 @@ looks z st m word m' =
     × ((x : ReaderView) (v p i : ℕ) → m.0 ≡ reading x → x.holds ≡ Some v → p < tiles z → i < 64 → st.word ≡ tile_at z (slice_index (directory_of (blocks z (entries x.seen)) v) p) i
     → word ≡ row_word (bitmap_of (story z (entries x.seen)) v) p i)
 
--- the keeper's order of a command
+-- the keeper takes the command that it is asked in hand
 abbrev pub orders : At → Sat → ℕ → Sat → Type 0
-orders st m word m' = (k : KeeperView) (a : Asked) → m.0 ≡ keeping k → st.said ≡ maybe.some a → m' ≡ (keeping (ordered k a.by a.command), m.1)
+orders st m word m' = (k : KeeperView) (a : Request) → m.0 ≡ keeping k → st.said ≡ maybe.some a → m' ≡ (keeping (with_command k a.by a.command), m.1)
 
 -- this word, at this place, is the next that the command in hand stores
 pub record IsNextWrite (z : Base) (k : KeeperView) (at word : ℕ) : Type 0 where
@@ -133,7 +133,7 @@ pub record IsNextScan (z : Base) (k : KeeperView) (reader : ℕ) : Type 0 where
   pub reader_is : reader ≡ task.hand.done
   pub inside : reader < z.setting.sessions
 
--- the keeper's store of a word of a publish
+-- the keeper stores a word of a publish
 abbrev pub writes : At → Sat → ℕ → Sat → Type 0
 writes st m word m' = (k : KeeperView) (t : Task) → m.0 ≡ keeping k → k.task ≡ Some t → m' ≡ (keeping (wrote k t), m.1)
 
@@ -150,30 +150,30 @@ pub record MayCommit (z : Base) (k : KeeperView) : Type 0 where
   pub caller : task.by < k.dealt
   pub met : k.unmet ≡ None
 
--- the keeper's store of NOW
+-- the keeper stores NOW
 abbrev pub commits : Base → At → Sat → ℕ → Sat → Type 0
 commits z st m word m' = (k : KeeperView) (t : Task) → m.0 ≡ keeping k → k.task ≡ Some t
     → (m' ≡ (keeping (committed z k t), m.1)) × IsLegal z.setting z.opening (entries (committed z k t).log)
 
 -- ---- meetings, tickets, and the end
 
--- the keeper once the reader of the last commit has met it
+-- the reader of the last commit has met the keeper
 abbrev pub met : KeeperView → KeeperView
 met k = record k { unmet = None }
 
--- the reader once it has met the keeper: it has loaded NOW, and counts the entry that was committed since
+-- the reader has met the keeper: it has loaded NOW, and counts the entry that was committed since
 abbrev pub met_by : Base → KeeperView → ReaderView → ReaderView
 met_by z k x = record (loaded z k.log x) { made = x.made + unmet_by x.number k.unmet }
 
--- the keeper once a reader is dealt
+-- the keeper has dealt one reader more
 abbrev pub dealt_one : KeeperView → KeeperView
 dealt_one k = record k { dealt = k.dealt + 1 }
 
--- the keeper once a reader is given up
+-- the keeper has given up one reader more
 abbrev pub without : KeeperView → ReaderView → KeeperView
 without k x = record k { gone = x.number ∷ k.gone }
 
--- what a load tells where a reader's view stands in the keeper's: what it had seen is a beginning of the log, and it counts its entries
+-- a load tells that a reader's view stands in the keeper's: what it had seen is a beginning of the log, and it counts its entries
 pub record Meets (z : Base) (k : KeeperView) (x : ReaderView) : Type 0 where
   -- the reader was dealt, and isn't given up
   pub dealt : x.number < k.dealt
@@ -192,18 +192,18 @@ gives_up z st m word m' = (k : KeeperView) (x : ReaderView) → m.0 ≡ meeting 
 
 -- a reader's load of NOW where a ticket's view stands in its seat: it has then seen all that it and the ticket had
 abbrev pub learns : Base → At → Sat → ℕ → Sat → Type 0
-learns z st m word m' = (x : ReaderView) (seen : List Signed) → m.0 ≡ learning x seen
-    → (log : List Signed) × (m' ≡ (reading (loaded z log x), m.1)) × Sees z x word log × IsPrefix seen log
+learns z st m word m' = (x : ReaderView) (seen : List StoreEntry) → m.0 ≡ learning x seen
+    → (log : List StoreEntry) × (m' ≡ (reading (loaded z log x), m.1)) × Sees z x word log × IsPrefix seen log
 
--- the keeper with a collect in hand, whose scan has seen these words
+-- the keeper has a collect in hand, whose scan has seen these words
 abbrev pub scanning : KeeperView → ℕ → List ℕ → KeeperView
 scanning k by words = record k { task = Some record { by = by; hand = record { command = Collect; done = length words; scanned = words } } }
 
--- the keeper with a publish in hand, of which so many words are stored
+-- the keeper has a publish in hand, of which so many words are stored
 abbrev pub writing : KeeperView → ℕ → ℕ → KeeperView
 writing k by n = record k { task = Some record { by = by; hand = record { command = Publish; done = n; scanned = [] } } }
 
--- how many own blocks a position has
+-- a position has one own block or none
 abbrev pub one_own : Option ℕ → ℕ
 one_own o = length (own_list (o ∷ []))
 
@@ -213,60 +213,61 @@ pub record IsOwn (z : Base) (k : KeeperView) (j block position : ℕ) : Type 0 w
   pub block_is : block ≡ slice_index (own_list (blocks z (entries k.log)).own) j
   pub position_is : position ≡ slice_index (own_positions 0 (blocks z (entries k.log)).own) j
 
--- the keeper's seat once a ticket is cut from it, and the ticket's
+-- the keeper's seat stays as it is once a ticket is cut from it
 abbrev pub cutting : Role → Role
 cutting role = role
 
+-- a ticket that is cut from the keeper's seat has seen the keeper's log
 abbrev pub cut_off : Role → Role
 cut_off (keeping k) = ticket k.log
 cut_off role = idle
 
--- a reader's seat with a ticket's view in it
+-- a reader's seat takes a ticket's view
 abbrev pub handed : Role → Role → Role
 handed (reading x) (ticket seen) = learning x seen
 handed role other = role
 
--- a reader's seat once it has learned a ticket by the load of this word
-pub record LearnsIt (z : Base) (x : ReaderView) (seen : List Signed) (word : ℕ) (views : List Role) : Type 0 where
-  pub log : List Signed
+-- a reader's seat has learned a ticket by the load of this word
+pub record LearnsIt (z : Base) (x : ReaderView) (seen : List StoreEntry) (word : ℕ) (views : List Role) : Type 0 where
+  pub log : List StoreEntry
   pub views_are : views ≡ reading (loaded z log x) ∷ []
   pub sees : Sees z x word log
   pub learned : IsPrefix seen log
 
--- the keeper once a collect is committed whose scan saw these words
+-- the keeper has committed a collect, whose scan saw these words
 abbrev pub collected : Base → KeeperView → ℕ → List ℕ → KeeperView
 collected z k by words = committed z (scanning k by words) record { by = by; hand = record { command = Collect; done = length words; scanned = words } }
 
--- the keeper's seat with a reader's view in it
+-- the keeper's seat takes a reader's view
 abbrev pub together : Role → Role → Role
 together (keeping k) (reading x) = meeting k x
 together role other = role
 
--- the keeper's part of a meeting
+-- the keeper keeps its part of a meeting
 abbrev pub keeper_part : Role → Role
 keeper_part (meeting k x) = keeping k
 keeper_part role = role
 
--- the reader's part of a meeting
+-- the reader keeps its part of a meeting
 abbrev pub reader_part : Role → Role
 reader_part (meeting k x) = reading x
 reader_part role = idle
 
--- the keeper's seat once a reader is dealt
+-- the keeper's seat has dealt a reader
 abbrev pub dealing : Role → Role
 dealing (keeping k) = keeping (dealt_one k)
 dealing role = role
 
--- the seat of the reader that is dealt
+-- the reader that is dealt has this seat
 abbrev pub next_reader : Role → Role
-next_reader (keeping k) = reading (fresh_reader k.dealt)
+next_reader (keeping k) = reading (reader_at_opening k.dealt)
 next_reader role = idle
 
--- what the last load of the keeper's tells
+-- the last load of the keeper's tells this
 pub record Ends (z : Base) (k : KeeperView) : Type 0 where
   pub legal : IsLegal z.setting z.opening (entries k.log)
   pub callers : All (λ e. e.by < k.dealt) k.log
 
--- the last load of the keeper's
+-- the keeper does its last load
 abbrev pub ends : Base → At → Sat → ℕ → Sat → Type 0
 ends z st m word m' = (k : KeeperView) → m.0 ≡ keeping k → (m' ≡ m) × Ends z k

@@ -10,7 +10,7 @@ pub record StoreId : Type 0 where
   pub table : TableId
   pub base : Base
 
--- how many readers a store has: their numbers are below it
+-- a store has so many readers, whose numbers are below that
 abbrev pub readers_of : StoreId → ℕ
 readers_of store = store.base.setting.sessions
 

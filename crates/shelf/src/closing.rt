@@ -11,7 +11,7 @@ ghost use Rattle.shelf.specs.Steps.{without, Meets};
 use crate::keeper::KeeperSeat;
 use crate::meeting::lay_together;
 use crate::name::StoreName;
-use crate::plays::{End, GiveUp};
+use crate::plays::{Finish, GiveUp};
 use crate::reader::ReaderSeat;
 use crate::table::{TableSeat, View, Words};
 use atomic_table::Badge;
@@ -117,6 +117,6 @@ impl<Id: StoreName> Closing<Id> {
             plan: _,
             of: _,
         } = self;
-        words.shared.load::<End<Id>>(&mut seat, 0);
+        words.shared.load::<Finish<Id>>(&mut seat, 0);
     }
 }

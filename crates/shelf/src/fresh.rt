@@ -1,7 +1,7 @@
 //! The seats of a store that has no name yet.
 
 ghost use Rattle.std.specs.Prelude.{◌≡◌, []};
-ghost use Rattle.shelf.specs.Roles.{resting, fresh_reader};
+ghost use Rattle.shelf.specs.Roles.{resting, reader_at_opening};
 ghost use Rattle.map_core.specs.Tidy.{IsReady};
 ghost use Rattle.shelf.specs.Store.{readers_of};
 
@@ -81,7 +81,7 @@ impl FreshReader {
     /// The reader's seat of the store with this name, whose setting is within its limits for the map. Condition: the name is its store's.
     pub fn named<Id: StoreName>(self) -> ReaderSeat<Id>
         requires { self.store ≡ Id.store }
-        ensures reader { result ≡ fresh_reader self.number }
+        ensures reader { result ≡ reader_at_opening self.number }
         ensures ready { IsReady Id.store.base }
     {
         let FreshReader {

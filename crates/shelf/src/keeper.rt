@@ -7,11 +7,11 @@ ghost use Rattle.map_core.specs.Views.{story};
 ghost use Rattle.map_core.specs.Words.{IsPlan};
 ghost use Rattle.shelf.specs.Seats.{is_publish};
 ghost use Rattle.shelf.specs.Roles.{Task, entries};
-ghost use Rattle.shelf.specs.Steps.{ordered, wrote, scanned, IsNextWrite, IsNextScan, MayCommit, committed, newest_slot};
+ghost use Rattle.shelf.specs.Steps.{with_command, wrote, scanned, IsNextWrite, IsNextScan, MayCommit, committed, newest_slot};
 
-use crate::asked::Asked;
 use crate::name::StoreName;
 use crate::plays::{Commit, Order, Scan, Write};
+use crate::request::Request;
 use crate::table::{TableSeat, Words};
 use map_core::{Command, Now, Plan};
 use std::alloc::Global;
@@ -57,10 +57,10 @@ impl<Id: StoreName> KeeperSeat<Id> {
     }
 
     /// Takes a command in hand, with its caller. No word changes. Conditions: none is in hand, and the command is accepted after the log.
-    pub fn order(&mut self, asked: &Asked)
+    pub fn order(&mut self, asked: &Request)
         requires none { self.old.task ≡ None }
         requires accepted { refused Id.store.base.setting (story Id.store.base (entries self.old.log)) asked.now.command ≡ None }
-        ensures { self.new ≡ ordered self.old asked.now.by asked.now.command }
+        ensures { self.new ≡ with_command self.old asked.now.by asked.now.command }
     {
         let now = Now {
             place: self.place,

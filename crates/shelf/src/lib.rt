@@ -16,7 +16,6 @@
 //! No call waits for anybody, and an opening alone takes memory.
 #![tactic(auto)]
 
-mod asked;
 mod closing;
 mod fresh;
 mod keeper;
@@ -27,11 +26,11 @@ mod opened;
 mod opening;
 mod plays;
 mod reader;
-mod signed;
+mod request;
+mod store_entry;
 mod table;
 mod ticket;
 
-pub use asked::Asked;
 pub use closing::Closing;
 pub use fresh::{FreshKeeper, FreshReader};
 pub use keeper::KeeperSeat;
@@ -43,5 +42,6 @@ pub use meeting::meet;
 pub use name::StoreName;
 pub use opened::Opening;
 pub use reader::ReaderSeat;
-pub use signed::Signed;
+pub use request::Request;
+pub use store_entry::StoreEntry;
 pub use ticket::Ticket;

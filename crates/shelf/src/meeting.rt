@@ -6,11 +6,11 @@ ghost use Rattle.shelf.specs.Roles.{keeping, reading, meeting, keeper_in, made_b
 ghost use Rattle.shelf.specs.Seats.{base_of, reader_on, AreAt, AreKeeperAndReader};
 ghost use Rattle.shelf.specs.Steps.{met, met_by, Meets};
 
-use crate::asked::Asked;
 use crate::keeper::KeeperSeat;
 use crate::name::StoreName;
 use crate::plays::{Apart, Meet, Together};
 use crate::reader::ReaderSeat;
+use crate::request::Request;
 use crate::table::{TableSeat, View, Words};
 use atomic_table::Badge;
 use std::mem::replace;
@@ -24,7 +24,7 @@ pub(crate) fn lay_together(words: &Words, keeper: &mut TableSeat, reader: Badge<
 {
     words
         .shared
-        .join_seat::<Together>(keeper, reader.into_seat::<Asked>());
+        .join_seat::<Together>(keeper, reader.into_seat::<Request>());
 }
 
 /// The steps of a meeting: the reader's view is laid in the keeper's seat, NOW is loaded, and the reader gets its view back.

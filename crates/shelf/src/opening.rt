@@ -28,7 +28,8 @@ fn deal(
     plan: Plan,
     number: u32,
 ) -> Result<FreshReader, Refusal>
-    requires of { IsOf (store_at keeper.old.table_id (arc_value words.now).shared.key) (arc_value words.now).shared.table_id (arc_value words.now).shared.key keeper.old.table_id plan }
+    requires of { IsOf (store_at keeper.old.table_id (arc_value words.now).shared.key)
+        (arc_value words.now).shared.table_id (arc_value words.now).shared.key keeper.old.table_id plan }
     requires keeper { keeper.old.me ≡ (keeping (resting number []), []) }
     requires below { number < readers_of (store_at keeper.old.table_id (arc_value words.now).shared.key) }
     ensures table { keeper.new.table_id ≡ keeper.old.table_id }
@@ -55,11 +56,15 @@ fn deal_all(
     keeper: &mut TableSeat,
     plan: Plan,
 ) -> Result<Vec<FreshReader>, Refusal>
-    requires of { IsOf (store_at keeper.old.table_id (arc_value words.now).shared.key) (arc_value words.now).shared.table_id (arc_value words.now).shared.key keeper.old.table_id plan }
+    requires of { IsOf (store_at keeper.old.table_id (arc_value words.now).shared.key)
+        (arc_value words.now).shared.table_id (arc_value words.now).shared.key keeper.old.table_id plan }
     requires keeper { keeper.old.me ≡ (keeping (resting 0 []), []) }
     ensures table { keeper.new.table_id ≡ keeper.old.table_id }
-    ensures keeper { OnOk result (keeper.new.me ≡ (keeping (resting (readers_of (store_at keeper.old.table_id (arc_value words.now).shared.key)) []), [])) }
-    ensures readers { IfOk result (λ dealt. dealt.items ≡ newcomers (store_at keeper.old.table_id (arc_value words.now).shared.key) (readers_of (store_at keeper.old.table_id (arc_value words.now).shared.key))) }
+    ensures keeper { OnOk result (keeper.new.me
+        ≡ (keeping (resting (readers_of (store_at keeper.old.table_id (arc_value words.now).shared.key)) []), [])) }
+    ensures readers { IfOk result
+        (λ dealt. dealt.items ≡ newcomers (store_at keeper.old.table_id (arc_value words.now).shared.key)
+        (readers_of (store_at keeper.old.table_id (arc_value words.now).shared.key))) }
     ensures memory { IfErr result (λ refusal. refusal ≡ Memory) }
 {
     let readers = plan.setting.sessions;

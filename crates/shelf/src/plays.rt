@@ -1,7 +1,7 @@
-//! What each step tells its seat.
+//! The kinds of steps on the shared words, a type for each, and what each step tells its seat.
 
-use crate::asked::Asked;
 use crate::name::StoreName;
+use crate::request::Request;
 use crate::table::View;
 use atomic_table::{Join, Play, Split};
 use std::marker::PhantomData;
@@ -11,7 +11,7 @@ pub struct Take<Id> {
     of: PhantomData<Id>,
 }
 
-impl<Id: StoreName> Play<Asked, View> for Take<Id> {
+impl<Id: StoreName> Play<Request, View> for Take<Id> {
     ghost use Rattle.shelf.specs.Steps.{taken};
 
     ghost then = { taken Id.store.base };
@@ -22,7 +22,7 @@ pub struct Announce<Id> {
     of: PhantomData<Id>,
 }
 
-impl<Id: StoreName> Play<Asked, View> for Announce<Id> {
+impl<Id: StoreName> Play<Request, View> for Announce<Id> {
     ghost use Rattle.shelf.specs.Steps.{announces};
 
     ghost then = { announces Id.store.base };
@@ -31,7 +31,7 @@ impl<Id: StoreName> Play<Asked, View> for Announce<Id> {
 /// A reader announces the version that it holds, and no other.
 pub struct Confirm;
 
-impl Play<Asked, View> for Confirm {
+impl Play<Request, View> for Confirm {
     ghost use Rattle.shelf.specs.Steps.{confirms};
 
     ghost then = { confirms };
@@ -40,7 +40,7 @@ impl Play<Asked, View> for Confirm {
 /// A reader leaves.
 pub struct Leave;
 
-impl Play<Asked, View> for Leave {
+impl Play<Request, View> for Leave {
     ghost use Rattle.shelf.specs.Steps.{leaves};
 
     ghost then = { leaves };
@@ -51,7 +51,7 @@ pub struct Look<Id> {
     of: PhantomData<Id>,
 }
 
-impl<Id: StoreName> Play<Asked, View> for Look<Id> {
+impl<Id: StoreName> Play<Request, View> for Look<Id> {
     ghost use Rattle.shelf.specs.Steps.{looks};
 
     ghost then = { looks Id.store.base };
@@ -60,7 +60,7 @@ impl<Id: StoreName> Play<Asked, View> for Look<Id> {
 /// The keeper takes a command in hand.
 pub struct Order;
 
-impl Play<Asked, View> for Order {
+impl Play<Request, View> for Order {
     ghost use Rattle.shelf.specs.Steps.{orders};
 
     ghost then = { orders };
@@ -69,7 +69,7 @@ impl Play<Asked, View> for Order {
 /// The keeper stores a word of a publish.
 pub struct Write;
 
-impl Play<Asked, View> for Write {
+impl Play<Request, View> for Write {
     ghost use Rattle.shelf.specs.Steps.{writes};
 
     ghost then = { writes };
@@ -80,7 +80,7 @@ pub struct Scan<Id> {
     of: PhantomData<Id>,
 }
 
-impl<Id: StoreName> Play<Asked, View> for Scan<Id> {
+impl<Id: StoreName> Play<Request, View> for Scan<Id> {
     ghost use Rattle.shelf.specs.Steps.{scans};
 
     ghost then = { scans Id.store.base };
@@ -91,16 +91,16 @@ pub struct Commit<Id> {
     of: PhantomData<Id>,
 }
 
-impl<Id: StoreName> Play<Asked, View> for Commit<Id> {
+impl<Id: StoreName> Play<Request, View> for Commit<Id> {
     ghost use Rattle.shelf.specs.Steps.{commits};
 
     ghost then = { commits Id.store.base };
 }
 
 /// A ticket is cut from the keeper's seat.
-pub struct Cut;
+pub struct CutTicket;
 
-impl Split<View> for Cut {
+impl Split<View> for CutTicket {
     ghost use Rattle.shelf.specs.Steps.{cutting, cut_off};
 
     ghost left = { cutting };
@@ -109,9 +109,9 @@ impl Split<View> for Cut {
 }
 
 /// A ticket's view is laid in a reader's seat.
-pub struct Hand;
+pub struct LayTicket;
 
-impl Join<View> for Hand {
+impl Join<View> for LayTicket {
     ghost use Rattle.shelf.specs.Roles.{idle};
     ghost use Rattle.shelf.specs.Steps.{handed};
 
@@ -125,7 +125,7 @@ pub struct Learn<Id> {
     of: PhantomData<Id>,
 }
 
-impl<Id: StoreName> Play<Asked, View> for Learn<Id> {
+impl<Id: StoreName> Play<Request, View> for Learn<Id> {
     ghost use Rattle.shelf.specs.Steps.{learns};
 
     ghost then = { learns Id.store.base };
@@ -136,7 +136,7 @@ pub struct Meet<Id> {
     of: PhantomData<Id>,
 }
 
-impl<Id: StoreName> Play<Asked, View> for Meet<Id> {
+impl<Id: StoreName> Play<Request, View> for Meet<Id> {
     ghost use Rattle.shelf.specs.Steps.{meets};
 
     ghost then = { meets Id.store.base };
@@ -170,18 +170,18 @@ pub struct GiveUp<Id> {
     of: PhantomData<Id>,
 }
 
-impl<Id: StoreName> Play<Asked, View> for GiveUp<Id> {
+impl<Id: StoreName> Play<Request, View> for GiveUp<Id> {
     ghost use Rattle.shelf.specs.Steps.{gives_up};
 
     ghost then = { gives_up Id.store.base };
 }
 
 /// The keeper's last load.
-pub struct End<Id> {
+pub struct Finish<Id> {
     of: PhantomData<Id>,
 }
 
-impl<Id: StoreName> Play<Asked, View> for End<Id> {
+impl<Id: StoreName> Play<Request, View> for Finish<Id> {
     ghost use Rattle.shelf.specs.Steps.{ends};
 
     ghost then = { ends Id.store.base };

@@ -13,9 +13,9 @@ ghost use Rattle.shelf.specs.Roles.{entries};
 ghost use Rattle.map_core.specs.Steps.{to_confirm};
 ghost use Rattle.shelf.specs.Steps.{announcing, confirming, loaded, leaving, newest_slot, HasBlock};
 
-use crate::asked::Asked;
 use crate::name::StoreName;
 use crate::plays::{Announce, Confirm, Leave, Look, Take};
+use crate::request::Request;
 use crate::table::{View, Words};
 use atomic_table::Badge;
 use map_core::{Now, Plan};
@@ -81,7 +81,7 @@ impl<Id: StoreName> ReaderSeat<Id> {
         requires { self.old.announced ≡ None }
         ensures { self.new ≡ announcing Id.store.base self.old }
     {
-        let mut seat = replace(&mut self.seat, Badge::blank()).into_seat::<Asked>();
+        let mut seat = replace(&mut self.seat, Badge::blank()).into_seat::<Request>();
         let place = Plan::pin_at(self.number);
         self.words
             .shared
@@ -95,7 +95,7 @@ impl<Id: StoreName> ReaderSeat<Id> {
         requires { to_confirm self.old.announced self.old.holds ≡ Some version }
         ensures { self.new ≡ confirming version self.old }
     {
-        let mut seat = replace(&mut self.seat, Badge::blank()).into_seat::<Asked>();
+        let mut seat = replace(&mut self.seat, Badge::blank()).into_seat::<Request>();
         let place = Plan::pin_at(self.number);
         self.words
             .shared
@@ -108,7 +108,7 @@ impl<Id: StoreName> ReaderSeat<Id> {
         requires { is_some self.old.announced ≡ true }
         ensures { self.new ≡ leaving self.old }
     {
-        let mut seat = replace(&mut self.seat, Badge::blank()).into_seat::<Asked>();
+        let mut seat = replace(&mut self.seat, Badge::blank()).into_seat::<Request>();
         let place = Plan::pin_at(self.number);
         self.words.shared.store::<Leave>(&mut seat, place, 0);
         self.seat = seat.into_badge();
@@ -125,7 +125,7 @@ impl<Id: StoreName> ReaderSeat<Id> {
         ensures slots { result.slot < Id.store.base.setting.versions }
         ensures legal { IsLegal Id.store.base.setting Id.store.base.opening (entries self.new.seen) }
     {
-        let mut seat = replace(&mut self.seat, Badge::blank()).into_seat::<Asked>();
+        let mut seat = replace(&mut self.seat, Badge::blank()).into_seat::<Request>();
         let word = self.words.shared.load::<Take<Id>>(&mut seat, 0);
         self.seat = seat.into_badge();
         let now = Now::of(word);
@@ -145,7 +145,7 @@ impl<Id: StoreName> ReaderSeat<Id> {
         ensures block { result ≡ slice_index (directory_of (blocks Id.store.base (entries self.old.seen)) version) position }
         ensures within { result < Id.store.base.setting.blocks }
     {
-        let mut seat = replace(&mut self.seat, Badge::blank()).into_seat::<Asked>();
+        let mut seat = replace(&mut self.seat, Badge::blank()).into_seat::<Request>();
         let place = self.plan.map_at(slot, u32::from(position));
         let word = self.words.shared.load::<Look<Id>>(&mut seat, place);
         self.seat = seat.into_badge();
@@ -161,10 +161,11 @@ impl<Id: StoreName> ReaderSeat<Id> {
         requires mapped { HasBlock Id.store.base self.old block }
         requires row { row < 64 }
         ensures seat { self.new ≡ self.old }
-        ensures word { (v p : ℕ) → self.old.holds ≡ Some v → p < tiles Id.store.base → block ≡ slice_index (directory_of (blocks Id.store.base (entries self.old.seen)) v) p
+        ensures word { (v p : ℕ) → self.old.holds ≡ Some v → p < tiles Id.store.base
+            → block ≡ slice_index (directory_of (blocks Id.store.base (entries self.old.seen)) v) p
             → result ≡ row_word (bitmap_of (story Id.store.base (entries self.old.seen)) v) p row }
     {
-        let mut seat = replace(&mut self.seat, Badge::blank()).into_seat::<Asked>();
+        let mut seat = replace(&mut self.seat, Badge::blank()).into_seat::<Request>();
         let place = self.plan.tile_at(block, u32::from(row));
         let word = self.words.shared.load::<Look<Id>>(&mut seat, place);
         self.seat = seat.into_badge();

@@ -1,6 +1,6 @@
 //! The table that a store's seats share: all words of the core. It has no slots.
 
-use crate::asked::Asked;
+use crate::request::Request;
 use atomic_table::{Seat, Table, TableRule};
 use bits::Bitmap;
 use map_core::Setting;
@@ -31,7 +31,7 @@ pub struct Basis {
 /// The rule of the table: there is a state of the core whose words are the table's, and whose keeper and readers are what the seats know.
 pub struct Law;
 
-impl TableRule<Asked, View, Basis> for Law {
+impl TableRule<Request, View, Basis> for Law {
     ghost use Rattle.std.specs.Prelude.{[]};
     ghost use Rattle.shelf.specs.Roles.{keeping, resting};
     ghost use Rattle.shelf.specs.Rule.{Agrees};
@@ -41,6 +41,6 @@ impl TableRule<Asked, View, Basis> for Law {
     ghost first = { λ _. keeping (resting 0 []) };
 }
 
-pub type Words = Table<Asked, View, Basis, Law, Global>;
+pub type Words = Table<Request, View, Basis, Law, Global>;
 
-pub type TableSeat = Seat<Asked, View>;
+pub type TableSeat = Seat<Request, View>;

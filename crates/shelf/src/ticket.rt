@@ -10,11 +10,11 @@ ghost use Rattle.shelf.specs.Roles.{reading, entries, ticket};
 ghost use Rattle.shelf.specs.Seats.{base_of, reader_on, ticket_on};
 ghost use Rattle.shelf.specs.Steps.{loaded, LearnsIt};
 
-use crate::asked::Asked;
 use crate::keeper::KeeperSeat;
 use crate::name::StoreName;
-use crate::plays::{Cut, Hand, Learn};
+use crate::plays::{CutTicket, LayTicket, Learn};
 use crate::reader::ReaderSeat;
+use crate::request::Request;
 use crate::table::{View, Words};
 use atomic_table::Badge;
 use map_core::Now;
@@ -31,11 +31,11 @@ pub struct Ticket<Id: StoreName> {
 
 impl<Id: StoreName> Model for Ticket<Id> {
     ghost use Rattle.std.specs.Prelude.{◌≡◌, List, [], ◌∷◌};
-    ghost use Rattle.shelf.specs.declared.signed.Signed.{Signed};
+    ghost use Rattle.shelf.specs.declared.store_entry.StoreEntry.{StoreEntry};
     ghost use Rattle.shelf.specs.Roles.{ticket};
     ghost use Rattle.shelf.specs.Seats.{ticket_on};
 
-    ghost Value = { List Signed };
+    ghost Value = { List StoreEntry };
 
     ghost view = { λ t. ticket_on t.seat.views };
 
@@ -58,7 +58,7 @@ impl<Id: StoreName> KeeperSeat<Id> {
         let seat = self
             .words
             .shared
-            .split_seat::<Cut>(&mut self.seat)
+            .split_seat::<CutTicket>(&mut self.seat)
             .into_badge();
         Ticket {
             seat,
@@ -69,17 +69,18 @@ impl<Id: StoreName> KeeperSeat<Id> {
 
 /// Lays the ticket's view in the reader's seat, and loads NOW.
 fn learn_on<Id: StoreName>(words: &Words, reader: &mut Badge<View>, token: Badge<View>) -> u64
-    requires table { (reader.old.table_id ≡ words.now.shared.table_id) × (token.table_id ≡ words.now.shared.table_id) × (0 < words.now.shared.table_id.words) }
+    requires table { (reader.old.table_id ≡ words.now.shared.table_id) × (token.table_id ≡ words.now.shared.table_id)
+        × (0 < words.now.shared.table_id.words) }
     requires base { base_of words.now.shared.key ≡ Id.store.base }
     requires reader { reader.old.views ≡ reading (reader_on reader.old.views) ∷ [] }
     requires token { token.views ≡ ticket (ticket_on token.views) ∷ [] }
     ensures table { reader.new.table_id ≡ reader.old.table_id }
     ensures learned { LearnsIt Id.store.base (reader_on reader.old.views) (ticket_on token.views) result reader.new.views }
 {
-    let mut seat = replace(reader, Badge::blank()).into_seat::<Asked>();
+    let mut seat = replace(reader, Badge::blank()).into_seat::<Request>();
     words
         .shared
-        .join_seat::<Hand>(&mut seat, token.into_seat::<Asked>());
+        .join_seat::<LayTicket>(&mut seat, token.into_seat::<Request>());
     let word = words.shared.load::<Learn<Id>>(&mut seat, 0);
     *reader = seat.into_badge();
     word

@@ -5,7 +5,7 @@ use bits::Bitmap;
 use map_core::{Command, Kept, Reply};
 use metric::{Cell, Edge, Rect, Refusal};
 use proto::{
-    Answer, Line, Order, QueryKind, Text, Verb, answer_query, parse_line, reply_text, verb_of,
+    Answer, CommandName, Line, QueryKind, Text, Verb, answer_query, parse_line, reply_text, verb_of,
 };
 use std::test::Fail;
 
@@ -136,9 +136,9 @@ fn commands_are_refused(rt: HostRuntime) {
 #[test]
 fn verbs_are_named(rt: HostRuntime) {
     assert!(rt; verb_of(b"AT nonsense") == Some(Verb::Ask(QueryKind::At)));
-    assert!(rt; verb_of(b"PAINT") == Some(Verb::Order(Order::Paint)));
+    assert!(rt; verb_of(b"PAINT") == Some(Verb::Order(CommandName::Paint)));
     assert!(rt; verb_of(b"UNPIN  ") == Some(Verb::Unpin));
-    assert!(rt; verb_of(b"CHECKPOINT now") == Some(Verb::Order(Order::Checkpoint)));
+    assert!(rt; verb_of(b"CHECKPOINT now") == Some(Verb::Order(CommandName::Checkpoint)));
     assert!(rt; verb_of(b"CHECKPOINTS").is_none());
     assert!(rt; verb_of(b" PIN").is_none());
 }

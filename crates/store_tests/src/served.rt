@@ -1,7 +1,7 @@
 //! Served streams, what no clause says: that memory is found, and worked streams with answers from outside.
 
 ghost use Rattle.std.specs.Prelude.{◌≡◌};
-ghost use Rattle.proto.specs.Wire.{CanGoOn, wire_of};
+ghost use Rattle.proto.specs.Wire.{CanGoOn};
 
 mod asked;
 mod failing;
@@ -123,7 +123,7 @@ fn serve_in<Id: StoreName, R: Wait + Abort, S: Stream>(
     stream: &mut S,
 ) -> Result<(End, u32), Fail>
     requires blank { blank ≡ Id.store }
-    requires stream { CanGoOn (wire_of S.rest S.held S.failed_reads S.failed_writes stream.old) }
+    requires stream { CanGoOn (S.wire stream.old) }
 {
     let (store, mut sessions) = open::<Id>(alloc, blank)?;
     let session = sessions.pop().expect(rt, "a session");
@@ -148,7 +148,7 @@ fn serve_over<R: Wait + Abort, S: Stream>(
     blank: Blank,
     stream: &mut S,
 ) -> Result<(End, u32), Fail>
-    requires { CanGoOn (wire_of S.rest S.held S.failed_reads S.failed_writes stream.old) }
+    requires { CanGoOn (S.wire stream.old) }
 {
     serve_in::<Brand, _, _>(rt, alloc, blank, stream)
 }

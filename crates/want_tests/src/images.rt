@@ -3,8 +3,8 @@
 use crate::compare::{holds, same};
 use crate::told::{Call, begin, end};
 use bits::Bitmap;
-use metric::{Cell, PbmFault, Refusal};
-use pbm::{read_image, write_plain, write_raw};
+use metric::{Cell, MemorySource, PbmFault, Refusal};
+use pbm::{ImageStop, read_image, read_source, write_plain, write_raw};
 use std::alloc::Global;
 use std::process::Abort;
 use std::test::Fail;
@@ -52,6 +52,30 @@ fn read<R: Abort + Print>(
     Ok(map)
 }
 
+/// Whether there was no memory for what was read of an image, or for its bitmap.
+fn wants_memory(stop: ImageStop) -> bool {
+    stop == ImageStop::Memory || stop == ImageStop::Fault(PbmFault::Memory)
+}
+
+/// Reads an image from a source, and looks at its size.
+fn read_from_source<R: Abort + Print>(rt: &R, alloc: Global, image: &[u8]) {
+    let call: Call = ("pbm", "read_source");
+    begin(rt, call);
+    let first = read_source(alloc, &mut MemorySource::new(image));
+    end(rt, call, first.is_err());
+    let found = match first {
+        Ok(map) => Ok(map),
+        Err(stop) => {
+            holds(rt, wants_memory(stop), "a source");
+            read_source(alloc, &mut MemorySource::new(image))
+        }
+    };
+    match found {
+        Ok(map) => same(rt, (map.width(), map.height()), (10, 1), "the size"),
+        Err(_) => holds(rt, false, "a source again"),
+    }
+}
+
 /// Appends an image.
 fn append(map: &Bitmap, is_raw: bool, text: &mut Vec<u8>) -> Result<(), Refusal> {
     if is_raw {
@@ -94,6 +118,7 @@ fn write<R: Abort + Print>(
 fn images_are_read_and_written_again(rt: HostRuntime) -> Result<(), Fail> {
     for (image, taken) in IMAGES {
         let map = read(&rt, rt.alloc(), image, taken)?;
+        read_from_source(&rt, rt.alloc(), image);
         for writer in WRITERS {
             write(&rt, rt.alloc(), &map, writer)?;
         }

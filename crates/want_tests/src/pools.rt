@@ -1,4 +1,4 @@
-//! A pool that finds no memory hands its sessions back, and has asked for no stream.
+//! A pool that finds no memory returns its sessions, and has asked for no stream.
 
 ghost use Rattle.std.specs.Prelude.{◌≡◌};
 

@@ -95,6 +95,11 @@ impl Sink for Ready {
 
 impl Stream for Ready {
     ghost use Rattle.std.specs.Prelude.{refl};
+    ghost use Rattle.metric.specs.Wire.{silent};
+
+    ghost wire = { λ s. silent 0 s.failed };
+
+    ghost shown = { λ s. refl };
 
     ghost reading = { λ s. refl };
 

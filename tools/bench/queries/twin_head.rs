@@ -16,20 +16,33 @@ impl Metric for Euclid2 {
     #[inline(always)]
     fn of(dx: u16, g: u16) -> u32 { let (c, r) = (u32::from(dx), u32::from(g)); c * c + r * r }
 }
-pub struct Bitmap { width: u16, height: u16, words: Vec<u64> }
+pub struct Bitmap { width: u16, height: u16, words: Vec<u64>, bands: u64 }
 impl Bitmap {
     pub fn width(&self) -> u16 { self.width }
     pub fn height(&self) -> u16 { self.height }
+    #[inline(always)]
+    pub fn bands(&self) -> u64 { self.bands }
     fn across(&self) -> usize { usize::from(self.width).div_ceil(64) }
     pub fn row_words(&self, y: u16) -> &[u64] {
         let across = self.across();
         let start = usize::from(y) * across;
         &self.words[start..start + across]
     }
-    pub fn set_word(&mut self, y: u16, index: u16, word: u64) {
-        let place = usize::from(y) * self.across() + usize::from(index);
-        let count = self.width - 64 * index;
-        self.words[place] = if count < 64 { word & ((1 << count) - 1) } else { word };
+    pub fn set_row(&mut self, y: u16, row: &[u64; 64]) {
+        let last = usize::from((self.width - 1) / 64);
+        let start = usize::from(y) * (last + 1);
+        for index in 0..last {
+            self.words[start + index] = row[index];
+        }
+        let count = self.width - 64 * last as u16;
+        self.words[start + last] = if count < 64 { row[last] & ((1 << count) - 1) } else { row[last] };
+        self.mark(y, row);
+    }
+    fn mark(&mut self, y: u16, row: &[u64; 64]) {
+        let bit = 1 << (y / 64);
+        if self.bands & bit == 0 && row.iter().fold(0, |all, word| all | word) != 0 {
+            self.bands |= bit;
+        }
     }
 }
 macro_rules! prove { ($e:expr) => {}; }

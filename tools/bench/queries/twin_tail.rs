@@ -16,7 +16,7 @@ impl Draws {
 
 fn sum(found: Option<(Cell, Near)>) -> u64 {
     match found {
-        Some((cell, near)) => u64::from(near.dist) + 3 * u64::from(cell.x) + 5 * u64::from(cell.y) + 7 * near.cell.x as u64 + 11 * near.cell.y as u64,
+        Some((cell, near)) => u64::from(near.dist) + 3 * u64::from(cell.x) + 5 * u64::from(cell.y) + 7 * u64::from(near.cell.x.unsigned_abs()) + 11 * u64::from(near.cell.y.unsigned_abs()),
         None => 1,
     }
 }
@@ -64,7 +64,7 @@ fn read_raw(bytes: &[u8]) -> Bitmap {
     let sides: Vec<u16> = sides.split(' ').map(|side| side.parse().unwrap()).collect();
     let (width, height) = (sides[0], sides[1]);
     let across = usize::from(width).div_ceil(64);
-    let mut bitmap = Bitmap { width, height, words: vec![0; across * usize::from(height)] };
+    let mut bitmap = Bitmap { width, height, words: vec![0; across * usize::from(height)], bands: 0 };
     read_words(&mut bitmap, lines.next().unwrap());
     bitmap
 }

@@ -30,7 +30,7 @@ export class Sight {
     return [(x - this.left) * this.scale, (y - this.top) * this.scale];
   }
 
-  /** The cell under a pixel; null beside the map. */
+  /** The cell under a pixel; null outside the map. */
   cell(px, py) {
     const x = Math.floor(px / this.scale + this.left);
     const y = Math.floor(py / this.scale + this.top);

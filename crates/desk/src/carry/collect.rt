@@ -15,7 +15,7 @@ ghost use Rattle.desk.specs.Carries.{CanCarry, IsCarried};
 use crate::holding::Holding;
 use epoch::kept_after;
 use map_core::{Reply, Seen};
-use shelf::{Asked, KeeperSeat, StoreName};
+use shelf::{KeeperSeat, Request, StoreName};
 
 /// Loads each reader's word, by number, and leaves there what it announces.
 fn scan_all<Id: StoreName>(
@@ -42,7 +42,7 @@ pub fn carry_collect<Id: StoreName>(
     keeper: &mut KeeperSeat<Id>,
     holding: &mut Holding,
     announced: &mut Vec<Option<Seen>>,
-    asked: &Asked,
+    asked: &Request,
 ) -> Reply
     requires able { CanCarry Id.store keeper.old holding.old }
     requires caller { asked.now.by < readers_of Id.store }
@@ -51,7 +51,8 @@ pub fn carry_collect<Id: StoreName>(
     requires judged { refused_by_ledger holding.old.ledger asked.now.command ≡ None }
     ensures carried { IsCarried keeper.old holding.old asked.now.by asked.now.command result keeper.new holding.new }
     ensures scanned { keeper.new ≡ collected Id.store.base keeper.old asked.now.by (map pin_word announced.new.items) }
-    ensures kept { holding.new.ledger.kept ≡ kept_scanned (story Id.store.base (entries keeper.old.log)) (map pin_word announced.new.items) }
+    ensures kept { holding.new.ledger.kept ≡ kept_scanned (story Id.store.base (entries keeper.old.log))
+        (map pin_word announced.new.items) }
     ensures place_each { length announced.new.items ≡ readers_of Id.store }
 {
     keeper.order(asked);

@@ -12,12 +12,12 @@ ghost use Rattle.shelf.specs.Store.{readers_of};
 ghost use Rattle.shelf.specs.Roles.{entries};
 ghost use Rattle.map_core.specs.Words.{IsPlan};
 ghost use Rattle.shelf.specs.Steps.{writing, one_own, IsOwn};
-ghost use Rattle.desk.specs.Holdings.{IsTold};
+ghost use Rattle.desk.specs.Holdings.{IsToldByLog};
 ghost use Rattle.desk.specs.Carries.{CanCarry, IsCarried};
 
 use crate::holding::Holding;
 use map_core::{Plan, Reply};
-use shelf::{Asked, KeeperSeat, StoreName};
+use shelf::{KeeperSeat, Request, StoreName};
 
 /// Stores the rows of one of the draft's own blocks, the one at this place among them, counted from 0.
 fn write_rows<Id: StoreName>(
@@ -30,7 +30,8 @@ fn write_rows<Id: StoreName>(
 )
     requires plan { IsPlan Id.store.base plan }
     requires in_hand { keeper.old ≡ writing keeper.old by (64 * index) }
-    requires own { (p : ℕ) × IsOwn Id.store.base keeper.old index block p × (rows.now ≡ tile_words (story Id.store.base (entries keeper.old.log)).draft p) }
+    requires own { (p : ℕ) × IsOwn Id.store.base keeper.old index block p
+        × (rows.now ≡ tile_words (story Id.store.base (entries keeper.old.log)).draft p) }
     ensures { keeper.new ≡ writing keeper.old by (64 * index + 64) }
 {
     for row in 0..64u32 {
@@ -48,7 +49,7 @@ fn write_tile<Id: StoreName>(
     position: u16,
 ) -> u32
     requires plan { IsPlan Id.store.base plan }
-    requires told { IsTold Id.store.base (entries keeper.old.log) holding.now }
+    requires told { IsToldByLog Id.store.base (entries keeper.old.log) holding.now }
     requires inside { position < tiles Id.store.base }
     requires in_hand { keeper.old ≡ writing keeper.old by (64 * index) }
     requires index { index ≡ length (own_list (take position (blocks Id.store.base (entries keeper.old.log)).own)) }
@@ -72,7 +73,7 @@ fn write_tiles<Id: StoreName>(
     by: u32,
 ) -> u32
     requires plan { IsPlan Id.store.base plan }
-    requires told { IsTold Id.store.base (entries keeper.old.log) holding.now }
+    requires told { IsToldByLog Id.store.base (entries keeper.old.log) holding.now }
     requires in_hand { keeper.old ≡ writing keeper.old by 0 }
     ensures keeper { keeper.new ≡ writing keeper.old by (64 * result) }
     ensures count { result ≡ length (own_list (blocks Id.store.base (entries keeper.old.log)).own) }
@@ -93,7 +94,7 @@ fn write_directory<Id: StoreName>(
     stored: u32,
 )
     requires plan { IsPlan Id.store.base plan }
-    requires told { IsTold Id.store.base (entries keeper.old.log) holding.now }
+    requires told { IsToldByLog Id.store.base (entries keeper.old.log) holding.now }
     requires in_hand { keeper.old ≡ writing keeper.old by (64 * stored) }
     requires stored { stored ≡ length (own_list (blocks Id.store.base (entries keeper.old.log)).own) }
     requires slot { length (members holding.now.ledger.kept.slots) < 64 }
@@ -110,7 +111,7 @@ fn write_directory<Id: StoreName>(
 pub fn carry_publish<Id: StoreName>(
     keeper: &mut KeeperSeat<Id>,
     holding: &mut Holding,
-    asked: &Asked,
+    asked: &Request,
 ) -> Reply
     requires able { CanCarry Id.store keeper.old holding.old }
     requires caller { asked.now.by < readers_of Id.store }

@@ -9,7 +9,7 @@ ghost use Rattle.desk.specs.Holdings.{CanAnswer, Refuses};
 ghost use Rattle.desk.specs.Judging.{IsJudged};
 ghost use Rattle.map_core.specs.Legal.{IsLegal};
 ghost use Rattle.shelf.specs.Roles.{entries};
-ghost use Rattle.desk.specs.Desks.{IsApplied, IsSteady, answer_of, base_place, kept_after, kept_part};
+ghost use Rattle.desk.specs.Desks.{IsApplied, IsSteady, answer_of, base_place, entries_kept_after, kept_part};
 
 use crate::carry::carry;
 use crate::desk::Desk;
@@ -18,13 +18,13 @@ use crate::holding::{Holding, Judged};
 use bits::Bitmap;
 use map_core::{Command, Entry, Reply};
 use metric::{Rect, Refusal};
-use shelf::{Asked, ReaderSeat, Signed, StoreName, Ticket, meet};
+use shelf::{ReaderSeat, Request, StoreEntry, StoreName, Ticket, meet};
 
 /// Judges a command, and finds room for its entry, which is asked for after the other refusals; a checkpoint needs none.
 fn admit<'a>(
     holding: &Holding,
     command: &'a Command,
-    log: &mut Vec<Signed>,
+    log: &mut Vec<StoreEntry>,
 ) -> Result<Judged<'a>, Refusal>
     requires { CanAnswer holding.now }
     ensures judged { IfOk result (IsJudged holding.now command.now) }
@@ -43,9 +43,9 @@ fn admit<'a>(
 }
 
 /// Keeps an entry after the others. A checkpoint drops them all, and isn't kept itself; the room stays.
-fn keep(log: &mut Vec<Signed>, signed: Signed)
+fn keep(log: &mut Vec<StoreEntry>, signed: StoreEntry)
     requires { takes_room signed.entry.command ≡ true → vec_len log.old < vec_capacity log.old }
-    ensures { log.new.items ≡ kept_after log.old.items signed }
+    ensures { log.new.items ≡ entries_kept_after log.old.items signed }
 {
     if signed.entry.command.takes_room() {
         log.push_reserved(signed);
@@ -69,7 +69,7 @@ impl<Id: StoreName> Desk<Id> {
         ensures back { IfErr result (λ back. back.0 ≡ command) }
     {
         meet(&mut self.keeper, seat);
-        let asked = Asked {
+        let asked = Request {
             by: seat.number(),
             command,
         };
@@ -84,9 +84,9 @@ impl<Id: StoreName> Desk<Id> {
             &asked,
             judged,
         );
-        let Asked { by, command } = asked;
+        let Request { by, command } = asked;
         let entry = Entry { command, reply };
-        keep(&mut self.log, Signed { by, entry });
+        keep(&mut self.log, StoreEntry { by, entry });
         meet(&mut self.keeper, seat);
         Ok(reply)
     }
@@ -168,7 +168,7 @@ impl<Id: StoreName> Desk<Id> {
     }
 
     /// The entries that are kept: each command that was accepted since the last checkpoint, with its reply and its session.
-    pub fn log(&self) -> &[Signed]
+    pub fn log(&self) -> &[StoreEntry]
         ensures kept { result.now ≡ kept_part Id.store self.now.log }
         ensures legal { IsLegal Id.store.base.setting Id.store.base.opening (entries self.now.log) }
     {

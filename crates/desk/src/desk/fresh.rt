@@ -10,7 +10,7 @@ use crate::holding::Holding;
 use bits::Bitmap;
 use map_core::{Seen, Setting};
 use metric::Refusal;
-use shelf::{FreshKeeper, Signed, StoreName};
+use shelf::{FreshKeeper, StoreEntry, StoreName};
 use std::alloc::Global;
 use std::marker::Model;
 
@@ -20,20 +20,20 @@ use std::marker::Model;
 pub struct FreshDesk {
     keeper: FreshKeeper,
     holding: Holding,
-    log: Vec<Signed>,
+    log: Vec<StoreEntry>,
     announced: Vec<Option<Seen>>,
 }
 
 impl Model for FreshDesk {
     ghost use Rattle.std.specs.Prelude.{◌≡◌, [], length};
     ghost use Rattle.shelf.specs.Store.{StoreId, readers_of};
-    ghost use Rattle.desk.specs.Holdings.{IsTold};
+    ghost use Rattle.desk.specs.Holdings.{IsToldByLog};
 
     ghost Value = { StoreId };
 
     ghost view = { λ d. d.keeper };
 
-    ghost invariant = { λ d. IsTold d.keeper.base [] d.holding × (d.log.items ≡ []) × (length d.announced.items ≡ readers_of d.keeper) };
+    ghost invariant = { λ d. IsToldByLog d.keeper.base [] d.holding × (d.log.items ≡ []) × (length d.announced.items ≡ readers_of d.keeper) };
 }
 
 impl FreshDesk {

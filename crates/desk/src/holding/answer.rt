@@ -3,7 +3,7 @@
 ghost use Rattle.std.specs.Prelude.{◌≡◌, None};
 ghost use Rattle.map_core.specs.declared.command.Command.{Command};
 ghost use Rattle.map_core.specs.declared.command.Command.TheVariants.{Publish, Revert, Collect, Checkpoint};
-ghost use Rattle.map_core.specs.Kept.{IsIn, IsPart};
+ghost use Rattle.map_core.specs.Kept.{IsIn, IsPartOfKept};
 ghost use Rattle.map_core.specs.Ledger.{refused_by_ledger};
 ghost use Rattle.desk.specs.declared.holding.judged.Judged.TheVariants as kinds;
 ghost use Rattle.desk.specs.Holdings.{CanAnswer, Does};
@@ -58,7 +58,7 @@ impl Holding {
     pub fn collect(&mut self, kept: Kept) -> Reply
         requires able { CanAnswer self.old }
         requires judged { refused_by_ledger self.old.ledger Collect ≡ None }
-        requires part { IsPart kept.slots self.old.ledger.kept.slots }
+        requires part { IsPartOfKept kept.slots self.old.ledger.kept.slots }
         requires newest { IsIn kept self.old.ledger.newest }
         ensures done { Does self.old Collect result self.new }
         ensures kept { self.new.ledger.kept ≡ kept }

@@ -2,12 +2,12 @@
 
 ghost use Rattle.std.specs.Prelude.{◌≡◌, ◌≢◌, ℕ, List, OnOk, IfErr, Err};
 ghost use Rattle.metric.specs.Stream.{Appends, AppendsFront, CanFail, Takes};
-ghost use Rattle.engines.specs.Passing.{Gathers};
+ghost use Rattle.engines.specs.streams.Passing.{Gathers};
 ghost use Rattle.engines.specs.declared.ask.Stop.TheVariants.{Net, Standard};
 
 use crate::ask::Stop;
 use crate::ask::request::without_end;
-use crate::gather::{Cut, read_count, read_line};
+use crate::streams::gather::{PartStop, read_count, read_line};
 use metric::Stream;
 use proto::{Verb, only_number, split_word, verb_of};
 
@@ -19,7 +19,8 @@ pub fn exchange<S: Stream>(stream: &mut S, request: &[u8], reply: &mut Vec<u8>) 
     ensures front { AppendsFront (S.held stream.old) request.now (S.held stream.new) }
     ensures all { OnOk result (Takes (S.rest stream.old) reply.new.items (S.rest stream.new)) }
     ensures taken { (taken : List ℕ) × Takes (S.rest stream.old) taken (S.rest stream.new) }
-    ensures counts { OnOk result ((S.failed_reads stream.new ≡ S.failed_reads stream.old) × (S.failed_writes stream.new ≡ S.failed_writes stream.old)) }
+    ensures counts { OnOk result ((S.failed_reads stream.new ≡ S.failed_reads stream.old)
+        × (S.failed_writes stream.new ≡ S.failed_writes stream.old)) }
     ensures net { result ≢ Err Standard }
 {
     send(stream, request)?;
@@ -58,13 +59,13 @@ fn read_reply<S: Stream>(stream: &mut S, dump: bool, reply: &mut Vec<u8>) -> Res
 {
     match read_whole(stream, dump, reply) {
         Ok(()) => Ok(()),
-        Err(Cut::Memory) => Err(Stop::Memory),
-        Err(Cut::Ended | Cut::Failed) => Err(Stop::Net),
+        Err(PartStop::Memory) => Err(Stop::Memory),
+        Err(PartStop::Ended | PartStop::Failed) => Err(Stop::Net),
     }
 }
 
 /// Reads a line after what the buffer holds, which is nothing, and the bytes that it counts where they are asked for.
-fn read_whole<S: Stream>(stream: &mut S, dump: bool, reply: &mut Vec<u8>) -> Result<(), Cut>
+fn read_whole<S: Stream>(stream: &mut S, dump: bool, reply: &mut Vec<u8>) -> Result<(), PartStop>
     requires { CanFail (S.failed_reads stream.old) }
     ensures all { OnOk result (Gathers (S.rest stream.old) reply.old.items reply.new.items (S.rest stream.new)) }
     ensures taken { (taken : List ℕ) × Takes (S.rest stream.old) taken (S.rest stream.new) }

@@ -4,12 +4,12 @@ ghost use Rattle.std.specs.Prelude.{◌≡◌, ◌≢◌, ◌++◌, ◌∷◌, [
 ghost use Rattle.std.specs.Str.Lines.{strip_carriage_return};
 ghost use Rattle.metric.specs.Stream.{CanFail, Takes};
 ghost use Rattle.proto.specs.Said.{said, verb_in};
-ghost use Rattle.engines.specs.Asking.{IsRequest, bytes_behind};
-ghost use Rattle.engines.specs.Passing.{EndsCut, Gathers};
-ghost use Rattle.engines.specs.declared.gather.Cut.TheVariants.{Ended, Failed};
+ghost use Rattle.engines.specs.ask.Asking.{IsRequest, bytes_behind};
+ghost use Rattle.engines.specs.streams.Passing.{EndsCut, Gathers};
+ghost use Rattle.engines.specs.declared.streams.gather.PartStop.TheVariants.{Ended, Failed};
 
 use crate::ask::Stop;
-use crate::gather::{Cut, read_count, read_line};
+use crate::streams::gather::{PartStop, read_count, read_line};
 use metric::Source;
 use proto::{Line, MOST_COUNTED, Verb, read_stamp, split_verb, without_cr};
 
@@ -25,14 +25,14 @@ pub fn read_request<R: Source>(reader: &mut R, request: &mut Vec<u8>) -> Result<
     request.clear();
     match read_whole(reader, request) {
         Ok(()) => Ok(true),
-        Err(Cut::Ended) => Ok(false),
-        Err(Cut::Failed) => Err(Stop::Standard),
-        Err(Cut::Memory) => Err(Stop::Memory),
+        Err(PartStop::Ended) => Ok(false),
+        Err(PartStop::Failed) => Err(Stop::Standard),
+        Err(PartStop::Memory) => Err(Stop::Memory),
     }
 }
 
 /// Reads a line and the bytes that it counts after what the buffer holds, which is nothing.
-fn read_whole<R: Source>(reader: &mut R, request: &mut Vec<u8>) -> Result<(), Cut>
+fn read_whole<R: Source>(reader: &mut R, request: &mut Vec<u8>) -> Result<(), PartStop>
     requires { CanFail (R.failed_reads reader.old) }
     ensures all { OnOk result (Gathers (R.rest reader.old) request.old.items request.new.items (R.rest reader.new)) }
     ensures taken { (taken : List ℕ) × Takes (R.rest reader.old) taken (R.rest reader.new) }

@@ -3,7 +3,7 @@
 ghost use Rattle.std.specs.Prelude.{◌≡◌, ◌≤◌, IfSome};
 
 use crate::serve::pause::Pause;
-use crate::socket::Socket;
+use crate::streams::socket::Socket;
 use proto::Streams;
 use std::alloc::Global;
 use std::net::{TcpListener, TcpStream};

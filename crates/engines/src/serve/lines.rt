@@ -1,7 +1,7 @@
-//! The lines of `serve`.
+//! The two lines that `serve` writes: its port, and at the end how much was served.
 
 ghost use Rattle.std.specs.Prelude.{◌≡◌, ◌≤◌, length};
-ghost use Rattle.engines.specs.Serving.{listening_text, served_text};
+ghost use Rattle.engines.specs.serve.Serving.{listening_text, served_text};
 
 use proto::Text;
 

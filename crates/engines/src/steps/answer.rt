@@ -2,7 +2,7 @@
 
 ghost use Rattle.std.specs.Prelude.{◌≡◌, ◌≤◌, ◌∷◌, ◌++◌, [], codes, length};
 ghost use Rattle.std.specs.Fmt.{decimal};
-ghost use Rattle.engines.specs.StepAnswers.{step_text};
+ghost use Rattle.engines.specs.steps.StepAnswers.{step_text};
 
 use map_core::{NotEnabled, StepReply};
 use proto::{Answer, Text, put_answer};

@@ -3,7 +3,7 @@
 ghost use Rattle.std.specs.Prelude.{◌≡◌};
 ghost use Rattle.proto.specs.Said.{first_verb, said_of};
 ghost use Rattle.proto.specs.Words.{words_left};
-ghost use Rattle.engines.specs.StepLines.{letter_named, letter_said, order_said, said, said_by};
+ghost use Rattle.engines.specs.steps.StepLines.{letter_named, letter_said, order_said, step_said, step_said_by};
 
 use map_core::Event;
 use metric::Refusal;
@@ -63,7 +63,7 @@ fn letter_of(word: &[u8]) -> Option<Letter>
 /// What the line of the protocol that is left of a line says. Only a command to the keeper says anything.
 #[tactic(auto, unfolding(proto::specs::Said::said, proto::specs::Said::verb_in))]
 fn order(rest: Option<&[u8]>) -> StepLine
-    ensures { said_by result ≡ order_said (first_verb (words_left rest.entry)) (said_of (words_left rest.entry)) }
+    ensures { step_said_by result ≡ order_said (first_verb (words_left rest.entry)) (said_of (words_left rest.entry)) }
 {
     let Some(line) = rest else {
         return StepLine::Bad;
@@ -79,7 +79,7 @@ fn order(rest: Option<&[u8]>) -> StepLine
 
 /// What a letter says with what is left of its line.
 fn letter_line(letter: Letter, rest: Option<&[u8]>) -> StepLine
-    ensures { said_by result ≡ letter_said letter (words_left rest.entry) }
+    ensures { step_said_by result ≡ letter_said letter (words_left rest.entry) }
 {
     match letter {
         Letter::Announce => match only_number(rest) {
@@ -115,9 +115,9 @@ fn letter_line(letter: Letter, rest: Option<&[u8]>) -> StepLine
 }
 
 /// What a line says, without its LF and the CR before it.
-#[tactic(auto, unfolding(crate::specs::StepLines::said))]
+#[tactic(auto, unfolding(crate::specs::steps::StepLines::step_said))]
 pub fn parse_step(line: &[u8]) -> StepLine
-    ensures { said_by result ≡ said line.now }
+    ensures { step_said_by result ≡ step_said line.now }
 {
     let (word, rest) = split_word(line);
     match letter_of(word) {

@@ -6,8 +6,8 @@ ghost use Rattle.map_core.specs.Runs.{IsOpened};
 ghost use Rattle.map_core.specs.Words.{tiles};
 ghost use Rattle.proto.specs.Numbers.{numbers};
 ghost use Rattle.proto.specs.Words.{words_left};
-ghost use Rattle.engines.specs.Refusals.{HasWordsAlone};
-ghost use Rattle.engines.specs.Opening.{base_of, is_side, judged, opening_told, setting_of};
+ghost use Rattle.engines.specs.words.Refusals.{HasWordsAlone};
+ghost use Rattle.engines.specs.steps.Opening.{base_opened, is_map_side, judged, opening_told, setting_of};
 
 use bits::Bitmap;
 use map_core::{Setting, World};
@@ -17,7 +17,7 @@ use std::alloc::Global;
 
 /// What a first line tells: a blank map, and the room of its world.
 #[derive(Clone, Copy)]
-pub struct Opening {
+pub struct OpenLine {
     /// Columns, 1 to 4096.
     pub width: u16,
     /// Rows, 1 to 4096.
@@ -35,7 +35,7 @@ pub struct Opened {
 
 /// A side of a map, if the number is one.
 fn side(number: u32) -> Option<u16>
-    ensures { MatchOption result (is_side number ≡ false) (λ side. (side ≡ number) × (is_side number ≡ true)) }
+    ensures { MatchOption result (is_map_side number ≡ false) (λ side. (side ≡ number) × (is_map_side number ≡ true)) }
 {
     if 1 <= number && number <= 4096 {
         Some(number as u16)
@@ -59,10 +59,10 @@ fn read_setting(rest: Option<&[u8]>) -> Option<Setting>
     })
 }
 
-impl Opening {
+impl OpenLine {
     /// What a first line tells, without its LF and the CR before it.
-    #[tactic(auto, unfolding(crate::specs::Opening::opening_told))]
-    pub fn parse(line: &[u8]) -> Option<Opening>
+    #[tactic(auto, unfolding(crate::specs::steps::Opening::opening_told))]
+    pub fn parse(line: &[u8]) -> Option<OpenLine>
         ensures told { result ≡ opening_told line.now }
         ensures width { IfSome result (λ opening. IsSide opening.width) }
         ensures height { IfSome result (λ opening. IsSide opening.height) }
@@ -76,7 +76,7 @@ impl Opening {
         let setting = read_setting(rest)?;
         let width = side(width)?;
         let height = side(height)?;
-        Some(Opening {
+        Some(OpenLine {
             width,
             height,
             setting,
@@ -87,12 +87,13 @@ impl Opening {
 impl Opened {
     /// The world that a first line opens. Memory can be wanting for a map and a setting alone that are good.
     pub fn of(alloc: Global, line: &[u8]) -> Result<Self, Refusal>
-        ensures opened { IfOk result (λ opened. (opening : Opening) × (judged (opening_told line.now) ≡ Ok opening) × IsOpened (base_of opening) opened.world × (opened.tiles ≡ tiles (base_of opening))) }
+        ensures opened { IfOk result (λ opened. (opening : OpenLine) × (judged (opening_told line.now) ≡ Ok opening)
+            × IsOpened (base_opened opening) opened.world × (opened.tiles ≡ tiles (base_opened opening))) }
         ensures refusal { IfErr result (λ refusal. refusal ≢ Refusal.Memory → judged (opening_told line.now) ≡ Err refusal) }
         ensures memory { result ≡ Err Refusal.Memory → IsOk (judged (opening_told line.now)) }
         ensures words { IfErr result HasWordsAlone }
     {
-        let Some(opening) = Opening::parse(line) else {
+        let Some(opening) = OpenLine::parse(line) else {
             return Err(Refusal::BadArguments);
         };
         opening.setting.fits_size(opening.width, opening.height)?;

@@ -2,17 +2,17 @@
 
 ghost use Rattle.std.specs.Prelude.{◌≡◌, ◌≤◌, ◌∷◌, ◌++◌, [], length, IfOk, OnOk, OnErr};
 ghost use Rattle.metric.specs.Stream.{Appends, AppendsFront, Counts, CanFail};
-ghost use Rattle.engines.specs.StepLines.{said};
-ghost use Rattle.engines.specs.StepRuns.{IsAnswerLine, IsDone, IsDoneInPart, IsTold, IsToldInPart};
-ghost use Rattle.engines.specs.Steps.{IsBegun, IsWritten, KeepsAll};
-ghost use Rattle.engines.specs.TextLines.{lines_of};
+ghost use Rattle.engines.specs.steps.StepLines.{step_said};
+ghost use Rattle.engines.specs.steps.StepRuns.{IsAnswerLine, AreLinesDone, IsDoneInPart, IsWorldTold, IsToldInPart};
+ghost use Rattle.engines.specs.steps.Steps.{IsBegun, IsAnsweredWhole, KeepsAll};
+ghost use Rattle.engines.specs.streams.TextLines.{lines_of};
 
 use crate::DONE;
-use crate::output::write_refusal;
 use crate::steps::answer::{bad_line, opened_line, step_line};
 use crate::steps::line::{StepLine, parse_step};
 use crate::steps::opening::Opened;
 use crate::steps::text::split_line;
+use crate::streams::output::write_refusal;
 use map_core::{Event, NotEnabled, StepReply, World};
 use metric::{Refusal, Sink, WriteFault};
 use proto::{Answer, Text, reply_text};
@@ -34,7 +34,7 @@ fn keep(alloc: Global, world: &mut World, count: u32) -> Result<StepReply, NotEn
 
 /// Does what a line says, and writes its answer line over what the text held.
 fn answer_line(alloc: Global, world: &mut World, line: &[u8], text: &mut Text)
-    ensures answered { IsAnswerLine (said line.now) world.old text.new world.new }
+    ensures answered { IsAnswerLine (step_said line.now) world.old text.new world.new }
     ensures fits { length text.new ≤ 128 }
 {
     match parse_step(line) {
@@ -54,7 +54,7 @@ fn answer_lines<W: Sink>(
     writer: &mut W,
 ) -> Result<(), WriteFault>
     requires { CanFail (W.failed_writes writer.old) }
-    ensures all { OnOk result (IsDone world.old (lines_of lines.now) (W.held writer.old) (W.held writer.new) world.new) }
+    ensures all { OnOk result (AreLinesDone world.old (lines_of lines.now) (W.held writer.old) (W.held writer.new) world.new) }
     ensures front { OnErr result (IsDoneInPart world.old (lines_of lines.now) (W.held writer.old) (W.held writer.new)) }
     ensures counts { Counts (W.failed_writes writer.old) result (W.failed_writes writer.new) }
 {
@@ -76,7 +76,7 @@ fn write_world<W: Sink>(
 ) -> Result<u8, WriteFault>
     requires { CanFail (W.failed_writes writer.old) }
     ensures status { IfOk result (λ status. status ≡ 0) }
-    ensures whole { OnOk result (IsTold opened.world opened.tiles (lines_of lines.now) (W.held writer.old) (W.held writer.new)) }
+    ensures whole { OnOk result (IsWorldTold opened.world opened.tiles (lines_of lines.now) (W.held writer.old) (W.held writer.new)) }
     ensures front { OnErr result (IsToldInPart opened.world opened.tiles (lines_of lines.now) (W.held writer.old) (W.held writer.new)) }
     ensures counts { Counts (W.failed_writes writer.old) result (W.failed_writes writer.new) }
 {
@@ -95,7 +95,7 @@ fn write_world<W: Sink>(
 /// Writes the answer to a text.
 pub fn write_steps<W: Sink>(alloc: Global, bytes: &[u8], writer: &mut W) -> Result<u8, WriteFault>
     requires { CanFail (W.failed_writes writer.old) }
-    ensures whole { IfOk result (IsWritten bytes.now (W.held writer.old) (W.held writer.new)) }
+    ensures whole { IfOk result (IsAnsweredWhole bytes.now (W.held writer.old) (W.held writer.new)) }
     ensures front { OnErr result (IsBegun bytes.now (W.held writer.old) (W.held writer.new)) }
     ensures counts { Counts (W.failed_writes writer.old) result (W.failed_writes writer.new) }
 {

@@ -1,7 +1,7 @@
 //! The lines of a text.
 
 ghost use Rattle.std.specs.Prelude.{◌≡◌, ◌==◌, ◌∷◌, ◌<◌, [], length, position, IfSome, MatchOption};
-ghost use Rattle.engines.specs.TextLines.{lines_of};
+ghost use Rattle.engines.specs.streams.TextLines.{lines_of};
 
 use proto::without_cr;
 

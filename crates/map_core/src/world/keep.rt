@@ -1,4 +1,4 @@
-//! The steps of a command in hand.
+//! The keeper's steps of the command in hand: the words that a publish stores, those that a collect loads, and which step is next.
 
 ghost use Rattle.std.specs.Prelude.{◌≡◌, ◌<◌, length, Ok, None};
 ghost use Rattle.map_core.specs.Legal.{refused};

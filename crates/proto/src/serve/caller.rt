@@ -7,7 +7,7 @@ ghost use Rattle.proto.specs.Asked.{asked_by};
 ghost use Rattle.proto.specs.Callers.{IsCommanded, IsPinAnswer, IsUnpinAnswer, free, told_as};
 ghost use Rattle.proto.specs.Exchanges.{IsQueryAnswer, WithPin};
 ghost use Rattle.proto.specs.Served.{IsDumpSaid};
-ghost use Rattle.proto.specs.Wire.{CanGoOn, wire_of};
+ghost use Rattle.proto.specs.Wire.{CanGoOn};
 
 use crate::answer::Answer;
 use crate::answering::answer_of;
@@ -91,9 +91,9 @@ impl<Id: StoreName> Caller<Id> {
 
     /// Says what DUMP is answered: the plain image of the bitmap that it has pinned follows the number of its bytes. Answers how the stream ends there, if it does.
     pub fn dump<S: Stream>(&mut self, alloc: Global, stream: &mut S, text: &mut Text) -> Option<End>
-        requires { CanGoOn (wire_of S.rest S.held S.failed_reads S.failed_writes stream.old) }
+        requires { CanGoOn (S.wire stream.old) }
         ensures caller { self.new ≡ self.old }
-        ensures said { IsDumpSaid Id.store result (wire_of S.rest S.held S.failed_reads S.failed_writes stream.old) self.old (wire_of S.rest S.held S.failed_reads S.failed_writes stream.new) }
+        ensures said { IsDumpSaid Id.store result (S.wire stream.old) self.old (S.wire stream.new) }
     {
         match &mut self.seat {
             Seat::Free(_) => say_not_pinned(stream, text),

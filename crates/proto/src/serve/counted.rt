@@ -2,7 +2,7 @@
 
 ghost use Rattle.std.specs.Prelude.{◌≡◌, ◌≤◌, [], length, vec_capacity, None, Some, IfOk, IfErr, OnOk};
 ghost use Rattle.proto.specs.Served.{HasCounted, IsCutShort};
-ghost use Rattle.proto.specs.Wire.{CanGoOn, wire_of};
+ghost use Rattle.proto.specs.Wire.{CanGoOn};
 
 use crate::serve::end::End;
 use crate::serve::wire::take_byte;
@@ -15,9 +15,9 @@ pub fn read_counted<S: Stream>(
     stream: &mut S,
     count: u32,
 ) -> Result<Option<Vec<u8>>, End>
-    requires { CanGoOn (wire_of S.rest S.held S.failed_reads S.failed_writes stream.old) }
-    ensures counted { IfOk result (λ kept. HasCounted count kept (wire_of S.rest S.held S.failed_reads S.failed_writes stream.old) (wire_of S.rest S.held S.failed_reads S.failed_writes stream.new)) }
-    ensures cut { IfErr result (λ end. IsCutShort count end (wire_of S.rest S.held S.failed_reads S.failed_writes stream.old) (wire_of S.rest S.held S.failed_reads S.failed_writes stream.new)) }
+    requires { CanGoOn (S.wire stream.old) }
+    ensures counted { IfOk result (λ kept. HasCounted count kept (S.wire stream.old) (S.wire stream.new)) }
+    ensures cut { IfErr result (λ end. IsCutShort count end (S.wire stream.old) (S.wire stream.new)) }
 {
     match Vec::with_capacity(alloc, count as usize) {
         Ok(room) => keep(stream, room, count),
@@ -27,11 +27,11 @@ pub fn read_counted<S: Stream>(
 
 /// Reads so many bytes, for which there is room.
 fn keep<S: Stream>(stream: &mut S, room: Vec<u8>, count: u32) -> Result<Option<Vec<u8>>, End>
-    requires stream { CanGoOn (wire_of S.rest S.held S.failed_reads S.failed_writes stream.old) }
+    requires stream { CanGoOn (S.wire stream.old) }
     requires room { count ≤ vec_capacity room }
     requires empty { room.items ≡ [] }
-    ensures counted { IfOk result (λ kept. HasCounted count kept (wire_of S.rest S.held S.failed_reads S.failed_writes stream.old) (wire_of S.rest S.held S.failed_reads S.failed_writes stream.new)) }
-    ensures cut { IfErr result (λ end. IsCutShort count end (wire_of S.rest S.held S.failed_reads S.failed_writes stream.old) (wire_of S.rest S.held S.failed_reads S.failed_writes stream.new)) }
+    ensures counted { IfOk result (λ kept. HasCounted count kept (S.wire stream.old) (S.wire stream.new)) }
+    ensures cut { IfErr result (λ end. IsCutShort count end (S.wire stream.old) (S.wire stream.new)) }
 {
     let mut bytes = room;
     'bytes: for _ in 0..count {
@@ -46,9 +46,9 @@ fn keep<S: Stream>(stream: &mut S, room: Vec<u8>, count: u32) -> Result<Option<V
 
 /// Reads so many bytes and keeps none.
 fn skip<S: Stream>(stream: &mut S, count: u32) -> Result<Option<Vec<u8>>, End>
-    requires { CanGoOn (wire_of S.rest S.held S.failed_reads S.failed_writes stream.old) }
-    ensures counted { IfOk result (λ kept. HasCounted count kept (wire_of S.rest S.held S.failed_reads S.failed_writes stream.old) (wire_of S.rest S.held S.failed_reads S.failed_writes stream.new)) }
-    ensures cut { IfErr result (λ end. IsCutShort count end (wire_of S.rest S.held S.failed_reads S.failed_writes stream.old) (wire_of S.rest S.held S.failed_reads S.failed_writes stream.new)) }
+    requires { CanGoOn (S.wire stream.old) }
+    ensures counted { IfOk result (λ kept. HasCounted count kept (S.wire stream.old) (S.wire stream.new)) }
+    ensures cut { IfErr result (λ end. IsCutShort count end (S.wire stream.old) (S.wire stream.new)) }
 {
     'bytes: for _ in 0..count {
         match take_byte(stream) {

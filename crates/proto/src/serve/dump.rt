@@ -8,7 +8,7 @@ ghost use Rattle.metric.specs.declared.refusal.Refusal.TheVariants.{NotPinned};
 ghost use Rattle.proto.specs.declared.answer.Answer.TheVariants as answers;
 ghost use Rattle.proto.specs.Served.{IsDumped, IsSaid, end_after};
 ghost use Rattle.proto.specs.Replies.{reply_line};
-ghost use Rattle.proto.specs.Wire.{CanGoOn, HasNotWritten, HasWritten, wire_of};
+ghost use Rattle.proto.specs.Wire.{CanGoOn, HasNotWritten, HasWritten};
 
 use crate::answer::Answer;
 use crate::reply::reply_text;
@@ -28,8 +28,8 @@ pub fn say_dump<S: Stream>(
     stream: &mut S,
     text: &mut Text,
 ) -> Option<End>
-    requires { CanGoOn (wire_of S.rest S.held S.failed_reads S.failed_writes stream.old) }
-    ensures { IsDumped bitmap.now result (wire_of S.rest S.held S.failed_reads S.failed_writes stream.old) (wire_of S.rest S.held S.failed_reads S.failed_writes stream.new) }
+    requires { CanGoOn (S.wire stream.old) }
+    ensures { IsDumped bitmap.now result (S.wire stream.old) (S.wire stream.new) }
 {
     match first_piece(alloc, bitmap) {
         Ok(mut piece) => {
@@ -42,8 +42,8 @@ pub fn say_dump<S: Stream>(
 
 /// Says what DUMP is answered without a pin. Answers how the stream ends there, if it does.
 pub fn say_not_pinned<S: Stream>(stream: &mut S, text: &mut Text) -> Option<End>
-    requires { CanGoOn (wire_of S.rest S.held S.failed_reads S.failed_writes stream.old) }
-    ensures { IsSaid result (wire_of S.rest S.held S.failed_reads S.failed_writes stream.old) (reply_line (answers.Refused NotPinned)) (wire_of S.rest S.held S.failed_reads S.failed_writes stream.new) }
+    requires { CanGoOn (S.wire stream.old) }
+    ensures { IsSaid result (S.wire stream.old) (reply_line (answers.Refused NotPinned)) (S.wire stream.new) }
 {
     end_of(say(stream, text, &Answer::Refused(Refusal::NotPinned)))
 }
@@ -66,11 +66,11 @@ fn put_dump<S: Stream>(
     bitmap: &Bitmap,
     piece: &mut Vec<u8>,
 ) -> Result<(), WriteFault>
-    requires wire { CanGoOn (wire_of S.rest S.held S.failed_reads S.failed_writes stream.old) }
+    requires wire { CanGoOn (S.wire stream.old) }
     requires first { piece.old.items ≡ front_text Plain bitmap.now }
     requires room { 65536 ≤ vec_capacity piece.old }
-    ensures whole { OnOk result (HasWritten (wire_of S.rest S.held S.failed_reads S.failed_writes stream.old) (reply_line answer.now ++ plain_text bitmap.now) (wire_of S.rest S.held S.failed_reads S.failed_writes stream.new)) }
-    ensures front { OnErr result (HasNotWritten (wire_of S.rest S.held S.failed_reads S.failed_writes stream.old) (reply_line answer.now ++ plain_text bitmap.now) (wire_of S.rest S.held S.failed_reads S.failed_writes stream.new)) }
+    ensures whole { OnOk result (HasWritten (S.wire stream.old) (reply_line answer.now ++ plain_text bitmap.now) (S.wire stream.new)) }
+    ensures front { OnErr result (HasNotWritten (S.wire stream.old) (reply_line answer.now ++ plain_text bitmap.now) (S.wire stream.new)) }
 {
     match say(stream, text, answer) {
         Ok(()) => put_image(stream, bitmap, piece),
@@ -84,11 +84,11 @@ fn put_image<S: Stream>(
     bitmap: &Bitmap,
     piece: &mut Vec<u8>,
 ) -> Result<(), WriteFault>
-    requires wire { CanGoOn (wire_of S.rest S.held S.failed_reads S.failed_writes stream.old) }
+    requires wire { CanGoOn (S.wire stream.old) }
     requires first { piece.old.items ≡ front_text Plain bitmap.now }
     requires room { 65536 ≤ vec_capacity piece.old }
-    ensures whole { OnOk result (HasWritten (wire_of S.rest S.held S.failed_reads S.failed_writes stream.old) (plain_text bitmap.now) (wire_of S.rest S.held S.failed_reads S.failed_writes stream.new)) }
-    ensures front { OnErr result (HasNotWritten (wire_of S.rest S.held S.failed_reads S.failed_writes stream.old) (plain_text bitmap.now) (wire_of S.rest S.held S.failed_reads S.failed_writes stream.new)) }
+    ensures whole { OnOk result (HasWritten (S.wire stream.old) (plain_text bitmap.now) (S.wire stream.new)) }
+    ensures front { OnErr result (HasNotWritten (S.wire stream.old) (plain_text bitmap.now) (S.wire stream.new)) }
 {
     match put(stream, piece.as_slice()) {
         Ok(()) => put_rows(stream, bitmap, piece),
@@ -102,10 +102,12 @@ fn put_rows<S: Stream>(
     bitmap: &Bitmap,
     piece: &mut Vec<u8>,
 ) -> Result<(), WriteFault>
-    requires wire { CanGoOn (wire_of S.rest S.held S.failed_reads S.failed_writes stream.old) }
+    requires wire { CanGoOn (S.wire stream.old) }
     requires room { 65536 ≤ vec_capacity piece.old }
-    ensures whole { OnOk result (HasWritten (wire_of S.rest S.held S.failed_reads S.failed_writes stream.old) (flat_map (plain_digit bitmap.now) (range_with_len 0 (bitmap.now.height * bitmap.now.width))) (wire_of S.rest S.held S.failed_reads S.failed_writes stream.new)) }
-    ensures front { OnErr result (HasNotWritten (wire_of S.rest S.held S.failed_reads S.failed_writes stream.old) (flat_map (plain_digit bitmap.now) (range_with_len 0 (bitmap.now.height * bitmap.now.width))) (wire_of S.rest S.held S.failed_reads S.failed_writes stream.new)) }
+    ensures whole { OnOk result (HasWritten (S.wire stream.old)
+        (flat_map (plain_digit bitmap.now) (range_with_len 0 (bitmap.now.height * bitmap.now.width))) (S.wire stream.new)) }
+    ensures front { OnErr result (HasNotWritten (S.wire stream.old)
+        (flat_map (plain_digit bitmap.now) (range_with_len 0 (bitmap.now.height * bitmap.now.width))) (S.wire stream.new)) }
 {
     let height = bitmap.height();
     let mut y = 0;

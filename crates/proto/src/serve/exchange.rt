@@ -1,7 +1,7 @@
 //! What one line is answered.
 
 ghost use Rattle.std.specs.Prelude.{◌≡◌, ◌≢◌, ℕ, List, Ok, true, false};
-ghost use Rattle.proto.specs.Exchanges.{IsLineAnswer, IsStampAnswer, seen_in, with_pin};
+ghost use Rattle.proto.specs.Exchanges.{IsLineAnswer, IsStampAnswer, line_seen_in, with_pin};
 ghost use Rattle.proto.specs.Said as saids;
 ghost use Rattle.proto.specs.Served.{AreKept};
 
@@ -18,8 +18,8 @@ use std::sync::Wait;
 
 /// Whether a line says QUIT.
 pub fn says_quit(asked: &Result<Line, Refusal>) -> bool
-    ensures yes { result ≡ true → seen_in asked.now ≡ Ok saids.quit }
-    ensures no { result ≡ false → seen_in asked.now ≢ Ok saids.quit }
+    ensures yes { result ≡ true → line_seen_in asked.now ≡ Ok saids.quit }
+    ensures no { result ≡ false → line_seen_in asked.now ≢ Ok saids.quit }
 {
     match asked {
         Ok(Line::Quit) => true,
@@ -29,8 +29,8 @@ pub fn says_quit(asked: &Result<Line, Refusal>) -> bool
 
 /// Whether a line says DUMP.
 pub fn says_dump(asked: &Result<Line, Refusal>) -> bool
-    ensures yes { result ≡ true → seen_in asked.now ≡ Ok saids.dump }
-    ensures no { result ≡ false → seen_in asked.now ≢ Ok saids.dump }
+    ensures yes { result ≡ true → line_seen_in asked.now ≡ Ok saids.dump }
+    ensures no { result ≡ false → line_seen_in asked.now ≢ Ok saids.dump }
 {
     match asked {
         Ok(Line::Dump) => true,
@@ -47,9 +47,9 @@ pub fn answer_line<Id: StoreName, R: Wait>(
     asked: Result<Line, Refusal>,
     kept: Option<Vec<u8>>,
 ) -> (Caller<Id>, Answer)
-    requires quit { seen_in asked ≢ Ok saids.quit }
-    requires dump { seen_in asked ≢ Ok saids.dump }
-    ensures { (bytes : List ℕ) → AreKept kept bytes → IsLineAnswer Id.store (seen_in asked) bytes caller result.1 result.0 }
+    requires quit { line_seen_in asked ≢ Ok saids.quit }
+    requires dump { line_seen_in asked ≢ Ok saids.dump }
+    ensures { (bytes : List ℕ) → AreKept kept bytes → IsLineAnswer Id.store (line_seen_in asked) bytes caller result.1 result.0 }
 {
     let mut caller = caller;
     match asked {

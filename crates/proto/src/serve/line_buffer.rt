@@ -4,7 +4,7 @@ ghost use Rattle.std.specs.Prelude.{◌≡◌, ◌∷◌, ◌++◌, [], IfOk, If
 ghost use Rattle.metric.specs.declared.refusal.Refusal.TheVariants.{Memory};
 ghost use Rattle.proto.specs.Exchanges.{IsLine};
 ghost use Rattle.proto.specs.Served.{IsLineStop};
-ghost use Rattle.proto.specs.Wire.{CanGoOn, HasRead, wire_of};
+ghost use Rattle.proto.specs.Wire.{CanGoOn, HasRead};
 
 use crate::serve::end::End;
 use crate::serve::wire::take_byte;
@@ -52,10 +52,10 @@ impl LineBuffer {
 
     /// Reads a line to its LF, which isn't kept. Otherwise it answers how the stream ends: within the line, or at too many bytes without an LF.
     pub fn read<S: Stream>(&mut self, stream: &mut S) -> Result<(), End>
-        requires { CanGoOn (wire_of S.rest S.held S.failed_reads S.failed_writes stream.old) }
+        requires { CanGoOn (S.wire stream.old) }
         ensures line { OnOk result (IsLine self.new) }
-        ensures bytes { OnOk result (HasRead 0 (wire_of S.rest S.held S.failed_reads S.failed_writes stream.old) (self.new ++ 10 ∷ []) (wire_of S.rest S.held S.failed_reads S.failed_writes stream.new)) }
-        ensures stop { IfErr result (λ end. IsLineStop end (wire_of S.rest S.held S.failed_reads S.failed_writes stream.old) self.new (wire_of S.rest S.held S.failed_reads S.failed_writes stream.new)) }
+        ensures bytes { OnOk result (HasRead 0 (S.wire stream.old) (self.new ++ 10 ∷ []) (S.wire stream.new)) }
+        ensures stop { IfErr result (λ end. IsLineStop end (S.wire stream.old) self.new (S.wire stream.new)) }
     {
         self.bytes.clear();
         'bytes: for _ in 0..MOST_BYTES {

@@ -3,7 +3,7 @@
 ghost use Rattle.std.specs.Prelude.{OnOk, OnErr};
 ghost use Rattle.proto.specs.Replies.{reply_line};
 ghost use Rattle.proto.specs.Served.{HasSaid};
-ghost use Rattle.proto.specs.Wire.{CanGoOn, HasNotWritten, HasWritten, wire_of};
+ghost use Rattle.proto.specs.Wire.{CanGoOn, HasNotWritten, HasWritten};
 
 use crate::answer::Answer;
 use crate::reply::reply_text;
@@ -14,9 +14,9 @@ use metric::{Stream, WriteFault};
 
 /// Writes a reply line.
 pub fn say<S: Stream>(stream: &mut S, text: &mut Text, answer: &Answer) -> Result<(), WriteFault>
-    requires { CanGoOn (wire_of S.rest S.held S.failed_reads S.failed_writes stream.old) }
-    ensures whole { OnOk result (HasWritten (wire_of S.rest S.held S.failed_reads S.failed_writes stream.old) (reply_line answer.now) (wire_of S.rest S.held S.failed_reads S.failed_writes stream.new)) }
-    ensures front { OnErr result (HasNotWritten (wire_of S.rest S.held S.failed_reads S.failed_writes stream.old) (reply_line answer.now) (wire_of S.rest S.held S.failed_reads S.failed_writes stream.new)) }
+    requires { CanGoOn (S.wire stream.old) }
+    ensures whole { OnOk result (HasWritten (S.wire stream.old) (reply_line answer.now) (S.wire stream.new)) }
+    ensures front { OnErr result (HasNotWritten (S.wire stream.old) (reply_line answer.now) (S.wire stream.new)) }
 {
     reply_text(answer, text);
     put(stream, text.as_bytes())
@@ -24,8 +24,8 @@ pub fn say<S: Stream>(stream: &mut S, text: &mut Text, answer: &Answer) -> Resul
 
 /// Writes the last reply line of a stream, which is passed on at once. Answers how the stream ends: as it was to, or by a failed write.
 pub fn say_last<S: Stream>(stream: &mut S, text: &mut Text, answer: &Answer, end: End) -> End
-    requires { CanGoOn (wire_of S.rest S.held S.failed_reads S.failed_writes stream.old) }
-    ensures { HasSaid end result (wire_of S.rest S.held S.failed_reads S.failed_writes stream.old) (reply_line answer.now) (wire_of S.rest S.held S.failed_reads S.failed_writes stream.new) }
+    requires { CanGoOn (S.wire stream.old) }
+    ensures { HasSaid end result (S.wire stream.old) (reply_line answer.now) (S.wire stream.new) }
 {
     reply_text(answer, text);
     match put_now(stream, text.as_bytes()) {
@@ -36,9 +36,9 @@ pub fn say_last<S: Stream>(stream: &mut S, text: &mut Text, answer: &Answer, end
 
 /// Writes a text and passes it on.
 fn put_now<S: Stream>(stream: &mut S, text: &[u8]) -> Result<(), WriteFault>
-    requires { CanGoOn (wire_of S.rest S.held S.failed_reads S.failed_writes stream.old) }
-    ensures whole { OnOk result (HasWritten (wire_of S.rest S.held S.failed_reads S.failed_writes stream.old) text.now (wire_of S.rest S.held S.failed_reads S.failed_writes stream.new)) }
-    ensures front { OnErr result (HasNotWritten (wire_of S.rest S.held S.failed_reads S.failed_writes stream.old) text.now (wire_of S.rest S.held S.failed_reads S.failed_writes stream.new)) }
+    requires { CanGoOn (S.wire stream.old) }
+    ensures whole { OnOk result (HasWritten (S.wire stream.old) text.now (S.wire stream.new)) }
+    ensures front { OnErr result (HasNotWritten (S.wire stream.old) text.now (S.wire stream.new)) }
 {
     match put(stream, text) {
         Ok(()) => pass_on(stream),

@@ -1,10 +1,11 @@
 //! One line of a stream: read, answered, and its answer said.
 
 ghost use Rattle.std.specs.Prelude.{◌≡◌, ◌≢◌, ◌∷◌, ◌++◌, [], Ok};
-ghost use Rattle.proto.specs.Exchanges.{IsLine, line_said, counts, seen_in};
+ghost use Rattle.proto.specs.Exchanges.{IsLine, line_said, counts, line_seen_in};
 ghost use Rattle.proto.specs.Said as saids;
 ghost use Rattle.proto.specs.Served.{HasAnswered, HasCounted, IsHeard, IsServed};
-ghost use Rattle.proto.specs.Wire.{CanGoOn, HasRead, Wire, wire_of};
+ghost use Rattle.metric.specs.Wire.{Wire};
+ghost use Rattle.proto.specs.Wire.{CanGoOn, HasRead};
 
 use crate::answer::Answer;
 use crate::line::{Line, parse_line};
@@ -36,8 +37,8 @@ pub fn serve_line<Id: StoreName, R: Wait, S: Stream>(
     line: &mut LineBuffer,
     text: &mut Text,
 ) -> (Caller<Id>, Option<End>)
-    requires { CanGoOn (wire_of S.rest S.held S.failed_reads S.failed_writes stream.old) }
-    ensures { IsServed Id.store result.1 (wire_of S.rest S.held S.failed_reads S.failed_writes stream.old) caller (wire_of S.rest S.held S.failed_reads S.failed_writes stream.new) result.0 }
+    requires { CanGoOn (S.wire stream.old) }
+    ensures { IsServed Id.store result.1 (S.wire stream.old) caller (S.wire stream.new) result.0 }
 {
     match line.read(stream) {
         Ok(()) => serve_read(rt, alloc, store, caller, stream, line.as_bytes(), text),
@@ -60,10 +61,10 @@ fn serve_read<Id: StoreName, R: Wait, S: Stream>(
     line: &[u8],
     text: &mut Text,
 ) -> (Caller<Id>, Option<End>)
-    requires wire { CanGoOn (wire_of S.rest S.held S.failed_reads S.failed_writes stream.old) }
+    requires wire { CanGoOn (S.wire stream.old) }
     requires line { IsLine line.now }
-    ensures { (before : Wire) → HasRead 0 before (line.now ++ 10 ∷ []) (wire_of S.rest S.held S.failed_reads S.failed_writes stream.old)
-        → IsServed Id.store result.1 before caller (wire_of S.rest S.held S.failed_reads S.failed_writes stream.new) result.0 }
+    ensures { (before : Wire) → HasRead 0 before (line.now ++ 10 ∷ []) (S.wire stream.old)
+        → IsServed Id.store result.1 before caller (S.wire stream.new) result.0 }
 {
     let asked = hear(alloc, line);
     if says_quit(&asked) {
@@ -94,9 +95,9 @@ fn serve_whole<Id: StoreName, R: Wait, S: Stream>(
     stream: &mut S,
     text: &mut Text,
 ) -> (Caller<Id>, Option<End>)
-    requires wire { CanGoOn (wire_of S.rest S.held S.failed_reads S.failed_writes stream.old) }
-    requires quit { seen_in asked ≢ Ok saids.quit }
-    ensures { HasAnswered Id.store (seen_in asked) kept result.1 (wire_of S.rest S.held S.failed_reads S.failed_writes stream.old) caller (wire_of S.rest S.held S.failed_reads S.failed_writes stream.new) result.0 }
+    requires wire { CanGoOn (S.wire stream.old) }
+    requires quit { line_seen_in asked ≢ Ok saids.quit }
+    ensures { HasAnswered Id.store (line_seen_in asked) kept result.1 (S.wire stream.old) caller (S.wire stream.new) result.0 }
 {
     if says_dump(&asked) {
         let mut caller = caller;
@@ -117,10 +118,10 @@ fn serve_short<Id: StoreName, R: Wait, S: Stream>(
     stream: &mut S,
     text: &mut Text,
 ) -> (Caller<Id>, Option<End>)
-    requires wire { CanGoOn (wire_of S.rest S.held S.failed_reads S.failed_writes stream.old) }
-    requires quit { seen_in asked ≢ Ok saids.quit }
-    requires dump { seen_in asked ≢ Ok saids.dump }
-    ensures { HasAnswered Id.store (seen_in asked) kept result.1 (wire_of S.rest S.held S.failed_reads S.failed_writes stream.old) caller (wire_of S.rest S.held S.failed_reads S.failed_writes stream.new) result.0 }
+    requires wire { CanGoOn (S.wire stream.old) }
+    requires quit { line_seen_in asked ≢ Ok saids.quit }
+    requires dump { line_seen_in asked ≢ Ok saids.dump }
+    ensures { HasAnswered Id.store (line_seen_in asked) kept result.1 (S.wire stream.old) caller (S.wire stream.new) result.0 }
 {
     let (caller, answer) = answer_line(rt, alloc, store, caller, asked, kept);
     let end = end_of(say(stream, text, &answer));
@@ -129,14 +130,14 @@ fn serve_short<Id: StoreName, R: Wait, S: Stream>(
 
 /// What a line of a stream says, without the CR at its end.
 fn hear(alloc: Global, line: &[u8]) -> Result<Line, Refusal>
-    ensures { IsHeard (line_said line.now) (seen_in result) }
+    ensures { IsHeard (line_said line.now) (line_seen_in result) }
 {
     parse_line(alloc, without_cr(line))
 }
 
 /// How many bytes after its LF a line counts: those of a stamp's image.
 fn count_of(asked: &Result<Line, Refusal>) -> u32
-    ensures { result ≡ counts (seen_in asked.now) }
+    ensures { result ≡ counts (line_seen_in asked.now) }
 {
     match asked {
         Ok(Line::Stamp { length, .. }) => *length,

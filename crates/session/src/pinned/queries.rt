@@ -20,7 +20,9 @@ impl<Id: StoreName> Pinned<Id> {
     pub fn at<M: Metric>(&mut self, alloc: Global, cell: Cell) -> Result<Option<Near>, Refusal>
         ensures pin { self.new ≡ self.old }
         ensures inside { IfOk result (λ _. IsInside (bitmap_pinned Id.store self.old) cell.x cell.y) }
-        ensures near { IfOk result (λ near. IsNear M.distance (IsBlocked (bitmap_pinned Id.store self.old) Id.store.base.setting.edge) cell.x cell.y near) }
+        ensures near { IfOk result
+            (λ near. IsNear M.distance (IsBlocked (bitmap_pinned Id.store self.old) Id.store.base.setting.edge) cell.x cell.y
+            near) }
         ensures refused { IfErr result (IsRefusalFor (IsInside (bitmap_pinned Id.store self.old) cell.x cell.y)) }
     {
         let edge = self.edge();
@@ -41,7 +43,8 @@ impl<Id: StoreName> Pinned<Id> {
     ) -> Result<Option<(Cell, Near)>, Refusal>
         ensures pin { self.new ≡ self.old }
         ensures inside { IfOk result (λ _. LiesIn (bitmap_pinned Id.store self.old) rect) }
-        ensures least { IfOk result (IsLeastOf M.distance (IsBlocked (bitmap_pinned Id.store self.old) Id.store.base.setting.edge) (cells_of_rect rect.x0 rect.y0 rect.x1 rect.y1)) }
+        ensures least { IfOk result (IsLeastOf M.distance (IsBlocked
+            (bitmap_pinned Id.store self.old) Id.store.base.setting.edge) (cells_of_rect rect.x0 rect.y0 rect.x1 rect.y1)) }
         ensures refused { IfErr result (IsRefusalFor (LiesIn (bitmap_pinned Id.store self.old) rect)) }
     {
         let edge = self.edge();
@@ -63,7 +66,8 @@ impl<Id: StoreName> Pinned<Id> {
     ) -> Result<Option<(Cell, Near)>, Refusal>
         ensures pin { self.new ≡ self.old }
         ensures accepted { IfOk result (λ _. path_refusal (bitmap_pinned Id.store self.old) points.now ≡ None) }
-        ensures least { IfOk result (IsLeastOf M.distance (IsBlocked (bitmap_pinned Id.store self.old) Id.store.base.setting.edge) (cells_of_path points.now)) }
+        ensures least { IfOk result (IsLeastOf M.distance (IsBlocked
+            (bitmap_pinned Id.store self.old) Id.store.base.setting.edge) (cells_of_path points.now)) }
         ensures refused { IfErr result (IsPathRefusal (bitmap_pinned Id.store self.old) points.now) }
     {
         let edge = self.edge();
@@ -84,7 +88,8 @@ impl<Id: StoreName> Pinned<Id> {
     ) -> Result<Option<(Cell, Near)>, Refusal>
         ensures pin { self.new ≡ self.old }
         ensures accepted { IfOk result (λ _. path_refusal (bitmap_pinned Id.store self.old) points.now ≡ None) }
-        ensures clear { IfOk result (IsClearOf M.distance (IsBlocked (bitmap_pinned Id.store self.old) Id.store.base.setting.edge) (cells_of_path points.now) d) }
+        ensures clear { IfOk result (IsClearOf M.distance (IsBlocked
+            (bitmap_pinned Id.store self.old) Id.store.base.setting.edge) (cells_of_path points.now) d) }
         ensures refused { IfErr result (IsPathRefusal (bitmap_pinned Id.store self.old) points.now) }
     {
         let edge = self.edge();

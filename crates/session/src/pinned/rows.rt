@@ -53,4 +53,13 @@ impl<Id: StoreName> Rows for Pinned<Id> {
         }
         true
     }
+
+    /// A fresh pin knows of no band that is blank, and one that was read knows what its bitmap does.
+    fn bands(&self) -> u64 {
+        if self.read {
+            self.bitmap.bands()
+        } else {
+            u64::MAX
+        }
+    }
 }

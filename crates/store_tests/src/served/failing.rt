@@ -77,6 +77,11 @@ impl Sink for Narrow<'_> {
 
 impl Stream for Narrow<'_> {
     ghost use Rattle.std.specs.Prelude.{refl};
+    ghost use Rattle.metric.specs.Wire.{silent};
+
+    ghost wire = { λ s. silent 0 s.failed_writes };
+
+    ghost shown = { λ s. refl };
 
     ghost reading = { λ s. refl };
 

@@ -174,6 +174,11 @@ impl Sink for Meeting<'_> {
 
 impl Stream for Meeting<'_> {
     ghost use Rattle.std.specs.Prelude.{refl};
+    ghost use Rattle.metric.specs.Wire.{silent};
+
+    ghost wire = { λ s. silent s.failed_reads s.failed_writes };
+
+    ghost shown = { λ s. refl };
 
     ghost reading = { λ s. refl };
 

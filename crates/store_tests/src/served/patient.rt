@@ -128,6 +128,11 @@ impl Sink for Patient<'_> {
 
 impl Stream for Patient<'_> {
     ghost use Rattle.std.specs.Prelude.{refl};
+    ghost use Rattle.metric.specs.Wire.{silent};
+
+    ghost wire = { λ s. silent s.failed_reads 0 };
+
+    ghost shown = { λ s. refl };
 
     ghost reading = { λ s. refl };
 

@@ -1,3 +1,4 @@
+-- The law is a lemma on the cells of two bitmaps, tile by tile.
 use Rattle.bits.proofs.RegroupLemmas.{changes_regrouped}
 use Rattle.bits.proofs.laws.tiles_count_all_changes.Goals as goal
 

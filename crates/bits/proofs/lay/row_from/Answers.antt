@@ -1,4 +1,4 @@
--- The cells of a row, of two words beside one another, or of none.
+-- The cells of a row, of two words next to one another, or of none.
 use Rattle.std.proofs.Common.{arith}
 use Rattle.bits.proofs.LayLemmas.{row_from_bits, row_from_none}
 use Rattle.bits.proofs.lay.row_from.Goals as goal

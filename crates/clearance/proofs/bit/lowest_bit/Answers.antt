@@ -1,4 +1,4 @@
--- The bit that has as many zeros behind it is the lowest.
+-- The bit that has as many zeros below it is the lowest.
 use Rattle.std.specs.Int.{w64}
 use Rattle.std.proofs.lemmas.Nat.Bits.{bit_at-trailing_zeros}
 use Rattle.clearance.proofs.bit.lowest_bit.Goals as goal

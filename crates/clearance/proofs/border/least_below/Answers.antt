@@ -1,4 +1,4 @@
--- By the edge.
+-- Where the border is open, and where it is a wall: each by the call for it.
 use Rattle.clearance.proofs.Borders.{IsLeastBelow-open}
 use Rattle.clearance.proofs.border.least_below.Goals as goal
 

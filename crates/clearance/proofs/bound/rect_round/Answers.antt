@@ -2,7 +2,7 @@
 use Rattle.std.proofs.Common.{◌≡◌, inl, inr, get_or, subst, arith}
 use Rattle.std.proofs.lemmas.Bool.{cases_lt}
 use Rattle.metric.specs.declared.cell.Cell.{Cell}
-use Rattle.clearance.specs.Firsts.{origin, cell_in}
+use Rattle.clearance.specs.Firsts.{origin, cell_of_list}
 use Rattle.clearance.proofs.Walks.{IsBetween, IsBetween-wider, IsWalk-start, IsWalk-inside}
 use Rattle.clearance.proofs.bound.rect_round.Goals as goal
 
@@ -35,10 +35,10 @@ points-preserved g c =
       inside = record { column = omega arith; row = omega arith };
       from = wider c.args.from c.points.invariant.from;
       points = λ k before. elim (cases_lt k c.points.point-index) [
-        | inl early ↦ wider (cell_in c.args.points.now k) (c.points.invariant.points k early)
+        | inl early ↦ wider (cell_of_list c.args.points.now k) (c.points.invariant.points k early)
         | inr late ↦
             let same : c.points.point-index ≡ k = omega arith in
-            subst (λ n. IsBetween low high (cell_in c.args.points.now n)) same here
+            subst (λ n. IsBetween low high (cell_of_list c.args.points.now n)) same here
       ];
     }
 

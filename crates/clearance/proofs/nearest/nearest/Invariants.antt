@@ -1,10 +1,14 @@
 -- The obstacles less than so many rows away have been looked at.
-use Rattle.std.proofs.Common.{◌≡◌}
+use Rattle.std.proofs.Common.{◌≡◌, ◌-◌, ◌≤◌}
 use Rattle.clearance.specs.Nearest.{IsSought, IsWithin}
 use Rattle.clearance.proofs.nearest.nearest.Given as goal
 
 abbrev pub invariant-gaps : goal.invariant-gaps
 invariant-gaps g l = record {
   rows : l.rows ≡ l.fn.rows;
+  few : l.gap ≤ 4096;
   sought : IsSought g.M.Metric.distance (g.R.Rows.cells l.rows) l.cell (IsWithin l.cell.y l.gap) l.best;
 }
+
+abbrev pub decreases-gaps : goal.decreases-gaps
+decreases-gaps g l = l.height - l.gap

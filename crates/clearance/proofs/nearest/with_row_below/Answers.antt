@@ -1,4 +1,4 @@
--- The row below, if there is one, comes behind that above.
+-- The row below, if there is one, comes after that above.
 use Rattle.std.proofs.Common.{inl, inr, arith}
 use Rattle.clearance.proofs.NearestSearches.{IsNearAmong-no_below}
 use Rattle.clearance.proofs.nearest.with_row_below.Goals as goal

@@ -2,7 +2,7 @@
 use Rattle.std.proofs.Common.{◌≡◌, inl, inr, get_or, arith}
 use Rattle.std.specs.Int.{bit_at}
 use Rattle.std.proofs.lemmas.Bool.{cases_lt, eqb-true}
-use Rattle.clearance.proofs.Bits.{joined_before, joined_more, joined_none}
+use Rattle.bits.proofs.WordBits.{joined_before, joined_more, joined_none}
 use Rattle.clearance.proofs.row.is_blank.Goals as goal
 
 pub words-preserved : goal.words-preserved

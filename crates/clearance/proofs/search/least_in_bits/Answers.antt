@@ -1,7 +1,8 @@
 -- The rows outwards; once rows are as far away as the least, no row says more.
-use Rattle.std.proofs.Common.{◌<◌, ◌∙◌, inl, inr, arith}
+use Rattle.std.proofs.Common.{◌+◌, ◌-◌, ◌<◌, ◌∙◌, inl, inr, arith}
 use Rattle.std.proofs.lemmas.Bool.{cases_lt}
 use Rattle.clearance.specs.Search.{row_gap}
+use Rattle.clearance.proofs.BandRows.{IsLeastWithin-passed, IsNextGap-banded}
 use Rattle.clearance.proofs.Searches.{IsLeastAmong-far, IsLeastBelow-all, IsLeastWithin-more, row_gap-within, row_within}
 use Rattle.clearance.proofs.search.least_in_bits.Goals as goal
 
@@ -11,14 +12,34 @@ lowered_above-least-requires-clause-rect g c = rw (c.gaps.invariant.rows) c.requ
 pub lowered_below-least-requires-clause-rect : goal.lowered_below-least-requires-clause-rect
 lowered_below-least-requires-clause-rect g c = rw (c.lowered_above-least.ensures.rows, c.gaps.invariant.rows) c.requires
 
+pub gaps-init : goal.gaps-init
+gaps-init g c =
+    let cells = g.R.Rows.cells c.args.rows.now in
+    let banded = rw (c.least_inside-least.ensures.rows) at c.bands-bands.ensures in
+    let from = c.first_gap-gap.ensures.from in
+    record {
+      rows = c.least_inside-least.ensures.rows;
+      some = omega arith;
+      few = c.first_gap-gap.ensures.few;
+      least = IsLeastWithin-passed _ cells c.args.rect 1 c.first_gap-gap.result c.args.limit c.least_inside-least.result c.requires.bitmap (omega arith)
+          (IsNextGap-banded cells c.bands-bands.result c.args.rect.y0 (c.args.rect.y1 - 1) 1 c.first_gap-gap.result banded c.first_gap-gap.ensures) c.least_inside-least.ensures.least;
+    }
+
 pub gaps-preserved : goal.gaps-preserved
 gaps-preserved g c =
+    let cells = g.R.Rows.cells c.args.rows.now in
     let above = rw (c.gaps.invariant.rows) at c.lowered_above-least.ensures in
     let below = rw (c.lowered_above-least.ensures.rows, c.gaps.invariant.rows) at c.lowered_below-least.ensures in
+    let banded = rw (c.least_inside-least.ensures.rows) at c.bands-bands.ensures in
+    let from = c.next_gap-gap.ensures.from in
     record {
       rows = c.lowered_below-least.ensures.rows ∙ (c.lowered_above-least.ensures.rows ∙ c.gaps.invariant.rows);
-      least = IsLeastWithin-more _ (g.R.Rows.cells c.args.rows.now) c.args.rect c.gaps.gap c.args.limit c.gaps.least c.lowered_above-least.result c.lowered_below-least.result c.requires.bitmap
-          (omega arith) c.requires.rows above.row above.none below.row below.none c.gaps.invariant.least;
+      some = omega arith;
+      few = c.next_gap-gap.ensures.few;
+      least = IsLeastWithin-passed _ cells c.args.rect (c.gaps.gap + 1) c.next_gap-gap.result c.args.limit c.lowered_below-least.result c.requires.bitmap (omega arith)
+          (IsNextGap-banded cells c.bands-bands.result c.args.rect.y0 (c.args.rect.y1 - 1) (c.gaps.gap + 1) c.next_gap-gap.result banded c.next_gap-gap.ensures)
+          (IsLeastWithin-more _ cells c.args.rect c.gaps.gap c.args.limit c.gaps.least c.lowered_above-least.result c.lowered_below-least.result c.requires.bitmap
+          c.gaps.invariant.some c.requires.rows above.row above.none below.row below.none c.gaps.invariant.least);
     }
 
 pub returns-then-from-least-clause-least : goal.returns-then-from-least-clause-least
@@ -34,6 +55,6 @@ returns-then-from-least-clause-least g c =
 pub returns-clause-least : goal.returns-clause-least
 returns-clause-least g c =
     let cells = g.R.Rows.cells c.args.rows.now in
-    let end = rw (c.least_inside-least.ensures.rows) at c.height-gap-end.ensures.height in
+    let end = rw (c.least_inside-least.ensures.rows) at c.height-height.ensures.height in
     IsLeastBelow-all _ g.met.M.Metric.grows g.met.M.Metric.stays_nearer cells c.args.rect (λ b. row_gap c.args.rect b < c.gaps.gap) c.args.limit c.gaps.least c.requires.bitmap
     (row_gap-within cells c.args.rect c.gaps.gap c.requires.bitmap c.requires.rows (omega arith)) c.gaps.invariant.least

@@ -1,5 +1,5 @@
 -- The rows less than so many rows away have been looked at.
-use Rattle.std.proofs.Common.{◌≡◌}
+use Rattle.std.proofs.Common.{◌≡◌, ◌-◌, ◌<◌, ◌≤◌}
 use Rattle.bits.specs.Cells.{IsObstacle}
 use Rattle.clearance.specs.Search.{IsLeastWithin}
 use Rattle.clearance.proofs.search.least_in_bits.Given as goal
@@ -7,5 +7,10 @@ use Rattle.clearance.proofs.search.least_in_bits.Given as goal
 abbrev pub invariant-gaps : goal.invariant-gaps
 invariant-gaps g l = record {
   rows : l.rows ≡ l.fn.rows;
+  some : 0 < l.gap;
+  few : l.gap ≤ 4096;
   least : IsLeastWithin g.M.Metric.distance (IsObstacle (g.R.Rows.cells l.fn.rows)) l.rect l.gap l.limit l.least;
 }
+
+abbrev pub decreases-gaps : goal.decreases-gaps
+decreases-gaps g l = l.height - l.gap

@@ -1,4 +1,4 @@
--- One row further up.
+-- A row that is marked in the line of the rows after it makes the line from that row on.
 use Rattle.std.proofs.Common.{◌≡◌, ◌+◌, ◌-◌, arith}
 use Rattle.column.specs.Capped.{capped}
 use Rattle.column.proofs.Caps.{capped_map}

@@ -1,4 +1,4 @@
--- One row more of the band.
+-- The line of each row of the band is written, and then that row is marked in it.
 use Rattle.std.proofs.Common.{◌≡◌, ◌+◌, ◌-◌, ◌*◌, arith, refl}
 use Rattle.column.specs.Capped.{capped}
 use Rattle.column.proofs.Caps.{capped_map}

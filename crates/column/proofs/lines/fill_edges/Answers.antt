@@ -1,4 +1,4 @@
--- One band more.
+-- The line below each band is written, and then carried up to the band's first row.
 use Rattle.std.proofs.Common.{◌≡◌, ◌+◌, ◌-◌, ◌*◌, min, arith, refl}
 use Rattle.column.specs.Capped.{capped}
 use Rattle.column.specs.Lines.{AreEdges, IsLineFrom}

@@ -1,8 +1,8 @@
--- One part more is marked.
+-- Each part of the word is marked after those before it.
 use Rattle.std.proofs.Common.{◌≡◌, ◌+◌, ◌-◌, ◌*◌, ◌/◌, ◌^◌, ◌∙◌, ℕ, inl, inr, get_or, ap, bit_and, arith}
 use Rattle.std.specs.Int.{bit_at}
 use Rattle.std.proofs.lemmas.Bool.{cases_lt}
-use Rattle.column.proofs.Marking.{bit_of_part}
+use Rattle.bits.proofs.WordBits.{bit_of_part}
 use Rattle.column.proofs.row.mark_word.Goals as goal
 
 pub parts-preserved : goal.parts-preserved

@@ -1,4 +1,4 @@
--- The entry of each place.
+-- The entry of each place becomes the row where its bit is 1, and stays where it isn't.
 use Rattle.std.proofs.Common.{◌∙◌, eqb, bit_and, replicate, refl}
 use Rattle.std.specs.Simd.Lanes.{zip2}
 use Rattle.metric.proofs.LaneLemmas.{chosen_at}

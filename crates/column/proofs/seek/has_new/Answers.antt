@@ -3,7 +3,8 @@ use Rattle.std.proofs.Common.{ℕ, ◌≡◌, inl, inr, get_or, arith}
 use Rattle.std.specs.Int.{bit_at}
 use lib.Bits.{bit_and}
 use Rattle.std.proofs.lemmas.Bool.{cases_lt}
-use Rattle.column.proofs.Marking.{joined_before, joined_more, joined_none, zero_from_test}
+use Rattle.column.proofs.Marking.{zero_from_test}
+use Rattle.bits.proofs.WordBits.{joined_before, joined_more, joined_none}
 use Rattle.column.proofs.seek.has_new.Goals as goal
 
 pub words-preserved : goal.words-preserved

@@ -1,4 +1,4 @@
--- Each row of the map with its border.
+-- A row of the frame is marked in each column, and a row of the map where it has obstacles or the frame.
 use Rattle.std.proofs.Common.{◌≡◌, ◌<◌, ◌≤◌, ◌+◌, ◌-◌, ◌∙◌, length, sym, arith, rules}
 use Rattle.metric.specs.Edge.{shift}
 use Rattle.bits.specs.Cells.{has}

@@ -1,3 +1,4 @@
+-- One request goes out and its reply is written; after `BYE`, or where no whole request is left, all have been asked.
 use Rattle.std.proofs.Common.{rules}
 use Rattle.std.proofs.lemmas.Result.{err_from_is_err_and}
 use Rattle.engines.proofs.Gathering.{PassesOn-nothing, PassesFront-read, PassesFront-whole}

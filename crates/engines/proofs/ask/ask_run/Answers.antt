@@ -1,3 +1,4 @@
+-- A run that ends early has written a beginning of what the server said, and then why it ends.
 use Rattle.engines.proofs.Gathering.{EndsEarly-line}
 use Rattle.engines.proofs.ask.ask_run.Goals as goal
 

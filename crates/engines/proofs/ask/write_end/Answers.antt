@@ -1,3 +1,4 @@
+-- The line that says why a run ended early is written whole or in part: a fault of the network, or want of memory.
 use Rattle.std.proofs.Common.{inl, inr, refl}
 use Rattle.engines.proofs.Gathering.{written_either}
 use Rattle.engines.proofs.ask.write_end.Goals as goal

@@ -1,33 +1,41 @@
-use Rattle.std.proofs.Common.{◌∷◌, ◌++◌, [], refl, ap, Err}
+-- A write that failed leaves a beginning of the answer: a reply's text, a table's lines or the line of a fault.
+use Rattle.std.proofs.Common.{◌∷◌, ◌++◌, [], refl}
 use Rattle.std.proofs.lemmas.Result.{on_err_weaker}
 use Rattle.metric.specs.Refusal.{image_text}
-use Rattle.engines.specs.Table.{table_text}
-use Rattle.engines.specs.Tabled.{nears_of}
-use Rattle.engines.proofs.Answering.{asked_of_reply, asked_of_table, answer_of_fault}
+use Rattle.engines.specs.dist.Table.{table_text}
+use Rattle.engines.specs.dist.Tabled.{nears_of}
+use Rattle.engines.proofs.Answering.{asked_of_reply, asked_of_table, map_wants_memory, map_wanting_whole}
 use Rattle.engines.proofs.dist.write_answer.Goals as goal
 
 pub returns-in-Ok-clause-front : goal.returns-in-Ok-clause-front
 returns-in-Ok-clause-front g c =
     let reply = c.in-Ok.reply in
     on_err_weaker c.write_text.result
-    (λ front. (reply.text, reply.status, asked_of_reply c.args.options.now c.args.bytes.now c.in-Some.line reply.text reply.status c.in-Some.is (rw (← c.as_bytes.ensures.value) c.in-Ok.ensures.reply), front))
+    (λ front. (reply.text, reply.status, asked_of_reply c.args.options.now c.args.map.now c.in-Some.line reply c.in-Some.is (rw (← c.as_bytes.ensures.value) c.in-Ok.ensures.reply), front))
     (rw (← c.as_bytes-in-Ok.ensures) c.write_text.ensures.front)
 
 pub returns-in-Err-clause-front : goal.returns-in-Err-clause-front
 returns-in-Err-clause-front g c =
     on_err_weaker c.write_fault.result
-    (λ front. (image_text c.in-Err.fault ++ 10 ∷ [], 1, answer_of_fault c.args.options.now c.args.bytes.now c.in-Err.fault 1 c.in-Err.ensures.fault (λ e. c.in-Err.ensures.memory (ap Err e)) refl, front))
+    (λ front. (image_text c.in-Err.fault ++ 10 ∷ [], 1, map_wants_memory c.args.options.now c.args.map.now c.in-Err.fault 1 c.in-Err.ensures.memory refl, front))
     c.write_fault.ensures.front
 
 pub returns-in-Ok-of-clause-front : goal.returns-in-Ok-of-clause-front
 returns-in-Ok-of-clause-front g c =
     let table = c.in-Ok-of.print.table in
     on_err_weaker c.write_rows.result
-    (λ front. (table_text c.args.options.now.nearest table.width table.height (nears_of table), 0, asked_of_table c.args.options.now c.args.bytes.now table c.in-None.is c.in-Ok-of.ensures.table, front))
+    (λ front. (table_text c.args.options.now.nearest table.width table.height (nears_of table), 0, asked_of_table c.args.options.now c.args.map.now table c.in-None.is c.in-Ok-of.ensures.table, front))
     c.write_rows.ensures.front
 
 pub returns-in-Err-of-clause-front : goal.returns-in-Err-of-clause-front
 returns-in-Err-of-clause-front g c =
     on_err_weaker c.write_fault-in-Err-of.result
-    (λ front. (image_text c.in-Err-of.fault ++ 10 ∷ [], 1, answer_of_fault c.args.options.now c.args.bytes.now c.in-Err-of.fault 1 c.in-Err-of.ensures.fault (λ e. c.in-Err-of.ensures.memory (ap Err e)) refl, front))
+    (λ front. (image_text c.in-Err-of.fault ++ 10 ∷ [], 1, map_wants_memory c.args.options.now c.args.map.now c.in-Err-of.fault 1 c.in-Err-of.ensures.memory refl, front))
     c.write_fault-in-Err-of.ensures.front
+
+pub returns-in-Err-clause-whole : goal.returns-in-Err-clause-whole
+returns-in-Err-clause-whole g c = map_wanting_whole c.args.options.now c.args.map.now c.in-Err.fault _ _ c.write_fault.result c.in-Err.ensures.memory c.write_fault.ensures.status c.write_fault.ensures.whole
+
+pub returns-in-Err-of-clause-whole : goal.returns-in-Err-of-clause-whole
+returns-in-Err-of-clause-whole g c =
+    map_wanting_whole c.args.options.now c.args.map.now c.in-Err-of.fault _ _ c.write_fault-in-Err-of.result c.in-Err-of.ensures.memory c.write_fault-in-Err-of.ensures.status c.write_fault-in-Err-of.ensures.whole

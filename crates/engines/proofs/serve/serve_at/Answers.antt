@@ -1,3 +1,4 @@
+-- A refused store is told in one line: its setting's first field that is out of its limits, or else want of memory.
 use Rattle.engines.proofs.ServingLemmas.{lacking_front, lacking_whole, memory_alone, told_setting}
 use Rattle.engines.proofs.serve.serve_at.Goals as goal
 

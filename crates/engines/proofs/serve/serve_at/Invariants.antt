@@ -1,4 +1,4 @@
--- The store that was just made has the name.
+-- The name in the call of `serve_blank` is that of the store that was just made.
 use Rattle.engines.proofs.serve.serve_at.Given as goal
 
 abbrev pub ghosts-serve_blank : goal.ghosts-serve_blank

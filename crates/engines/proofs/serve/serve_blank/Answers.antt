@@ -1,4 +1,4 @@
--- What is written where there is no memory for the sessions.
+-- Where there is no memory for the sessions, the line of want of memory is written, or a beginning of it.
 use Rattle.engines.proofs.ServingLemmas.{lacking_front}
 use Rattle.engines.proofs.serve.serve_blank.Goals as goal
 

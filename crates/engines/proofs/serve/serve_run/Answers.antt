@@ -1,3 +1,4 @@
+-- A listener without a port is told as a fault of the network, whatever the setting is.
 use Rattle.engines.proofs.ServingLemmas.{told_net}
 use Rattle.engines.proofs.serve.serve_run.Goals as goal
 

@@ -1,3 +1,4 @@
+-- The command `dist` that is built has the five flags of its rules, one joined after another.
 use Rattle.std.proofs.Common.{◌≡◌, ◌∙◌, ap₂, codes, rules}
 use Rattle.clap.specs.Words.{app_of, new_app, with_rule}
 use Rattle.engines.proofs.words.dist_command.Goals as goal

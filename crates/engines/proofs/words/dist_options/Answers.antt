@@ -1,3 +1,4 @@
+-- The options are what the flags' values spell, and they are refused where one of metric, edge and workers spells nothing known.
 use Rattle.std.proofs.Common.{◌∙◌, sym, ap, codes, inl, inr}
 use Rattle.std.specs.Prelude.{option_and_then}
 use Rattle.std.proofs.lemmas.Result.{err_from_is_err_and}
@@ -5,7 +6,7 @@ use Rattle.clap.specs.Words.{found_of}
 use Rattle.clap.proofs.WalkLemmas.{first_value-rows, one_text-rows}
 use Rattle.metric.specs.Edge.{edge_named}
 use Rattle.metric.specs.Kind.{metric_named}
-use Rattle.engines.specs.ServeLine.{in_range}
+use Rattle.engines.specs.words.ServeLine.{in_range}
 use Rattle.engines.proofs.words.dist_options.Goals as goal
 
 pub returns-clause-options : goal.returns-clause-options

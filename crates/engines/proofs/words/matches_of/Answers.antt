@@ -1,8 +1,9 @@
+-- Words that the program takes are refused only for want of memory, since the program that was built is the one of the rules.
 use Rattle.std.proofs.Common.{◌≡◌, true, subst, IfErr}
 use Rattle.clap.specs.Words.{kind_of, takes}
 use Rattle.clap.specs.Simple.{App}
 use Rattle.clap.specs.declared.error.kind.ErrorKind.TheVariants.{OutOfMemory}
-use Rattle.engines.specs.CommandLine.{texts_of}
+use Rattle.engines.specs.words.CommandLine.{texts_of}
 use Rattle.engines.proofs.words.matches_of.Goals as goal
 
 pub returns-clause-passes : goal.returns-clause-passes

@@ -1,4 +1,4 @@
--- By the edge.
+-- Where the border is open, and where it is a wall: each by the call for it.
 use Rattle.envelope.proofs.beside.fill_beside.Goals as goal
 
 pub returns-in-Open : goal.returns-in-Open

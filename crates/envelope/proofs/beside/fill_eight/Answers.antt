@@ -18,12 +18,12 @@ cells-preserved g c =
       filled = λ x from below. elim (cases_lt x p) [
         | inl earlier ↦
             let other : x ≢ p = λ same. absurd (omega arith) in
-            rw (get_or-set_other c.cells.answers p x c.some.result g.A.Answer.nothing other) (c.cells.invariant.filled x from earlier)
+            rw (get_or-set_other c.cells.answers p x c.some.result g.A.CellAnswer.nothing other) (c.cells.invariant.filled x from earlier)
         | inr here ↦
             let same : p ≡ x = omega arith in
-            subst (λ (n : ℕ). IsNearColumn g.M.Metric.distance c.args.entries.now c.args.y c.args.edge (n + shift c.args.edge) (g.A.Answer.told g.M.Metric.distance n (c.args.y - shift c.args.edge) (slice_index_or (slice_set c.cells.answers p c.some.result) n g.A.Answer.nothing)))
+            subst (λ (n : ℕ). IsNearColumn g.M.Metric.distance c.args.entries.now c.args.y c.args.edge (n + shift c.args.edge) (g.A.CellAnswer.told g.M.Metric.distance n (c.args.y - shift c.args.edge) (slice_index_or (slice_set c.cells.answers p c.some.result) n g.A.CellAnswer.nothing)))
             same
-            (told_kept g.A.Answer.told g.A.Answer.nothing g.M.Metric.distance c.args.entries.now c.args.edge c.args.y p (c.args.start + shift c.args.edge + c.cells.lane) _ _ c.near.result c.some.result c.cells.answers
+            (told_kept g.A.CellAnswer.told g.A.CellAnswer.nothing g.M.Metric.distance c.args.entries.now c.args.edge c.args.y p (c.args.start + shift c.args.edge + c.cells.lane) _ _ c.near.result c.some.result c.cells.answers
             (c.requires.told c.cells.lane (omega (arith, c.cells-test.true, c.min-count.ensures)) (omega (arith, inside, c.cells.invariant.width, c.requires.width)))
             (rw where_is at c.near.ensures.near) (omega arith) c.requires.row c.some.ensures inside)
       ];

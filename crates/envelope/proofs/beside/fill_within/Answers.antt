@@ -1,4 +1,4 @@
--- The columns that were found are the nearest ones, and a piece lies between those of the cells beside it.
+-- The columns that were found are the nearest ones, and a piece lies between those of the cells next to it.
 use Rattle.std.proofs.Common.{◌≡◌, ◌∙◌, ◌+◌, ◌<◌, length, inl, inr, arith}
 use Rattle.std.proofs.lemmas.Bool.{cases_lt}
 use Rattle.metric.specs.Edge.{shift}

@@ -9,7 +9,7 @@ invariant-cells g l = record {
   width : length l.answers + 2 * shift l.edge ≡ length l.entries;
   room : length l.entries ≤ length l.spans;
   within : l.start ≤ length l.answers + 15;
-  filled : (x : ℕ) → x < l.start → x < length l.answers → IsNearColumn g.M.Metric.distance l.entries l.y l.edge (x + shift l.edge) (g.A.Answer.told g.M.Metric.distance x (l.y - shift l.edge) (slice_index_or l.answers x g.A.Answer.nothing));
+  filled : (x : ℕ) → x < l.start → x < length l.answers → IsNearColumn g.M.Metric.distance l.entries l.y l.edge (x + shift l.edge) (g.A.CellAnswer.told g.M.Metric.distance x (l.y - shift l.edge) (slice_index_or l.answers x g.A.CellAnswer.nothing));
 }
 
 abbrev pub decreases-cells : goal.decreases-cells

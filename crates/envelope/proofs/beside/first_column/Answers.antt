@@ -1,4 +1,4 @@
--- The nearest column to the cell before bounds the columns of those behind.
+-- The nearest column to the cell before bounds the columns of those after it.
 use Rattle.std.proofs.Common.{◌+◌, ◌-◌, arith}
 use Rattle.metric.specs.declared.edge.Edge.TheVariants.{Open}
 use Rattle.envelope.proofs.BesideLemmas.{are_told}

@@ -3,7 +3,7 @@ use Rattle.std.proofs.Common.{ℕ, ◌+◌, ◌<◌, ◌≤◌, ◌⊎◌, inl, 
 use Rattle.envelope.proofs.BesideLemmas.{AreParts-set}
 use Rattle.envelope.proofs.beside.set_parts.Goals as goal
 
--- what lies beside all columns lies beside those before the end
+-- what lies outside all columns lies outside those before the end
 until_end : (entries : List ℕ) (p end : ℕ) → end ≤ length entries → (p < 128) ⊎ (length entries + 128 ≤ p) → (p < 128) ⊎ (end + 128 ≤ p)
 until_end entries p end within (inl before) = inl before
 until_end entries p end within (inr behind) = inr (omega (arith, within, behind))

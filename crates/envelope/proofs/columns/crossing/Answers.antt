@@ -1,4 +1,4 @@
--- One cell behind the last at which the left column isn't worse; the first cell where there is none.
+-- One cell after the last at which the left column isn't worse; the first cell where there is none.
 use Rattle.envelope.proofs.Crossings.{crossing_at}
 use Rattle.envelope.proofs.columns.crossing.Goals as goal
 

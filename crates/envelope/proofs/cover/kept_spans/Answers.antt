@@ -1,6 +1,6 @@
 -- What is known of the last span that is left, and what stays when it is taken off.
 use Rattle.std.proofs.Common.{◌≤◌, arith}
-use Rattle.envelope.specs.Columns.{IsFrom, gap_of}
+use Rattle.envelope.specs.Columns.{IsColumnFrom, gap_of}
 use Rattle.envelope.proofs.Envelopes.{cut_begin, cut_drop}
 use Rattle.envelope.proofs.Entries.{pairs_from, top_known}
 use Rattle.envelope.proofs.cover.kept_spans.Goals as goal
@@ -8,7 +8,7 @@ use Rattle.envelope.proofs.cover.kept_spans.Goals as goal
 pub spans-init : goal.spans-init
 spans-init g c = record {
   few = omega arith;
-  cut = cut_begin _ (gap_of c.args.entries.now c.args.y) (IsFrom c.args.entries.now c.args._piece.first c.args.column) c.args.column c.args.spans.now c.args._piece.end c.args.count c.requires.covered;
+  cut = cut_begin _ (gap_of c.args.entries.now c.args.y) (IsColumnFrom c.args.entries.now c.args._piece.first c.args.column) c.args.column c.args.spans.now c.args._piece.end c.args.count c.requires.covered;
 }
 
 pub distance-own-requires-clause-column : goal.distance-own-requires-clause-column
@@ -41,7 +41,7 @@ spans-preserved g c =
     record {
       few = omega arith;
       cut =
-          cut_drop _ (gap_of c.args.entries.now c.args.y) (IsFrom c.args.entries.now c.args._piece.first c.args.column) c.args.column c.args.spans.now c.args._piece.end c.spans.kept c.spans-test.true
+          cut_drop _ (gap_of c.args.entries.now c.args.y) (IsColumnFrom c.args.entries.now c.args._piece.first c.args.column) c.args.column c.args.spans.now c.args._piece.end c.spans.kept c.spans-test.true
           g.met.M.Metric.stays_nearer end_few
           (pairs_from c.args.entries.now c.args.y c.args._piece.first c.args.column c.requires.entries c.requires.column.among)
           c.spans.invariant.cut (omega (arith, own, other, c.if-own-distance.false));

@@ -1,4 +1,4 @@
--- By the edge.
+-- Where the border is open, and where it is a wall: each by the call for it.
 use Rattle.envelope.proofs.fill.fill.Goals as goal
 
 pub returns-in-Open-clause-filled : goal.returns-in-Open-clause-filled

@@ -2,7 +2,7 @@
 use Rattle.std.proofs.Common.{◌≡◌, ◌+◌, ◌-◌, ◌<◌, ◌≤◌, ◌∙◌, ℕ, ◌⊎◌, List, length, inl, inr, refl, arith, rules}
 use Rattle.std.proofs.lemmas.Bool.{cases_lt}
 use Rattle.metric.specs.Edge.{shift}
-use Rattle.envelope.specs.Columns.{IsAmong, IsFrom, gap_of}
+use Rattle.envelope.specs.Columns.{IsAmong, IsColumnFrom, gap_of}
 use Rattle.envelope.specs.Envelope.{span_at}
 use Rattle.envelope.specs.Pieces.{IsPiece}
 use Rattle.envelope.specs.declared.piece.Piece.{Piece}
@@ -11,7 +11,7 @@ use Rattle.envelope.proofs.PieceLemmas.{best_of_enough}
 use Rattle.envelope.proofs.fill.fill_within.Goals as goal
 
 -- a column of a piece is one of the row
-of_row : (entries : List ℕ) (piece : Piece) (column : ℕ) → IsPiece entries piece → IsFrom entries piece.first piece.last column → IsAmong entries (length entries) column
+of_row : (entries : List ℕ) (piece : Piece) (column : ℕ) → IsPiece entries piece → IsColumnFrom entries piece.first piece.last column → IsAmong entries (length entries) column
 of_row entries piece column is from = let left = from.among.left in let inside = is.inside in record { left = omega (arith, left, inside); some = from.among.some }
 
 -- what lies outside of a piece lies outside of its beginning
@@ -23,19 +23,19 @@ pub returns-then-is_empty-clause-filled : goal.returns-then-is_empty-clause-fill
 returns-then-is_empty-clause-filled g c = λ x from below inside.
     let none : length c.args.spans.now ≡ 0 = search rules in
     let before = c.from-before.ensures ∙ c.shift.ensures in
-    rw (c.fill_none.ensures.none x (omega (arith, before)) (omega (arith, before)), g.met.A.Answer.tells_nothing g.M.Metric.distance x (c.args.y - shift c.args.edge))
+    rw (c.fill_none.ensures.none x (omega (arith, before)) (omega (arith, before)), g.met.A.CellAnswer.tells_nothing g.M.Metric.distance x (c.args.y - shift c.args.edge))
     (λ column among. let it = c.requires.enough (x + shift c.args.edge) column from below among in c.requires.covered.none none it.by it.among)
 
 pub fill_span-requires-clause-column : goal.fill_span-requires-clause-column
 fill_span-requires-clause-column g c =
-    let last = envelope_last _ (gap_of c.args.entries.now c.args.y) (IsFrom c.args.entries.now c.args.piece.first c.args.piece.last) c.args.spans.now c.spans.count c.spans.end c.spans-test.true c.spans.invariant.covered in
+    let last = envelope_last _ (gap_of c.args.entries.now c.args.y) (IsColumnFrom c.args.entries.now c.args.piece.first c.args.piece.last) c.args.spans.now c.spans.count c.spans.end c.spans-test.true c.spans.invariant.covered in
     let some = last.0.some in
     of_row c.args.entries.now c.args.piece (span_at c.args.spans.now (c.spans.count - 1)).column c.requires.piece (last.0.best (span_at c.args.spans.now (c.spans.count - 1)).start (omega arith) some).among
 
 pub spans-preserved : goal.spans-preserved
 spans-preserved g c =
     let span = span_at c.args.spans.now (c.spans.count - 1) in
-    let last = envelope_last _ (gap_of c.args.entries.now c.args.y) (IsFrom c.args.entries.now c.args.piece.first c.args.piece.last) c.args.spans.now c.spans.count c.spans.end c.spans-test.true c.spans.invariant.covered in
+    let last = envelope_last _ (gap_of c.args.entries.now c.args.y) (IsColumnFrom c.args.entries.now c.args.piece.first c.args.piece.last) c.args.spans.now c.spans.count c.spans.end c.spans-test.true c.spans.invariant.covered in
     let some = last.0.some in
     let within = c.spans.invariant.within in
     let k = shift c.args.edge in
@@ -51,7 +51,7 @@ spans-preserved g c =
                 let at_least : span.start ≤ x + k = omega (arith, c.from-end.ensures) in
                 rw (c.fill_span.ensures.filled x at_least from before there) (
                   span.column,
-                  best_of_enough g.M.Metric.distance (gap_of c.args.entries.now c.args.y) (IsAmong c.args.entries.now (length c.args.entries.now)) (IsFrom c.args.entries.now c.args.piece.first c.args.piece.last) (x + k) span.column
+                  best_of_enough g.M.Metric.distance (gap_of c.args.entries.now c.args.y) (IsAmong c.args.entries.now (length c.args.entries.now)) (IsColumnFrom c.args.entries.now c.args.piece.first c.args.piece.last) (x + k) span.column
                       (λ column among. of_row c.args.entries.now c.args.piece column c.requires.piece among)
                       (λ other among. c.requires.enough (x + k) other from below among)
                       (last.0.best (x + k) at_least before),

@@ -4,4 +4,4 @@ use Rattle.envelope.proofs.stack.row_from.Goals as goal
 
 pub returns-clause-answers : goal.returns-clause-answers
 returns-clause-answers g c = λ cells y bitmap within y_is row.
-    AreRowAnswers-columns g.A.Answer.told g.A.Answer.nothing g.M.Metric.distance cells c.args.edge y c.args.entries.now c.fill_row.new.answers g.met.M.Metric.grows bitmap within (rw y_is at row) (rw y_is at c.fill_row.ensures.answers)
+    AreRowAnswers-columns g.A.CellAnswer.told g.A.CellAnswer.nothing g.M.Metric.distance cells c.args.edge y c.args.entries.now c.fill_row.new.answers g.met.M.Metric.grows bitmap within (rw y_is at row) (rw y_is at c.fill_row.ensures.answers)

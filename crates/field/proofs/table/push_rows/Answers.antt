@@ -25,7 +25,7 @@ rows-preserved g c =
     let items : c.push_line.new.answers.items ≡ c.rows.answers.items ++ c.row_from.new.answers = search rules in
     let row = c.row_from.ensures.answers cells c.rows.y c.requires.bitmap within row_is (rw c.deref.ensures.value c.look.ensures.entries) in
     record {
-      answers = rw items (AreAnswers-more g.A.Answer.told g.A.Answer.nothing g.M.Metric.distance cells edge c.args.y0 c.rows.y c.rows.answers.items c.row_from.new.answers (omega arith) c.rows.invariant.answers row);
+      answers = rw items (AreAnswers-more g.A.CellAnswer.told g.A.CellAnswer.nothing g.M.Metric.distance cells edge c.args.y0 c.rows.y c.rows.answers.items c.row_from.new.answers (omega arith) c.rows.invariant.answers row);
       columns = IsReady-next cells edge c.look.new.self (c.rows.y + c.shift.result) c.rows.y row_is c.look.ensures.ready;
       last = c.look.ensures.to ∙ c.rows.invariant.last;
       stack = rw c.row_from.ensures.stack c.rows.invariant.stack;

@@ -1,3 +1,4 @@
+-- A number of five digits or more is its ten-thousands and then twice two digits, and takes the room of all of them.
 use Rattle.std.proofs.Common.{arith, append_assoc}
 use Rattle.metric.proofs.Decimals.{decimal_ten_thousands, length-decimal_ten_thousands}
 use Rattle.metric.proofs.decimal.+push_decimal.Goals as goal

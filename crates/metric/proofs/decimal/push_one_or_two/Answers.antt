@@ -1,3 +1,4 @@
+-- A number of one digit is that digit, and one of two digits is its tens and its ones.
 use Rattle.std.proofs.Common.{length, arith, ap}
 use Rattle.std.proofs.lemmas.Fmt.{decimal_digit}
 use Rattle.metric.proofs.Decimals.{decimal_two, length-decimal_two}

@@ -1,3 +1,4 @@
+-- A number of three or four digits is its hundreds and then its last two digits, and takes the room of all of them.
 use Rattle.std.proofs.Common.{arith, append_assoc}
 use Rattle.metric.proofs.Decimals.{decimal_hundreds, length-decimal_hundreds}
 use Rattle.metric.proofs.decimal.push_short.Goals as goal

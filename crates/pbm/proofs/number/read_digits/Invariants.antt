@@ -1,4 +1,4 @@
--- What is left, behind the value so far, is read as all of it would be.
+-- What is left, after the value so far, is read as all of it would be.
 use Rattle.std.proofs.Common.{◌≡◌, length}
 use Rattle.pbm.specs.Faults.{digits}
 use Rattle.pbm.proofs.number.read_digits.Given as goal

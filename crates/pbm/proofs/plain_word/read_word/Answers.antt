@@ -1,4 +1,4 @@
--- Digits read are bits behind those before.
+-- Digits read are bits after those before.
 use Rattle.std.proofs.Common.{◌≡◌, ℕ, ◌+◌, ◌≤◌, ◌-◌, refl, ap, ◌∙◌, arith}
 use Rattle.std.specs.Int.{bit_at}
 use Rattle.std.proofs.lemmas.Result.{err_from_is_err_and}

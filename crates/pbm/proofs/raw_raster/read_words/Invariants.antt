@@ -1,12 +1,9 @@
--- The words before the next one are in the bitmap.
-use Rattle.std.proofs.Common.{◌≡◌, ◌+◌, ◌*◌}
+-- The rows before the next one are in the bitmap.
+use Rattle.std.proofs.Common.{◌≡◌, ◌*◌}
 use Rattle.bits.specs.Words.{words_across}
 use Rattle.pbm.specs.Image.{bytes_across, raw_pixel}
 use Rattle.pbm.proofs.Words.{drawn_words}
 use Rattle.pbm.proofs.raw_raster.read_words.Given as goal
-
-abbrev pub invariant-words : goal.invariant-words
-invariant-words l = l.bitmap ≡ drawn_words l.fn.bitmap.width l.fn.bitmap.height (raw_pixel (bytes_across l.fn.bitmap.width) l.fn.raster) (l.y * words_across l.fn.bitmap.width + l.index)
 
 abbrev pub invariant-rows : goal.invariant-rows
 invariant-rows l = l.bitmap ≡ drawn_words l.fn.bitmap.width l.fn.bitmap.height (raw_pixel (bytes_across l.fn.bitmap.width) l.fn.raster) (l.y * words_across l.fn.bitmap.width)

@@ -1,3 +1,4 @@
+-- The answer to a query is what the map's call for it ensures, whether over a rectangle, a path or a clear path.
 use Rattle.proto.proofs.answering.answer_by.Goals as goal
 
 pub returns-in-Ok-least_in-clause-answer : goal.returns-in-Ok-least_in-clause-answer

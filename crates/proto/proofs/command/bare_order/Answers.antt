@@ -1,3 +1,4 @@
+-- A command that takes no argument isn't told where an argument is left.
 use Rattle.std.proofs.Common.{sym}
 use Rattle.proto.specs.Told.{told_by}
 use Rattle.proto.proofs.Alone.{alone-left}

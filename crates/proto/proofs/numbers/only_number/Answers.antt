@@ -1,3 +1,4 @@
+-- A number after which more is left of the line isn't the only one.
 use Rattle.proto.proofs.Numbering.{only_number-more}
 use Rattle.proto.proofs.numbers.only_number.Goals as goal
 

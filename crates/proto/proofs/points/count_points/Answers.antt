@@ -1,3 +1,4 @@
+-- A line in which a point is missing has no count, and it has fewer points than bytes, so the count can be raised.
 use Rattle.std.proofs.Common.{◌+◌, ap, ◌∙◌, sym, rules, arith, length}
 use Rattle.std.specs.Prelude.{option_map}
 use Rattle.proto.proofs.Pointing.{points-none, few-more}

@@ -1,3 +1,4 @@
+-- The point that was read joins those before it, and there is room for the points that are left.
 use Rattle.std.proofs.Common.{◌++◌, List, ap, ◌∙◌, sym}
 use Rattle.std.specs.Prelude.{option_map}
 use Rattle.metric.specs.declared.cell.Cell.{Cell}

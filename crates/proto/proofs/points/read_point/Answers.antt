@@ -1,3 +1,4 @@
+-- A point after which more is left of the line isn't the only one.
 use Rattle.proto.proofs.Pointing.{only-more}
 use Rattle.proto.proofs.points.read_point.Goals as goal
 

@@ -1,3 +1,4 @@
+-- Another line is served after those before it; where it ends the stream, the session comes back without a pin.
 use Rattle.std.proofs.Common.{rules, ◌≡◌, Some, None}
 use Rattle.proto.specs.Callers.{free}
 use Rattle.proto.proofs.Serving.{serves_left, serves_on}

@@ -1,3 +1,4 @@
+-- A line with a blank has the word before its first blank and then those of the rest; one without a blank is a word.
 use Rattle.std.proofs.Common.{sym}
 use Rattle.proto.proofs.Splitting.{words-blank, words-one}
 use Rattle.proto.proofs.words.split_word.Goals as goal

@@ -1,3 +1,4 @@
+-- A worker starts with no stream served, and each turn adds a fresh one.
 use Rattle.proto.proofs.Pooling.{HasWorked-next, HasWorked-none}
 use Rattle.proto.proofs.workers.serve_all.Goals as goal
 

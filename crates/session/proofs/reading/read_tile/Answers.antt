@@ -1,4 +1,4 @@
--- All rows are read.
+-- After the last row all rows of the tile are read.
 use Rattle.std.proofs.Common.{sym, subst}
 use Rattle.shelf.specs.Roles.{ReaderView}
 use Rattle.shelf.specs.Steps.{HasBlock}

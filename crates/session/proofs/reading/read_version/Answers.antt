@@ -1,4 +1,4 @@
--- One tile after another, and then the version.
+-- Each tile that is read becomes the version's in the bitmap, and after the last one the bitmap is the version.
 use Rattle.std.proofs.Common.{arith, ap, ◌∙◌}
 use Rattle.bits.specs.TileWords.{tile_words}
 use Rattle.shelf.specs.Roles.{ReaderView}

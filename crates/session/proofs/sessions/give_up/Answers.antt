@@ -1,4 +1,4 @@
--- One more session is given up.
+-- Another session is given up.
 use Rattle.std.proofs.Common.{arith}
 use Rattle.session.proofs.ClosingLemmas.{counted_next, all_given_up}
 use Rattle.session.proofs.sessions.give_up.Goals as goal

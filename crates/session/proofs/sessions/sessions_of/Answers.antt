@@ -2,7 +2,7 @@
 use Rattle.std.proofs.Common.{arith, sym, ap, List, ◌∙◌, ◌++◌}
 use Rattle.std.specs.Vec.{vec_capacity}
 use Rattle.shelf.specs.Open.{Newcomer}
-use Rattle.shelf.proofs.Newcomers.{newcomer_of, room_left}
+use Rattle.shelf.proofs.seats.Newcomers.{newcomer_of, room_left}
 use Rattle.session.proofs.OpeningLemmas.{sessions_counted, sessions_whole, nothing_left}
 use Rattle.session.proofs.sessions.sessions_of.Goals as goal
 

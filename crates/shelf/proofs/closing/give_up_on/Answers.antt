@@ -3,7 +3,7 @@ use Rattle.std.proofs.Common.{ap, ◌∙◌}
 use Rattle.shelf.specs.Roles.{keeping, keeper_in}
 use Rattle.shelf.specs.Seats.{reader_on}
 use Rattle.shelf.specs.Steps.{without}
-use Rattle.shelf.proofs.MeetingSteps.{gives_it_up}
+use Rattle.shelf.proofs.steps.MeetingSteps.{gives_it_up}
 use Rattle.shelf.proofs.closing.give_up_on.Goals as goal
 
 pub load-requires : goal.load-requires

@@ -1,5 +1,5 @@
--- By the lemma on any table.
-use Rattle.shelf.proofs.EventSteps.{steps_are_events}
+-- Each step of a seat is the core's event of its kind, by the lemma on any table.
+use Rattle.shelf.proofs.steps.EventSteps.{steps_are_events}
 use Rattle.shelf.proofs.laws.seats_do_events.Goals as goal
 
 pub returns : goal.returns

@@ -2,8 +2,8 @@
 use Rattle.std.proofs.Common.{ap, ◌∙◌}
 use Rattle.shelf.specs.Roles.{keeper_in}
 use Rattle.shelf.specs.Seats.{base_of, reader_on}
-use Rattle.shelf.proofs.OwnTable.{its_role}
-use Rattle.shelf.proofs.MeetingSteps.{joins}
+use Rattle.shelf.proofs.seats.OwnTable.{its_role}
+use Rattle.shelf.proofs.steps.MeetingSteps.{joins}
 use Rattle.shelf.proofs.meeting.lay_together.Goals as goal
 
 pub join_seat-requires : goal.join_seat-requires

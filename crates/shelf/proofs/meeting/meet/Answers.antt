@@ -2,13 +2,13 @@
 use Rattle.std.proofs.Common.{◌≡◌, ◌≤◌, ◌+◌, length, ap, sym, ◌∙◌, subst, arith, Some, None}
 use Rattle.std.specs.Prelude.{◌⊎◌}
 use mir.Val.{bool_byte}
-use Rattle.map_core.proofs.PlaceLemmas.{now-within}
-use Rattle.shelf.proofs.LogParts.{made_by-fits}
-use Rattle.shelf.proofs.Newcomers.{unmet_counts}
+use Rattle.map_core.proofs.shared_words.PlaceLemmas.{now-within}
+use Rattle.shelf.proofs.logs.LogParts.{made_by-fits}
+use Rattle.shelf.proofs.seats.Newcomers.{unmet_counts}
 use Rattle.shelf.specs.Roles.{KeeperView, ReaderView, keeper_in, made_by, unmet_by}
 use Rattle.shelf.specs.Seats.{reader_on}
 use Rattle.shelf.specs.Steps.{Meets}
-use Rattle.shelf.proofs.OwnTable.{at_own, within_own}
+use Rattle.shelf.proofs.seats.OwnTable.{at_own, within_own}
 use Rattle.shelf.proofs.meeting.meet.Goals as goal
 
 pub meet_on-requires-clause-table : goal.meet_on-requires-clause-table

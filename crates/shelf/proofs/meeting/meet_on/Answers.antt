@@ -3,7 +3,7 @@ use Rattle.std.proofs.Common.{ap, ◌∙◌}
 use Rattle.shelf.specs.Roles.{keeping, keeper_in}
 use Rattle.shelf.specs.Seats.{base_of, reader_on}
 use Rattle.shelf.specs.Steps.{met, met_by, keeper_part}
-use Rattle.shelf.proofs.MeetingSteps.{meets_it, parts}
+use Rattle.shelf.proofs.steps.MeetingSteps.{meets_it, parts}
 use Rattle.shelf.proofs.meeting.meet_on.Goals as goal
 
 pub load-requires : goal.load-requires

@@ -1,10 +1,10 @@
 -- Dealing a reader keeps the rule.
 use Rattle.std.proofs.Common.{ap}
 use Rattle.std.specs.Arc.{arc_value}
-use Rattle.map_core.proofs.PlaceLemmas.{now-within}
+use Rattle.map_core.proofs.shared_words.PlaceLemmas.{now-within}
 use Rattle.shelf.specs.Seats.{base_of}
-use Rattle.shelf.proofs.OwnTable.{at_own, within_own}
-use Rattle.shelf.proofs.OpeningSteps.{deals}
+use Rattle.shelf.proofs.seats.OwnTable.{at_own, within_own}
+use Rattle.shelf.proofs.steps.OpeningSteps.{deals}
 use Rattle.shelf.proofs.opening.deal.Goals as goal
 
 pub split_seat-requires : goal.split_seat-requires

@@ -5,7 +5,7 @@ use Rattle.std.proofs.lemmas.List.FromFn.{length-map-range_with_len}
 use Rattle.atomic_table.specs.Seated.{TableId}
 use Rattle.shelf.specs.Open.{newcomer}
 use Rattle.shelf.specs.Seats.{store_at}
-use Rattle.shelf.proofs.Newcomers.{newcomers-push}
+use Rattle.shelf.proofs.seats.Newcomers.{newcomers-push}
 use Rattle.shelf.proofs.opening.deal_all.Goals as goal
 
 pub push_reserved-requires : goal.push_reserved-requires

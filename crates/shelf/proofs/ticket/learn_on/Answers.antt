@@ -2,8 +2,8 @@
 use Rattle.std.proofs.Common.{ap, ◌∙◌, ◌∷◌, []}
 use Rattle.shelf.specs.Seats.{base_of, reader_on, ticket_on}
 use Rattle.shelf.specs.Steps.{handed}
-use Rattle.shelf.proofs.OwnTable.{its_role}
-use Rattle.shelf.proofs.TicketSteps.{joins_ticket, learns_it}
+use Rattle.shelf.proofs.seats.OwnTable.{its_role}
+use Rattle.shelf.proofs.steps.TicketSteps.{joins_ticket, learns_it}
 use Rattle.shelf.proofs.ticket.learn_on.Goals as goal
 
 pub join_seat-requires : goal.join_seat-requires

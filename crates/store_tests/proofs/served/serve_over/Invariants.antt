@@ -1,3 +1,4 @@
+-- The store that is served takes its name from the blank one.
 use Rattle.store_tests.proofs.served.serve_over.Given as goal
 
 -- the store's name is that of what it is opened from

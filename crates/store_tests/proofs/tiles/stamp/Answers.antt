@@ -1,4 +1,4 @@
--- The positions stay.
+-- A stamp leaves how many positions there are for own tiles.
 use Rattle.map_core.specs.declared.command.Command.TheVariants.{Stamp}
 use Rattle.store_tests.proofs.TileLemmas.{own_kept}
 use Rattle.store_tests.proofs.tiles.stamp.Goals as goal

@@ -1,4 +1,4 @@
--- The store that was just made has the name.
+-- The name in the call of `plays_in` is that of the store that was just made.
 use Rattle.want_tests.proofs.commands.plays.Given as goal
 
 abbrev pub ghosts-plays_in : goal.ghosts-plays_in

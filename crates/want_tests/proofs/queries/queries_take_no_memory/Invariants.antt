@@ -1,4 +1,4 @@
--- The store that was just made has the name.
+-- The name in the call of `asks_in` is that of the store that was just made.
 use Rattle.want_tests.proofs.queries.queries_take_no_memory.Given as goal
 
 abbrev pub ghosts-asks_in : goal.ghosts-asks_in

@@ -1,3 +1,4 @@
+-- All blocks are in, since the free list is as long as there are blocks.
 use Rattle.std.proofs.Common.{length, sym, ap, ◌∙◌}
 use Rattle.arena.specs.Chain.{Pool}
 use Rattle.arena.proofs.Chains.{all_in, chain-length}

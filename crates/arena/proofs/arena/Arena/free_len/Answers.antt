@@ -1,3 +1,4 @@
+-- The count that the arena keeps is the length of its free list.
 use Rattle.std.proofs.Common.{sym, ap, ◌∙◌, length}
 use Rattle.arena.specs.Chain.{Pool}
 use Rattle.arena.proofs.Chains.{chain-length}

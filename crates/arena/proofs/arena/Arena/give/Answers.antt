@@ -1,3 +1,4 @@
+-- The block becomes the front of the free list, and its first word holds the number of the front before it.
 use Rattle.std.proofs.Common.{◌≡◌, ◌<◌, ◌+◌, ℕ, List, ◌∷◌, length, sym, ap, subst, ◌∙◌, arith}
 use Rattle.std.proofs.lemmas.List.{get_or-set_same}
 use Rattle.arena.specs.Blocks.{Home}

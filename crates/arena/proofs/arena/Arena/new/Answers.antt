@@ -1,3 +1,4 @@
+-- Once each block holds the number of the next, all blocks are one free list, in their order.
 use Rattle.std.proofs.Common.{◌≡◌, ℕ, suc, ◌≤◌, ◌+◌, refl, sym, ap, subst, ◌∙◌, arith}
 use Rattle.arena.specs.Blocks.{Home}
 use Rattle.arena.specs.Chain.{Filled}
@@ -9,7 +10,7 @@ filling-preserved c =
     let inv = c.filling.invariant in let under = c.filling-test.true in let filled = c.fill-region.ensures.region in let from = c.from.ensures in
     (omega arith, one_filled _ _ _ inv.1 under _ _ (c.filling.done + 1) filled.1 (ap (λ (n : ℕ). n + 1) from ∙ (let more : c.filling.done + 1 ≡ suc c.filling.done = omega arith in more)) (omega arith), filled.0 ∙ inv.2, ap (λ (h : Home). h.count) filled.0 ∙ inv.3, refl, refl)
 
--- two numbers of which neither is larger
+-- two numbers of which neither is larger are equal
 whole : {n m : ℕ} → n ≤ m → m ≤ n → n ≡ m
 whole {n} {m} l l' = omega arith
 

@@ -1,3 +1,4 @@
+-- The blocks that were filled make a free list so far, and the others are still to be filled.
 use Rattle.std.proofs.Common.{◌-◌, ◌≡◌, ◌≤◌}
 use Rattle.arena.specs.Chain.{Filled}
 use Rattle.arena.proofs.arena.Arena.new.Given as goal

@@ -1,3 +1,4 @@
+-- The front block leaves the free list, and the number in its first word is the new front.
 use Rattle.std.proofs.Common.{◌^◌, ◌<◌, ◌-◌, ℕ, List, ◌∷◌, get_or, sym, ap, subst, ◌∙◌}
 use Rattle.arena.specs.Blocks.{Home}
 use Rattle.arena.specs.Chain.{Pool, chain, IsArena}

@@ -22,7 +22,7 @@ use denote.Triple.Walked.{Stays, stay_dropped, walk_of, Goes-dropped}
 use Rattle.core.proofs.alloc.Calls.{Goes-blank}
 use Rattle.std.proofs.raw_atomic.Walks.{proved_at, leaves}
 use Rattle.arena.specs.Blocks.{Home}
-use Rattle.arena.specs.Ownership.{block_row, blocks_at}
+use Rattle.arena.specs.Ownership.{block_row, blocks_from}
 use Rattle.arena.proofs.Values.{region_val, region_own, region_told, region_made, tile_val, tile_own, tile_made}
 use mir.Syntax.{w32}
 use mir.Val.{vint}
@@ -38,6 +38,7 @@ use Rattle.arena.specs.contracts.region.Region.cut.Key.{name as #self}
 use Rattle.arena.proofs.region.Region.cut.Statement.{statement}
 use Rattle.arena.proofs.region.Region.cut.Code as compiled
 
+-- the machine code of `cut` does what its contract says
 pub cut_spec : {M : Type 1} → statement M
 cut_spec 𝓤 𝓛 𝓜 𝓡 wired =
     let H = 𝓛.H in
@@ -67,7 +68,7 @@ cut_spec 𝓤 𝓛 𝓜 𝓡 wired =
     let at : Ptr = block_ptr b (n * 512 + h.start) in
     let f64 : n < 2 ^ 64 = omega arith in let far : n * 512 < 2 ^ 64 = omega arith in
     fsplit ! $ fsplit ! $ drop ! $ move ! (1 ∷ []) $ drop ! $
-    use1 𝓛 (‵ (part_at block_row full_share ws b (n * 512 + h.start)) ⊛ ‵ (blocks_at b h.start (set r.blocks n out))) (block_out 𝓛 b r.blocks n h.start inside ws asked.1) $ split ! $
+    use1 𝓛 (‵ (part_at block_row full_share ws b (n * 512 + h.start)) ⊛ ‵ (blocks_from b h.start (set r.blocks n out))) (block_out 𝓛 b r.blocks n h.start inside ws asked.1) $ split ! $
     -- [the block; the other blocks; the rest]
     regoal ! (λ (us : List Val). prop (WpFn 𝓤 H C Λ fn us Post)) (λ i. told i ++ (are.1.0.0 i ++ [])) refl $
     enter ! C Λ fn (region_val base ∷ vint w32 n ∷ []) Post $

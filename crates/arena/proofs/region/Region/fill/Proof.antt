@@ -22,7 +22,7 @@ use denote.Triple.Walked.{Stays, stay_dropped, walk_of, Goes-dropped}
 use Rattle.core.proofs.alloc.Calls.{Goes-blank}
 use Rattle.std.proofs.raw_atomic.Walks.{proved_at, leaves}
 use Rattle.arena.specs.Blocks.{Home}
-use Rattle.arena.specs.Ownership.{block_ty, block_row, blocks_at}
+use Rattle.arena.specs.Ownership.{block_ty, block_row, blocks_from}
 use base.Fml.{froom}
 use Rattle.core.proofs.cell.Inside.{one}
 use denote.Array.{Array-Lawful}
@@ -42,6 +42,7 @@ use Rattle.arena.specs.contracts.region.Region.fill.Key.{name as #self}
 use Rattle.arena.proofs.region.Region.fill.Statement.{statement}
 use Rattle.arena.proofs.region.Region.fill.Code as compiled
 
+-- the machine code of `fill` does what its contract says
 pub fill_spec : {M : Type 1} → statement M
 fill_spec 𝓤 𝓛 𝓜 𝓡 wired =
     let H = 𝓛.H in
@@ -88,7 +89,7 @@ fill_spec 𝓤 𝓛 𝓜 𝓡 wired =
     exec ! C Λ En (after 2 fn.body) (at_ret En Post) $
     sets ! (agg ! (and_then ! (get ! refl) (no_more !))) refl (tt, (tt, tt)) $
     move ! (0 ∷ 2 ∷ []) $ use2 𝓛 (‵ (part_at block_row full_share ws b (n * 512 + h.start))) (part_in 𝓛 block_row refl full_share ws b (n * 512 + h.start) v) $
-    use2 𝓛 (‵ (blocks_at b h.start (set r.blocks n (held ws)))) (filled 𝓛 b r.blocks n h.start inside ws) $
+    use2 𝓛 (‵ (blocks_from b h.start (set r.blocks n (held ws)))) (filled 𝓛 b r.blocks n h.start inside ws) $
     returns ! (look_at ! 0 refl) $ free_all ! refl $
     let y : (region.the_row).Denot = record { base = base; home = h; blocks = set r.blocks n (held ws); placed = (refl, few); counted = length-set r.blocks n (held ws) ∙ same } in
     use0 𝓛 (‵ (region_own base (region_val base ∷ []))) (region_made 𝓛 base) $ fjoin ! $

@@ -1,4 +1,4 @@
--- `free` gives the parent its block and its token. Assumes `Logic`.
+-- `free` gives the allocator its memory and its token. Assumes `Logic`.
 use Rattle.std.proofs.Common.{◌≡◌, ℕ, ◌*◌, List, [], ◌∷◌, ◌++◌, refl, ap, ◌∙◌, arith, lit<}
 use mir.Syntax.{Ty, Fn, Args, a_type, dcons, dnil, place}
 use mir.Val.{Val, vptr, vunit}
@@ -42,6 +42,7 @@ use Rattle.arena.specs.contracts.region.Region.free.Key.{name as #self}
 use Rattle.arena.proofs.region.Region.free.Statement.{statement}
 use Rattle.arena.proofs.region.Region.free.Code as compiled
 
+-- the machine code of `free` does what its contract says
 pub free_spec : {M : Type 1} → statement M
 free_spec 𝓤 𝓛 𝓜 𝓡 wired A L g d dd met md =
     let H = 𝓛.H in

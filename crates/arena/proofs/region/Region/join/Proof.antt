@@ -22,7 +22,7 @@ use Rattle.core.proofs.alloc.Calls.{Goes-blank}
 use Rattle.std.proofs.raw_atomic.Walks.{proved_at, leaves}
 use Rattle.arena.specs.Blocks.{Home}
 use Rattle.std.specs.Ptr.{lies_at}
-use Rattle.arena.specs.Ownership.{block_row, blocks_at}
+use Rattle.arena.specs.Ownership.{block_row, blocks_from}
 use Rattle.arena.proofs.Values.{region_val, region_own, region_told, region_made, tile_val, tile_told}
 use Rattle.arena.proofs.Parts.{block_in, was_out}
 use Rattle.arena.proofs.Walks.{slot_at, learns}
@@ -32,6 +32,7 @@ use Rattle.arena.specs.contracts.region.Region.join.Key.{name as #self}
 use Rattle.arena.proofs.region.Region.join.Statement.{statement}
 use Rattle.arena.proofs.region.Region.join.Code as compiled
 
+-- the machine code of `join` does what its contract says
 pub join_spec : {M : Type 1} → statement M
 join_spec 𝓤 𝓛 𝓜 𝓡 wired =
     let H = 𝓛.H in
@@ -64,7 +65,7 @@ join_spec 𝓤 𝓛 𝓜 𝓡 wired =
     rewrite ! 0 (λ (p : Ptr). ‵ (lies_at block_row full_share p ws)) here refl $
     -- [the tile's block; the region's blocks; the rest]
     learns ! 2 (get_or r.blocks n out ≡ out) (was_out 𝓛 b r.blocks n h.start inside 𝓜 ws) (λ gone.
-    use2 𝓛 (‵ (blocks_at b h.start (set r.blocks n (held ws)))) (block_in 𝓛 b r.blocks n h.start inside ws) $
+    use2 𝓛 (‵ (blocks_from b h.start (set r.blocks n (held ws)))) (block_in 𝓛 b r.blocks n h.start inside ws) $
     regoal ! (λ (us : List Val). prop (WpFn 𝓤 H C Λ fn us Post)) (λ i. told i ++ ((told2.0 ∙ ap (λ (p : Ptr). tile_val p n ∷ []) here) i ++ [])) refl $
     enter ! C Λ fn (region_val base ∷ tile_val (block_ptr b (n * 512 + h.start)) n ∷ []) Post $
     alloc_all ! (λ l. pass_all ! refl ((tt, (tt, tt)), ((tt, (tt, (record { fits = told2.1 }, tt))), tt)) $

@@ -1,4 +1,4 @@
--- `new` asks the parent for units of 16 bytes. Assumes `Logic`.
+-- `new` asks its allocator for room for all blocks, and answers a region of it with its lease. Assumes `Logic`.
 use Rattle.std.proofs.Common.{◌≡◌, ◌*◌, List, [], ◌∷◌, ◌++◌, refl, arith, lit<, Some, None}
 use mir.Syntax.{Ty, Fn, Args, a_type, dcons, dnil}
 use mir.Val.{Val, vint, vptr, vcons, vnil}
@@ -33,7 +33,7 @@ use Rattle.std.proofs.raw_atomic.Walks.{proved_at, leaves}
 use Rattle.arena.proofs.Walks.{slot_at, then_runs}
 use Rattle.arena.proofs.Values.{region_val, region_own, region_made, lease_val, lease_own, lease_made}
 use Rattle.arena.specs.Blocks.{Home, bare}
-use Rattle.arena.specs.Ownership.{block_ty, blocks_at}
+use Rattle.arena.specs.Ownership.{block_ty, blocks_from}
 use Rattle.arena.proofs.Parts.{all_bare}
 use mir.Syntax.{w32, ty_array}
 use Rattle.std.proofs.Common.{ℕ, ◌^◌, ◌<◌, ◌≤◌, replicate}
@@ -46,6 +46,7 @@ use Rattle.arena.specs.contracts.region.Region.new.Key.{name as #self}
 use Rattle.arena.proofs.region.Region.new.Statement.{statement}
 use Rattle.arena.proofs.region.Region.new.Code as compiled
 
+-- the machine code of `new` does what its contract says
 pub new_spec : {M : Type 1} → statement M
 new_spec 𝓤 𝓛 𝓜 𝓡 wired A L g d dd met md =
     let H = 𝓛.H in
@@ -103,7 +104,7 @@ new_spec 𝓤 𝓛 𝓜 𝓡 wired A L g d dd met md =
     let x : (region.the_row).Denot = record { base = p; home = home b o; blocks = replicate n bare; placed = (refl, asked); counted = length-replicate n bare } in
     let k : (lease.the_row Z g).Denot = record { marker = record {}; alloc = h; home = home b o } in
     let v : Val = pair_val (region_val p) lease_val in
-    use1 𝓛 (‵ (blocks_at b o (replicate n bare))) (all_bare 𝓛 b n o) $
+    use1 𝓛 (‵ (blocks_from b o (replicate n bare))) (all_bare 𝓛 b n o) $
     use0 𝓛 (‵ (region_own p (region_val p ∷ []))) (region_made 𝓛 p) $ fjoin ! $ move ! (1 ∷ []) $ use0 𝓛 (‵ (lease_own (lease_val ∷ []))) (lease_made 𝓛 tt) $ fjoin ! $ move ! (1 ∷ 0 ∷ []) $ use2 𝓛 (‵ ((Tuple (region.the_row ∷ lease.the_row Z g ∷ [])).own_val (x, k) (pair_val (region_val p) lease_val ∷ []))) (pair_of 𝓛 (region.the_row) (lease.the_row Z g) x k (region_val p) lease_val) $
     use1 𝓛 (‵ (Out.own_val (Some (x, k)) (live 1 (vcons v vnil) ∷ []))) (Some-of 𝓛 Pair (x, k) v) $ use0 𝓛 (raw (fact 𝓤 ((x.blocks ≡ x.blocks) × (n ≡ n) × (h ≡ h) × (x.home ≡ x.home)))) (fact_i 𝓤 ((x.blocks ≡ x.blocks) × (n ≡ n) × (h ≡ h) × (x.home ≡ x.home)) (emp 𝓤) (refl, refl, refl, refl)) $ nothing ! $ nothing ! $ fjoin ! $ nothing ! $ fjoin ! $ move ! (3 ∷ 0 ∷ 2 ∷ 1 ∷ []) $
     by ! (leaves 𝓛 En₀ stays c z (live 1 (vcons v vnil)) (Some (x, k)) (tt, (tt, tt)) (tt, (tt, tt))))

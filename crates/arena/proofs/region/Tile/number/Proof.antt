@@ -28,6 +28,7 @@ use Rattle.arena.specs.contracts.region.Tile.number.Key.{name as #self}
 use Rattle.arena.proofs.region.Tile.number.Statement.{statement}
 use Rattle.arena.proofs.region.Tile.number.Code as compiled
 
+-- the machine code of `number` does what its contract says
 pub number_spec : {M : Type 1} → statement M
 number_spec 𝓤 𝓛 𝓜 𝓡 wired =
     let H = 𝓛.H in

@@ -30,6 +30,7 @@ use Rattle.arena.specs.contracts.region.Tile.words.Key.{name as #self}
 use Rattle.arena.proofs.region.Tile.words.Statement.{statement}
 use Rattle.arena.proofs.region.Tile.words.Code as compiled
 
+-- the machine code of `words` does what its contract says
 pub words_spec : {M : Type 1} → statement M
 words_spec 𝓤 𝓛 𝓜 𝓡 wired =
     let H = 𝓛.H in

@@ -52,6 +52,7 @@ module _ {M : Type 1} {𝓤 : Ura M} (𝓛 : Logic 𝓤) (h : Tile) (rb ro b o :
       rewrite ! 1 (λ (p : Ptr). ‵ (lies_at block_row full_share p w)) (sym here) refl $ fjoin ! $ move ! (1 ∷ 0 ∷ []) $ fjoin ! $
       fpack ! (List Val) (λ us. fsep (cell_at full_share T.mir us rb ro) (T.own_val (with_words h w) us)) word $ done !
 
+-- the machine code of `words_mut` does what its contract says
 pub words_mut_spec : {M : Type 1} → statement M
 words_mut_spec 𝓤 𝓛 𝓜 𝓡 wired =
     let H = 𝓛.H in

@@ -1,20 +1,34 @@
--- Each step of the writing, by the lemma of that step.
-use Rattle.std.proofs.Common.{arith, refl, ◌∙◌}
-use Rattle.bits.proofs.PutLemmas.{put_first, put_row, put_all, put_bitmap}
+-- The write changes the tile's cells, and no other; none past the edge. An obstacle that comes marks the band in which the tile lies.
+use Rattle.std.proofs.Common.{◌≡◌, List, ℕ, vec_len, length, sym, subst, ap, ◌∙◌, refl, arith, rules}
+use Rattle.std.proofs.lemmas.List.{with_items_is}
+use Rattle.bits.specs.Bands.{IsBanded, AreBandsKept}
+use Rattle.bits.specs.Cells.{Cells}
+use Rattle.bits.specs.Words.{words_across}
+use Rattle.bits.specs.Stored.{cells_stored}
+use Rattle.bits.specs.Writes.{with_tile}
+use Rattle.bits.proofs.StoredLemmas.{IsBitmap-cells_stored}
+use Rattle.bits.proofs.BandLemmas.{IsBanded-with_tile}
 use Rattle.bits.proofs.bitmap.Bitmap.put_tile.Goals as goal
-
-pub rows-init : goal.rows-init
-rows-init c = put_first c.args.self.now _ _ _ _ record { bitmap = c.height-height.ensures.bitmap; across_is = c.tiles_across-across.ensures.across; top_is = refl }
-
-pub rows-preserved : goal.rows-preserved
-rows-preserved c =
-    c.set_word.ensures.written
-    ∙ put_row c.args.self.now c.rows.self _ _ _ c.args.words.now _ _ _ record { bitmap = c.height-height.ensures.bitmap; across_is = c.tiles_across-across.ensures.across; top_is = refl }
-    c.rows.invariant c.rows.auto.y (omega arith) c.from.ensures refl
 
 pub returns-clause-written : goal.returns-clause-written
 returns-clause-written c =
-    put_all c.args.self.now _ _ _ _ _ _ record { bitmap = c.height-height.ensures.bitmap; across_is = c.tiles_across-across.ensures.across; top_is = refl } c.rows.invariant (omega arith)
+    let lent : c.as_mut_slice-cells.result.now ≡ c.self.inside.words.items = search rules in
+    let written = rw lent at c.write_tile.ensures.written in
+    let len : vec_len c.self.inside.words ≡ length c.self.inside.words.items = search rules in
+    let same = with_items_is c.self.inside.words c.write_tile.new.words (c.write_tile.ensures.stored.as_many ∙ sym (len ∙ c.self.invariant.stored.as_many)) in
+    rw (← c.self.view_is) (subst (λ (words : List ℕ). cells_stored c.self.inside.width c.self.inside.height words ≡ with_tile (cells_stored c.self.inside.width c.self.inside.height c.self.inside.words.items) c.args.position c.args.words.now) (sym same) written)
+
+pub invariant_of-self : goal.invariant_of-self
+invariant_of-self c =
+    let lent : c.as_mut_slice-cells.result.now ≡ c.self.inside.words.items = search rules in
+    let written = rw lent at c.write_tile.ensures.written in
+    let len : vec_len c.self.inside.words ≡ length c.self.inside.words.items = search rules in
+    let same = with_items_is c.self.inside.words c.write_tile.new.words (c.write_tile.ensures.stored.as_many ∙ sym (len ∙ c.self.invariant.stored.as_many)) in
+    subst (λ (words : List ℕ). AreBandsKept c.self.inside.width c.self.inside.height words c.marked_by-self-inside.result) (sym same) record {
+      stored = c.write_tile.ensures.stored;
+      banded = subst (λ (cells : Cells). IsBanded cells c.marked_by-self-inside.result) (sym written) (IsBanded-with_tile _ c.args.position c.tiles_across.result _ c.args.words.now _ c.marked_by-self-inside.result (IsBitmap-cells_stored _ _ _ c.self.invariant.stored) c.self.invariant.banded (omega arith)
+          (c.tiles_across.ensures.across ∙ ap (λ (cells : Cells). words_across cells.width) (sym c.self.view_is)) refl c.marked_by-self-inside.ensures.kept c.marked_by-self-inside.ensures.here);
+    }
 
 pub returns-clause-bitmap : goal.returns-clause-bitmap
-returns-clause-bitmap c = put_bitmap c.args.self.now c.rows.self _ _ _ c.height-height.ensures.bitmap c.rows.invariant
+returns-clause-bitmap c = IsBitmap-cells_stored _ _ _ (invariant_of-self c).stored

@@ -4,5 +4,5 @@ use Rattle.bits.proofs.bitmap.Bitmap.row_words.Goals as goal
 
 pub returns : goal.returns
 returns c =
-    IsRowOf_read _ _ _ c.args.self.now c.self.invariant c.self.view_is c.args.y _ _ _
+    IsRowOf_read _ _ _ c.args.self.now c.self.invariant.stored c.self.view_is c.args.y _ _ _
     c.requires c.from.ensures c.words_across-across.ensures.words c.deref.ensures.value

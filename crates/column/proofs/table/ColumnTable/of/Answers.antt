@@ -1,9 +1,10 @@
 -- After the sweeps the entries are the table of the bitmap.
-use Rattle.std.proofs.Common.{◌≡◌, ◌+◌, ◌*◌, length, ap, refl}
+use Rattle.std.proofs.Common.{◌≡◌, ◌+◌, ◌*◌, length, ap, refl, drop, sym}
+use Rattle.std.proofs.lemmas.List.{take_at}
 use Rattle.bits.specs.Cells.{Cells}
 use Rattle.bits.specs.Edges.{framed}
 use Rattle.bits.proofs.Framing.{framed_size}
-use Rattle.column.proofs.Tables.{bordered, cells_tabled-swept, IsTabled-swept, written_over}
+use Rattle.column.proofs.Tables.{bordered, cells_tabled-swept, IsTabled-swept}
 use Rattle.column.proofs.table.ColumnTable.of.Goals as goal
 
 pub invariant_of-result : goal.invariant_of-result
@@ -14,7 +15,7 @@ invariant_of-result c =
     let rows : c.height-height.result + 2 * c.shift-2.result ≡ map.height = rw size.1 (rw (c.height-height.ensures.height, c.shift-2.ensures) refl) in
     let many = c.in-Ok.ensures.len in
     let written : c.in-Ok.entries.len ≡ length c.sweep.new.entries = rw (c.sweep.ensures.as_many, ← columns, ← rows, ← c.from.ensures, ← c.from-2.ensures) many in
-    rw (written_over c.in-Ok.entries.len c.sweep.new.entries c.in-Ok.entries.items written)
+    rw (take_at c.sweep.new.entries (drop (length c.sweep.new.entries) c.in-Ok.entries.items) c.in-Ok.entries.len (sym written))
     (IsTabled-swept c.args.bitmap.now c.width-width.result c.height-height.result c.args.edge c.sweep.new.entries c.width-width.ensures.bitmap c.width-width.ensures.width c.height-height.ensures.height c.sweep.ensures)
 
 pub returns-clause-table : goal.returns-clause-table
@@ -25,6 +26,6 @@ returns-clause-table c =
     let rows : c.height-height.result + 2 * c.shift-2.result ≡ map.height = rw size.1 (rw (c.height-height.ensures.height, c.shift-2.ensures) refl) in
     let many = c.in-Ok.ensures.len in
     let written : c.in-Ok.entries.len ≡ length c.sweep.new.entries = rw (c.sweep.ensures.as_many, ← columns, ← rows, ← c.from.ensures, ← c.from-2.ensures) many in
-    rw (written_over c.in-Ok.entries.len c.sweep.new.entries c.in-Ok.entries.items written)
+    rw (take_at c.sweep.new.entries (drop (length c.sweep.new.entries) c.in-Ok.entries.items) c.in-Ok.entries.len (sym written))
     (ap (λ (cells : Cells). bordered cells c.args.edge)
     (cells_tabled-swept c.args.bitmap.now c.width-width.result c.height-height.result c.args.edge c.sweep.new.entries c.width-width.ensures.bitmap c.width-width.ensures.width c.height-height.ensures.height c.sweep.ensures))

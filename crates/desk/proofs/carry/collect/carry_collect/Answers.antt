@@ -1,10 +1,10 @@
--- A collect from its order to its commit.
+-- A collect is carried out from its order to its commit: each call finds what it needs, and the log and the grid agree after it.
 use Rattle.std.proofs.Common.{ap, ◌∙◌, length, map}
 use Rattle.map_core.specs.declared.command.Command.TheVariants.{Collect}
 use Rattle.map_core.specs.Words.{pin_word}
 use Rattle.map_core.specs.declared.setting.Setting.{Setting}
 use Rattle.map_core.specs.Drawing.{draws}
-use Rattle.shelf.proofs.WorkSteps.{collect_done}
+use Rattle.shelf.proofs.steps.WorkSteps.{collect_done}
 use Rattle.desk.proofs.CarryLemmas.{none_in_hand, accepted, slot_told}
 use Rattle.desk.proofs.HoldOpen.{can_answer}
 use Rattle.desk.proofs.ScanSteps.{collect_begun, scanned_all, few_versions, kept_computed, newest_kept, kept_of_reply, may_commit_scanned, collect_carried}

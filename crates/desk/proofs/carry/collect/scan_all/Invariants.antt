@@ -1,4 +1,4 @@
--- So many words are loaded.
+-- As many readers' words are loaded as there were turns.
 use Rattle.std.proofs.Common.{◌≡◌, length, map, take}
 use Rattle.map_core.specs.Words.{pin_word}
 use Rattle.shelf.specs.Steps.{scanning}

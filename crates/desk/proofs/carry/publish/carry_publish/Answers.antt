@@ -1,4 +1,4 @@
--- A publish from its order to its commit.
+-- A publish is carried out from its order to its commit: each call finds what it needs, and the log and the grid agree after it.
 use Rattle.std.proofs.Common.{ap}
 use Rattle.map_core.specs.Drawing.{draws}
 use Rattle.desk.proofs.CarryLemmas.{none_in_hand, accepted}

@@ -1,6 +1,6 @@
 -- Each word of the directory is the next word.
 use Rattle.std.proofs.Common.{◌<◌, ◌+◌, ◌*◌, ap, subst, ◌∙◌, arith}
-use Rattle.shelf.proofs.WriteSteps.{next_position}
+use Rattle.shelf.proofs.steps.WriteSteps.{next_position}
 use Rattle.desk.proofs.PublishSteps.{own_long, next_block, next_slot_is}
 use Rattle.desk.proofs.carry.publish.write_directory.Goals as goal
 

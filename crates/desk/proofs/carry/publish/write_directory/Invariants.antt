@@ -1,4 +1,4 @@
--- So many words are stored.
+-- As many words of the directory are stored as there were turns.
 use Rattle.std.proofs.Common.{◌≡◌, ◌+◌, ◌*◌}
 use Rattle.shelf.specs.Steps.{writing}
 use Rattle.desk.proofs.carry.publish.write_directory.Given as goal

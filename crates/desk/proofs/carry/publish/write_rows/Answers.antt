@@ -1,7 +1,7 @@
 -- Each row is the next word.
 use Rattle.std.proofs.Common.{ap, ◌∙◌, refl, get_or, arith}
 use Rattle.bits.proofs.TileDrawLemmas.{tile_words-row}
-use Rattle.shelf.proofs.WriteSteps.{next_row}
+use Rattle.shelf.proofs.steps.WriteSteps.{next_row}
 use Rattle.desk.proofs.carry.publish.write_rows.Goals as goal
 
 pub write_word-requires : goal.write_word-requires

@@ -1,4 +1,4 @@
--- So many rows are stored.
+-- As many rows of the tile are stored as there were turns.
 use Rattle.std.proofs.Common.{◌≡◌, ◌+◌, ◌*◌}
 use Rattle.shelf.specs.Steps.{writing}
 use Rattle.desk.proofs.carry.publish.write_rows.Given as goal

@@ -3,7 +3,7 @@ use Rattle.std.proofs.Common.{◌≡◌, ◌+◌, arith}
 use Rattle.map_core.specs.Words.{tiles}
 use Rattle.map_core.specs.Views.{blocks}
 use Rattle.shelf.specs.Roles.{entries}
-use Rattle.map_core.proofs.PublishWords.{own_few}
+use Rattle.map_core.proofs.shared_words.PublishWords.{own_few}
 use Rattle.desk.proofs.PublishSteps.{all_own}
 use Rattle.desk.proofs.carry.publish.write_tiles.Goals as goal
 

@@ -1,9 +1,9 @@
 -- A command is refused, or committed with its answer.
 use Rattle.std.proofs.Common.{◌≡◌, List, [], ◌∷◌, ◌++◌, ap, ◌∙◌}
-use Rattle.shelf.specs.declared.signed.Signed.{Signed}
+use Rattle.shelf.specs.declared.store_entry.StoreEntry.{StoreEntry}
 use Rattle.shelf.specs.Roles.{KeeperView, ReaderView}
 use Rattle.desk.specs.Carries.{signed}
-use Rattle.desk.specs.Desks.{DeskView, kept_after}
+use Rattle.desk.specs.Desks.{DeskView, entries_kept_after}
 use Rattle.desk.proofs.DeskLemmas.{IsDone, keeper_met, reader_met, can_carry, refused_is, log_after, desk_after, accepted_is, legal_after, applied_accepted, applied_refused}
 use Rattle.desk.proofs.HoldOpen.{can_answer}
 use Rattle.desk.proofs.desk.Desk.apply.Goals as goal
@@ -24,7 +24,7 @@ invariant_of-self-2 g c =
     let done : IsDone z d c.meet.new.keeper c.self.inside.holding c.number.result c.args.command c.carry-reply.result c.carry-reply.new.keeper c.carry-reply.new.holding =
     record { told = c.self.invariant.told; at_rest = keeper_met z d _ _ _ _ _ c.self.invariant c.meet.ensures.keeper; carried = c.carry-reply.ensures.carried } in
     desk_after z d _ _ _ _ _ _ _ _ c.self.inside.log.items _ _ done c.self.invariant.kept_is
-    (c.keep.ensures ∙ ap (λ (l : List Signed). kept_after l (signed c.number.result c.args.command c.carry-reply.result)) c.admit.ensures.items)
+    (c.keep.ensures ∙ ap (λ (l : List StoreEntry). entries_kept_after l (signed c.number.result c.args.command c.carry-reply.result)) c.admit.ensures.items)
     c.meet-2.ensures.keeper c.carry-reply.ensures.place_each
 
 pub returns-in-Err-clause-applied : goal.returns-in-Err-clause-applied
@@ -44,6 +44,6 @@ returns-clause-applied g c =
     let seen : c.meet.new.reader ≡ record c.args.seat.now { seen = d.log } = reader_met z d _ c.self.inside.holding c.self.inside.log.items c.self.inside.announced.items c.args.seat.now _ c.self.invariant c.requires c.meet.ensures.reader in
     let by_is : c.number.result ≡ c.args.seat.now.number = c.number.ensures.number ∙ ap (λ (x : ReaderView). x.number) seen in
     let log_is : c.meet-2.new.keeper.log ≡ d.log ++ signed c.number.result c.args.command c.carry-reply.result ∷ [] = log_after z d _ _ _ _ _ _ _ _ done c.meet-2.ensures.keeper in
-    let now_is : ◌≡◌ {A = DeskView} record { log = c.meet-2.new.keeper.log } _ = ap (λ (l : List Signed). record { log = l }) log_is in
+    let now_is : ◌≡◌ {A = DeskView} record { log = c.meet-2.new.keeper.log } _ = ap (λ (l : List StoreEntry). record { log = l }) log_is in
     rw (← c.self.view_is) (applied_accepted z _ _ _ _ _ _ (accepted_is z d _ _ _ _ _ _ _ _ c.args.seat.now _ _ done c.requires by_is now_is seen c.meet-2.ensures.reader) c.meet.ensures.began
     (legal_after z d _ _ _ _ _ _ _ _ done now_is))

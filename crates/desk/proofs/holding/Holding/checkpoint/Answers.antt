@@ -1,6 +1,6 @@
 -- A checkpoint is done.
 use Rattle.std.proofs.Common.{refl}
-use Rattle.map_core.proofs.LedgerLemmas.{place_of_ledger}
+use Rattle.map_core.proofs.logs.LedgerLemmas.{place_of_ledger}
 use Rattle.desk.proofs.HoldDraw.{checkpoint_done}
 use Rattle.desk.proofs.holding.Holding.checkpoint.Goals as goal
 

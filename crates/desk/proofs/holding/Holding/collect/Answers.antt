@@ -2,7 +2,7 @@
 use Rattle.std.proofs.Common.{subst, sym}
 use Rattle.map_core.specs.Kept.{IsIn}
 use Rattle.desk.proofs.HoldCollect.{collect_done}
-use Rattle.map_core.proofs.LedgerLemmas.{place_of_ledger}
+use Rattle.map_core.proofs.logs.LedgerLemmas.{place_of_ledger}
 use Rattle.desk.proofs.holding.Holding.collect.Goals as goal
 
 pub collect-freed-requires-clause-newest : goal.collect-freed-requires-clause-newest

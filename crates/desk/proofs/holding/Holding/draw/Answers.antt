@@ -1,6 +1,6 @@
 -- A paint or a stamp is done.
 use Rattle.desk.proofs.HoldDraw.{draw_done}
-use Rattle.map_core.proofs.LedgerLemmas.{place_of_ledger}
+use Rattle.map_core.proofs.logs.LedgerLemmas.{place_of_ledger}
 use Rattle.desk.proofs.holding.Holding.draw.Goals as goal
 
 pub draw-changed-requires-clause-judged : goal.draw-changed-requires-clause-judged

@@ -2,7 +2,7 @@
 use Rattle.std.proofs.Common.{refl, arith}
 use Rattle.desk.proofs.HoldLemmas.{slot_of_ledger}
 use Rattle.desk.proofs.HoldPublish.{publish_done}
-use Rattle.map_core.proofs.LedgerLemmas.{place_of_ledger}
+use Rattle.map_core.proofs.logs.LedgerLemmas.{place_of_ledger}
 use Rattle.desk.proofs.holding.Holding.publish.Goals as goal
 
 pub returns : goal.returns

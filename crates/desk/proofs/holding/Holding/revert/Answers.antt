@@ -1,6 +1,6 @@
 -- A revert is done.
 use Rattle.desk.proofs.HoldDraw.{revert_done}
-use Rattle.map_core.proofs.LedgerLemmas.{place_of_ledger}
+use Rattle.map_core.proofs.logs.LedgerLemmas.{place_of_ledger}
 use Rattle.desk.proofs.holding.Holding.revert.Goals as goal
 
 pub returns : goal.returns

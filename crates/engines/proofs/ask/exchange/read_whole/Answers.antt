@@ -1,3 +1,4 @@
+-- What is read is a line and then the bytes that it counts, each gathered after what the buffer held.
 use Rattle.engines.proofs.Gathering.{taken_behind}
 use Rattle.engines.proofs.Requests.{gathered_both}
 use Rattle.engines.proofs.ask.exchange.read_whole.Goals as goal

@@ -1,5 +1,5 @@
--- A line and the bytes that it counts, or less.
-use Rattle.std.proofs.Common.{◌≡◌, ◌∙◌, ◌∷◌, ◌++◌, [], ap, rules, sym}
+-- What is read is a line and the bytes that it counts, or less where the reader ends before.
+use Rattle.std.proofs.Common.{◌∙◌, rules}
 use Rattle.engines.proofs.Gathering.{taken_behind}
 use Rattle.engines.proofs.Requests.{cut_bytes, cut_line, gathered_both, request_read}
 use Rattle.engines.proofs.ask.request.read_whole.Goals as goal

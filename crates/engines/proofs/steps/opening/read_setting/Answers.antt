@@ -1,3 +1,4 @@
+-- Where no number is left for the blocks there is no setting.
 use Rattle.engines.proofs.OpeningLemmas.{setting_of-none}
 use Rattle.engines.proofs.steps.opening.read_setting.Goals as goal
 

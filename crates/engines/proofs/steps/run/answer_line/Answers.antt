@@ -1,3 +1,4 @@
+-- A line that says no step is answered as a bad line, and the world stays.
 use Rattle.std.proofs.Common.{codes, refl}
 use Rattle.engines.proofs.steps.run.answer_line.Goals as goal
 

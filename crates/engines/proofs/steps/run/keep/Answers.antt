@@ -1,3 +1,4 @@
+-- Another step of the keeper joins those that are done.
 use Rattle.engines.proofs.Keeping.{Keeps-more}
 use Rattle.engines.proofs.steps.run.keep.Goals as goal
 

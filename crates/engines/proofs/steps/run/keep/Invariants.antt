@@ -1,5 +1,5 @@
 -- So many steps were done, of which the last has this answer.
-use Rattle.engines.specs.Steps.{Keeps}
+use Rattle.engines.specs.steps.Steps.{Keeps}
 use Rattle.engines.proofs.steps.run.keep.Given as goal
 
 abbrev pub invariant-steps : goal.invariant-steps

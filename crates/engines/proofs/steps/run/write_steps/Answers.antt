@@ -1,6 +1,7 @@
+-- A write that failed leaves a beginning of the answer: the line of a refusal, or the answers of the world that was opened.
 use Rattle.std.proofs.Common.{ap, Err}
 use Rattle.std.proofs.lemmas.Result.{on_err_weaker}
-use Rattle.engines.specs.Opening.{opened_by}
+use Rattle.engines.specs.steps.Opening.{opened_by}
 use Rattle.engines.proofs.StepAnswering.{refusal_begun, stop_begun}
 use Rattle.engines.proofs.Telling.{told_begun}
 use Rattle.engines.proofs.steps.run.write_steps.Goals as goal

@@ -1,3 +1,4 @@
+-- A text with an LF has the line before its first LF and then the lines of the rest; without one it has no line.
 use Rattle.std.proofs.Common.{sym}
 use Rattle.engines.proofs.LineSplitting.{lines_of-more, lines_of-none}
 use Rattle.engines.proofs.steps.text.split_line.Goals as goal

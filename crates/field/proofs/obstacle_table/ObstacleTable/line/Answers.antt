@@ -4,7 +4,7 @@ use Rattle.field.proofs.ObstacleLemmas.{length-line}
 use Rattle.field.proofs.StripLemmas.{IsLineOf, IsLineOf-row}
 use Rattle.field.proofs.obstacle_table.ObstacleTable.line.Goals as goal
 
--- where the line starts
+-- the line of a row is found in the row's strip, after the rows above it there
 found : (c : goal.After-deref) → IsLineOf c.self.inside.width c.self.inside.y0 c.self.inside.y1 c.self.inside.height c.args.row (c.args.row % c.self.inside.height * c.self.inside.width) (map (λ strip. strip.items) c.self.inside.strips.items) c.index-strip.result.now.items
 found c = IsLineOf-row (λ strip. strip.items) c.self.inside.strips.items c.self.inside.width c.self.inside.y0 c.self.inside.y1 c.self.inside.height c.args.row c.from.result c.index-strip.result.now c.self.invariant (rw (← c.self.view_is) at c.requires.row) c.from.ensures c.index-strip.ensures
 

@@ -1,4 +1,4 @@
--- What is told of the cell.
+-- What the table tells of the cell is its nearest obstacle, measured from it.
 use Rattle.std.proofs.Common.{◌≡◌, ◌+◌, ◌-◌, ◌*◌, List, None, Option, ap, arith, map, slice_index_or, sym, ◌∙◌}
 use Rattle.std.proofs.lemmas.List.{get_or_default}
 use Rattle.metric.specs.declared.spot.Spot.{Spot}

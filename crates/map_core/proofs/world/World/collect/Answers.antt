@@ -1,13 +1,13 @@
--- The last step of a collect.
+-- The last step of a collect is safe: what is kept after the blocks went back tells the log with its entry.
 use Rattle.std.proofs.Common.{ap, ◌≡◌, ◌-◌, arith, refl, length}
 use Rattle.map_core.specs.declared.ledger.Ledger.{Ledger}
-use Rattle.map_core.proofs.CollectWorld.{kept_collect, reply_collect, room_retired, choice_collect, stay_few}
-use Rattle.map_core.proofs.CommitWorld.{last_known, last_does, consistent_commit, place_in_hand}
-use Rattle.map_core.proofs.JudgeLemmas.{balanced_ledger}
-use Rattle.map_core.proofs.LedgerLemmas.{ledger_collect, now_of_ledger}
-use Rattle.map_core.proofs.StepLemmas.{tidy_of}
-use Rattle.map_core.proofs.SummaryCollect.{summary_collect, freed_collect}
-use Rattle.map_core.proofs.WorldLemmas.{safe_done, now_word_there, now_room_same}
+use Rattle.map_core.proofs.steps.CollectWorld.{kept_collect, reply_collect, room_retired, choice_collect, stay_few}
+use Rattle.map_core.proofs.steps.CommitWorld.{last_known, last_does, consistent_commit, place_in_hand}
+use Rattle.map_core.proofs.logs.JudgeLemmas.{balanced_ledger}
+use Rattle.map_core.proofs.logs.LedgerLemmas.{ledger_collect, now_of_ledger}
+use Rattle.map_core.proofs.steps.StepLemmas.{tidy_of}
+use Rattle.map_core.proofs.logs.SummaryCollect.{summary_collect, freed_collect}
+use Rattle.map_core.proofs.steps.WorldLemmas.{safe_done, now_word_there, now_room_same}
 use Rattle.map_core.proofs.world.World.collect.Goals as goal
 
 pub give_back_retired-requires : goal.give_back_retired-requires

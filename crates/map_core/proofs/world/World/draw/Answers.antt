@@ -1,16 +1,16 @@
--- The step of a paint or a stamp.
+-- The step of a paint or a stamp is safe: the command finds its blocks, and what is kept tells the log with its entry.
 use Rattle.std.proofs.Common.{◌≡◌, arith, refl, ap, subst, sym, ◌∙◌, length}
 use Rattle.bits.specs.Cells.{Cells, IsBitmap}
 use Rattle.map_core.specs.declared.ledger.Ledger.{Ledger}
 use Rattle.map_core.specs.Drawing.{drawn}
-use Rattle.map_core.proofs.CommitWorld.{last_does, consistent_commit, place_in_hand}
-use Rattle.map_core.proofs.DrawWorld.{drawing_known, hand_inside, reply_draw, count_draw, written_back}
-use Rattle.map_core.proofs.JudgeLemmas.{balanced_ledger, draft_of_map, same_width, same_height, drawn_of_map, own_long}
-use Rattle.map_core.proofs.LedgerLemmas.{ledger_draw, now_of_ledger}
-use Rattle.map_core.proofs.StepLemmas.{tidy_of}
-use Rattle.map_core.proofs.SummaryDraw.{summary_draw}
-use Rattle.map_core.proofs.TidyDraft.{tile_count-of_map}
-use Rattle.map_core.proofs.WorldLemmas.{safe_done, now_word_there, now_room}
+use Rattle.map_core.proofs.steps.CommitWorld.{last_does, consistent_commit, place_in_hand}
+use Rattle.map_core.proofs.steps.DrawWorld.{drawing_known, hand_inside, reply_draw, count_draw, written_back}
+use Rattle.map_core.proofs.logs.JudgeLemmas.{balanced_ledger, draft_of_map, same_width, same_height, drawn_of_map, own_long}
+use Rattle.map_core.proofs.logs.LedgerLemmas.{ledger_draw, now_of_ledger}
+use Rattle.map_core.proofs.steps.StepLemmas.{tidy_of}
+use Rattle.map_core.proofs.logs.SummaryDraw.{summary_draw}
+use Rattle.map_core.proofs.invariants.TidyDraft.{tile_count-of_map}
+use Rattle.map_core.proofs.steps.WorldLemmas.{safe_done, now_word_there, now_room}
 use Rattle.map_core.proofs.world.World.draw.Goals as goal
 
 pub copy_from-requires-clause-width : goal.copy_from-requires-clause-width

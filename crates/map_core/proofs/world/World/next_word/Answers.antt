@@ -1,8 +1,8 @@
 -- The rows come first, then the directory.
 use Rattle.std.proofs.Common.{arith, ap, ◌∙◌, length}
 use Rattle.map_core.specs.Blocks.{own_list}
-use Rattle.map_core.proofs.OrderWorld.{own_few, publish_rest}
-use Rattle.map_core.proofs.WriteWorld.{consistent_of}
+use Rattle.map_core.proofs.steps.OrderWorld.{own_few, publish_rest}
+use Rattle.map_core.proofs.steps.WriteWorld.{consistent_of}
 use Rattle.map_core.proofs.world.World.next_word.Goals as goal
 
 pub overflow_mul-rows : goal.overflow_mul-rows

@@ -1,16 +1,16 @@
--- The last step of a publish.
+-- The last step of a publish is safe: the directory is stored, and what is kept tells the log with its entry.
 use Rattle.std.proofs.Common.{arith, refl, ap, sym, ◌∙◌, length}
 use Rattle.map_core.specs.declared.command.Command.TheVariants.{Publish}
 use Rattle.map_core.specs.declared.ledger.Ledger.{Ledger}
-use Rattle.map_core.proofs.CommitWorld.{last_known, last_does, consistent_commit, published_of_map, place_in_hand, version_in_hand}
-use Rattle.map_core.proofs.GiveBack.{cleared_back}
-use Rattle.map_core.proofs.JudgeLemmas.{draft_of_map, balanced_ledger}
-use Rattle.map_core.proofs.LedgerLemmas.{ledger_publish, now_of_ledger}
-use Rattle.map_core.proofs.PublishWorld.{reply_publish, room_replaced, newest_part, came_back, own_few_places, directory_long, came_and_own, part_within, part_is, part_small}
-use Rattle.map_core.proofs.StepLemmas.{tidy_of}
-use Rattle.map_core.proofs.SummaryPublish.{summary_publish, newest_published, slots_published}
-use Rattle.map_core.proofs.WorldLemmas.{safe_done, next_room, accepted_in, now_room_published}
-use Rattle.map_core.proofs.WriteWorld.{consistent_of, newest_few, newest_kept}
+use Rattle.map_core.proofs.steps.CommitWorld.{last_known, last_does, consistent_commit, published_of_map, place_in_hand, version_in_hand}
+use Rattle.map_core.proofs.accounts.GiveBack.{cleared_back}
+use Rattle.map_core.proofs.logs.JudgeLemmas.{draft_of_map, balanced_ledger}
+use Rattle.map_core.proofs.logs.LedgerLemmas.{ledger_publish, now_of_ledger}
+use Rattle.map_core.proofs.steps.PublishWorld.{reply_publish, room_replaced, newest_part, came_back, own_few_places, directory_long, came_and_own, part_within, part_is, part_small}
+use Rattle.map_core.proofs.steps.StepLemmas.{tidy_of}
+use Rattle.map_core.proofs.logs.SummaryPublish.{summary_publish, newest_published, slots_published}
+use Rattle.map_core.proofs.steps.WorldLemmas.{safe_done, next_room, accepted_in, now_room_published}
+use Rattle.map_core.proofs.steps.WriteWorld.{consistent_of, newest_few, newest_kept}
 use Rattle.map_core.proofs.world.World.publish.Goals as goal
 
 pub map_at-first-requires-clause-kept : goal.map_at-first-requires-clause-kept

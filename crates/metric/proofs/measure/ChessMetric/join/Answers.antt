@@ -1,4 +1,4 @@
--- The larger number of each place.
+-- At each of the eight places the larger of the two numbers is chosen, which is the distance.
 use Rattle.std.proofs.Common.{◌∙◌, ltb, get_or}
 use Rattle.metric.proofs.LaneLemmas.{chosen_at, larger_by_test}
 use Rattle.metric.proofs.measure.ChessMetric.join.Goals as goal

@@ -1,3 +1,4 @@
+-- The reads so far were interrupted, which doesn't count as a failed read.
 use Rattle.std.proofs.Common.{◌≡◌}
 use Rattle.metric.proofs.std_streams.ReaderSourceSource.next_block.Given as goal
 

@@ -1,11 +1,12 @@
+-- The buffer holds as many bytes as there were turns, and they are those that were read.
 use Rattle.std.proofs.Common.{◌≡◌, ◌≤◌, length, vec_capacity}
-use Rattle.proto.specs.Wire.{HasRead, wire_of}
+use Rattle.proto.specs.Wire.{HasRead}
 use Rattle.proto.proofs.serve.counted.keep.Given as goal
 
--- so many bytes were read, and they are kept
+-- each turn has read a byte, and all of them are kept
 abbrev pub invariant-bytes : goal.invariant-bytes
 invariant-bytes g l = record {
-  read : HasRead 0 (wire_of g.S.Source.rest g.S.Sink.held g.S.Source.failed_reads g.S.Sink.failed_writes l.fn.stream) l.bytes.items (wire_of g.S.Source.rest g.S.Sink.held g.S.Source.failed_reads g.S.Sink.failed_writes l.stream);
+  read : HasRead 0 (g.S.Stream.wire l.fn.stream) l.bytes.items (g.S.Stream.wire l.stream);
   as_many : length l.bytes.items ≡ l.counter;
   room : l.fn.count ≤ vec_capacity l.bytes;
 }

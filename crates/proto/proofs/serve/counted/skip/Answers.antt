@@ -1,3 +1,4 @@
+-- The byte of this turn joins those that were read before it.
 use Rattle.std.proofs.Common.{◌∷◌, ◌++◌, [], arith, length-append}
 use Rattle.proto.proofs.Wires.{read_on}
 use Rattle.proto.proofs.serve.counted.skip.Goals as goal

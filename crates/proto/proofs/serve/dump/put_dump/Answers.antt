@@ -1,4 +1,4 @@
--- The reply line, and the image after it.
+-- A write that fails within the reply line or the image leaves a beginning of both together.
 use Rattle.std.proofs.lemmas.Result.{on_err_weaker}
 use Rattle.pbm.specs.Writing.{plain_text}
 use Rattle.proto.specs.Replies.{reply_line}

@@ -2,7 +2,7 @@
 use Rattle.std.proofs.Common.{◌-◌, ◌≡◌, ◌*◌, ◌≤◌, vec_capacity}
 use Rattle.std.specs.List.{range_with_len, flat_map}
 use Rattle.pbm.specs.Writing.{plain_digit}
-use Rattle.proto.specs.Wire.{HasWritten, wire_of}
+use Rattle.proto.specs.Wire.{HasWritten}
 use Rattle.proto.proofs.serve.dump.put_rows.Given as goal
 
 abbrev pub invariant-pieces : goal.invariant-pieces
@@ -10,7 +10,7 @@ invariant-pieces g l = record {
   side : l.height ≡ l.bitmap.height;
   rows : l.y ≤ l.bitmap.height;
   room : 65536 ≤ vec_capacity l.piece;
-  written : HasWritten (wire_of g.S.Source.rest g.S.Sink.held g.S.Source.failed_reads g.S.Sink.failed_writes l.fn.stream) (flat_map (plain_digit l.bitmap) (range_with_len 0 (l.y * l.bitmap.width))) (wire_of g.S.Source.rest g.S.Sink.held g.S.Source.failed_reads g.S.Sink.failed_writes l.stream);
+  written : HasWritten (g.S.Stream.wire l.fn.stream) (flat_map (plain_digit l.bitmap) (range_with_len 0 (l.y * l.bitmap.width))) (g.S.Stream.wire l.stream);
 }
 
 abbrev pub decreases-pieces : goal.decreases-pieces

@@ -1,4 +1,4 @@
--- What the write came to.
+-- The stream goes on where the reply was written, and ends where its write failed.
 use Rattle.proto.proofs.Dumping.{said_after}
 use Rattle.proto.proofs.serve.dump.say_not_pinned.Goals as goal
 

@@ -1,3 +1,4 @@
+-- A text that was written and couldn't be passed on counts as a failed write.
 use Rattle.std.proofs.lemmas.Result.{on_err_weaker}
 use Rattle.proto.proofs.Wires.{failed_last}
 use Rattle.proto.proofs.serve.say.put_now.Goals as goal

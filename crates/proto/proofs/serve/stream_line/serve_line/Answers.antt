@@ -1,3 +1,4 @@
+-- A line that is too long is refused and ends the stream, and a stream that stops within a line ends there.
 use Rattle.std.proofs.Common.{rules}
 use Rattle.proto.proofs.Serving.{line_stopped, too_long}
 use Rattle.proto.proofs.serve.stream_line.serve_line.Goals as goal

@@ -1,3 +1,4 @@
+-- The digits of a word are those of its sixteenth part and then its last one, and there are none where none is asked for.
 use Rattle.std.proofs.Common.{◌∷◌, ◌++◌, [], arith, ap, ◌∙◌}
 use Rattle.proto.proofs.Writing.{hex_digits-none, hex_digits-more}
 use Rattle.proto.proofs.text.Text.+put_hex.Goals as goal

@@ -1,3 +1,4 @@
+-- The decimal of a number is that of its tenth part and then its last digit, twenty digits at most in all.
 use Rattle.std.proofs.Common.{◌/◌, length, arith, length-append, ap, ◌∙◌}
 use Rattle.std.specs.Fmt.{decimal}
 use Rattle.proto.proofs.Writing.{length-decimal_64, length-decimal_tenth, decimal-more}

@@ -1,3 +1,4 @@
+-- Each call of itself is for a smaller number.
 use Rattle.proto.proofs.text.Text.+put_long.Given as goal
 
 abbrev pub decreases-put_long : goal.decreases-put_long

@@ -1,3 +1,4 @@
+-- A number of 32 bits has ten digits at most, so its decimal fits into the room.
 use Rattle.std.proofs.Common.{arith, length-append}
 use Rattle.metric.proofs.Decimals.{length-decimal_32}
 use Rattle.proto.proofs.text.Text.put_number.Goals as goal

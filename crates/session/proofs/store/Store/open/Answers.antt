@@ -1,7 +1,7 @@
 -- There is room for each session.
 use Rattle.std.proofs.Common.{arith, ap, length, ◌∙◌}
 use Rattle.shelf.specs.Store.{StoreId, readers_of}
-use Rattle.shelf.proofs.Newcomers.{newcomers_counted}
+use Rattle.shelf.proofs.seats.Newcomers.{newcomers_counted}
 use Rattle.session.proofs.store.Store.open.Goals as goal
 
 pub sessions_of-sessions-requires-clause-room : goal.sessions_of-sessions-requires-clause-room

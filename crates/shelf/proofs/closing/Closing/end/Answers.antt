@@ -1,10 +1,10 @@
 -- The last load tells that each caller was a reader that was dealt, so that the counts of all readers add up.
 use Rattle.std.proofs.Common.{ap, sym, ◌∙◌}
-use Rattle.map_core.proofs.PlaceLemmas.{now-within}
+use Rattle.map_core.proofs.shared_words.PlaceLemmas.{now-within}
 use Rattle.shelf.specs.Roles.{keeper_in}
-use Rattle.shelf.proofs.OwnTable.{at_own, within_own}
-use Rattle.shelf.proofs.EndSteps.{ends_it}
-use Rattle.shelf.proofs.ClosingSums.{closed_sum}
+use Rattle.shelf.proofs.seats.OwnTable.{at_own, within_own}
+use Rattle.shelf.proofs.steps.EndSteps.{ends_it}
+use Rattle.shelf.proofs.logs.ClosingSums.{closed_sum}
 use Rattle.shelf.proofs.closing.Closing.end.Goals as goal
 
 pub load-requires : goal.load-requires

@@ -1,7 +1,7 @@
 -- Both seats are at the store's table.
 use Rattle.std.proofs.Common.{sym, ◌∙◌}
-use Rattle.map_core.proofs.PlaceLemmas.{now-within}
-use Rattle.shelf.proofs.OwnTable.{at_own, within_own}
+use Rattle.map_core.proofs.shared_words.PlaceLemmas.{now-within}
+use Rattle.shelf.proofs.seats.OwnTable.{at_own, within_own}
 use Rattle.shelf.proofs.closing.Closing.give_up.Goals as goal
 
 pub give_up_on-requires-clause-table : goal.give_up_on-requires-clause-table

@@ -1,10 +1,10 @@
--- The keeper's seat under its store's name.
+-- The keeper's seat gets its store's name, and is at rest there.
 use Rattle.std.proofs.Common.{[], ap, sym, ◌∙◌, subst}
 use Rattle.std.specs.Arc.{arc_value}
 use Rattle.shelf.specs.Store.{StoreId}
 use Rattle.shelf.specs.Roles.{keeping, keeper_in}
 use Rattle.shelf.specs.Seats.{IsOf}
-use Rattle.shelf.proofs.EndSteps.{keeper_fresh}
+use Rattle.shelf.proofs.steps.EndSteps.{keeper_fresh}
 use Rattle.shelf.proofs.fresh.FreshKeeper.named.Goals as goal
 
 pub invariant_of-result : goal.invariant_of-result

@@ -1,4 +1,4 @@
--- A reader's seat under its store's name.
+-- A reader's seat gets its store's name, and has seen nothing there.
 use Rattle.std.proofs.Common.{◌<◌, [], ◌∷◌, ap, sym, ◌∙◌, subst}
 use Rattle.std.specs.Arc.{arc_value}
 use Rattle.map_core.specs.Tidy.{IsReady}
@@ -6,7 +6,7 @@ use Rattle.shelf.specs.Open.{Newcomer}
 use Rattle.shelf.specs.Store.{StoreId, readers_of}
 use Rattle.shelf.specs.Roles.{ReaderView, reading}
 use Rattle.shelf.specs.Seats.{IsOf, reader_on}
-use Rattle.shelf.proofs.EndSteps.{reader_fresh}
+use Rattle.shelf.proofs.steps.EndSteps.{reader_fresh}
 use Rattle.shelf.proofs.fresh.FreshReader.named.Goals as goal
 
 pub invariant_of-result : goal.invariant_of-result

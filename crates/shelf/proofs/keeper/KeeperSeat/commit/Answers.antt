@@ -1,12 +1,12 @@
 -- A commit keeps the rule, and stores the NOW that the seat's place and version say.
 use Rattle.std.proofs.Common.{arith, ap, sym, ◌∙◌, refl, subst}
 use Rattle.shelf.specs.Roles.{keeper_in}
-use Rattle.shelf.proofs.OwnTable.{at_own, within_own}
-use Rattle.map_core.proofs.PlaceLemmas.{now-within}
-use Rattle.shelf.proofs.ReaderSeats.{still_of}
+use Rattle.shelf.proofs.seats.OwnTable.{at_own, within_own}
+use Rattle.map_core.proofs.shared_words.PlaceLemmas.{now-within}
+use Rattle.shelf.proofs.seats.ReaderSeats.{still_of}
 use Rattle.shelf.specs.Steps.{MayCommit}
-use Rattle.shelf.proofs.KeeperSteps.{commits_it}
-use Rattle.shelf.proofs.KeeperSeats.{keeper_role, keeper_now, next_told, says_committed, word_committed, room_committed}
+use Rattle.shelf.proofs.steps.KeeperSteps.{commits_it}
+use Rattle.shelf.proofs.seats.KeeperSeats.{keeper_role, keeper_now, next_told, says_committed, word_committed, room_committed}
 use Rattle.shelf.proofs.keeper.KeeperSeat.commit.Goals as goal
 
 pub overflow_add-self : goal.overflow_add-self

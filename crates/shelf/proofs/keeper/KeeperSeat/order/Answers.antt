@@ -3,11 +3,11 @@ use Rattle.std.proofs.Common.{ap, refl, ◌∙◌}
 use Rattle.map_core.specs.Legal.{refused}
 use Rattle.map_core.specs.Views.{story}
 use Rattle.shelf.specs.Roles.{entries, keeper_in}
-use Rattle.shelf.proofs.OwnTable.{at_own, within_own}
-use Rattle.map_core.proofs.PlaceLemmas.{now-within}
-use Rattle.shelf.proofs.ReaderSeats.{still_of}
-use Rattle.shelf.proofs.KeeperSteps.{orders_it}
-use Rattle.shelf.proofs.KeeperSeats.{keeper_role, keeper_now, now_room, says_ordered}
+use Rattle.shelf.proofs.seats.OwnTable.{at_own, within_own}
+use Rattle.map_core.proofs.shared_words.PlaceLemmas.{now-within}
+use Rattle.shelf.proofs.seats.ReaderSeats.{still_of}
+use Rattle.shelf.proofs.steps.KeeperSteps.{orders_it}
+use Rattle.shelf.proofs.seats.KeeperSeats.{keeper_role, keeper_now, now_room, says_ordered}
 use Rattle.shelf.proofs.keeper.KeeperSeat.order.Goals as goal
 
 pub word-now-requires-clause-place : goal.word-now-requires-clause-place

@@ -3,12 +3,12 @@ use Rattle.std.proofs.Common.{ap, sym, subst, ◌+◌, ◌*◌, ◌<◌, ◌≤�
 use Rattle.map_core.specs.Story.{newest}
 use Rattle.map_core.specs.Views.{story}
 use Rattle.shelf.specs.Roles.{keeper_in, entries}
-use Rattle.shelf.proofs.OwnTable.{at_own, within_own}
-use Rattle.map_core.proofs.PlaceLemmas.{pin-within}
-use Rattle.shelf.proofs.ReaderSeats.{still_of}
+use Rattle.shelf.proofs.seats.OwnTable.{at_own, within_own}
+use Rattle.map_core.proofs.shared_words.PlaceLemmas.{pin-within}
+use Rattle.shelf.proofs.seats.ReaderSeats.{still_of}
 use Rattle.shelf.specs.Steps.{IsNextScan}
-use Rattle.shelf.proofs.KeeperSteps.{scans_it}
-use Rattle.shelf.proofs.KeeperSeats.{keeper_role, keeper_now, says_scanned}
+use Rattle.shelf.proofs.steps.KeeperSteps.{scans_it}
+use Rattle.shelf.proofs.seats.KeeperSeats.{keeper_role, keeper_now, says_scanned}
 use Rattle.shelf.proofs.keeper.KeeperSeat.scan.Goals as goal
 
 pub load-requires : goal.load-requires

@@ -1,9 +1,9 @@
 -- A ticket is cut off.
 use Rattle.std.proofs.Common.{ap}
-use Rattle.map_core.proofs.PlaceLemmas.{now-within}
+use Rattle.map_core.proofs.shared_words.PlaceLemmas.{now-within}
 use Rattle.shelf.specs.Roles.{keeper_in}
-use Rattle.shelf.proofs.OwnTable.{at_own, within_own}
-use Rattle.shelf.proofs.TicketSteps.{cuts_ticket}
+use Rattle.shelf.proofs.seats.OwnTable.{at_own, within_own}
+use Rattle.shelf.proofs.steps.TicketSteps.{cuts_ticket}
 use Rattle.shelf.proofs.keeper.KeeperSeat.ticket.Goals as goal
 
 pub split_seat-requires : goal.split_seat-requires

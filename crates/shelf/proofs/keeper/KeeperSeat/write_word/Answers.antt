@@ -1,11 +1,11 @@
 -- A store of a word keeps the rule.
 use Rattle.std.proofs.Common.{ap, sym, subst}
 use Rattle.shelf.specs.Roles.{keeper_in}
-use Rattle.shelf.proofs.OwnTable.{at_own, within_own}
-use Rattle.shelf.proofs.ReaderSeats.{still_of}
+use Rattle.shelf.proofs.seats.OwnTable.{at_own, within_own}
+use Rattle.shelf.proofs.seats.ReaderSeats.{still_of}
 use Rattle.shelf.specs.Steps.{IsNextWrite}
-use Rattle.shelf.proofs.KeeperSteps.{writes_it}
-use Rattle.shelf.proofs.KeeperSeats.{keeper_role, keeper_now, says_wrote, write_within}
+use Rattle.shelf.proofs.steps.KeeperSteps.{writes_it}
+use Rattle.shelf.proofs.seats.KeeperSeats.{keeper_role, keeper_now, says_wrote, write_within}
 use Rattle.shelf.proofs.keeper.KeeperSeat.write_word.Goals as goal
 
 pub store-requires : goal.store-requires

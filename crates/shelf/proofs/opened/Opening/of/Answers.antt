@@ -1,10 +1,10 @@
 -- The rule holds of the table as it is made, and the seats are at it.
 use Rattle.std.proofs.Common.{length, ap, sym, ◌∙◌}
 use Rattle.map_core.specs.Words.{Base}
-use Rattle.map_core.proofs.OpenWorld.{fits_ready}
+use Rattle.map_core.proofs.steps.OpenWorld.{fits_ready}
 use Rattle.shelf.specs.Seats.{base_of}
-use Rattle.shelf.proofs.EndSteps.{is_of_new}
-use Rattle.shelf.proofs.OpeningSteps.{rule_at_first}
+use Rattle.shelf.proofs.steps.EndSteps.{is_of_new}
+use Rattle.shelf.proofs.steps.OpeningSteps.{rule_at_first}
 use Rattle.shelf.proofs.opened.Opening.of.Goals as goal
 
 pub of_words-requires : goal.of_words-requires

@@ -1,9 +1,9 @@
 -- An announcement keeps the rule.
 use Rattle.std.proofs.Common.{ap, ◌∙◌}
-use Rattle.map_core.proofs.PlaceLemmas.{pin-within}
+use Rattle.map_core.proofs.shared_words.PlaceLemmas.{pin-within}
 use Rattle.shelf.specs.Seats.{reader_on}
-use Rattle.shelf.proofs.OwnTable.{at_own, within_own, its_role}
-use Rattle.shelf.proofs.ReaderSteps.{announces_it, announced_word}
+use Rattle.shelf.proofs.seats.OwnTable.{at_own, within_own, its_role}
+use Rattle.shelf.proofs.steps.ReaderSteps.{announces_it, announced_word}
 use Rattle.shelf.proofs.reader.ReaderSeat.announce.Goals as goal
 
 pub store-requires : goal.store-requires

@@ -1,12 +1,12 @@
 -- An exact announcement keeps the rule.
 use Rattle.std.proofs.Common.{[], ◌∷◌, ap, ◌∙◌}
 use Rattle.map_core.specs.Steps.{to_confirm}
-use Rattle.map_core.proofs.PlaceLemmas.{pin-within}
+use Rattle.map_core.proofs.shared_words.PlaceLemmas.{pin-within}
 use Rattle.shelf.specs.Seats.{reader_on}
 use Rattle.shelf.specs.Steps.{confirming}
-use Rattle.shelf.proofs.OwnTable.{at_own, within_own, its_role}
-use Rattle.shelf.proofs.ReaderSeats.{still_of, one_view, says_confirmed}
-use Rattle.shelf.proofs.ReaderSteps.{confirms_it, confirmed_held, confirmed_word}
+use Rattle.shelf.proofs.seats.OwnTable.{at_own, within_own, its_role}
+use Rattle.shelf.proofs.seats.ReaderSeats.{still_of, one_view, says_confirmed}
+use Rattle.shelf.proofs.steps.ReaderSteps.{confirms_it, confirmed_held, confirmed_word}
 use Rattle.shelf.proofs.reader.ReaderSeat.confirm.Goals as goal
 
 pub store-requires : goal.store-requires

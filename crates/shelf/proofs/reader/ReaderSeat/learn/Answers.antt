@@ -1,9 +1,9 @@
--- The seat after it has learned a ticket.
+-- The seat that has learned a ticket keeps what its new view says.
 use Rattle.std.proofs.Common.{ap, sym, ◌∙◌}
-use Rattle.map_core.proofs.PlaceLemmas.{now-within}
+use Rattle.map_core.proofs.shared_words.PlaceLemmas.{now-within}
 use Rattle.shelf.specs.Seats.{reader_on}
-use Rattle.shelf.proofs.OwnTable.{at_own, within_own}
-use Rattle.shelf.proofs.ReaderSeats.{still_of, one_view, says_loaded}
+use Rattle.shelf.proofs.seats.OwnTable.{at_own, within_own}
+use Rattle.shelf.proofs.seats.ReaderSeats.{still_of, one_view, says_loaded}
 use Rattle.shelf.proofs.reader.ReaderSeat.learn.Goals as goal
 
 pub learn_on-word-requires-clause-table : goal.learn_on-word-requires-clause-table

@@ -1,9 +1,9 @@
 -- A leave keeps the rule.
 use Rattle.std.proofs.Common.{ap, ◌∙◌}
-use Rattle.map_core.proofs.PlaceLemmas.{pin-within}
+use Rattle.map_core.proofs.shared_words.PlaceLemmas.{pin-within}
 use Rattle.shelf.specs.Seats.{reader_on}
-use Rattle.shelf.proofs.OwnTable.{at_own, within_own, its_role}
-use Rattle.shelf.proofs.ReaderSteps.{leaves_it, left_word}
+use Rattle.shelf.proofs.seats.OwnTable.{at_own, within_own, its_role}
+use Rattle.shelf.proofs.steps.ReaderSteps.{leaves_it, left_word}
 use Rattle.shelf.proofs.reader.ReaderSeat.leave.Goals as goal
 
 pub store-requires : goal.store-requires

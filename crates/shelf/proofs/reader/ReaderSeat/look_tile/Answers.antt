@@ -1,9 +1,9 @@
 -- A look keeps the rule.
 use Rattle.std.proofs.Common.{ap, ◌∙◌}
-use Rattle.map_core.proofs.PlaceLemmas.{tile-within}
+use Rattle.map_core.proofs.shared_words.PlaceLemmas.{tile-within}
 use Rattle.shelf.specs.Seats.{reader_on}
-use Rattle.shelf.proofs.OwnTable.{at_own, within_own, its_role}
-use Rattle.shelf.proofs.LookSteps.{looks_it}
+use Rattle.shelf.proofs.seats.OwnTable.{at_own, within_own, its_role}
+use Rattle.shelf.proofs.steps.LookSteps.{looks_it}
 use Rattle.shelf.proofs.reader.ReaderSeat.look_tile.Goals as goal
 
 pub load-word-requires : goal.load-word-requires

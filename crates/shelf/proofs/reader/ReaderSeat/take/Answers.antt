@@ -2,13 +2,13 @@
 use Rattle.std.proofs.Common.{[], ◌∷◌, ap, sym, ◌∙◌, length, arith}
 use Rattle.map_core.specs.Story.{newest}
 use Rattle.map_core.specs.Views.{story}
-use Rattle.map_core.proofs.PlaceLemmas.{now-within}
+use Rattle.map_core.proofs.shared_words.PlaceLemmas.{now-within}
 use Rattle.shelf.specs.Roles.{entries, reader_in}
 use Rattle.shelf.specs.Seats.{reader_on}
 use Rattle.shelf.specs.Steps.{newest_slot}
-use Rattle.shelf.proofs.OwnTable.{at_own, within_own, its_role}
-use Rattle.shelf.proofs.ReaderSteps.{takes_it}
-use Rattle.shelf.proofs.ReaderSeats.{still_of, one_view, now_says, slot_in, says_loaded}
+use Rattle.shelf.proofs.seats.OwnTable.{at_own, within_own, its_role}
+use Rattle.shelf.proofs.steps.ReaderSteps.{takes_it}
+use Rattle.shelf.proofs.seats.ReaderSeats.{still_of, one_view, now_says, slot_in, says_loaded}
 use Rattle.shelf.proofs.reader.ReaderSeat.take.Goals as goal
 
 pub load-word-requires : goal.load-word-requires

@@ -1,3 +1,4 @@
+-- The store that both connections use takes its name from the blank one.
 use Rattle.store_tests.proofs.served.meeting.connections_meet.Given as goal
 
 -- the store's name is that of what it is opened from

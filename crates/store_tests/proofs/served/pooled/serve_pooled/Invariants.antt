@@ -1,3 +1,4 @@
+-- The store that the pool serves takes its name from the blank one.
 use Rattle.store_tests.proofs.served.pooled.serve_pooled.Given as goal
 
 -- the store's name is that of what it is opened from

@@ -1,4 +1,4 @@
--- The store that was just made has the name.
+-- The name in the call of `closes_with` is that of the store that was just made.
 use Rattle.store_tests.proofs.sessions.closing.closed.Given as goal
 
 abbrev pub ghosts-closes_with : goal.ghosts-closes_with

@@ -1,4 +1,4 @@
--- The store that was just made has the name.
+-- The name in the call of `pin_again` is that of the store that was just made.
 use Rattle.store_tests.proofs.sessions.later.a_second_pin_is_of_its_own_version.Given as goal
 
 abbrev pub ghosts-pin_again : goal.ghosts-pin_again

@@ -1,4 +1,4 @@
--- The store that was just made has the name.
+-- The name in the call of `ask_each` is that of the store that was just made.
 use Rattle.store_tests.proofs.sessions.looks.few_queries_leave_a_version_unread.Given as goal
 
 abbrev pub ghosts-ask_each : goal.ghosts-ask_each

@@ -1,4 +1,4 @@
--- A desk gets its store's name.
+-- A fresh desk that gets its store's name is that store's desk, with an empty log.
 use Rattle.std.proofs.Common.{◌∙◌}
 use Rattle.desk.proofs.OpenedLemmas.{desk_named}
 use Rattle.desk.proofs.desk.fresh.FreshDesk.named.Goals as goal

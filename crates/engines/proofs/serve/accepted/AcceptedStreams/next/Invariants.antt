@@ -1,3 +1,4 @@
+-- Each turn leaves one connection less to be accepted.
 use Rattle.engines.proofs.serve.accepted.AcceptedStreams.next.Given as goal
 
 abbrev pub decreases-connections : goal.decreases-connections

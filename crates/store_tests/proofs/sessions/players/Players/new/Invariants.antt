@@ -1,4 +1,4 @@
--- Fewer are left after each.
+-- Each turn leaves fewer sessions to be taken by players.
 use Rattle.store_tests.proofs.sessions.players.Players.new.Given as goal
 
 abbrev pub decreases-sessions : goal.decreases-sessions

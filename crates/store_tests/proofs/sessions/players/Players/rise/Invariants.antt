@@ -1,4 +1,4 @@
--- Fewer are left after each.
+-- Each turn leaves fewer seats to be left by players.
 use Rattle.store_tests.proofs.sessions.players.Players.rise.Given as goal
 
 abbrev pub decreases-seats : goal.decreases-seats

@@ -1,0 +1,133 @@
+//! The rows that a search passes over, by the bands of 64 rows that may have an obstacle.
+
+ghost use Rattle.std.specs.Prelude.{◌≡◌, ℕ, ◌<◌, ◌≤◌, ◌+◌, true, false};
+ghost use Rattle.std.specs.Int.{bit_at};
+ghost use Rattle.clearance.specs.Bands.{IsMarkedRow, IsNextGap};
+ghost use Rattle.clearance.specs.Rows.{IsBlankRow};
+
+use crate::bit::{bits_from, bits_through, highest_bit, lowest_bit};
+use crate::rows::Rows;
+use metric::{BAND_ROWS, MOST_SIDE};
+
+/// More rows away than a row of a map is.
+const NO_ROW: u16 = MOST_SIDE;
+
+/// How many rows are looked at one after another before the bands are asked for again.
+const STRETCH: u16 = 16;
+
+/// Whether the row's band is known to be blank.
+#[inline(always)]
+pub fn is_in_blank_band<R: Rows>(rows: &R, y: u16) -> bool
+    requires { y < (R.cells rows.now).height }
+    ensures { result ≡ true → IsBlankRow (R.cells rows.now) y }
+{
+    let inside = y < rows.height();
+    prove!(inside);
+    !has_band(rows.bands(), y)
+}
+
+/// Whether the row's band may have an obstacle.
+#[inline(always)]
+fn has_band(bands: u64, y: u16) -> bool
+    requires { y < MOST_SIDE }
+    ensures { result ≡ false → IsMarkedRow bands y → ⊥ }
+{
+    (bands >> (y / BAND_ROWS)) & 1 == 1
+}
+
+/// Whether the bands of the rows from `top` to `bottom` are all known to be blank.
+#[inline(always)]
+pub fn are_blank_bands(bands: u64, top: u16, bottom: u16) -> bool
+    requires order { top ≤ bottom }
+    requires bottom { bottom < MOST_SIDE }
+    ensures { result ≡ true → (b : ℕ) → top ≤ b → b ≤ bottom → IsMarkedRow bands b → ⊥ }
+{
+    !has_band(bands, top) && bits_between(bands, top / BAND_ROWS, bottom / BAND_ROWS) == 0
+}
+
+/// The word with its bits below one place and above another made 0.
+fn bits_between(word: u64, first: u16, last: u16) -> u64
+    requires first { first < 64 }
+    requires last { last < 64 }
+    ensures { (i : ℕ) → first ≤ i → i ≤ last → bit_at result i ≡ bit_at word i }
+{
+    bits_through(bits_from(word, first), last)
+}
+
+/// The first gap to look at, `gap` or more: `gap` itself unless the rows from `top` to `bottom` are all known to be blank.
+#[inline(always)]
+pub fn first_gap(bands: u64, top: u16, bottom: u16, gap: u16) -> u16
+    requires order { top ≤ bottom }
+    requires bottom { bottom < MOST_SIDE }
+    requires gap { gap ≤ MOST_SIDE }
+    ensures { IsNextGap (IsMarkedRow bands) top bottom gap result }
+{
+    if are_blank_bands(bands, top, bottom) {
+        marked_gap(bands, top, bottom, gap)
+    } else {
+        gap
+    }
+}
+
+/// The next gap to look at, `gap` or more: the rows above the row `top` and below the row `bottom` that are passed over are known to be blank. The bands are asked for at each sixteenth gap.
+#[inline(always)]
+pub fn next_gap(bands: u64, top: u16, bottom: u16, gap: u16) -> u16
+    requires top { top < MOST_SIDE }
+    requires bottom { bottom < MOST_SIDE }
+    requires gap { gap ≤ MOST_SIDE }
+    ensures { IsNextGap (IsMarkedRow bands) top bottom gap result }
+{
+    if gap % STRETCH == 0 {
+        marked_gap(bands, top, bottom, gap)
+    } else {
+        gap
+    }
+}
+
+/// How many rows above the row `top`, or below the row `bottom`, the next row is whose band may have an obstacle, `gap` or more: 4096 where there is none.
+fn marked_gap(bands: u64, top: u16, bottom: u16, gap: u16) -> u16
+    requires top { top < MOST_SIDE }
+    requires bottom { bottom < MOST_SIDE }
+    requires gap { gap ≤ MOST_SIDE }
+    ensures { IsNextGap (IsMarkedRow bands) top bottom gap result }
+{
+    next_above(bands, top, gap).min(next_below(bands, bottom, gap))
+}
+
+/// The same above the row `top` alone.
+fn next_above(bands: u64, top: u16, gap: u16) -> u16
+    requires top { top < MOST_SIDE }
+    requires gap { gap ≤ MOST_SIDE }
+    ensures from { gap ≤ result }
+    ensures few { result ≤ MOST_SIDE }
+    ensures above { (b : ℕ) → IsMarkedRow bands b → b + gap ≤ top → b + result ≤ top }
+{
+    if top < gap {
+        return NO_ROW;
+    }
+    let earlier = bits_through(bands, (top - gap) / BAND_ROWS);
+    if earlier == 0 {
+        return NO_ROW;
+    }
+    let last = BAND_ROWS * highest_bit(earlier) + (BAND_ROWS - 1);
+    gap.max(top.saturating_sub(last))
+}
+
+/// The same below the row `bottom` alone.
+fn next_below(bands: u64, bottom: u16, gap: u16) -> u16
+    requires bottom { bottom < MOST_SIDE }
+    requires gap { gap ≤ MOST_SIDE }
+    ensures from { gap ≤ result }
+    ensures few { result ≤ MOST_SIDE }
+    ensures below { (b : ℕ) → IsMarkedRow bands b → b < MOST_SIDE → bottom + gap ≤ b → bottom + result ≤ b }
+{
+    if bottom + gap >= NO_ROW {
+        return NO_ROW;
+    }
+    let later = bits_from(bands, (bottom + gap) / BAND_ROWS);
+    if later == 0 {
+        return NO_ROW;
+    }
+    let first = BAND_ROWS * lowest_bit(later);
+    gap.max(first.saturating_sub(bottom))
+}

@@ -1,7 +1,0 @@
-use Rattle.std.proofs.Common.{arith}
-use Rattle.metric.proofs.Decimals.{length-decimal_32}
-use Rattle.engines.proofs.distances.put_other.Goals as goal
-
-pub returns-clause-end : goal.returns-clause-end
-returns-clause-end c =
-    let few = length-decimal_32 c.args.distance (omega arith) in omega arith

@@ -1,8 +1,0 @@
-use Rattle.std.proofs.Common.{◌≡◌, ◌∙◌, ap₂, codes, rules}
-use Rattle.clap.specs.Words.{app_of, new_app, with_rule}
-use Rattle.engines.proofs.serve_words.ask_command.Goals as goal
-
-pub returns-clause-app : goal.returns-clause-app
-returns-clause-app c =
-    let start : app_of c.after_help.result ≡ new_app (codes "ask") = search rules in
-    c.in_ok-arg.ensures.shape c.server_flag.ensures.local ∙ ap₂ with_rule start c.server_flag.ensures.rule

@@ -1,6 +1,0 @@
--- no call has failed
-use Rattle.std.proofs.Common.{◌≡◌}
-use Rattle.engines.proofs.socket.Socket.fill.Given as goal
-
-abbrev pub invariant-reads : goal.invariant-reads
-invariant-reads l = (l.self-inside.failed_reads ≡ l.initial.self-inside.failed_reads) × (l.self-inside.failed_writes ≡ l.initial.self-inside.failed_writes)

@@ -1,0 +1,2 @@
+-- What the command `ask` asks and tells.
+pub mod Asking

@@ -1,0 +1,40 @@
+-- The lines of `ask`, and the bytes that they count: this project's own rule.
+use Rattle.std.specs.Prelude.{◌≡◌, ◌≢◌, ◌<◌, ℕ, ◌⊎◌, List, ◌∷◌, ◌++◌, All, length, nat_le, Option, Some, Result, Ok, if◌then◌else◌}
+use Rattle.std.specs.Str.Lines.{strip_carriage_return}
+use Rattle.metric.specs.declared.refusal.Refusal.{Refusal}
+use Rattle.proto.specs.Said.{LineView, said, stamp, verb_in}
+use Rattle.proto.specs.declared.verb.Verb.{Verb}
+use Rattle.proto.specs.declared.verb.Verb.TheVariants as verbs
+
+-- a server reads so many bytes after a line: those of a good stamp, where they aren't too many
+abbrev pub bytes_behind : Option Verb → Result LineView Refusal → ℕ
+bytes_behind (Some verbs.Stamp) (Ok (stamp x y n)) = if nat_le n 17100000 then n else 0
+bytes_behind other line = 0
+
+-- no line ends in these bytes
+abbrev pub IsUnended : List ℕ → Type 0
+IsUnended bytes = All (λ byte. byte ≢ 10) bytes
+
+-- a server reads so many bytes after a line, which comes without its LF
+abbrev pub counted_by : List ℕ → ℕ
+counted_by line = bytes_behind (verb_in (strip_carriage_return line)) (said (strip_carriage_return line))
+
+-- a request is a line with its LF, and the bytes that it counts
+pub record IsRequest (bytes : List ℕ) : Type 0 where
+  pub line : List ℕ
+  pub counted : List ℕ
+  pub unended : IsUnended line
+  pub count : length counted ≡ counted_by line
+  pub bytes_are : bytes ≡ line ++ (10 ∷ counted)
+
+-- these bytes are a line with its LF, and fewer bytes than it counts
+pub record LacksBytes (bytes : List ℕ) : Type 0 where
+  pub line : List ℕ
+  pub counted : List ℕ
+  pub unended : IsUnended line
+  pub few : length counted < counted_by line
+  pub bytes_are : bytes ≡ line ++ (10 ∷ counted)
+
+-- these bytes are less than a request
+abbrev pub IsLessThanRequest : List ℕ → Type 0
+IsLessThanRequest bytes = IsUnended bytes ⊎ LacksBytes bytes

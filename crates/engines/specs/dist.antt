@@ -1,0 +1,9 @@
+-- What the command `dist` writes.
+pub mod Dist
+pub mod Measured
+pub mod Parts
+pub mod Putting
+pub mod Query
+pub mod Replied
+pub mod Table
+pub mod Tabled

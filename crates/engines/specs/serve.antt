@@ -1,0 +1,2 @@
+-- What the command `serve` writes.
+pub mod Serving

@@ -1,0 +1,3 @@
+-- What is read from streams and passed on to them.
+pub mod Passing
+pub mod TextLines

@@ -1,0 +1,101 @@
+-- Bytes that are read from one stream and written to another: this project's own rule.
+use Rattle.std.specs.Prelude.{◌≡◌, ◌<◌, ℕ, ◌⊎◌, All, List, [], ◌∷◌, ◌++◌, codes, length, Option}
+use Rattle.std.specs.List.{concat}
+use Rattle.metric.specs.Refusal.{refusal_text}
+use Rattle.metric.specs.Stream.{AreAll, Takes, Appends, AppendsFront}
+use Rattle.metric.specs.declared.refusal.Refusal.TheVariants as refusals
+use Rattle.engines.specs.ask.Asking.{IsLessThanRequest, IsRequest, IsUnended}
+use Rattle.engines.specs.words.Refusals.{net_text}
+
+-- what was read stands in a buffer, after what it held
+pub record Gathers (unread : Option (List ℕ)) (before after : List ℕ) (left : Option (List ℕ)) : Type 0 where
+  pub bytes : List ℕ
+  pub taken : Takes unread bytes left
+  pub after_is : after ≡ before ++ bytes
+
+-- all that the stream had left stands in a buffer, after what it held
+pub record GathersAll (unread : Option (List ℕ)) (before after : List ℕ) (left : Option (List ℕ)) : Type 0 where
+  pub gathered : Gathers unread before after left
+  pub ended : AreAll left []
+
+-- a line with its LF stands in a buffer, after what it held
+pub record PutsLine (before after : List ℕ) : Type 0 where
+  pub line : List ℕ
+  pub unended : IsUnended line
+  pub after_is : after ≡ before ++ (line ++ 10 ∷ [])
+
+-- bytes in which no line ends stand in a buffer, after what it held
+pub record PutsUnended (before after : List ℕ) : Type 0 where
+  pub part : List ℕ
+  pub unended : IsUnended part
+  pub after_is : after ≡ before ++ part
+
+-- a buffer has so many bytes more, after what it held
+pub record PutsCount (count : ℕ) (before after : List ℕ) : Type 0 where
+  pub part : List ℕ
+  pub many : length part ≡ count
+  pub after_is : after ≡ before ++ part
+
+-- fewer bytes stand in a buffer, after what it held
+pub record PutsFewer (count : ℕ) (before after : List ℕ) : Type 0 where
+  pub part : List ℕ
+  pub few : length part < count
+  pub after_is : after ≡ before ++ part
+
+-- all that was read was written
+pub record PassesOn (unread left held_before held_after : Option (List ℕ)) : Type 0 where
+  pub bytes : List ℕ
+  pub taken : Takes unread bytes left
+  pub written : Appends held_before bytes held_after
+
+-- a beginning of what was read was written
+pub record PassesFront (unread left held_before held_after : Option (List ℕ)) : Type 0 where
+  pub bytes : List ℕ
+  pub taken : Takes unread bytes left
+  pub written : AppendsFront held_before bytes held_after
+
+-- a run of `ask` that ended early tells why in this line: the network, want of memory, or nothing where a standard stream failed
+abbrev pub IsEndLine : List ℕ → Type 0
+IsEndLine line = (line ≡ []) ⊎ ((line ≡ net_text) ⊎ (line ≡ refusal_text refusals.Memory ++ 10 ∷ []))
+
+-- the line that tells why a run ended was written, or a beginning of it
+pub record WritesEnd (held_before held_after : Option (List ℕ)) : Type 0 where
+  pub line : List ℕ
+  pub line_is : IsEndLine line
+  pub written : AppendsFront held_before line held_after
+
+-- a beginning of what was read was written, and after it the line that tells why it ended, or a beginning of that
+pub record EndsEarly (unread left held_before held_after : Option (List ℕ)) : Type 0 where
+  pub bytes : List ℕ
+  pub front : List ℕ
+  pub back : List ℕ
+  pub line : List ℕ
+  pub taken : Takes unread bytes left
+  pub bytes_are : bytes ≡ front ++ back
+  pub line_is : IsEndLine line
+  pub written : AppendsFront held_before (front ++ line) held_after
+
+-- requests were read and sent, each whole
+pub record Asks (unread left held_before held_after : Option (List ℕ)) : Type 0 where
+  pub requests : List (List ℕ)
+  pub are : All IsRequest requests
+  pub taken : Takes unread (concat requests) left
+  pub sent : Appends held_before (concat requests) held_after
+
+-- what was written ends with the line that ends a stream
+pub record EndsByBye (held_before held_after : Option (List ℕ)) : Type 0 where
+  pub front : List ℕ
+  pub written : Appends held_before (front ++ (codes "BYE" ++ 10 ∷ [])) held_after
+
+-- less than a request was read, and the reader has ended
+pub record EndsCut (unread left : Option (List ℕ)) : Type 0 where
+  pub tail : List ℕ
+  pub cut : IsLessThanRequest tail
+  pub taken : Takes unread tail left
+  pub ended : AreAll left []
+
+-- requests were read and sent, up to a reply that ends the stream or to the end of the reader
+pub record AsksAll (unread left held_before held_after printed_before printed_after : Option (List ℕ)) : Type 0 where
+  pub between : Option (List ℕ)
+  pub asked : Asks unread between held_before held_after
+  pub over : ((left ≡ between) × EndsByBye printed_before printed_after) ⊎ EndsCut between left

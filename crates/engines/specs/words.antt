@@ -1,0 +1,4 @@
+-- What the words of a command line mean, and the lines that refuse them.
+pub mod CommandLine
+pub mod ServeLine
+pub mod Refusals

@@ -1,0 +1,68 @@
+//! The lines of rows of distances alone.
+
+ghost use Rattle.std.specs.Prelude.{◌≡◌, ◌+◌, ◌*◌, ◌≤◌, ◌∷◌, length};
+ghost use Rattle.std.specs.List.{flat_map};
+ghost use Rattle.engines.specs.dist.Measured.{distance_text, distances_line};
+ghost use Rattle.engines.specs.dist.Putting.{Puts};
+
+use crate::dist::decimals::Decimals;
+use crate::dist::put::put_byte;
+
+/// What stands for the distance of a cell where there is no obstacle.
+const NOWHERE: u32 = u32::MAX;
+
+/// Puts the line of a row's distances, and answers where the next one goes.
+pub fn put_distances(decimals: &Decimals, text: &mut [u8], at: usize, distances: &[u32]) -> usize
+    requires { at + (25 * length distances.now + 3) ≤ length text.old }
+    ensures line { Puts text.old at (distances_line distances.now) text.new result }
+    ensures end { result ≤ at + (25 * length distances.now + 1) }
+{
+    match distances.split_first() {
+        Some((first, others)) => {
+            let next = put_first(decimals, text, at, *first);
+            let end = put_others(decimals, text, next, others);
+            put_byte(text, end, b'\n')
+        }
+        None => put_byte(text, at, b'\n'),
+    }
+}
+
+/// Puts distances, each after a blank.
+#[inline(always)]
+fn put_others(decimals: &Decimals, text: &mut [u8], at: usize, distances: &[u32]) -> usize
+    requires { at + (25 * length distances.now + 3) ≤ length text.old }
+    ensures text { Puts text.old at (flat_map (λ distance. 32 ∷ distance_text distance) distances.now) text.new result }
+    ensures end { result ≤ at + 25 * length distances.now }
+{
+    let mut end = at;
+    'distances: for distance in distances {
+        end = put_other(decimals, text, end, *distance);
+    }
+    end
+}
+
+/// Puts a distance after a blank.
+#[inline(always)]
+fn put_other(decimals: &Decimals, text: &mut [u8], at: usize, distance: u32) -> usize
+    requires { at + 28 ≤ length text.old }
+    ensures text { Puts text.old at (32 ∷ distance_text distance) text.new result }
+    ensures end { result ≤ at + 25 }
+{
+    if distance == NOWHERE {
+        let next = put_byte(text, at, b' ');
+        return put_byte(text, next, b'-');
+    }
+    decimals.put_behind_blank(text, at, distance)
+}
+
+/// Puts the first distance of a line.
+fn put_first(decimals: &Decimals, text: &mut [u8], at: usize, distance: u32) -> usize
+    requires { at + 28 ≤ length text.old }
+    ensures text { Puts text.old at (distance_text distance) text.new result }
+    ensures end { result ≤ at + 24 }
+{
+    if distance == NOWHERE {
+        return put_byte(text, at, b'-');
+    }
+    decimals.put(text, at, distance)
+}

@@ -1,0 +1,94 @@
+//! The digits of the numbers below 10,000.
+
+ghost use Rattle.std.specs.Prelude.{◌≡◌, ◌+◌, ◌<◌, IfOk, vec_len};
+ghost use Rattle.engines.specs.dist.Putting.{AreQuads, AreSpaced, IsQuad, IsSpaced};
+
+use std::alloc::{AllocError, Global};
+
+/// The digits of a number below 10,000: without zeros in front, as many as `count`, and with them.
+#[derive(Clone, Copy)]
+pub struct Quad {
+    pub short: [u8; 4],
+    pub padded: [u8; 4],
+    pub count: u8,
+}
+
+/// The digits of all numbers below 10,000, in their order.
+pub fn quads(alloc: Global) -> Result<Vec<Quad>, AllocError>
+    ensures all { IfOk result (λ quads. vec_len quads ≡ 10000) }
+    ensures each { IfOk result (λ quads. AreQuads 10000 quads.items) }
+{
+    let mut quads = Vec::with_capacity(alloc, 10_000)?;
+    'numbers: for number in 0..10_000u32 {
+        quads.push_reserved(quad_of(number));
+    }
+    Ok(quads)
+}
+
+/// All numbers below 10,000 after a blank, in their order: the blank, the digits without zeros in front, and in the last of the eight
+/// bytes how many these are together.
+pub fn spaced(alloc: Global) -> Result<Vec<[u8; 8]>, AllocError>
+    ensures all { IfOk result (λ words. vec_len words ≡ 10000) }
+    ensures each { IfOk result (λ words. AreSpaced 10000 words.items) }
+{
+    let mut words = Vec::with_capacity(alloc, 10_000)?;
+    'numbers: for number in 0..10_000u32 {
+        words.push_reserved(spaced_of(number));
+    }
+    Ok(words)
+}
+
+/// A number below 10,000 after a blank.
+fn spaced_of(number: u32) -> [u8; 8]
+    requires { number < 10000 }
+    ensures { IsSpaced number result }
+{
+    let quad = quad_of(number);
+    let [first, second, third, fourth] = quad.short;
+    [b' ', first, second, third, fourth, 0, 0, quad.count + 1]
+}
+
+/// The digits of a number below 10,000.
+fn quad_of(number: u32) -> Quad
+    requires { number < 10000 }
+    ensures { IsQuad number result }
+{
+    let (high, low) = (number / 100, number % 100);
+    let (thousands, hundreds) = (digit(high / 10), digit(high % 10));
+    let (tens, ones) = (digit(low / 10), digit(low % 10));
+    let padded = [thousands, hundreds, tens, ones];
+    if number < 10 {
+        return Quad {
+            short: [ones, 0, 0, 0],
+            padded,
+            count: 1,
+        };
+    }
+    if number < 100 {
+        return Quad {
+            short: [tens, ones, 0, 0],
+            padded,
+            count: 2,
+        };
+    }
+    if number < 1_000 {
+        return Quad {
+            short: [hundreds, tens, ones, 0],
+            padded,
+            count: 3,
+        };
+    }
+    Quad {
+        short: padded,
+        padded,
+        count: 4,
+    }
+}
+
+/// A digit as a byte.
+fn digit(number: u32) -> u8
+    requires { number < 10 }
+    ensures { result ≡ 48 + number }
+{
+    b'0' + number as u8
+}

@@ -1,0 +1,161 @@
+//! The nearest obstacles of one image's cells, found by workers.
+
+ghost use Rattle.std.specs.Prelude.{◌≡◌, ◌+◌, ◌*◌, ◌<◌, ◌≤◌, IfOk, length, slice_range};
+ghost use Rattle.metric.specs.Kind.{distance_of};
+ghost use Rattle.field.specs.Obstacles.{nears_told};
+ghost use Rattle.field.specs.Rows.{AreNears};
+ghost use Rattle.engines.specs.dist.Measured.{AreDistances};
+
+use bits::Bitmap;
+use field::{ObstacleTable, Workers};
+use metric::{Chess, City, Edge, Euclid2, Gate, MetricKind, Near, Refusal};
+use std::alloc::Global;
+use std::thread::Threads;
+
+/// The nearest obstacles of all cells by one metric, four bytes a cell.
+#[derive(Drop)]
+pub struct Table {
+    pub width: u16,
+    pub height: u16,
+    pub metric: MetricKind,
+    pub obstacles: ObstacleTable,
+    ghost across: { obstacles.width ≡ width },
+    ghost from: { obstacles.y0 ≡ 0 },
+    ghost to: { obstacles.y1 ≡ height },
+}
+
+impl Table {
+    ghost use Rattle.engines.specs.dist.Tabled.{nears_of};
+
+    /// The nearest obstacles of the cells of this bitmap, whose border is this, found by so many workers, or by one where there are few cells.
+    pub fn of<T: Threads + Sync>(
+        rt: &T,
+        alloc: Global,
+        bitmap: &Bitmap,
+        edge: Edge,
+        metric: MetricKind,
+        workers: Workers,
+    ) -> Result<Self, Refusal>
+        ensures width { IfOk result (λ table. table.width ≡ bitmap.now.width) }
+        ensures height { IfOk result (λ table. table.height ≡ bitmap.now.height) }
+        ensures rows { IfOk result (λ table. AreNears (distance_of metric) bitmap.now edge 0 bitmap.now.height (nears_of table)) }
+    {
+        let workers = if is_large(bitmap.width(), bitmap.height()) {
+            workers
+        } else {
+            Workers { count: 1 }
+        };
+        let obstacles = obstacles_of(rt, alloc, bitmap, edge, metric, workers)?;
+        Ok(Table {
+            width: bitmap.width(),
+            height: bitmap.height(),
+            metric,
+            obstacles,
+        })
+    }
+
+    /// Fills a line with the nearest obstacles of row `y`.
+    pub fn fill_row(&self, y: u16, nears: &mut [Option<Near>])
+        requires row { y < self.now.height }
+        requires width { length nears.old ≡ self.now.width }
+        ensures { nears.new ≡ slice_range (nears_of self.now) (y * self.now.width) (y * self.now.width + self.now.width) }
+    {
+        match self.metric {
+            MetricKind::Euclid2 => self.obstacles.fill_row::<Euclid2>(y, nears),
+            MetricKind::City => self.obstacles.fill_row::<City>(y, nears),
+            MetricKind::Chess => self.obstacles.fill_row::<Chess>(y, nears),
+        }
+    }
+
+    /// Fills a line with the distances of the cells of row `y`, in the metric's unit; `u32::MAX` where there is no obstacle.
+    pub fn fill_distances(&self, y: u16, distances: &mut [u32])
+        requires row { y < self.now.height }
+        requires width { length distances.old ≡ self.now.width }
+        ensures { AreDistances (slice_range (nears_of self.now) (y * self.now.width) (y * self.now.width + self.now.width)) distances.new }
+    {
+        match self.metric {
+            MetricKind::Euclid2 => self.obstacles.fill_distances::<Euclid2>(y, distances),
+            MetricKind::City => self.obstacles.fill_distances::<City>(y, distances),
+            MetricKind::Chess => self.obstacles.fill_distances::<Chess>(y, distances),
+        }
+    }
+
+    /// How many threads do the work of so many: as many where the table is large, and one where it has fewer than 2^20 cells.
+    pub fn threads(&self, workers: usize) -> usize
+        requires { 1 ≤ workers }
+        ensures { 1 ≤ result }
+    {
+        if is_large(self.width, self.height) {
+            return workers;
+        }
+        1
+    }
+
+    /// How many rows each of so many workers puts at a time: 16 where one thread does the work, and else as many as give all of them about 2^21 cells, or half of that where obstacles are told too, but no more than their share of the map.
+    pub fn rows_at_a_time(&self, workers: u8, nearest: bool) -> u32
+        requires { 1 ≤ workers }
+        ensures some { 1 ≤ result }
+        ensures few { result ≤ 4096 }
+    {
+        if self.threads(usize::from(workers)) == 1 {
+            return FEW_ROWS;
+        }
+        let cells = if nearest { LARGE } else { 2 * LARGE };
+        let workers = u32::from(workers);
+        let across = u32::from(self.width) * workers;
+        let most = u32::from(self.height).div_ceil(workers);
+        (cells / across.max(1)).min(most).clamp(FEW_ROWS, 4096)
+    }
+}
+
+/// How many rows a thread puts at a time where it's the only one: their lines stay near at hand until they are written.
+const FEW_ROWS: u32 = 16;
+
+/// The fewest cells of a map whose rows are shared by several threads. Below them starting threads, and waiting for the last one on a busy machine, takes longer than the work that they take off one.
+const LARGE: u32 = 1 << 20;
+
+/// Whether a map of this size has so many cells that threads share its rows.
+fn is_large(width: u16, height: u16) -> bool {
+    u32::from(width) * u32::from(height) >= LARGE
+}
+
+/// The obstacles by the metric of this name, with this border.
+fn obstacles_of<T: Threads + Sync>(
+    rt: &T,
+    alloc: Global,
+    bitmap: &Bitmap,
+    edge: Edge,
+    metric: MetricKind,
+    workers: Workers,
+) -> Result<ObstacleTable, Refusal>
+    ensures width { IfOk result (λ table. table.width ≡ bitmap.now.width) }
+    ensures from { IfOk result (λ table. table.y0 ≡ 0) }
+    ensures to { IfOk result (λ table. table.y1 ≡ bitmap.now.height) }
+    ensures rows { IfOk result (λ table. AreNears (distance_of metric) bitmap.now edge 0 bitmap.now.height (nears_told (distance_of metric) table)) }
+{
+    let height = bitmap.height();
+    match metric {
+        MetricKind::Euclid2 => {
+            ObstacleTable::of::<Euclid2, Passing, T>(
+                rt, alloc, bitmap, edge, 0, height, workers, &Passing,
+            )
+        }
+        MetricKind::City => {
+            ObstacleTable::of::<City, Passing, T>(
+                rt, alloc, bitmap, edge, 0, height, workers, &Passing,
+            )
+        }
+        MetricKind::Chess => {
+            ObstacleTable::of::<Chess, Passing, T>(
+                rt, alloc, bitmap, edge, 0, height, workers, &Passing,
+            )
+        }
+    }
+}
+
+/// A gate that each worker passes at once.
+struct Passing;
+
+impl Gate for Passing {
+    fn enter(&self, _band: u8) {}
+}

@@ -1,0 +1,87 @@
+//! Reading a line, or so many bytes, into a buffer.
+
+ghost use Rattle.std.specs.Prelude.{◌≡◌, ◌≢◌, ◌+◌, ◌++◌, ◌∷◌, [], ℕ, List, vec_len, IfOk, OnOk, OnErr, Err};
+ghost use Rattle.metric.specs.Stream.{CanFail, Takes};
+ghost use Rattle.engines.specs.streams.Passing.{Gathers, GathersAll, PutsCount, PutsFewer, PutsLine, PutsUnended};
+ghost use Rattle.engines.specs.declared.streams.gather.PartStop.{PartStop};
+ghost use Rattle.engines.specs.declared.streams.gather.PartStop.TheVariants.{Ended, Failed};
+
+use metric::Source;
+
+/// Why not all was read.
+#[derive(Clone, Copy)]
+pub enum PartStop {
+    /// The stream ended before.
+    Ended,
+    /// A read failed.
+    Failed,
+    /// There was no memory for what was read.
+    Memory,
+}
+
+/// Reads a line with its LF after what the buffer holds.
+pub fn read_line<R: Source>(reader: &mut R, bytes: &mut Vec<u8>) -> Result<(), PartStop>
+    requires { CanFail (R.failed_reads reader.old) }
+    ensures all { OnOk result (Gathers (R.rest reader.old) bytes.old.items bytes.new.items (R.rest reader.new)) }
+    ensures taken { (taken : List ℕ) × Takes (R.rest reader.old) taken (R.rest reader.new) }
+    ensures counts { result ≢ Err Failed → R.failed_reads reader.new ≡ R.failed_reads reader.old }
+    ensures failed { result ≡ Err Failed → R.failed_reads reader.new ≡ R.failed_reads reader.old + 1 }
+    ensures written { R.written reader.new ≡ R.written reader.old }
+    ensures line { OnOk result (PutsLine bytes.old.items bytes.new.items) }
+    ensures ended { result ≡ Err Ended → PutsUnended bytes.old.items bytes.new.items
+        × GathersAll (R.rest reader.old) bytes.old.items bytes.new.items (R.rest reader.new) }
+{
+    'bytes: for _ in 0..u64::MAX {
+        if read_byte(reader, bytes)? == b'\n' {
+            return Ok(());
+        }
+    }
+    unreachable!()
+}
+
+/// Reads so many bytes after what the buffer holds.
+pub fn read_count<R: Source>(
+    reader: &mut R,
+    bytes: &mut Vec<u8>,
+    count: u32,
+) -> Result<(), PartStop>
+    requires { CanFail (R.failed_reads reader.old) }
+    ensures all { OnOk result (Gathers (R.rest reader.old) bytes.old.items bytes.new.items (R.rest reader.new)) }
+    ensures taken { (taken : List ℕ) × Takes (R.rest reader.old) taken (R.rest reader.new) }
+    ensures counts { result ≢ Err Failed → R.failed_reads reader.new ≡ R.failed_reads reader.old }
+    ensures failed { result ≡ Err Failed → R.failed_reads reader.new ≡ R.failed_reads reader.old + 1 }
+    ensures written { R.written reader.new ≡ R.written reader.old }
+    ensures count { OnOk result (PutsCount count bytes.old.items bytes.new.items) }
+    ensures ended { result ≡ Err Ended → PutsFewer count bytes.old.items bytes.new.items
+        × GathersAll (R.rest reader.old) bytes.old.items bytes.new.items (R.rest reader.new) }
+{
+    'bytes: for _ in 0..count {
+        read_byte(reader, bytes)?;
+    }
+    Ok(())
+}
+
+/// Reads one byte after what the buffer holds.
+fn read_byte<R: Source>(reader: &mut R, bytes: &mut Vec<u8>) -> Result<u8, PartStop>
+    requires { CanFail (R.failed_reads reader.old) }
+    ensures all { OnOk result (Gathers (R.rest reader.old) bytes.old.items bytes.new.items (R.rest reader.new)) }
+    ensures taken { (taken : List ℕ) × Takes (R.rest reader.old) taken (R.rest reader.new) }
+    ensures counts { result ≢ Err Failed → R.failed_reads reader.new ≡ R.failed_reads reader.old }
+    ensures failed { result ≡ Err Failed → R.failed_reads reader.new ≡ R.failed_reads reader.old + 1 }
+    ensures written { R.written reader.new ≡ R.written reader.old }
+    ensures byte { IfOk result (λ byte. bytes.new.items ≡ bytes.old.items ++ byte ∷ []) }
+    ensures len { OnOk result (vec_len bytes.new ≡ vec_len bytes.old + 1) }
+    ensures ended { result ≡ Err Ended → (bytes.new.items ≡ bytes.old.items)
+        × GathersAll (R.rest reader.old) bytes.old.items bytes.new.items (R.rest reader.new) }
+{
+    match reader.next_byte() {
+        Ok(Some(byte)) => {
+            if bytes.push(byte).is_err() {
+                return Err(PartStop::Memory);
+            }
+            Ok(byte)
+        }
+        Ok(None) => Err(PartStop::Ended),
+        Err(_) => Err(PartStop::Failed),
+    }
+}

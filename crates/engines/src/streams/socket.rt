@@ -1,0 +1,257 @@
+//! A TCP connection as a stream. It tells contracts nothing of its bytes: what becomes of them rests on tests alone.
+
+ghost use Rattle.std.specs.Prelude.{◌≡◌, IfOk, None};
+
+use metric::{ReadFault, Sink, Source, Stream, WriteFault};
+use std::alloc::Global;
+use std::io;
+use std::io::{BufRead, BufReader, ErrorKind, Read, Write};
+use std::marker::Model;
+use std::net::{Shutdown, TcpStream};
+use std::time::Duration;
+
+/// How many bytes are read ahead at most, and how many of replies are gathered before they are sent.
+const ROOM: usize = 65536;
+
+/// How long a closing connection waits for the next bytes of its peer, in milliseconds.
+const PATIENCE: u64 = 100;
+
+/// How many bytes a closing connection reads at once.
+const LAST_ROOM: usize = 4096;
+
+/// How many reads a closing connection makes at most: 32 MiB in all.
+const LAST_READS: u32 = 8192;
+
+/// What a stream reads from and writes to: a connection, or none before there is memory for its buffers.
+#[derive(Drop)]
+struct Connection(Option<TcpStream>);
+
+impl Read for Connection {
+    fn read(&mut self, bytes: &mut [u8]) -> io::Result<usize> {
+        match &mut self.0 {
+            Some(stream) => stream.read(bytes),
+            None => Ok(0),
+        }
+    }
+}
+
+impl Connection {
+    /// Sends all bytes.
+    fn write_all(&mut self, bytes: &[u8]) -> io::Result<()> {
+        match &mut self.0 {
+            Some(stream) => stream.write_all(bytes),
+            None => Err(io::Error::from(ErrorKind::NotConnected)),
+        }
+    }
+}
+
+/// Why a connection is no stream.
+#[derive(Drop)]
+pub enum NoSocket {
+    /// It is broken.
+    Broken,
+    /// There is no memory for its buffers.
+    Memory(TcpStream),
+}
+
+impl NoSocket {
+    /// Tells the peer that there is no memory, where that is why, and ends the connection.
+    pub fn tell(self) {
+        if let NoSocket::Memory(mut stream) = self
+            && stream.write_all(b"ERR 5 Memory\n").is_ok()
+        {
+            let _ = end(stream);
+        }
+    }
+}
+
+/// A connection that is read ahead, and whose replies gather until the next read that could wait, until they are `ROOM` bytes, or until its end.
+///
+/// A send that fails is a failed call of the stream, be it a read that sends before it waits. Contracts see how many calls have failed.
+pub struct Socket {
+    reader: BufReader<Connection>,
+    replies: Vec<u8>,
+    failed_reads: u64,
+    failed_writes: u64,
+}
+
+impl Model for Socket {
+    ghost use Rattle.std.specs.Prelude.{ℕ};
+
+    ghost Value = { ℕ × ℕ };
+
+    ghost view = { λ s. (s.failed_reads, s.failed_writes) };
+}
+
+impl Socket {
+    /// The connection as a stream without a failed call. Its replies go out at once when they are sent.
+    pub fn new(alloc: Global, stream: TcpStream) -> Result<Self, NoSocket>
+        ensures { IfOk result (λ socket. socket ≡ (0, 0)) }
+    {
+        if stream.set_nodelay(true).is_err() {
+            return Err(NoSocket::Broken);
+        }
+        let Ok((mut reader, replies)) = buffers(alloc) else {
+            return Err(NoSocket::Memory(stream));
+        };
+        reader.get_mut().0 = Some(stream);
+        Ok(Socket {
+            reader,
+            replies,
+            failed_reads: 0,
+            failed_writes: 0,
+        })
+    }
+
+    /// Sends the replies that have gathered. Where it fails they are lost.
+    fn send(&mut self) -> io::Result<()>
+        ensures { self.new ≡ self.old }
+    {
+        if self.replies.is_empty() {
+            return Ok(());
+        }
+        let sent = self.reader.get_mut().write_all(self.replies.as_slice());
+        self.replies.clear();
+        sent
+    }
+
+    /// Reads ahead where nothing is left to take. A read that a signal interrupts is made again.
+    fn fill(&mut self) -> io::Result<()>
+        ensures { self.new ≡ self.old }
+    {
+        'reads: for _ in 0..u64::MAX {
+            match self.reader.fill_buf() {
+                Ok(_) => return Ok(()),
+                Err(fault) if fault.kind() == ErrorKind::Interrupted => {}
+                Err(fault) => return Err(fault),
+            }
+        }
+        Err(io::Error::from(ErrorKind::Interrupted))
+    }
+
+    /// The next byte, before which the replies are sent where the read could wait.
+    fn take(&mut self) -> io::Result<Option<u8>>
+        ensures { self.new ≡ self.old }
+    {
+        if self.reader.buffer().is_empty() {
+            self.send()?;
+            self.fill()?;
+        }
+        let byte = self.reader.buffer().first().copied();
+        self.reader.consume(1);
+        Ok(byte)
+    }
+
+    /// Gathers a reply, or sends it where it is long.
+    fn put(&mut self, bytes: &[u8]) -> io::Result<()>
+        ensures { self.new ≡ self.old }
+    {
+        if ROOM.saturating_sub(self.replies.len()) < bytes.len() {
+            self.send()?;
+        }
+        if ROOM < bytes.len() {
+            return self.reader.get_mut().write_all(bytes);
+        }
+        Ok(self.replies.extend_from_slice(bytes)?)
+    }
+}
+
+impl Source for Socket {
+    ghost rest = { λ _. None };
+
+    ghost failed_reads = { λ s. s.0 };
+
+    ghost written = { λ s. (None, s.1) };
+
+    fn next_byte(&mut self) -> Result<Option<u8>, ReadFault> {
+        match self.take() {
+            Ok(byte) => Ok(byte),
+            Err(_) => {
+                self.failed_reads += 1;
+                Err(ReadFault)
+            }
+        }
+    }
+
+    fn failed_reads(&self) -> u64 {
+        self.failed_reads
+    }
+}
+
+impl Sink for Socket {
+    ghost held = { λ _. None };
+
+    ghost failed_writes = { λ s. s.1 };
+
+    ghost unread = { λ s. (None, s.0) };
+
+    fn write_all(&mut self, bytes: &[u8]) -> Result<(), WriteFault> {
+        if self.put(bytes).is_err() {
+            self.failed_writes += 1;
+            return Err(WriteFault);
+        }
+        Ok(())
+    }
+
+    fn flush(&mut self) -> Result<(), WriteFault> {
+        if self.send().is_err() {
+            self.failed_writes += 1;
+            return Err(WriteFault);
+        }
+        Ok(())
+    }
+
+    fn failed_writes(&self) -> u64 {
+        self.failed_writes
+    }
+}
+
+impl Stream for Socket {
+    ghost use Rattle.std.specs.Prelude.{refl};
+    ghost use Rattle.metric.specs.Wire.{silent};
+
+    ghost wire = { λ s. silent s.0 s.1 };
+
+    ghost shown = { λ s. refl };
+
+    ghost reading = { λ s. refl };
+
+    ghost writing = { λ s. refl };
+}
+
+/// The buffers of a connection, without it.
+fn buffers(alloc: Global) -> io::Result<(BufReader<Connection>, Vec<u8>)> {
+    let reader = BufReader::with_capacity(alloc, ROOM, Connection(None))?;
+    Ok((reader, Vec::with_capacity(alloc, ROOM)?))
+}
+
+/// Sends what has gathered and ends the connection, so that its peer gets the last reply.
+impl Drop for Socket {
+    fn drop(mut self) {
+        let sent = self.send();
+        let Socket {
+            reader,
+            replies: _,
+            failed_reads: _,
+            failed_writes: _,
+        } = self;
+        if sent.is_ok()
+            && let Connection(Some(stream)) = reader.into_inner()
+        {
+            let _ = end(stream);
+        }
+    }
+}
+
+/// Ends the writing side and reads away what the peer still sends: a close with bytes unread would take the last reply from it. Bounded in bytes and in time.
+fn end(mut stream: TcpStream) -> io::Result<()> {
+    stream.shutdown(Shutdown::Write)?;
+    stream.set_read_timeout(Some(Duration::from_millis(PATIENCE)))?;
+    let mut bytes = [0; LAST_ROOM];
+    for _ in 0..LAST_READS {
+        if stream.read(bytes.as_mut_slice())? == 0 {
+            return Ok(());
+        }
+    }
+    Ok(())
+}

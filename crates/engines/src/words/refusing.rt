@@ -1,0 +1,92 @@
+//! Telling why words are refused, or what they asked to be told.
+
+ghost use Rattle.std.specs.Prelude.{◌≡◌, ◌≢◌, ◌+◌, ◌≤◌, ◌∷◌, ◌++◌, []};
+ghost use Rattle.metric.specs.Stream.{Appends, CanFail};
+ghost use Rattle.metric.specs.Refusal.{refusal_text};
+ghost use Rattle.metric.specs.declared.refusal.Refusal.{Refusal};
+ghost use Rattle.engines.specs.Runs.{Begins, IsStatusOf, IsFaultTold};
+
+use crate::streams::output::{write_refusal, write_text};
+use crate::words::arguments::Fault;
+use crate::{DONE, MISTAKEN, REFUSED};
+use metric::{Refusal, Sink};
+use std::alloc::{AllocError, Global};
+
+/// The status of a run whose words are refused.
+fn status_of(fault: &Fault<'_>) -> u8
+    ensures { IsStatusOf fault.now result }
+{
+    match fault {
+        Fault::Memory => REFUSED,
+        Fault::Words(error) => { if error.use_stderr() { MISTAKEN } else { DONE } }
+        Fault::UnknownMetric { .. }
+        | Fault::UnknownEdge { .. }
+        | Fault::BadNumber { .. }
+        | Fault::NoCommand
+        | Fault::Unreadable(_) => MISTAKEN,
+    }
+}
+
+/// What is told: the text of `clap` as it is, and any other with the program's name.
+fn text_of(alloc: Global, fault: &Fault<'_>) -> Result<String, AllocError> {
+    match fault {
+        Fault::Words(error) => format!(in alloc; "{error}"),
+        other => format!(in alloc; "clearmap: {other}\n"),
+    }
+}
+
+/// Writes a text, and answers this status, or 1 where the writer fails.
+fn write_or_fail<W: Sink>(writer: &mut W, text: &[u8], status: u8) -> u8
+    requires { CanFail (W.failed_writes writer.old) }
+    ensures written { W.failed_writes writer.new ≡ W.failed_writes writer.old
+        → Appends (W.held writer.old) text.now (W.held writer.new) × (result ≡ status) }
+    ensures failed { W.failed_writes writer.new ≢ W.failed_writes writer.old
+        → Begins (W.held writer.old) (W.held writer.new) × (result ≡ 1) }
+    ensures one_failure { W.failed_writes writer.new ≤ W.failed_writes writer.old + 1 }
+{
+    write_text(writer, text, status).unwrap_or(REFUSED)
+}
+
+/// Tells want of memory. Answers the status.
+fn tell_memory<W: Sink>(writer: &mut W) -> u8
+    requires { CanFail (W.failed_writes writer.old) }
+    ensures written { W.failed_writes writer.new ≡ W.failed_writes writer.old
+        → Appends (W.held writer.old) (refusal_text Refusal.Memory ++ 10 ∷ []) (W.held writer.new) }
+    ensures failed { W.failed_writes writer.new ≢ W.failed_writes writer.old → Begins (W.held writer.old) (W.held writer.new) }
+    ensures one_failure { W.failed_writes writer.new ≤ W.failed_writes writer.old + 1 }
+    ensures status { result ≡ 1 }
+{
+    write_refusal(writer, Refusal::Memory).unwrap_or(REFUSED)
+}
+
+/// Tells why words are refused, on `errors`, or what they asked to be told, on the writer. Answers the status.
+pub fn tell<W: Sink, E: Sink>(
+    alloc: Global,
+    fault: &Fault<'_>,
+    writer: &mut W,
+    errors: &mut E,
+) -> u8
+    requires writer { CanFail (W.failed_writes writer.old) }
+    requires errors { CanFail (E.failed_writes errors.old) }
+    ensures told { W.failed_writes writer.new ≡ W.failed_writes writer.old → E.failed_writes errors.new ≡ E.failed_writes errors.old
+        → IsFaultTold fault.now (W.held writer.old) (W.held writer.new) (E.held errors.old) (E.held errors.new) result }
+    ensures failed_write { W.failed_writes writer.new ≢ W.failed_writes writer.old
+        → Begins (W.held writer.old) (W.held writer.new) × (E.held errors.new ≡ E.held errors.old) × (result ≡ 1) }
+    ensures failed_error { E.failed_writes errors.new ≢ E.failed_writes errors.old
+        → Begins (E.held errors.old) (E.held errors.new) × (W.held writer.new ≡ W.held writer.old) × (result ≡ 1) }
+    ensures one_failure { W.failed_writes writer.new + E.failed_writes errors.new
+        ≤ W.failed_writes writer.old + E.failed_writes errors.old + 1 }
+{
+    if matches!(fault, Fault::Memory) {
+        return tell_memory(writer);
+    }
+    let Ok(text) = text_of(alloc, fault) else {
+        return tell_memory(writer);
+    };
+    let status = status_of(fault);
+    if status == MISTAKEN {
+        write_or_fail(errors, text.as_bytes(), status)
+    } else {
+        write_or_fail(writer, text.as_bytes(), status)
+    }
+}

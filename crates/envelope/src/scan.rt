@@ -1,0 +1,227 @@
+//! The row phase where a distance is columns and rows added: the nearest column on each side of a cell by one scan from each end.
+//!
+//! Then the columns to the left of a cell come in the same order whichever cell it is, and so do those to the right. Each column has a word for either side: how far its obstacle is in that order, and below it the column's number. The least word of the columns so far is the nearest one's, and of two as near the left one's.
+
+ghost use Rattle.std.specs.Prelude.{◌≡◌, ◌≢◌, ℕ, negsuc, pos, ◌+◌, ◌-◌, ◌*◌, ◌/◌, ◌%◌, ◌<◌, ◌≤◌, ◌≤ℤ◌, length, min, slice_index, true};
+ghost use Rattle.metric.specs.Distance.{IsSum};
+ghost use Rattle.metric.specs.Edge.{shift, spot_of};
+ghost use Rattle.metric.specs.declared.edge.Edge.TheVariants.{Open, Wall};
+ghost use Rattle.envelope.specs.Columns.{AreEntries, AreNearColumns};
+ghost use Rattle.envelope.specs.Scans.{AreLeftLeast, AreRightLeast, AreToldBy, HasColumn, IsLeast, left_word, right_word, word_of};
+
+use crate::answer::CellAnswer;
+use column::NONE;
+use metric::{Edge, Metric, Near};
+
+/// A word counts so many columns below how far an obstacle is.
+const COLUMNS: u32 = 8192;
+
+/// No row has more columns.
+const MOST: u32 = 4098;
+
+/// The word of a column without an obstacle.
+const NO_WORD: u32 = u32::MAX;
+
+/// An obstacle is counted as far away where it is more than so many rows away: nearer ones are found faster side by side.
+const FEW_ROWS: u16 = 3;
+
+/// Where one column in so many has an obstacle that far away, two scans are the fastest.
+const SHARE: usize = 4;
+
+/// Whether so many of the row's columns have an obstacle far away that two scans are the fastest.
+#[inline(never)]
+pub fn are_many_far(entries: &[u16], y: u16) -> bool
+    requires { length entries.now ≤ 4098 }
+    ensures { result ≡ true → HasColumn entries.now }
+{
+    let mut count = 0u16;
+    'columns: for column in 0..entries.len() {
+        count += one_if_far(entries[column], y);
+    }
+    usize::from(count) * SHARE > entries.len()
+}
+
+/// One for a column with an obstacle far away, nothing for another.
+#[inline(always)]
+fn one_if_far(entry: u16, y: u16) -> u16
+    ensures few { result ≤ 1 }
+    ensures some { 0 < result → entry ≢ 65535 }
+{
+    u16::from(entry != NONE && y.abs_diff(entry) > FEW_ROWS)
+}
+
+/// Fills the row with the obstacle of the column that is the nearest to each cell. `left` and `right` have room for a word for each column.
+pub fn fill_by_scans<M: Metric, A: CellAnswer>(
+    entries: &[u16],
+    y: u16,
+    edge: Edge,
+    left: &mut [u32],
+    right: &mut [u32],
+    answers: &mut [A],
+)
+    requires sum { IsSum M.distance }
+    requires entries { AreEntries entries.now y }
+    requires row { shift edge ≤ y }
+    requires some { HasColumn entries.now }
+    requires left { length entries.now ≤ length left.old }
+    requires right { length entries.now ≤ length right.old }
+    requires width { length answers.old + 2 * shift edge ≡ length entries.now }
+    ensures { AreNearColumns A.told A.nothing M.distance entries.now y edge answers.new }
+{
+    set_words(entries, y, left, right);
+    scan(entries.len(), left, right);
+    choose::<M>(entries, y, left, right);
+    match edge {
+        Edge::Open => tell_open::<M, A>(entries, y, left, answers),
+        Edge::Wall => tell_walled::<M, A>(entries, y, left, answers),
+    }
+}
+
+/// Sets the words of the row's columns.
+#[inline(never)]
+fn set_words(entries: &[u16], y: u16, left: &mut [u32], right: &mut [u32])
+    requires few { length entries.now ≤ 4098 }
+    requires left { length entries.now ≤ length left.old }
+    requires right { length entries.now ≤ length right.old }
+    ensures left { (column : ℕ) → column < length entries.now → slice_index left.new column ≡ left_word entries.now y column }
+    ensures right { (column : ℕ) → column < length entries.now → slice_index right.new column ≡ right_word entries.now y column }
+{
+    'columns: for column in 0..entries.len() {
+        let entry = entries[column];
+        let (gap, number) = (u32::from(y.abs_diff(entry)), column as u32);
+        left[column] = word(entry, gap + MOST - number, number);
+        right[column] = word(entry, gap + number, number);
+    }
+}
+
+/// The word of a column whose obstacle is so far.
+#[inline(always)]
+fn word(entry: u16, far: u32, column: u32) -> u32
+    requires far { far ≤ 69633 }
+    requires column { column ≤ 4098 }
+    ensures { result ≡ word_of entry far column }
+{
+    if entry == NONE {
+        NO_WORD
+    } else {
+        far * COLUMNS + column
+    }
+}
+
+/// Puts the least of the words so far in the place of each, from the left in one list and from the right in the other.
+#[inline(never)]
+fn scan(count: usize, left: &mut [u32], right: &mut [u32])
+    requires left { count ≤ length left.old }
+    requires right { count ≤ length right.old }
+    ensures left { (x : ℕ) → x < count → IsLeast (λ place. slice_index left.old place) 0 (x + 1) (slice_index left.new x) }
+    ensures right { (x : ℕ) → x < count → IsLeast (λ place. slice_index right.old place) x count (slice_index right.new x) }
+{
+    let (mut low, mut high) = (NO_WORD, NO_WORD);
+    'places: for place in 0..count {
+        low = low.min(left[place]);
+        left[place] = low;
+        let other = count - 1 - place;
+        high = high.min(right[other]);
+        right[other] = high;
+    }
+}
+
+/// Puts a word of the nearest column in the place of each word of `left`.
+#[inline(never)]
+fn choose<M: Metric>(entries: &[u16], _y: u16, left: &mut [u32], right: &[u32])
+    requires sum { IsSum M.distance }
+    requires entries { AreEntries entries.now _y }
+    requires some { HasColumn entries.now }
+    requires left_room { length entries.now ≤ length left.old }
+    requires right_room { length entries.now ≤ length right.now }
+    requires left { AreLeftLeast entries.now _y left.old }
+    requires right { AreRightLeast entries.now _y right.now }
+    ensures { AreToldBy M.distance entries.now _y left.new }
+{
+    'cells: for x in 0..entries.len() {
+        left[x] = nearer(left[x], right[x], x as u32);
+    }
+}
+
+/// The word of the nearer one of two columns to the cell in column `x`, with its distance: of that on the left where both are as near.
+#[inline(always)]
+fn nearer(left: u32, right: u32, x: u32) -> u32
+    requires cell { x ≤ 4098 }
+    requires left { 4098 ≤ left / 8192 + x }
+    requires right { x ≤ right / 8192 }
+    ensures far { result / 8192 + 4098 ≡ min (left / 8192 + x) (right / 8192 + 4098 - x) }
+    ensures left { left / 8192 + x ≤ right / 8192 + 4098 - x → result % 8192 ≡ left % 8192 }
+    ensures right { right / 8192 + 4098 - x < left / 8192 + x → result % 8192 ≡ right % 8192 }
+{
+    let (to_left, to_right) = (left / COLUMNS + x, right / COLUMNS + MOST - x);
+    let word = if to_left <= to_right { left } else { right };
+    (to_left.min(to_right) - MOST) * COLUMNS + word % COLUMNS
+}
+
+/// Fills the row with what the words tell, where the border is open.
+// Not inlined: the two phases would compete for registers.
+#[inline(never)]
+fn tell_open<M: Metric, A: CellAnswer>(entries: &[u16], y: u16, words: &[u32], answers: &mut [A])
+    requires entries { AreEntries entries.now y }
+    requires room { length entries.now ≤ length words.now }
+    requires width { length answers.old + 2 * shift Open ≡ length entries.now }
+    requires told { AreToldBy M.distance entries.now y words.now }
+    ensures { AreNearColumns A.told A.nothing M.distance entries.now y Open answers.new }
+{
+    tell::<M, A>(entries, y, Edge::Open, words, answers);
+}
+
+/// The same where the border is a wall.
+#[inline(never)]
+fn tell_walled<M: Metric, A: CellAnswer>(entries: &[u16], y: u16, words: &[u32], answers: &mut [A])
+    requires entries { AreEntries entries.now y }
+    requires row { shift Wall ≤ y }
+    requires room { length entries.now ≤ length words.now }
+    requires width { length answers.old + 2 * shift Wall ≡ length entries.now }
+    requires told { AreToldBy M.distance entries.now y words.now }
+    ensures { AreNearColumns A.told A.nothing M.distance entries.now y Wall answers.new }
+{
+    tell::<M, A>(entries, y, Edge::Wall, words, answers);
+}
+
+/// The same by an edge that is known where this is inlined, so that no cell asks for it.
+#[inline(always)]
+fn tell<M: Metric, A: CellAnswer>(
+    entries: &[u16],
+    _y: u16,
+    edge: Edge,
+    words: &[u32],
+    answers: &mut [A],
+)
+    requires entries { AreEntries entries.now _y }
+    requires row { shift edge ≤ _y }
+    requires room { length entries.now ≤ length words.now }
+    requires width { length answers.old + 2 * shift edge ≡ length entries.now }
+    requires told { AreToldBy M.distance entries.now _y words.now }
+    ensures { AreNearColumns A.told A.nothing M.distance entries.now _y edge answers.new }
+{
+    let before = usize::from(edge.shift());
+    'cells: for x in 0..answers.len() {
+        let word = words[x + before];
+        answers[x] = A::some(near_of(entries, edge, word));
+    }
+}
+
+/// The obstacle that a word tells.
+#[inline(always)]
+fn near_of(entries: &[u16], edge: Edge, word: u32) -> Near
+    requires inside { word % 8192 < length entries.now }
+    requires few { length entries.now ≤ 4098 }
+    requires row { slice_index entries.now (word % 8192) ≤ 4097 }
+    ensures near { result ≡ record { dist = word / 8192; cell = spot_of edge (word % 8192) (slice_index entries.now (word % 8192)) } }
+    ensures left { negsuc 0 ≤ℤ result.cell.x }
+    ensures column { result.cell.x ≤ℤ pos 4097 }
+    ensures top { negsuc 0 ≤ℤ result.cell.y }
+    ensures below { result.cell.y ≤ℤ pos 4097 }
+{
+    let column = word % COLUMNS;
+    Near {
+        dist: word / COLUMNS,
+        cell: edge.spot(column as u16, entries[column as usize]),
+    }
+}

@@ -1,0 +1,205 @@
+//! Reading an image from a source: a plain one is packed as its bytes come, and a raw one when all of them are there.
+
+ghost use Rattle.std.specs.Prelude.{◌≡◌, ◌*◌, List, [], Bool, ℕ, false, Ok, Err, IfOk, IfErr, OnOk};
+ghost use Rattle.metric.specs.Stream.{AreAll, CanFail};
+ghost use Rattle.bits.specs.Cells.{cells_where};
+ghost use Rattle.pbm.specs.Faults.{cells_of_pixels, ended, image, pixels, plain_raster, raster, raw_raster};
+ghost use Rattle.pbm.specs.Windows.{CountsReads, Follows, HasFault, HasImage, IsFaultOf, IsOpen, IsPassed, IsStopped, Meets, unread};
+
+use crate::header::Form;
+use crate::raster::after_image;
+use crate::raw_raster::{WORD_PIXELS, read_raw};
+use crate::window::{BLOCK, ImageStop, Window};
+use bits::Bitmap;
+use metric::{PbmFault, Source};
+use std::alloc::Global;
+
+/// Takes the pixels of a blank bitmap into it, a word at a time.
+fn take_pixels<R: Source>(
+    window: &mut Window,
+    reader: &mut R,
+    bitmap: &mut Bitmap,
+) -> Result<(), ImageStop>
+    requires can_fail { CanFail (R.failed_reads reader.old) }
+    requires open { IsOpen window.old (R.rest reader.old) }
+    requires blank { bitmap.old ≡ cells_where bitmap.old.width bitmap.old.height (λ x y. false) }
+    ensures open { IsOpen window.new (R.rest reader.new) }
+    ensures pixels { OnOk result (Follows (R.rest reader.old) (unread window.old) (R.rest reader.new) (unread window.new) (λ all left.
+        (black : List Bool) × (pixels (bitmap.old.width * bitmap.old.height) all ≡ Ok (black, left)) × (bitmap.new ≡ cells_of_pixels bitmap.old.width bitmap.old.height black))) }
+    ensures fault { IfErr result (λ stop. IsFaultOf stop (λ fault. Meets (R.rest reader.old) (unread window.old) (λ all. pixels (bitmap.old.width * bitmap.old.height) all ≡ Err fault))) }
+    ensures counts { CountsReads (R.failed_reads reader.old) result (R.failed_reads reader.new) }
+{
+    let width = bitmap.width();
+    let height = bitmap.height();
+    'rows: for y in 0..height {
+        'words: for index in 0..width.div_ceil(WORD_PIXELS) {
+            let count = (width - WORD_PIXELS * index).min(WORD_PIXELS);
+            match window.next_word(reader, count) {
+                Ok(word) => bitmap.set_word(y, index, word),
+                Err(stop) => return Err(stop),
+            }
+        }
+    }
+    Ok(())
+}
+
+/// Sees that a plain image may end where its pixels do.
+fn see_end<R: Source>(window: &mut Window, reader: &mut R) -> Result<(), ImageStop>
+    requires can_fail { CanFail (R.failed_reads reader.old) }
+    requires open { IsOpen window.old (R.rest reader.old) }
+    ensures open { IsOpen window.new (R.rest reader.new) }
+    ensures ended { OnOk result (Meets (R.rest reader.old) (unread window.old) (λ all. ended all ≡ Ok all)) }
+    ensures fault { IfErr result (λ stop. IsFaultOf stop (λ fault. Meets (R.rest reader.old) (unread window.old) (λ all. ended all ≡ Err fault))) }
+    ensures counts { CountsReads (R.failed_reads reader.old) result (R.failed_reads reader.new) }
+{
+    if let Err(stop) = window.fill(reader, 0) {
+        return Err(stop);
+    }
+    match after_image(window.unread()) {
+        Ok(_) => Ok(()),
+        Err(fault) => Err(ImageStop::Fault(fault)),
+    }
+}
+
+/// Takes a plain raster into a blank bitmap.
+fn take_plain<R: Source>(
+    window: &mut Window,
+    reader: &mut R,
+    bitmap: &mut Bitmap,
+) -> Result<(), ImageStop>
+    requires can_fail { CanFail (R.failed_reads reader.old) }
+    requires open { IsOpen window.old (R.rest reader.old) }
+    requires blank { bitmap.old ≡ cells_where bitmap.old.width bitmap.old.height (λ x y. false) }
+    ensures open { IsOpen window.new (R.rest reader.new) }
+    ensures raster { OnOk result (Meets (R.rest reader.old) (unread window.old) (λ all. (left : List ℕ) × (plain_raster bitmap.old.width bitmap.old.height all ≡ Ok (bitmap.new, left)))) }
+    ensures fault { IfErr result (λ stop. IsFaultOf stop (λ fault. Meets (R.rest reader.old) (unread window.old) (λ all. plain_raster bitmap.old.width bitmap.old.height all ≡ Err fault))) }
+    ensures counts { CountsReads (R.failed_reads reader.old) result (R.failed_reads reader.new) }
+{
+    if let Err(stop) = take_pixels(window, reader, bitmap) {
+        return Err(stop);
+    }
+    match see_end(window, reader) {
+        Ok(()) => Ok(()),
+        Err(stop) => Err(stop),
+    }
+}
+
+/// Takes a raw raster into a blank bitmap, when all that the source has is there.
+fn take_raw<R: Source>(
+    window: &mut Window,
+    reader: &mut R,
+    bitmap: &mut Bitmap,
+) -> Result<(), ImageStop>
+    requires can_fail { CanFail (R.failed_reads reader.old) }
+    requires open { IsOpen window.old (R.rest reader.old) }
+    requires blank { bitmap.old ≡ cells_where bitmap.old.width bitmap.old.height (λ x y. false) }
+    ensures open { IsOpen window.new (R.rest reader.new) }
+    ensures raster { OnOk result (Meets (R.rest reader.old) (unread window.old) (λ all. (left : List ℕ) × (raw_raster bitmap.old.width bitmap.old.height all ≡ Ok (bitmap.new, left)))) }
+    ensures fault { IfErr result (λ stop. IsFaultOf stop (λ fault. Meets (R.rest reader.old) (unread window.old) (λ all. raw_raster bitmap.old.width bitmap.old.height all ≡ Err fault))) }
+    ensures counts { CountsReads (R.failed_reads reader.old) result (R.failed_reads reader.new) }
+{
+    if let Err(stop) = window.fill_whole(reader) {
+        return Err(stop);
+    }
+    match read_raw(bitmap, window.unread()) {
+        Ok(_) => Ok(()),
+        Err(fault) => Err(ImageStop::Fault(fault)),
+    }
+}
+
+/// Takes the raster of an image of this form into a blank bitmap.
+fn take_raster<R: Source>(
+    window: &mut Window,
+    reader: &mut R,
+    form: Form,
+    bitmap: &mut Bitmap,
+) -> Result<(), ImageStop>
+    requires can_fail { CanFail (R.failed_reads reader.old) }
+    requires open { IsOpen window.old (R.rest reader.old) }
+    requires blank { bitmap.old ≡ cells_where bitmap.old.width bitmap.old.height (λ x y. false) }
+    ensures open { IsOpen window.new (R.rest reader.new) }
+    ensures raster { OnOk result (Meets (R.rest reader.old) (unread window.old) (λ all. (left : List ℕ) × (raster form bitmap.old.width bitmap.old.height all ≡ Ok (bitmap.new, left)))) }
+    ensures fault { IfErr result (λ stop. IsFaultOf stop (λ fault. Meets (R.rest reader.old) (unread window.old) (λ all. raster form bitmap.old.width bitmap.old.height all ≡ Err fault))) }
+    ensures counts { CountsReads (R.failed_reads reader.old) result (R.failed_reads reader.new) }
+{
+    match form {
+        Form::Plain => take_plain(window, reader, bitmap),
+        Form::Raw => take_raw(window, reader, bitmap),
+    }
+}
+
+/// Takes the image that comes next.
+fn take_image<R: Source>(
+    alloc: Global,
+    window: &mut Window,
+    reader: &mut R,
+) -> Result<Bitmap, ImageStop>
+    requires can_fail { CanFail (R.failed_reads reader.old) }
+    requires open { IsOpen window.old (R.rest reader.old) }
+    ensures open { IsOpen window.new (R.rest reader.new) }
+    ensures image { IfOk result (λ cells. Meets (R.rest reader.old) (unread window.old) (λ all. (left : List ℕ) × (image all ≡ Ok (cells, left)))) }
+    ensures fault { IfErr result (λ stop. IsFaultOf stop (λ fault. Meets (R.rest reader.old) (unread window.old) (λ all. IsStopped all fault))) }
+    ensures counts { CountsReads (R.failed_reads reader.old) result (R.failed_reads reader.new) }
+{
+    let (form, width, height) = match window.next_header(reader) {
+        Ok(found) => found,
+        Err(stop) => return Err(stop),
+    };
+    let Ok(mut bitmap) = Bitmap::blank(alloc, width, height) else {
+        return Err(ImageStop::Fault(PbmFault::Memory));
+    };
+    match take_raster(window, reader, form, &mut bitmap) {
+        Ok(()) => Ok(bitmap),
+        Err(stop) => Err(stop),
+    }
+}
+
+/// Reads what a source has left, if a window hasn't met its end, and keeps nothing. More blocks than can be counted are as many as no memory holds.
+fn pass_rest<R: Source>(window: &Window, reader: &mut R) -> Result<(), ImageStop>
+    requires can_fail { CanFail (R.failed_reads reader.old) }
+    requires open { IsOpen window.now (R.rest reader.old) }
+    ensures ended { OnOk result (AreAll (R.rest reader.new) []) }
+    ensures no_fault { IfErr result (λ stop. IsFaultOf stop (λ met. ⊥)) }
+    ensures counts { CountsReads (R.failed_reads reader.old) result (R.failed_reads reader.new) }
+{
+    if window.ended {
+        return Ok(());
+    }
+    let mut block = [0; BLOCK];
+    'turns: for _ in 0..u64::MAX {
+        match reader.next_block(block.as_mut_slice()) {
+            Ok(0) => return Ok(()),
+            Ok(_) => {}
+            Err(_) => return Err(ImageStop::Failed),
+        }
+    }
+    Err(ImageStop::Memory)
+}
+
+/// Reads the image at the front of what a source has, and the source to its end.
+///
+/// Images are read as by `read_image`, and what stands after one is read and dropped. A plain image is packed as its bytes come, through a window of about 128 KB; the window is larger only where so many bytes stand between two pixels or before the raster, and from a fault of such an image on. A raw image stands in memory as a whole. Where there is no memory for what was read nothing more is read, and where there is none for the bitmap the rest is read and dropped. After a read that failed the source isn't called again.
+pub fn read_source<R: Source>(alloc: Global, reader: &mut R) -> Result<Bitmap, ImageStop>
+    requires { CanFail (R.failed_reads reader.old) }
+    ensures image { IfOk result (HasImage (R.rest reader.old)) }
+
+    // A fault is the first from the front, and then no image stands there; or all before the raster is good, and there was no memory for the bitmap.
+    ensures fault { IfErr result (λ stop. IsFaultOf stop (HasFault (R.rest reader.old))) }
+
+    // Where no read failed and there was memory for what was read, nothing is left.
+    ensures ended { IsPassed result (R.rest reader.new) }
+    ensures counts { CountsReads (R.failed_reads reader.old) result (R.failed_reads reader.new) }
+{
+    let mut window = Window::new(alloc);
+    match take_image(alloc, &mut window, reader) {
+        Ok(bitmap) => match pass_rest(&window, reader) {
+            Ok(()) => Ok(bitmap),
+            Err(stop) => Err(stop),
+        },
+        Err(ImageStop::Fault(fault)) => match pass_rest(&window, reader) {
+            Ok(()) => Err(ImageStop::Fault(fault)),
+            Err(stop) => Err(stop),
+        },
+        Err(stop) => Err(stop),
+    }
+}

@@ -1,0 +1,86 @@
+//! The parts of an image that a window takes: all before the raster, and the words of pixels.
+
+ghost use Rattle.std.specs.Prelude.{◌≡◌, ◌≤◌, Ok, Err, IfOk, IfErr, OnOk};
+ghost use Rattle.metric.specs.Stream.{CanFail};
+ghost use Rattle.pbm.specs.Faults.{header, pixels};
+ghost use Rattle.pbm.specs.Plain.{AreBitsRead};
+ghost use Rattle.pbm.specs.Windows.{CountsReads, Follows, IsFaultOf, IsOpen, Meets, Stands, unread};
+
+use crate::header::{Form, read_header};
+use crate::plain_word::read_word;
+use crate::window::{ImageStop, Window};
+use metric::{PbmFault, Source};
+
+/// The form and the sides at the front of the bytes, and how many bytes stand before the raster.
+fn header_in(bytes: &[u8]) -> Result<(Form, u16, u16, usize), PbmFault>
+    ensures found { IfOk result (λ found. Stands found.3 bytes.now (λ all left. header all ≡ Ok (found.0, found.1, found.2, left))) }
+    ensures fault { IfErr result (λ fault. header bytes.now ≡ Err fault) }
+{
+    match read_header(bytes) {
+        Ok((form, width, height, rest)) => Ok((form, width, height, bytes.len() - rest.len())),
+        Err(fault) => Err(fault),
+    }
+}
+
+/// The next pixels, up to 64, as a word, and how many bytes they take.
+fn word_in(bytes: &[u8], count: u16) -> Result<(u64, usize), PbmFault>
+    requires { count ≤ 64 }
+    ensures found { IfOk result (λ found. Stands found.1 bytes.now (λ all left. AreBitsRead count all found.0 left)) }
+    ensures fault { IfErr result (λ fault. pixels count bytes.now ≡ Err fault) }
+{
+    match read_word(bytes, count) {
+        Ok((word, rest)) => Ok((word, bytes.len() - rest.len())),
+        Err(fault) => Err(fault),
+    }
+}
+
+impl Window {
+    /// Takes all before the raster, and answers the form and the sides.
+    pub fn next_header<R: Source>(&mut self, reader: &mut R) -> Result<(Form, u16, u16), ImageStop>
+        requires can_fail { CanFail (R.failed_reads reader.old) }
+        requires open { IsOpen self.old (R.rest reader.old) }
+        ensures open { IsOpen self.new (R.rest reader.new) }
+        ensures header { IfOk result (λ found. Follows (R.rest reader.old) (unread self.old) (R.rest reader.new) (unread self.new) (λ all left. header all ≡ Ok (found.0, found.1, found.2, left))) }
+        ensures fault { IfErr result (λ stop. IsFaultOf stop (λ fault. Meets (R.rest reader.old) (unread self.old) (λ all. header all ≡ Err fault))) }
+        ensures counts { CountsReads (R.failed_reads reader.old) result (R.failed_reads reader.new) }
+    {
+        'turns: loop {
+            match header_in(self.unread()) {
+                Ok((form, width, height, taken)) => {
+                    self.take(taken);
+                    return Ok((form, width, height));
+                }
+                Err(fault) => {
+                    if let Err(stop) = self.read_after(reader, fault) {
+                        return Err(stop);
+                    }
+                }
+            }
+        }
+    }
+
+    /// Takes the next pixels, up to 64, as the bits of a word: the first is the lowest, and those past the last are 0.
+    pub fn next_word<R: Source>(&mut self, reader: &mut R, count: u16) -> Result<u64, ImageStop>
+        requires can_fail { CanFail (R.failed_reads reader.old) }
+        requires open { IsOpen self.old (R.rest reader.old) }
+        requires few { count ≤ 64 }
+        ensures open { IsOpen self.new (R.rest reader.new) }
+        ensures word { IfOk result (λ word. Follows (R.rest reader.old) (unread self.old) (R.rest reader.new) (unread self.new) (λ all left. AreBitsRead count all word left)) }
+        ensures fault { IfErr result (λ stop. IsFaultOf stop (λ fault. Meets (R.rest reader.old) (unread self.old) (λ all. pixels count all ≡ Err fault))) }
+        ensures counts { CountsReads (R.failed_reads reader.old) result (R.failed_reads reader.new) }
+    {
+        'turns: loop {
+            match word_in(self.unread(), count) {
+                Ok((word, taken)) => {
+                    self.take(taken);
+                    return Ok(word);
+                }
+                Err(fault) => {
+                    if let Err(stop) = self.read_after(reader, fault) {
+                        return Err(stop);
+                    }
+                }
+            }
+        }
+    }
+}

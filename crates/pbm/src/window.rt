@@ -1,0 +1,171 @@
+//! A window on the bytes of a source, which is filled again as its bytes are taken.
+
+ghost use Rattle.std.specs.Prelude.{◌≡◌, ℕ, ◌+◌, ◌*◌, ◌<◌, ◌≤◌, ◌++◌, List, [], Option, false, drop, length, vec_len, IfErr, OnOk};
+ghost use Rattle.metric.specs.Stream.{CanFail};
+
+use metric::{PbmFault, Source};
+use std::alloc::Global;
+
+/// How many bytes are read at a time, at most.
+pub const BLOCK: usize = 65_536;
+
+/// Why no image was read from a source.
+#[derive(Clone, Copy, Debug, PartialEq, Eq)]
+pub enum ImageStop {
+    /// A read failed.
+    Failed,
+    /// There was no memory for what was read.
+    Memory,
+    /// The image has this fault, or there was no memory for its bitmap.
+    Fault(PbmFault),
+}
+
+/// Drops the first bytes, so many.
+fn drop_front(bytes: &mut Vec<u8>, count: usize)
+    requires { count ≤ vec_len bytes.old }
+    ensures { bytes.new.items ≡ drop count bytes.old.items }
+{
+    let left = bytes.len() - count;
+    bytes.copy_within(count.., 0);
+    bytes.truncate(left);
+}
+
+/// The bytes that were read from a source and not yet taken.
+#[derive(Drop)]
+pub struct Window {
+    pub bytes: Vec<u8>,
+    pub start: usize,
+    pub ended: bool,
+}
+
+impl Window {
+    ghost use Rattle.metric.specs.Stream.{AreAll};
+    ghost use Rattle.pbm.specs.Windows.{CountsReads, Follows, IsFaultOf, IsOpen, unread};
+
+    /// A window that has read nothing.
+    pub fn new(alloc: Global) -> Self
+        ensures open { (rest : Option (List ℕ)) → IsOpen result rest }
+        ensures empty { unread result ≡ [] }
+    {
+        Window {
+            bytes: Vec::new(alloc),
+            start: 0,
+            ended: false,
+        }
+    }
+
+    /// The bytes that aren't taken yet.
+    pub fn unread(&self) -> &[u8]
+        requires { self.now.start ≤ vec_len self.now.bytes }
+        ensures { result.now ≡ unread self.now }
+    {
+        &self.bytes[self.start..]
+    }
+
+    /// Takes so many bytes.
+    pub fn take(&mut self, count: usize)
+        requires inside { self.old.start ≤ vec_len self.old.bytes }
+        requires many { count ≤ length (unread self.old) }
+        ensures taken { unread self.new ≡ drop count (unread self.old) }
+        ensures open { (rest : Option (List ℕ)) → IsOpen self.old rest → IsOpen self.new rest }
+    {
+        self.start += count;
+    }
+
+    /// Reads the next bytes after those that aren't taken yet, by way of a block. None come only at the end.
+    fn read_block<R: Source>(
+        &mut self,
+        reader: &mut R,
+        block: &mut [u8; BLOCK],
+    ) -> Result<(), ImageStop>
+        requires can_fail { CanFail (R.failed_reads reader.old) }
+        requires open { IsOpen self.old (R.rest reader.old) }
+        requires before { self.old.ended ≡ false }
+        ensures open { IsOpen self.new (R.rest reader.new) }
+        ensures reads { OnOk result (Follows (R.rest reader.old) (unread self.old) (R.rest reader.new) (unread self.new) (λ all left. all ≡ left)) }
+        ensures more { OnOk result (self.new.ended ≡ false → length (unread self.old) < length (unread self.new)) }
+        ensures fault { IfErr result (λ stop. IsFaultOf stop (λ met. ⊥)) }
+        ensures counts { CountsReads (R.failed_reads reader.old) result (R.failed_reads reader.new) }
+    {
+        match reader.next_block(block.as_mut_slice()) {
+            Ok(count) => {
+                if self.bytes.extend_from_slice(&block[..count]).is_err() {
+                    return Err(ImageStop::Memory);
+                }
+                self.ended = count == 0;
+                Ok(())
+            }
+            Err(_) => Err(ImageStop::Failed),
+        }
+    }
+
+    /// Reads on until more than so many bytes aren't taken yet, or the source has ended.
+    pub fn fill<R: Source>(&mut self, reader: &mut R, wanted: usize) -> Result<(), ImageStop>
+        requires can_fail { CanFail (R.failed_reads reader.old) }
+        requires open { IsOpen self.old (R.rest reader.old) }
+        ensures open { IsOpen self.new (R.rest reader.new) }
+        ensures reads { OnOk result (Follows (R.rest reader.old) (unread self.old) (R.rest reader.new) (unread self.new) (λ all left. all ≡ left)) }
+        ensures more { OnOk result (self.new.ended ≡ false → wanted < length (unread self.new)) }
+        ensures fault { IfErr result (λ stop. IsFaultOf stop (λ met. ⊥)) }
+        ensures counts { CountsReads (R.failed_reads reader.old) result (R.failed_reads reader.new) }
+    {
+        let mut block = [0; BLOCK];
+        'turns: while !self.ended && self.bytes.len() - self.start <= wanted {
+            match self.read_block(reader, &mut block) {
+                Ok(()) => {}
+                Err(stop) => return Err(stop),
+            }
+        }
+        Ok(())
+    }
+
+    /// Reads all that the source has.
+    pub fn fill_whole<R: Source>(&mut self, reader: &mut R) -> Result<(), ImageStop>
+        requires can_fail { CanFail (R.failed_reads reader.old) }
+        requires open { IsOpen self.old (R.rest reader.old) }
+        ensures open { IsOpen self.new (R.rest reader.new) }
+        ensures reads { OnOk result (Follows (R.rest reader.old) (unread self.old) (R.rest reader.new) (unread self.new) (λ all left. all ≡ left)) }
+        ensures ended { OnOk result (AreAll (R.rest reader.new) []) }
+        ensures fault { IfErr result (λ stop. IsFaultOf stop (λ met. ⊥)) }
+        ensures counts { CountsReads (R.failed_reads reader.old) result (R.failed_reads reader.new) }
+    {
+        self.fill(reader, usize::MAX)
+    }
+
+    /// Drops what is taken, and reads on until more than twice as many bytes, and a block at least, aren't taken yet, or the source has ended.
+    pub fn refill<R: Source>(&mut self, reader: &mut R) -> Result<(), ImageStop>
+        requires can_fail { CanFail (R.failed_reads reader.old) }
+        requires open { IsOpen self.old (R.rest reader.old) }
+        ensures open { IsOpen self.new (R.rest reader.new) }
+        ensures reads { OnOk result (Follows (R.rest reader.old) (unread self.old) (R.rest reader.new) (unread self.new) (λ all left. all ≡ left)) }
+        ensures more { OnOk result (self.new.ended ≡ false → 2 * length (unread self.old) < length (unread self.new)) }
+        ensures fault { IfErr result (λ stop. IsFaultOf stop (λ met. ⊥)) }
+        ensures counts { CountsReads (R.failed_reads reader.old) result (R.failed_reads reader.new) }
+    {
+        drop_front(&mut self.bytes, self.start);
+        self.start = 0;
+        let wanted = (2 * self.bytes.len()).max(BLOCK - 1);
+        self.fill(reader, wanted)
+    }
+
+    /// Reads on where a part wasn't found in what isn't taken yet, for this fault; where the source has ended, the fault is the image's.
+    pub fn read_after<R: Source>(
+        &mut self,
+        reader: &mut R,
+        fault: PbmFault,
+    ) -> Result<(), ImageStop>
+        requires can_fail { CanFail (R.failed_reads reader.old) }
+        requires open { IsOpen self.old (R.rest reader.old) }
+        ensures open { IsOpen self.new (R.rest reader.new) }
+        ensures reads { OnOk result (Follows (R.rest reader.old) (unread self.old) (R.rest reader.new) (unread self.new) (λ all left. all ≡ left)) }
+        ensures before { OnOk result (self.old.ended ≡ false) }
+        ensures more { OnOk result (self.new.ended ≡ false → length (unread self.old) < length (unread self.new)) }
+        ensures fault { IfErr result (λ stop. IsFaultOf stop (λ met. (met ≡ fault) × AreAll (R.rest reader.old) [])) }
+        ensures counts { CountsReads (R.failed_reads reader.old) result (R.failed_reads reader.new) }
+    {
+        if self.ended {
+            return Err(ImageStop::Fault(fault));
+        }
+        self.refill(reader)
+    }
+}

@@ -1,0 +1,10 @@
+//! An entry of a store's log, with its caller.
+
+use map_core::Entry;
+
+/// An entry of a store's log: a command that was accepted, its reply, and the number of the session whose seat was lent.
+#[derive(Debug, Drop)]
+pub struct StoreEntry {
+    pub by: u32,
+    pub entry: Entry,
+}
