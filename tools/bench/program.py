@@ -28,7 +28,8 @@ def crates_below(names, lines):
 
 
 def without_edge(text):
-    """The program for crates in which each border is open."""
+    """The program for crates in which each border is open, and no obstacle lies outside."""
+    text = text.replace(".unsigned_abs()", "")
     text = re.sub(r"\n *(let edge = .*;|edge: Edge(::Open)?,)", "", text)
     return text.replace("edge, ", "").replace("Edge, ", "").replace("walled = ", "let _ = ").replace("let mut let _", "let _")
 

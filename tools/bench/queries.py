@@ -1,5 +1,5 @@
 #!/usr/bin/env python3
-"""Measures queries and the reading of images at 4096 by 4096, on the six maps of `bench.py`.
+"""Measures queries, and the reading and writing of images, at 4096 by 4096, on the six maps of `bench.py`.
 
 In a copy of the crates that are wanted, a program (`queries/main.rt.in`) is proved and built that times each kind of query inside one
 process. Next to it stands a twin in Rust of the very same loops: the sources of `clearance` and the raw raster of `pbm` without
@@ -69,11 +69,18 @@ def measure_map(program, twin, source, rounds):
     for _ in range(rounds):
         one, other = figures(program, source), figures(twin, source)
         for kind, (time_of_one, answers) in one.items():
-            if other[kind][1] != answers:
+            of_other, others_answers = other.get(kind, (sys.maxsize, answers))
+            if others_answers != answers:
                 sys.exit(f"{source.name}, {kind}: the twin answers otherwise")
             so_far = least.get(kind, (sys.maxsize, sys.maxsize))
-            least[kind] = (min(so_far[0], time_of_one), min(so_far[1], other[kind][0]))
+            least[kind] = (min(so_far[0], time_of_one), min(so_far[1], of_other))
     return least
+
+
+def cell_of(kind, one, other):
+    """A time, and its ratio to the twin's; the twin writes no image."""
+    told = f"{one / (1000 if kind == 'walk' else 1):.0f}"
+    return told if kind.startswith("write") else f"{told} / {one / max(other, 1):.2f}"
 
 
 def write_plain(raw, path):
@@ -116,12 +123,11 @@ def main():
         if not given.no_queries:
             text = (HERE / "queries" / "main.rt.in").read_text()
             program, twin = build(work, text, ["clearance", "pbm", "bits", "metric"]), build_twin(pathlib.Path(work))
-            print("| Map | " + " | ".join(("`read_image`, us", "`at`, ns", "`least_in`, ns", "`along`, ns", "`clear_of`, ns", "walk, us")) + " |")
-            print("|---|---|---|---|---|---|---|")
+            heads = ("`read_image`, us", "`at`, ns", "`least_in`, ns", "`along`, ns", "`clear_of`, ns", "walk, us", "`write_raw`, us", "`write_plain`, us")
+            print("| Map | " + " | ".join(heads) + " |\n|" + "---|" * (len(heads) + 1))
             for name, source in sources:
                 least = measure_map(program, twin, source, given.rounds)
-                cells = [f"{one / (1000 if kind == 'walk' else 1):.0f} / {one / max(other, 1):.2f}" for kind, (one, other) in least.items()]
-                print(f"| {name} | " + " | ".join(cells) + " |", flush=True)
+                print(f"| {name} | " + " | ".join(cell_of(kind, *times) for kind, times in least.items()) + " |", flush=True)
         if given.program:
             raw = dict(sources)["20 % at random"]
             plain = pathlib.Path(maps) / "plain.pbm"
