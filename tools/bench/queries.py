@@ -22,20 +22,22 @@ import time
 import bench
 from program import HERE, ROOT, build
 
-LOOPS = ["metric/src/edge"] + ["clearance/src/" + name for name in "bit band row rows words search nearest found frame border bound segment strip area walk".split()] + ["pbm/src/raw_raster"]
+LOOPS = ["metric/src/limits", "metric/src/edge"] + ["clearance/src/" + name for name in "bit band row rows words search nearest found frame border bound segment strip area walk".split()] + ["pbm/src/raw_raster"]
 SIDE = 4096
 
 
 def rust_of(source):
-    """A source without its clauses, imports and module comments."""
+    """A source without its clauses, imports and module comments. A clause may take several lines."""
     kept = []
+    open_braces = 0
     for line in source.splitlines():
         word = line.strip().split(" ")[0]
-        if word in ("requires", "ensures") and line.endswith(";"):
-            kept.append(";")
-        if word in ("ghost", "requires", "ensures", "use") or line.startswith("//!") or "#[tactic" in line:
-            continue
-        kept.append(line)
+        if open_braces or word in ("requires", "ensures"):
+            open_braces += line.count("{") - line.count("}")
+            if not open_braces and line.endswith(";"):
+                kept.append(";")
+        elif word not in ("ghost", "use") and not line.startswith("//!") and "#[tactic" not in line:
+            kept.append(line)
     return "\n".join(kept)
 
 
