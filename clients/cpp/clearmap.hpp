@@ -100,7 +100,7 @@ enum Refusal {
     UnknownCommand = 11, BadArguments, LineTooLong, TooMuchData, BadImage, PlacesUsed = 17
 };
 
-/// A line that the server refused. Nothing has changed, and the connection goes on.
+/// A line that the server refused. Nothing has changed, and the connection goes on; after LineTooLong and TooMuchData it ends.
 struct Refused : Error {
     int number;                          ///< One of Refusal.
     std::string name;                    ///< Its name, as "Crooked".
@@ -418,7 +418,7 @@ public:
         return found;
     }
 
-    /// Moves the pin to the newest version, and answers its number.
+    /// Moves the pin to the newest version, and answers its number. Nothing else tells of a publish.
     std::uint32_t renew() {
         detail::Wire& wire = this->wire();
         unpin();

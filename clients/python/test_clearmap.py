@@ -137,6 +137,54 @@ class Serving(unittest.TestCase):
             with planner.pin() as after:
                 self.assertEqual((after.version, after.at(0, 0)), (1, (0, (0, 0))))
 
+    def test_a_pin_is_renewed(self):
+        with Server() as server, clearmap.Client(server.port) as painter, clearmap.Client(server.port) as planner, planner.pin() as pinned:
+            painter.paint(0, 0, 1, 1)
+            painter.publish()
+            self.assertEqual((pinned.version, pinned.at(0, 0).distance), (0, 5))
+            self.assertEqual(pinned.renew(), 1)
+            self.assertEqual((pinned.version, pinned.at(0, 0).distance), (1, 0))
+            self.assertEqual(pinned.renew(), 1)
+        with Fake(b"OK 0\n", b"OK 0\n", b"ERR 5 Memory\n", closes=False) as fake, clearmap.Client(fake.port, timeout=5) as client, client.pin() as pinned:
+            self.assertRaises(clearmap.NoMemory, pinned.renew)
+            self.assertRaisesRegex(clearmap.ClearmapError, "the pin was left", pinned.at, 0, 0)  # it was left, and not taken again
+
+    def test_a_pin_that_was_left(self):
+        """Nothing of it is sent, also where the connection has another pin by then, which would answer from another version."""
+        calls = (
+            lambda pinned: pinned.at(0, 0),
+            lambda pinned: pinned.rect(0, 0, 1, 1),
+            lambda pinned: pinned.path([(0, 0)]),
+            lambda pinned: pinned.clear_of(1, [(0, 0)]),
+            lambda pinned: pinned.clearance([(0, 0)]),
+            lambda pinned: pinned.clearances([(0, 0)]),
+            lambda pinned: pinned.ask(clearmap.Queries().at(0, 0)),
+            lambda pinned: pinned.ask(clearmap.Queries()),
+            lambda pinned: pinned.dump(),
+            lambda pinned: pinned.renew(),
+            lambda pinned: pinned.unpin(),
+        )
+        with Server() as server, clearmap.Client(server.port) as client:
+            with client.pin() as left:
+                pass
+            client.paint(0, 0, 1, 1)
+            client.publish()
+            for second in (False, True):
+                pinned = client.pin() if second else None
+                for call in calls:
+                    with self.subTest(call=call, second=second), self.assertRaisesRegex(clearmap.ClearmapError, "^the pin was left$"):
+                        call(left)
+            self.assertEqual((left.version, pinned.version, pinned.at(0, 0).distance), (0, 1, 0))
+
+    def test_many_clearances(self):
+        with Server() as server, clearmap.Client(server.port) as client, client.pin() as pinned:
+            cells = [(2, 1), (0, 0), (5, 3), (6, 0), (0, 4), (-1, 0), (0, -1), (4096, 0), (10**12, 0)]
+            self.assertEqual(pinned.clearances(cells), [0, math.sqrt(5), math.sqrt(13), 0, 0, 0, 0, 0, 0])
+            self.assertEqual(pinned.clearances([(2, turn % 4) for turn in range(300)]), [1, 0, 1, 2] * 75)
+            self.assertEqual(pinned.clearances([]), [])
+        with Fake(b"OK 0\n", b"ERR 5 Memory\n", closes=False) as fake, clearmap.Client(fake.port, timeout=5) as client:
+            self.assertRaises(clearmap.NoMemory, client.pin().clearances, [(0, 0)])
+
     def test_no_obstacle(self):
         with Server(b"P1\n2 1\n00\n") as server, clearmap.Client(server.port) as client, client.pin() as pinned:
             self.assertIsNone(pinned.at(0, 0))
@@ -144,6 +192,7 @@ class Serving(unittest.TestCase):
             self.assertIsNone(pinned.path([(0, 0)]))
             self.assertIsNone(pinned.clear_of(99, [(0, 0)]))
             self.assertEqual(pinned.clearance([(0, 0)]), math.inf)
+            self.assertEqual(pinned.clearances([(1, 0), (2, 0)]), [math.inf, 0])
 
     def test_walls(self):
         """The cells round the map are obstacles: the frame, whose cells lie at -1 and one cell after the last."""

@@ -55,7 +55,7 @@ class WrongAnswer(ClearmapError):
 
 
 class Refused(ClearmapError):
-    """A line that the server refused. Nothing has changed, and the connection goes on.
+    """A line that the server refused. Nothing has changed, and the connection goes on; after `LineTooLong` and `TooMuchData` it ends.
 
     `number` and `name` are the refusal's, and `details` are the words after them: numbers, or the name of an image's fault.
     """
@@ -487,26 +487,39 @@ class Pinned:
         if not self._left and self._client._socket is not None:
             self.unpin()
 
+    def _wire(self) -> Client:
+        """The connection, for what is asked of this pin."""
+        if self._left:
+            raise ClearmapError("the pin was left")
+        return self._client
+
     def unpin(self) -> None:
-        """Leaves the pin."""
-        self._client._call("UNPIN", _one)
+        """Leaves the pin. What is asked of it later is refused here, and isn't sent."""
+        self._wire()._call("UNPIN", _one)
         self._left = True
+
+    def renew(self) -> int:
+        """Moves the pin to the newest version, and answers its number. Nothing else tells of a publish."""
+        self.unpin()
+        (self.version,) = self._client._call("PIN", _one)
+        self._left = False
+        return self.version
 
     def at(self, x: int, y: int, metric: str = EUCLID2) -> Optional[Near]:
         """The nearest obstacle of a cell. None where the map has none."""
-        return self._client._call(_at(x, y, metric), _near)
+        return self._wire()._call(_at(x, y, metric), _near)
 
     def rect(self, x0: int, y0: int, x1: int, y1: int, metric: str = EUCLID2) -> Optional[Tightest]:
         """The first cell by rows, of columns x0 up to x1 - 1 and rows y0 up to y1 - 1, that has the least distance."""
-        return self._client._call(_rect(x0, y0, x1, y1, metric), _tightest)
+        return self._wire()._call(_rect(x0, y0, x1, y1, metric), _tightest)
 
     def path(self, points: Iterable[Cell], metric: str = EUCLID2) -> Optional[Tightest]:
         """The first cell along a path that has the least distance. A path has 1 to 1000 points, each in the row or column of the one before."""
-        return self._client._call(_path(points, metric), _tightest)
+        return self._wire()._call(_path(points, metric), _tightest)
 
     def clear_of(self, distance: int, points: Iterable[Cell], metric: str = EUCLID2) -> Optional[Tightest]:
         """None where each cell of the path has this distance at least, and else the first that hasn't. With euclid2 the distance is a square."""
-        return self._client._call(_clear_of(distance, points, metric), _clear)
+        return self._wire()._call(_clear_of(distance, points, metric), _clear)
 
     def clearance(self, points: Sequence[Cell]) -> float:
         """The straight distance of a path's tightest cell to its nearest obstacle, in cells from middle to middle; infinite where the map has none.
@@ -524,9 +537,26 @@ class Pinned:
                 least = min(least, math.sqrt(answer.distance))
         return least
 
+    def clearances(self, cells: Iterable[Cell]) -> List[float]:
+        """For each cell its straight distance to the nearest obstacle, in cells: 0 for an obstacle and for a cell that isn't on the map, infinite where the
+        map has none. Cells are sent 64 in one write."""
+        queries = Queries()
+        for x, y in cells:
+            x, y = (x, y) if 0 <= x < 4096 and 0 <= y < 4096 else (4096, 4096)  # a cell that no map has, and that a line can name
+            queries.at(x, y)
+        found: List[float] = []
+        for answer in self.ask(queries):
+            if isinstance(answer, OutOfRange):
+                found.append(0.0)
+            elif isinstance(answer, Refused):
+                raise answer
+            else:
+                found.append(math.sqrt(answer.distance) if isinstance(answer, Near) else math.inf)
+        return found
+
     def dump(self) -> bytes:
         """The version as a plain PBM image."""
-        (count,) = self._client._call("DUMP", _one)
+        (count,) = self._wire()._call("DUMP", _one)
         if count > LARGEST_DUMP:
             self._client._drop()
             raise WrongAnswer(f"a map of {count} bytes")
@@ -535,12 +565,13 @@ class Pinned:
     def ask(self, queries: Queries) -> List[object]:
         """The answers to many queries, sent without waiting in between. A refused one has its `Refused` in its place, which isn't raised."""
         answers: List[object] = []
+        client = self._wire()
         for start in range(0, len(queries._queries), BATCH):
             batch: Sequence[_Query] = queries._queries[start : start + BATCH]
-            self._client._send("".join(query.line + "\n" for query in batch).encode("ascii"))
+            client._send("".join(query.line + "\n" for query in batch).encode("ascii"))
             for query in batch:
                 try:
-                    answers.append(self._client._read(query.line, query.read))
+                    answers.append(client._read(query.line, query.read))
                 except Refused as refusal:
                     answers.append(refusal)
         return answers
