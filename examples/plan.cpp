@@ -12,7 +12,7 @@ int main(int count, char** words) {
         clearmap::Client client(static_cast<std::uint16_t>(std::stoi(words[1])));
         clearmap::Pinned map = client.pin();
         auto path = frame.staircase(plan);
-        if (!path) throw clearmap::Error("the plan has no point, or one beside the map");
+        if (!path) throw clearmap::Error("the plan has no point, or one outside the map");
         std::cout << frame.metres(map.clearance(*path)) << " m\n";
         double cells;
         bool valid = map.is_valid(path->front().x, path->front().y, cells);

@@ -7,15 +7,14 @@ and the least version that a collect keeps is the newest one, so that no pin of 
 
     tools/busy_clients.py [SECONDS]
 """
-import pathlib
 import random
 import socket
-import subprocess
 import sys
 import threading
 import time
 
-PROGRAM = pathlib.Path(__file__).resolve().parent.parent / "crates" / "clearmap" / "out" / "clearmap"
+from served import Served, blank
+
 CLIENTS = 16
 SIDE = 256
 COMMANDS = ("PAINT", "CLEAR", "STAMP", "PUBLISH", "REVERT", "COLLECT", "CHECKPOINT")
@@ -109,21 +108,13 @@ def ask(stream, replies, line):
 
 def main():
     seconds = float(sys.argv[1]) if len(sys.argv) > 1 else 60
-    image = b"P4\n%d %d\n" % (SIDE, SIDE) + bytes(SIDE * SIDE // 8)
-    server = subprocess.Popen(
-        [str(PROGRAM), "serve", "--connections", "1000000", "--workers", "16", "--log", "20", "--versions", "64"],
-        stdin=subprocess.PIPE, stdout=subprocess.PIPE,
-    )
-    server.stdin.write(image)
-    server.stdin.close()
-    port = int(server.stdout.readline().split()[1])
-    try:
+    with Served(blank(SIDE, SIDE), "--workers", "16", "--log", "20", "--versions", "64", connections=1_000_000) as server:
         until = time.time() + seconds
-        clients = [Client(port, seed, until) for seed in range(CLIENTS)]
+        clients = [Client(server.port, seed, until) for seed in range(CLIENTS)]
         for client in clients:
             client.thread.join()
         time.sleep(0.5)  # the last killed clients are noticed
-        with socket.create_connection(("127.0.0.1", port)) as stream:
+        with socket.create_connection(("127.0.0.1", server.port)) as stream:
             replies = stream.makefile("rb")
             (checkpointed, _, published) = (ask(stream, replies, line) for line in (b"CHECKPOINT", b"COLLECT", b"PUBLISH"))
             collected = ask(stream, replies, b"COLLECT")
@@ -139,11 +130,8 @@ def main():
         assert len(set(places)) == len(places) and all(1 <= place <= last for place in places), "a place was answered twice"
         assert 0 <= missing <= unanswered, "an accepted command has no reply"
         assert collected[0] == b"OK" and collected[2] == published[2], f"a pin was left: {collected} {published}"
-        assert server.poll() is None, "the server ended"
+        assert server.process.poll() is None, "the server ended"
         print("each place was answered once or to a killed client, and no pin was left")
-    finally:
-        server.kill()
-        server.wait()
 
 
 if __name__ == "__main__":

@@ -13,9 +13,9 @@ import tempfile
 
 sys.dont_write_bytecode = True
 from page_names import wrong_names, wrong_promises
+from served import PROGRAM, Served
 
 TOP = pathlib.Path(__file__).resolve().parent.parent
-PROGRAM = pathlib.Path(os.environ.get("CLEARMAP", TOP / "crates/clearmap/out/clearmap"))
 PAGES = [TOP / "README.md", TOP / "CONTRIBUTING.md", *sorted((TOP / "docs").glob("*.md"))]
 wrong = []
 
@@ -72,18 +72,10 @@ def check_conversation():
     (lines,) = (block.split("\n") for _, block in blocks((TOP / "docs/PROTOCOL.md").read_text()) if block.startswith("> "))
     asked = "".join(line[2:] + "\n" for line in lines if line.startswith("> "))
     wanted = "".join(line + "\n" for line in lines if not line.startswith("> "))
-    server = subprocess.Popen([PROGRAM, "serve", "--connections", "1"], stdin=subprocess.PIPE, stdout=subprocess.PIPE, text=True)
-    try:
-        server.stdin.write("P1\n6 4\n000000\n001000\n000000\n000000\n")
-        server.stdin.close()
-        port = server.stdout.readline().split()[1]
-        got = subprocess.run([PROGRAM, "ask", "--port", port], input=asked, capture_output=True, text=True, timeout=60).stdout
-        if got != wanted:
-            wrong.append(f"PROTOCOL.md: a server answers {got!r}")
-    finally:
-        server.kill()
-        server.wait()
-        server.stdout.close()
+    with Served(b"P1\n6 4\n000000\n001000\n000000\n000000\n") as server:
+        got = subprocess.run([PROGRAM, "ask", "--port", str(server.port)], input=asked, capture_output=True, text=True, timeout=60).stdout
+    if got != wanted:
+        wrong.append(f"PROTOCOL.md: a server answers {got!r}")
 
 
 def anchors_of(page):

@@ -36,11 +36,11 @@ def heading(name, section, title):
 class Help:
     """A --help: what it is about, its usage, its options as pairs of words and text, and the paragraphs after them."""
 
-    def __init__(self, *words):
-        text = subprocess.run([PROGRAM, *words, "--help"], capture_output=True, text=True, check=True).stdout.rstrip("\n")
+    def __init__(self, *words, program=None):
+        text = subprocess.run([program or PROGRAM, *words, "--help"], capture_output=True, text=True, check=True).stdout.rstrip("\n")
         self.about, _, rest = text.partition("\n\nUsage: ")
         self.usage = rest.split("\n")[0]
-        listed, *self.behind = rest.partition("\nOptions:\n")[2].split("\n\n")
+        listed, *self.notes = rest.partition("\nOptions:\n")[2].split("\n\n")
         pairs = [line.strip().split("  ", 1) for line in listed.split("\n")]
         self.options = [(words, said.strip()) for words, said in pairs]
 
@@ -75,10 +75,10 @@ def program_page():
     page += [".SH NAME", "clearmap \\- " + plain(top.about[0].lower() + top.about[1:]), ".SH SYNOPSIS"]
     for part in parts:
         page += [".B " + plain(part.usage), ".br"]
-    page += [".SH DESCRIPTION", *paragraphs(text for text in top.behind if not text.startswith("Example")), *options(top.options)]
+    page += [".SH DESCRIPTION", *paragraphs(text for text in top.notes if not text.startswith("Example")), *options(top.options)]
     for command, part in zip(COMMANDS, parts):
-        page += [f".SH {command.upper()}", plain(part.about) + ".", *options(part.options), *paragraphs(part.behind)]
-    page += [".SH EXAMPLES", *paragraphs(text for text in top.behind if text.startswith("Example"))[2:]]
+        page += [f".SH {command.upper()}", plain(part.about) + ".", *options(part.options), *paragraphs(part.notes)]
+    page += [".SH EXAMPLES", *paragraphs(text for text in top.notes if text.startswith("Example"))[2:]]
     return page + [".SH SEE ALSO", ".BR clearmap\\-protocol (7),", ".BR pbm (5)"]
 
 
@@ -127,19 +127,28 @@ def words_of(action):
     return (words if action.option_strings else value.lower()), action.help or ""
 
 
-def script_page(name, about, parser, behind, related):
-    """The page of a script, from its parser of arguments; a line in the fixed font for each line of `behind` that is moved in."""
+def script_page(name, about, parser, notes, related):
+    """The page of a script, from its parser of arguments; a line in the fixed font for each line of `notes` that is moved in."""
     page = heading(plain(name.upper()), 1, "Clearance maps") + [".SH NAME", f"{plain(name)} \\- {about}", ".SH SYNOPSIS"]
     page += [plain(re.sub(r"\s+", " ", parser.format_usage()).replace("usage: ", "").strip()), ".SH DESCRIPTION", plain(parser.description)]
     commands = next((action for action in parser._actions if isinstance(action, argparse._SubParsersAction)), None)
     page += options(words_of(action) for action in parser._actions if action is not commands)
     for command, below in (commands.choices if commands else {}).items():
         page += [f".SH {command.upper()}", plain(below.description) + ".", *options(words_of(action) for action in below._actions if action.dest != "help")]
-    return page + paragraphs(behind) + [".SH SEE ALSO", *(f".BR {plain(page)} ({section})" for page, section in related)]
+    return page + paragraphs(notes) + [".SH SEE ALSO", *(f".BR {plain(page)} ({section})" for page, section in related)]
+
+
+def backup_page():
+    """The page of the script of the shell, from its --help."""
+    part = Help(program=str(TOP / "tools/clearmap_backup.sh"))
+    page = heading("CLEARMAP\\-BACKUP", 1, "Clearance maps")
+    page += [".SH NAME", "clearmap\\-backup \\- " + plain(part.about[0].lower() + part.about[1:]), ".SH SYNOPSIS", ".B " + plain(part.usage)]
+    page += [".SH DESCRIPTION", *paragraphs(text for text in part.notes if not text.startswith("Example")), *options(part.options)]
+    return page + [".SH EXAMPLES", *paragraphs(text for text in part.notes if text.startswith("Example"))[2:], ".SH SEE ALSO", ".BR clearmap (1)"]
 
 
 def script_pages():
-    """The pages of the scripts that are installed."""
+    """The pages of the scripts that are installed and written in Python."""
     sys.path[:0] = [str(TOP / folder) for folder in ("clients/python", "tools/ros", "tools/view")]
     import clearmap_node
     import clearmap_ros
@@ -157,7 +166,7 @@ def script_pages():
 
 
 def main():
-    pages = {"clearmap.1": program_page(), "clearmap-protocol.7": protocol_page(), **script_pages()}
+    pages = {"clearmap.1": program_page(), "clearmap-protocol.7": protocol_page(), "clearmap-backup.1": backup_page(), **script_pages()}
     wrong = 0
     for name, lines in pages.items():
         text = '.\\" Written by tools/make_man.py.\n' + "\n".join(lines) + "\n"

@@ -9,15 +9,13 @@ paint of the whole map then tells how many blocks it needs and how many are free
 
     tools/random_commands.py [COMMANDS [SEED]]
 """
-import pathlib
 import random
 import socket
-import subprocess
 import sys
 
 import steps_model
+from served import Served, blank
 
-PROGRAM = pathlib.Path(__file__).resolve().parent.parent / "crates" / "clearmap" / "out" / "clearmap"
 SIDES = (1, 5, 63, 64, 65, 127, 128, 129, 150)
 A_MAP = 400  # commands
 
@@ -147,12 +145,8 @@ def a_map(rng, count):
     setting = {"blocks": tiles + rng.choice((0, 1, 2, 3, tiles, 3 * tiles)), "versions": rng.randrange(2, 6), "log": rng.choice((6, count // 12, count + 10))}
     world = Map(width, height, setting["blocks"], setting["versions"], 2, setting["log"])
     flags = [word for key, value in setting.items() for word in (f"--{key}", str(value))]
-    blank = b"P4\n%d %d\n" % (width, height) + bytes((width + 7) // 8 * height)
-    server = subprocess.Popen([PROGRAM, "serve", "--connections", "2", "--workers", "2", *flags], stdin=subprocess.PIPE, stdout=subprocess.PIPE)
-    server.stdin.write(blank)
-    server.stdin.close()
-    port = int(server.stdout.readline().split()[1])
-    connections = [Connection(port), Connection(port)]
+    server = Served(blank(width, height), "--workers", "2", *flags, connections=2)
+    connections = [Connection(server.port), Connection(server.port)]
     wrong = 0
 
     def compare(asked, came, said):
@@ -172,8 +166,8 @@ def a_map(rng, count):
         compare(words, connections[0].ask(" ".join(words).encode() + b"\n"), world.command(world.order, words))
     for connection in connections:
         compare("QUIT", connection.ask(b"QUIT\n"), "BYE")
-    compare("the last line", server.stdout.read().decode(), f"SERVED 2 {world.place}\n")
-    compare("the status", server.wait(timeout=30), 0)
+    compare("the last line and the status", str(server.last()), str((f"SERVED 2 {world.place}", 0)))
+    server.end()
     return wrong
 
 

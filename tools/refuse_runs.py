@@ -192,7 +192,7 @@ def refuse_runs(refuser, program, only=""):
         "ask": runs.ask,
     }
     wrong = []
-    print("\n| Run | One refused, N from 1 to | That and all behind it, N from 1 to |\n|---|---|---|")
+    print("\n| Run | One refused, N from 1 to | That and all after it, N from 1 to |\n|---|---|---|")
     for name, once in kinds.items():
         if only not in name:
             continue

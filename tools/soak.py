@@ -11,11 +11,11 @@ import pathlib
 import random
 import re
 import socket
-import subprocess
 import sys
 import time
 
-PROGRAM = pathlib.Path(__file__).resolve().parent.parent / "crates" / "clearmap" / "out" / "clearmap"
+from served import Served, blank
+
 SIDE = 1024
 ROUND = 100_000  # commands, the last one a checkpoint
 BATCH = 64
@@ -69,16 +69,12 @@ def a_round(rng, painter, planner, place):
 def main():
     rounds = (int(sys.argv[1]) if len(sys.argv) > 1 else 10_000_000) // ROUND
     rng = random.Random(20261123)
-    server = subprocess.Popen([PROGRAM, "serve", "--connections", "2", "--versions", "64", "--log", str(ROUND)], stdin=subprocess.PIPE, stdout=subprocess.PIPE)
-    try:
-        server.stdin.write(b"P4\n%d %d\n" % (SIDE, SIDE) + bytes(SIDE * SIDE // 8))
-        server.stdin.close()
-        port = int(server.stdout.readline().split()[1])
-        painter, planner = Connection(port), Connection(port)
+    with Served(blank(SIDE, SIDE), "--versions", "64", "--log", str(ROUND), connections=2) as server:
+        painter, planner = Connection(server.port), Connection(server.port)
         start, place, settled, most = time.time(), 0, None, 0
         for number in range(1, rounds + 1):
             place = a_round(rng, painter, planner, place)
-            memory = resident(server)
+            memory = resident(server.process)
             most = max(most, memory)
             settled = memory if number == 3 else settled
             if number <= 3 or number % max(rounds // 10, 1) == 0:
@@ -86,12 +82,9 @@ def main():
             assert settled is None or memory <= settled + SLACK, f"{memory} kB after {place} commands, where {settled} kB were enough after {3 * ROUND}"
         for connection in (painter, planner):
             assert connection.ask(["QUIT"]) == [["BYE"]]
-        served = server.stdout.read().decode().strip()
-        assert (served, server.wait(60)) == (f"SERVED 2 {place}", 0), served
+        said = server.last()
+        assert said == (f"SERVED 2 {place}", 0), said
         print(f"{place} commands with {rounds} checkpoints; at most {most} kB")
-    finally:
-        server.kill()
-        server.wait()
 
 
 if __name__ == "__main__":

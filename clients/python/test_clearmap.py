@@ -2,36 +2,19 @@
 """Tests of the client against the built `clearmap serve`, named by CLEARMAP, and against servers that answer wrongly, late or not at all."""
 import io
 import math
-import os
+import pathlib
 import socket
 import subprocess
+import sys
 import threading
 import unittest
 
+sys.path.append(str(pathlib.Path(__file__).resolve().parent.parent.parent / "tools"))
+
 import clearmap
+from served import PROGRAM, Served
 
-PROGRAM = os.environ["CLEARMAP"]
 POST = b"P1\n6 4\n000000\n001000\n000000\n000000\n"  # one obstacle, at column 2 of row 1
-
-
-class Server:
-    """A server of a map, on a port that the system picks; killed at the end."""
-
-    def __init__(self, image=POST, *words):
-        self.process = subprocess.Popen(
-            [PROGRAM, "serve", "--connections", "1000", *words], stdin=subprocess.PIPE, stdout=subprocess.PIPE
-        )
-        self.process.stdin.write(image)
-        self.process.stdin.close()
-        self.port = int(self.process.stdout.readline().split()[1])
-
-    def __enter__(self):
-        return self
-
-    def __exit__(self, *_):
-        self.process.kill()
-        self.process.wait()
-        self.process.stdout.close()
 
 
 class Fake:
@@ -64,7 +47,7 @@ class Fake:
 
 class Serving(unittest.TestCase):
     def test_queries(self):
-        with Server() as server, clearmap.Client(server.port) as client:
+        with Served(POST) as server, clearmap.Client(server.port) as client:
             with client.pin() as pinned:
                 self.assertEqual(pinned.version, 0)
                 self.assertEqual(pinned.at(0, 0), clearmap.Near(5, (2, 1)))
@@ -86,7 +69,7 @@ class Serving(unittest.TestCase):
                 self.assertEqual(pinned.version, 0)
 
     def test_commands(self):
-        with Server() as server, clearmap.Client(server.port) as client:
+        with Served(POST) as server, clearmap.Client(server.port) as client:
             self.assertEqual(client.paint(4, 3, 6, 4), clearmap.Change(1, 2))
             self.assertEqual(client.stamp(0, 2, b"P1\n3 2\n111\n101"), clearmap.Change(2, 5))
             self.assertEqual(client.clear(0, 2, 1, 3), clearmap.Change(3, 1))
@@ -99,7 +82,7 @@ class Serving(unittest.TestCase):
                 self.assertEqual(pinned.dump(), b"P1\n6 4\n000000\n001000\n011000\n101011\n")
 
     def test_checkpoints(self):
-        with Server(POST, "--log", "3") as server, clearmap.Client(server.port) as client, client.pin() as pinned:
+        with Served(POST, "--log", "3") as server, clearmap.Client(server.port) as client, client.pin() as pinned:
             for place in (1, 2, 3):
                 self.assertEqual(client.paint(0, 0, place, 1).place, place)
             self.assertRaises(clearmap.LogFull, client.publish)
@@ -109,7 +92,7 @@ class Serving(unittest.TestCase):
             self.assertEqual(client.checkpoint(), 7)  # of a log with room, too
             self.assertEqual(client.checkpoint(), 8)
             self.assertEqual(pinned.dump(), POST)
-        with Server(POST, "--log", "3") as server, clearmap.Client(server.port, checkpoints=True) as client:
+        with Served(POST, "--log", "3") as server, clearmap.Client(server.port, checkpoints=True) as client:
             places = [client.paint(x, 0, x + 1, 1).place for x in range(6)]
             self.assertEqual(places, [1, 2, 3, 5, 6, 7])  # 4 is the checkpoint's
             self.assertEqual(client.stamp(0, 3, b"P1\n2 1\n11"), clearmap.Change(9, 2))  # after 8; its bytes are sent again
@@ -129,7 +112,7 @@ class Serving(unittest.TestCase):
             self.assertEqual((caught.exception.number, caught.exception.line), (17, "CHECKPOINT"))
 
     def test_a_pin_stays(self):
-        with Server() as server, clearmap.Client(server.port) as painter, clearmap.Client(server.port) as planner:
+        with Served(POST) as server, clearmap.Client(server.port) as painter, clearmap.Client(server.port) as planner:
             with planner.pin() as before:
                 painter.paint(0, 0, 1, 1)
                 self.assertEqual(painter.publish(), 1)
@@ -138,7 +121,7 @@ class Serving(unittest.TestCase):
                 self.assertEqual((after.version, after.at(0, 0)), (1, (0, (0, 0))))
 
     def test_a_pin_is_renewed(self):
-        with Server() as server, clearmap.Client(server.port) as painter, clearmap.Client(server.port) as planner, planner.pin() as pinned:
+        with Served(POST) as server, clearmap.Client(server.port) as painter, clearmap.Client(server.port) as planner, planner.pin() as pinned:
             painter.paint(0, 0, 1, 1)
             painter.publish()
             self.assertEqual((pinned.version, pinned.at(0, 0).distance), (0, 5))
@@ -164,7 +147,7 @@ class Serving(unittest.TestCase):
             lambda pinned: pinned.renew(),
             lambda pinned: pinned.unpin(),
         )
-        with Server() as server, clearmap.Client(server.port) as client:
+        with Served(POST) as server, clearmap.Client(server.port) as client:
             with client.pin() as left:
                 pass
             client.paint(0, 0, 1, 1)
@@ -177,7 +160,7 @@ class Serving(unittest.TestCase):
             self.assertEqual((left.version, pinned.version, pinned.at(0, 0).distance), (0, 1, 0))
 
     def test_many_clearances(self):
-        with Server() as server, clearmap.Client(server.port) as client, client.pin() as pinned:
+        with Served(POST) as server, clearmap.Client(server.port) as client, client.pin() as pinned:
             cells = [(2, 1), (0, 0), (5, 3), (6, 0), (0, 4), (-1, 0), (0, -1), (4096, 0), (10**12, 0)]
             self.assertEqual(pinned.clearances(cells), [0, math.sqrt(5), math.sqrt(13), 0, 0, 0, 0, 0, 0])
             self.assertEqual(pinned.clearances([(2, turn % 4) for turn in range(300)]), [1, 0, 1, 2] * 75)
@@ -186,7 +169,7 @@ class Serving(unittest.TestCase):
             self.assertRaises(clearmap.NoMemory, client.pin().clearances, [(0, 0)])
 
     def test_no_obstacle(self):
-        with Server(b"P1\n2 1\n00\n") as server, clearmap.Client(server.port) as client, client.pin() as pinned:
+        with Served(b"P1\n2 1\n00\n") as server, clearmap.Client(server.port) as client, client.pin() as pinned:
             self.assertIsNone(pinned.at(0, 0))
             self.assertIsNone(pinned.rect(0, 0, 2, 1))
             self.assertIsNone(pinned.path([(0, 0)]))
@@ -196,7 +179,7 @@ class Serving(unittest.TestCase):
 
     def test_walls(self):
         """The cells round the map are obstacles: the frame, whose cells lie at -1 and one cell after the last."""
-        with Server(b"P1\n5 3\n00000\n00000\n00000\n", "--edge", "wall") as server, clearmap.Client(server.port) as client, client.pin() as pinned:
+        with Served(b"P1\n5 3\n00000\n00000\n00000\n", "--edge", "wall") as server, clearmap.Client(server.port) as client, client.pin() as pinned:
             self.assertEqual(pinned.at(0, 1), clearmap.Near(1, (-1, 1)))
             self.assertEqual(pinned.at(2, 1, "chess"), (2, (0, -1)))
             self.assertEqual(pinned.at(4, 1), (1, (5, 1)))
@@ -208,7 +191,7 @@ class Serving(unittest.TestCase):
             self.assertEqual(pinned.dump(), b"P1\n5 3\n00000\n00000\n00000\n")
 
     def test_many_in_one_trip(self):
-        with Server() as server, clearmap.Client(server.port) as client, client.pin() as pinned:
+        with Served(POST) as server, clearmap.Client(server.port) as client, client.pin() as pinned:
             queries = clearmap.Queries()
             for turn in range(300):
                 queries.at(turn % 6, 1, "chess").clear_of(1, [(0, 0), (5, 0)]).at(6, 0)
@@ -224,7 +207,7 @@ class Serving(unittest.TestCase):
 
     def test_the_largest(self):
         image = b"P4\n4096 4096\n\x80" + bytes(4096 * 512 - 1)
-        with Server(image) as server, clearmap.Client(server.port) as client:
+        with Served(image) as server, clearmap.Client(server.port) as client:
             self.assertEqual(client.stamp(0, 0, image).changed, 0)
             with client.pin() as pinned:
                 self.assertEqual(pinned.at(4095, 4095), (33538050, (0, 0)))
@@ -241,7 +224,7 @@ class Refusals(unittest.TestCase):
         self.assertEqual((refusal.number, refusal.name, refusal.details), (number, name, details))
 
     def test_each(self):
-        with Server(POST, "--blocks", "2", "--versions", "2", "--log", "3") as server, clearmap.Client(server.port) as client:
+        with Served(POST, "--blocks", "2", "--versions", "2", "--log", "3") as server, clearmap.Client(server.port) as client:
             pinned = clearmap.Pinned(client, 0)  # a pin that isn't there
             self.refused(clearmap.NotPinned, 6, "NotPinned", (), lambda: pinned.at(0, 0))
             self.refused(clearmap.BadArguments, 12, "BadArguments", (), lambda: client.paint(3, 0, 3, 1))
@@ -265,7 +248,7 @@ class Refusals(unittest.TestCase):
                 self.assertEqual(pinned.at(0, 0).distance, 5)
 
     def test_what_is_never_sent(self):
-        with Server() as server, clearmap.Client(server.port) as client, client.pin() as pinned:
+        with Served(POST) as server, clearmap.Client(server.port) as client, client.pin() as pinned:
             with self.assertRaises(ValueError):
                 pinned.at(0, 0, "city 0 0\nPAINT")
             with self.assertRaises(ValueError):
@@ -285,7 +268,7 @@ class Failures(unittest.TestCase):
             clearmap.Client(port)
 
     def test_a_server_that_is_killed(self):
-        with Server() as server, clearmap.Client(server.port) as client, client.pin() as pinned:
+        with Served(POST) as server, clearmap.Client(server.port) as client, client.pin() as pinned:
             server.process.kill()
             server.process.wait()
             with self.assertRaises(clearmap.ConnectionLost):
@@ -295,7 +278,7 @@ class Failures(unittest.TestCase):
 
     def test_a_server_that_is_full(self):
         """The one worker has a connection, so a second one gets no reply before the first ends."""
-        with Server(POST, "--workers", "1") as server, clearmap.Client(server.port) as first:
+        with Served(POST, "--workers", "1") as server, clearmap.Client(server.port) as first:
             first.publish()
             with clearmap.Client(server.port, timeout=0.2) as second, self.assertRaises(clearmap.TimedOut):
                 second.pin()

@@ -13,27 +13,22 @@ import subprocess
 import sys
 import tempfile
 
-from bench import PROGRAM, SEED, floor_plan
+from bench import SEED, floor_plan
 from program import HERE
+
+sys.path.append(str(HERE.parent))
+from served import Served
 
 BATCH = 5
 
 
 def figures(client, plan, side, planners, seconds, batch):
-    server = subprocess.Popen(
-        [str(PROGRAM), "serve", "--connections", str(planners + 1), "--workers", str(planners + 1), "--log", "1000000", "--versions", "64"],
-        stdin=open(plan, "rb"), stdout=subprocess.PIPE, text=True,
-    )
-    try:
-        port = server.stdout.readline().split()[1]
-        told = subprocess.run([str(client), port, str(side), str(planners), str(seconds), str(batch)], capture_output=True, text=True)
+    with Served(plan.read_bytes(), "--workers", str(planners + 1), "--log", "1000000", "--versions", "64", connections=planners + 1) as server:
+        told = subprocess.run([str(client), str(server.port), str(side), str(planners), str(seconds), str(batch)], capture_output=True, text=True)
         if told.returncode != 0:
             sys.exit(told.stderr)
-        server.communicate(timeout=60)
+        server.last()
         return [int(word) for word in told.stdout.split()]
-    finally:
-        server.kill()
-        server.wait()
 
 
 def main():

@@ -94,7 +94,7 @@ def mean(ratios):
 
 
 def print_means(ratios):
-    print("\n| Cells a side | Metric | What | Mean beside OpenCV | Largest | Aim, mean | Aim, largest |")
+    print("\n| Cells a side | Metric | What | Mean next to OpenCV | Largest | Aim, mean | Aim, largest |")
     print("|---|---|---|---|---|---|---|")
     for (side, metric, kind), values in ratios.items():
         aims = AIMS.get((kind, metric, side <= 512), (None, None))
@@ -155,7 +155,7 @@ def hard_map(make):
 
 def print_hard(programs, sides, rounds, source):
     """Nanoseconds a cell of the table on hard maps, next to the most that one of the other maps takes."""
-    print("| Map | Cells a side | Metric | " + " | ".join(f"{name}, ns a cell | beside the worst" for name in programs) + " |")
+    print("| Map | Cells a side | Metric | " + " | ".join(f"{name}, ns a cell | next to the worst" for name in programs) + " |")
     print("|" + "---|" * (3 + 2 * len(programs)))
     for side in sides:
         worst = {}
@@ -182,7 +182,7 @@ def main():
     parser.add_argument("--sizes", type=int, nargs="+", default=[512, 1024, 4096])
     parser.add_argument("--rounds", type=int, default=2, help="how often the program and OpenCV run in turn")
     parser.add_argument("--before", type=pathlib.Path)
-    parser.add_argument("--wall", action="store_true", help="the border as a wall beside an open one, without OpenCV")
+    parser.add_argument("--wall", action="store_true", help="the border as a wall, next to an open one, without OpenCV")
     parser.add_argument("--hard", action="store_true", help="hard maps besides, without OpenCV")
     parser.add_argument("--huge-pages", action="store_true", help="ask for huge pages in all programs that are measured")
     given = parser.parse_args()

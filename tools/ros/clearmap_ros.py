@@ -66,7 +66,7 @@ def yaml_values(text: str) -> Dict[str, Union[str, List[str]]]:
         if bare.startswith("- ") and key:
             listed = values[key] or []
             if isinstance(listed, str):
-                raise RosError(f"the yaml's line '{bare}' is behind a value that is no list")
+                raise RosError(f"the yaml's line '{bare}' comes after a value that is no list")
             values[key] = listed + [bare[2:].strip()]
             continue
         name, colon, value = bare.partition(":")
@@ -181,7 +181,7 @@ def read_pgm(data: bytes) -> Gray:
         samples = plain_samples(data[at:], width * height)
     else:
         if not data[at : at + 1].isspace():
-            raise RosError("the PGM image has no blank behind its largest sample")
+            raise RosError("the PGM image has no blank after its largest sample")
         size = 1 if most < 256 else 2
         raster = data[at + 1 : at + 1 + size * width * height]
         if len(raster) != size * width * height:

@@ -1,23 +1,21 @@
 #!/usr/bin/env python3
 """Tests of clearmap_grid.py against small grids made by hand, and of clearmap_feed.py with the built program, which CLEARMAP names. No ROS is wanted."""
 import math
-import os
 import pathlib
 import random
-import subprocess
 import sys
 import unittest
 from fractions import Fraction
 
 HERE = pathlib.Path(__file__).resolve().parent
-sys.path[:0] = [str(HERE), str(HERE.parent.parent / "clients/python")]
+sys.path[:0] = [str(HERE), str(HERE.parent), str(HERE.parent.parent / "clients/python")]
 
 import clearmap
 import clearmap_feed as feeds
 import clearmap_grid as grids
 from clearmap_ros import Frame, RosError
+from served import PROGRAM, Served
 
-PROGRAM = os.environ["CLEARMAP"]
 FRAME = Frame(6, 4, Fraction(1, 2), Fraction(-1), Fraction(-2))
 SINGLE = 0.05000000074505806  # 0.05 as a message of 32 bits has it
 
@@ -95,21 +93,6 @@ class Grids(unittest.TestCase):
         )
         for size, origin, turn, sentence in rows:
             self.assertRaisesRegex(RosError, sentence, grids.frame_of, *size, origin, turn)
-
-
-class Served:
-    """A server of a map, on the port that is asked for, or one that the system picks."""
-
-    def __init__(self, image, *words, port=0):
-        self.process = subprocess.Popen([PROGRAM, "serve", "--connections", "1000", "--port", str(port), *words], stdin=subprocess.PIPE, stdout=subprocess.PIPE)
-        self.process.stdin.write(image)
-        self.process.stdin.close()
-        self.port = int(self.process.stdout.readline().split()[1])
-
-    def end(self):
-        self.process.kill()
-        self.process.wait()
-        self.process.stdout.close()
 
 
 def dump_of(port):

@@ -15,7 +15,7 @@ import time
 import unittest
 
 HERE = pathlib.Path(__file__).resolve().parent
-sys.path[:0] = [str(HERE), str(HERE.parent.parent / "clients/python")]
+sys.path[:0] = [str(HERE), str(HERE.parent), str(HERE.parent.parent / "clients/python")]
 
 import rospy
 from geometry_msgs.msg import PoseStamped
@@ -26,8 +26,8 @@ from std_msgs.msg import Float64
 from visualization_msgs.msg import Marker
 
 import clearmap
+from served import PROGRAM, Served, blank
 
-PROGRAM = os.environ["CLEARMAP"]
 WIDTH, HEIGHT, RESOLUTION = 400, 300, 0.05
 PATIENCE = 30  # seconds for what a busy machine takes its time for
 SOON = 1.0  # seconds that an answer may take
@@ -192,27 +192,15 @@ class Node(Running):
         self.assertAlmostEqual(self.answer(plans, PLAN)[0], 99 * RESOLUTION)
 
     def test_a_given_server_that_ends(self):
-        words = [PROGRAM, "serve", "--connections", "1000", "--port"]
-        image = b"P4\n400 300\n" + bytes(50 * 300)
-
-        def serve(port):
-            served = subprocess.Popen([*words, str(port)], stdin=subprocess.PIPE, stdout=subprocess.PIPE)
-            self.addCleanup(served.wait)
-            self.addCleanup(served.kill)
-            self.addCleanup(served.stdout.close)
-            with served.stdin:
-                served.stdin.write(image)
-            return served, int(served.stdout.readline().split()[1])
-
-        served, port = serve(0)
+        served = Served(blank(400, 300))
+        port = served.port
         maps, _, plans = self.start(f"_port:={port}")
         maps.publish(map_message())
         self.line(f"a map, at port {port}: version 1: 1396 cells of columns 0 to 399, rows 0 to 299")
-        served.kill()
-        served.wait()
+        served.end()
         self.assertTrue(math.isnan(self.answer(plans, PLAN)[0]))
         self.line("a plan isn't taken: no server at")
-        serve(port)
+        self.addCleanup(Served(blank(400, 300), port=port).end)
         self.assertEqual(self.answer(plans, PLAN)[0], math.inf)  # the map isn't there again yet
         maps.publish(map_message())
         self.line("version 1: 1396 cells")

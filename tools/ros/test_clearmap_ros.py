@@ -247,8 +247,8 @@ class Plans(unittest.TestCase):
                 for part in range(0, 101, 7):
                     point = tuple(a + (b - a) * Fraction(part, 100) for a, b in zip(start, end))
                     x, y = frame.cell(point)
-                    beside = {(x - dx, y + dy) for dx in (0, 1) for dy in (0, 1)}  # where it is on an edge, the cell on the other side is as good
-                    self.assertTrue((x, y) in inside or (beside & inside and self.on_edge(frame, point)), (plan, point))
+                    twins = {(x - dx, y + dy) for dx in (0, 1) for dy in (0, 1)}  # where it is on an edge, the cell on the other side is as good
+                    self.assertTrue((x, y) in inside or (twins & inside and self.on_edge(frame, point)), (plan, point))
             for x, y in cells:
                 middle = (frame.origin_x + (x + Fraction(1, 2)) * frame.resolution, frame.origin_y + (39 - y + Fraction(1, 2)) * frame.resolution)
                 near = min(from_segment(middle, start, end) for start, end in zip(plan, plan[1:]))

@@ -131,7 +131,7 @@ class Site:
     # ---- requests
 
     def application(self) -> web.Application:
-        """The routes, behind the guard."""
+        """The routes; the guard sees each request before them."""
         site = web.Application(middlewares=[self.guard])
         asking = Asking(self)
         site.router.add_get("/", self.index)

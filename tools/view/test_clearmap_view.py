@@ -7,7 +7,6 @@ import http.client
 import http.server
 import io
 import json
-import os
 import pathlib
 import re
 import shutil
@@ -22,11 +21,12 @@ import unittest
 import zlib
 
 HERE = pathlib.Path(__file__).resolve().parent
-sys.path[:0] = [str(HERE), str(HERE.parent.parent / "clients/python"), str(HERE.parent / "ros")]
+sys.path[:0] = [str(HERE), str(HERE.parent), str(HERE.parent.parent / "clients/python"), str(HERE.parent / "ros")]
 
 import clearmap
 import numpy
 import picture
+from served import Served
 
 try:
     from selenium import webdriver
@@ -37,27 +37,9 @@ try:
 except ImportError:
     webdriver = None
 
-PROGRAM = os.environ["CLEARMAP"]
 POST = b"P1\n6 4\n000000\n001000\n000000\n000000\n"  # one obstacle, at column 2 of row 1
 YAML = "image: map.pgm\nresolution: 0.5\norigin: [-1.0, -2.0, 0.0]\nnegate: 0\noccupied_thresh: 0.65\nfree_thresh: 0.196\n"
 PATIENCE = 30  # seconds for what a busy machine takes its time for
-
-
-class Served:
-    """A server of a map, on the port that is asked for, or one that the system picks."""
-
-    def __init__(self, image=POST, *words, port=0):
-        self.process = subprocess.Popen(
-            [PROGRAM, "serve", "--connections", "1000", "--port", str(port), *words], stdin=subprocess.PIPE, stdout=subprocess.PIPE
-        )
-        self.process.stdin.write(image)
-        self.process.stdin.close()
-        self.port = int(self.process.stdout.readline().split()[1])
-
-    def end(self):
-        self.process.kill()
-        self.process.wait()
-        self.process.stdout.close()
 
 
 class Viewed:
@@ -170,7 +152,7 @@ class Pictures(unittest.TestCase):
 
 class Requests(unittest.TestCase):
     def setUp(self):
-        self.served = Served()
+        self.served = Served(POST)
         self.addCleanup(self.served.end)
 
     def view(self, *words):
@@ -353,7 +335,7 @@ class CommandLine(unittest.TestCase):
         while "can't be asked" not in next(states)["fault"]:
             pass
         self.assertEqual(viewed.ask("GET", "/picture/city")[0], 503)
-        served = Served(port=port)
+        served = Served(POST, port=port)
         self.addCleanup(served.end)
         self.assertEqual(next(states)["version"], 0)
 
