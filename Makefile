@@ -8,7 +8,7 @@ to = $(DESTDIR)$(PREFIX)
 program = crates/clearmap/out/clearmap
 version = $(shell sed -n 's/^version = "\(.*\)"/\1/p' clients/python/pyproject.toml)
 filled = sed 's|@PREFIX@|$(PREFIX)|; s|@VERSION@|$(version)|'
-pages = clearmap.1 clearmap-ros.1 clearmap-ros-node.1 clearmap-view.1
+pages = clearmap.1 clearmap-backup.1 clearmap-ros.1 clearmap-ros-node.1 clearmap-view.1
 view = asking.py picture.py site_of_map.py watched.py page/ask.js page/index.html page/map.js page/view.css page/view.js
 
 .PHONY: all install uninstall deb
@@ -18,6 +18,7 @@ all:
 
 install: all
 	$(INSTALL) -D -m 755 $(program) '$(to)/bin/clearmap'
+	$(INSTALL) -m 755 tools/clearmap_backup.sh '$(to)/bin/clearmap-backup'
 	for page in $(pages); do $(INSTALL) -D -m 644 man/$$page '$(to)/share/man/man1/'$$page || exit 1; done
 	$(INSTALL) -D -m 644 man/clearmap-protocol.7 '$(to)/share/man/man7/clearmap-protocol.7'
 	$(INSTALL) -D -m 644 packaging/clearmap.bash '$(to)/share/bash-completion/completions/clearmap'
@@ -41,7 +42,7 @@ install: all
 	$(INSTALL) -D -m 644 LICENSE '$(to)/share/doc/clearmap/LICENSE'
 
 uninstall:
-	rm -f '$(to)/bin/clearmap' '$(to)/bin/clearmap-ros' '$(to)/bin/clearmap-ros-node' '$(to)/bin/clearmap-view' '$(to)/share/man/man7/clearmap-protocol.7' \
+	rm -f '$(to)/bin/clearmap' '$(to)/bin/clearmap-backup' '$(to)/bin/clearmap-ros' '$(to)/bin/clearmap-ros-node' '$(to)/bin/clearmap-view' '$(to)/share/man/man7/clearmap-protocol.7' \
 	    '$(to)/share/bash-completion/completions/clearmap' '$(to)/include/clearmap.hpp' '$(to)/share/pkgconfig/clearmap.pc' '$(to)/lib/systemd/system/clearmap@.service'
 	for page in $(pages); do rm -f '$(to)/share/man/man1/'$$page; done
 	rm -rf '$(to)/share/clearmap' '$(to)/share/doc/clearmap'

@@ -53,7 +53,7 @@ else
     echo 'the first run at a terminal left out: there is no script'
 fi
 expect 'a first run without a terminal' "$(PATH=$scratch/fresh/bin:$PATH "$scratch/fresh/clearmap" one 2>&1)" \
-    "$(printf '%s\n' "clearmap: the first run proves and builds the program's crates, which takes some minutes" 'ran one')"
+    "$(printf '%s\n' "clearmap: the first run proves and builds the program's crates, which takes about half an hour" 'ran one')"
 
 # What make install puts in place; `all` is left to the program that stands.
 if command -v make > /dev/null; then

@@ -1,10 +1,11 @@
 #!/bin/bash
 # The largest map through the built program (or that of CLEARMAP): what `dist` answers by one worker and by several, read from a file and from a pipe,
-# and how many threads it has meanwhile.
+# and how many threads it has meanwhile. Each run has a time limit.
 set -u
 cd "$(dirname "$0")/.." || exit 1
 program=$(realpath "${CLEARMAP:-crates/clearmap/out/clearmap}")
 "$program" --version > /dev/null || exit 1
+clearmap() { timeout 120 "$program" "$@"; }
 room=$(mktemp -d)
 trap 'rm -rf "$room"' EXIT
 trap 'exit 1' INT TERM
@@ -47,7 +48,7 @@ PYTHON
 
 # Runs `dist` with these words on the raw map, and tells the most threads that it was seen with.
 threads() {
-    python3 - "$program" "$room/raw" "$@" << 'PYTHON'
+    timeout 120 python3 - "$program" "$room/raw" "$@" << 'PYTHON'
 import subprocess
 import sys
 program, source, *words = sys.argv[1:]
@@ -64,11 +65,11 @@ PYTHON
 }
 
 for workers in 1 3 16; do
-    "$program" dist --workers "$workers" < "$room/raw" | cmp -s - "$room/wanted"; expect "dist of the largest map by $workers workers" "${PIPESTATUS[*]}" '0 0'
+    clearmap dist --workers "$workers" < "$room/raw" | cmp -s - "$room/wanted"; expect "dist of the largest map by $workers workers" "${PIPESTATUS[*]}" '0 0'
 done
-cat "$room/plain" | "$program" dist | cmp -s - "$room/wanted"; expect 'dist of the largest map, plain, through pipes' "${PIPESTATUS[*]}" '0 0 0'
-expect 'the last cell' "$("$program" dist --query 'AT euclid2 4095 0' < "$room/plain")" 'OK 16769025 0 0'
-expect 'the longest walk' "$("$program" dist --query "PATH chess$(printf ' 4095 0 4095 4095%.0s' $(seq 500))" < "$room/raw")" 'OK 2047 4095 2048 2048 4095'
+cat "$room/plain" | clearmap dist | cmp -s - "$room/wanted"; expect 'dist of the largest map, plain, through pipes' "${PIPESTATUS[*]}" '0 0 0'
+expect 'the last cell' "$(clearmap dist --query 'AT euclid2 4095 0' < "$room/plain")" 'OK 16769025 0 0'
+expect 'the longest walk' "$(clearmap dist --query "PATH chess$(printf ' 4095 0 4095 4095%.0s' $(seq 500))" < "$room/raw")" 'OK 2047 4095 2048 2048 4095'
 expect 'threads of dist by one worker' "$(threads --workers 1)" 1
 expect 'threads of dist by four workers, while one more writes' "$(threads --workers 4)" 5
 echo "tried $tried, wrong $wrong"

@@ -6,20 +6,22 @@ cd "$(dirname "$0")/.." || exit 1
 program=$(realpath "${CLEARMAP:-crates/clearmap/out/clearmap}")
 "$program" --version > /dev/null || exit 1
 if ! command -v valgrind > /dev/null; then
-    echo 'left out: there is no valgrind'
+    echo 'check_leaks.sh left out, nothing was tried: there is no valgrind'
     exit 0
 fi
 room=$(mktemp -d)
-trap 'kill $(jobs -p) 2> /dev/null; rm -rf "$room"' EXIT
+trap 'kill $(jobs -p) 2> /dev/null; rm -rf "$room"' EXIT # the one job is one process: the server reads its map from a file
 trap 'exit 1' INT TERM
 tried=0
 wrong=0
 
-watched() { # watched LOG WORD..: the program with these words, watched
+watch() { # watch LOG WORD..: becomes the program with these words, watched
     local log=$1
     shift
-    timeout 120 valgrind --quiet --max-stackframe=8000000 --leak-check=full --show-leak-kinds=all --errors-for-leak-kinds=all --error-exitcode=99 --log-file="$room/$log" "$program" "$@"
+    exec timeout 120 valgrind --quiet --max-stackframe=8000000 --leak-check=full --show-leak-kinds=all --errors-for-leak-kinds=all --error-exitcode=99 --log-file="$room/$log" "$program" "$@"
 }
+
+watched() { (watch "$@"); }
 
 judge() { # judge WHAT STATUS WANTED LOG: the status, and that valgrind had nothing to say
     tried=$((tried + 1))
@@ -30,6 +32,7 @@ judge() { # judge WHAT STATUS WANTED LOG: the status, and that valgrind had noth
 }
 
 image() { printf 'P1\n130 70\n'; for _ in $(seq 70); do printf '%0130d\n' 1; done; }
+image > "$room/map"
 
 image | watched dist dist --nearest > /dev/null; judge 'dist' $? 0 dist
 image | watched workers dist --workers 4 > /dev/null; judge 'dist by four workers' $? 0 workers
@@ -40,18 +43,18 @@ image | watched setting serve --connections 1 --blocks 1 > /dev/null; judge 'a r
 image | watched full serve --connections 1 > /dev/full; judge 'a server that can tell no port' $? 1 full
 
 # A server in whose store there is each kind of what is to be given back: own tiles, retired ones, old versions, a log with a stamp, and a pin that is never left.
-image | watched serve serve --connections 3 --versions 3 > "$room/said" &
+(watch serve serve --connections 3 --versions 3) < "$room/map" > "$room/said" &
 server=$!
-for _ in $(seq 200); do
+for _ in $(seq 600); do
     port=$(sed -n 's/^LISTENING //p' "$room/said")
-    [ -z "$port" ] || break
+    [ -z "$port" ] && kill -0 "$server" 2> /dev/null || break
     sleep 0.1
 done
 image | watched taken serve --connections 1 --port "$port" > /dev/null; judge 'a port in use' $? 1 taken
 printf 'PAINT 0 0 130 70\nPUBLISH\nPIN\nAT city 3 4\nDUMP\nCLEAR 0 0 65 1\nSTAMP 0 0 11\nP1\n2 2\n1001PUBLISH\nCOLLECT\nPAINT 3 3 4 4\n' | watched ask ask --port "$port" > /dev/null
 judge 'a client that quits with a pin' $? 0 ask
-printf 'PAINT 5 5 9 9\nREVERT\nCHECKPOINT\nPAINT 0 0 70 65\nPUBLISH\nQUIT\n' | "$program" ask --port "$port" > /dev/null
-printf 'STAMP 0 0 900\nP1' | "$program" ask --port "$port" > /dev/null
+printf 'PAINT 5 5 9 9\nREVERT\nCHECKPOINT\nPAINT 0 0 70 65\nPUBLISH\nQUIT\n' | timeout 60 "$program" ask --port "$port" > /dev/null
+printf 'STAMP 0 0 900\nP1' | timeout 60 "$program" ask --port "$port" > /dev/null
 wait "$server"; judge 'a server' $? 0 serve
 echo "tried $tried, wrong $wrong"
 [ "$wrong" = 0 ]

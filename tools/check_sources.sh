@@ -1,8 +1,8 @@
 #!/bin/sh
-# Looks for what no contract sees: code that forgets what it should give back. Tests may, to leave a session out.
+# Looks for what no contract sees: code that forgets what it should give back, by whatever name it was imported. Tests may, to leave a session out.
 set -u
 cd "$(dirname "$0")/.." || exit 1
-found=$(find crates -name out -prune -o -path '*_tests' -prune -o -path '*/src/*.rt' -print | xargs grep -nE 'ManuallyDrop|mem::forget|\.leak\(|::leak\(')
+found=$(find crates -name out -prune -o -path '*_tests' -prune -o -path '*/src/*.rt' -print | xargs grep -nwE 'ManuallyDrop|forget|leak' | grep -vE '^[^:]*:[0-9]+: *//')
 if [ -n "$found" ]; then
     echo "code that may forget what it holds:"
     echo "$found"

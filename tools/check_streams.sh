@@ -6,7 +6,7 @@ cd "$(dirname "$0")/.." || exit 1
 program=$(realpath "${CLEARMAP:-crates/clearmap/out/clearmap}")
 "$program" --version > /dev/null || exit 1
 room=$(mktemp -d)
-trap 'kill $(jobs -p) 2> /dev/null; rm -rf "$room"' EXIT
+trap 'kill $(jobs -p) 2> /dev/null; rm -rf "$room"' EXIT # each job is one process: a server reads its map from a file
 trap 'exit 1' INT TERM
 tried=0
 wrong=0
@@ -21,18 +21,22 @@ expect() { # expect WHAT STATUS WANTED_STATUS TEXT WANTED_TEXT
 clearmap() { timeout 20 "$program" "$@"; }
 
 image() { printf 'P1\n3 2\n100\n000\n'; }
+image > "$room/map"
 
-# A server of the worked map with these flags: its port comes into `port`, its process into `server`, and what it prints into the file `said`.
+# A server of the worked map with these flags, with at most so many descriptors where `descriptors` is set: its port comes into `port`, its process into
+# `server`, and what it prints into the file `said`.
 serve() {
     : > "$room/said"
-    image | timeout 60 "$program" serve "$@" > "$room/said" &
+    (ulimit -n "${descriptors:-$(ulimit -n)}" && exec timeout 60 "$program" serve "$@") < "$room/map" > "$room/said" &
     server=$!
-    for _ in $(seq 100); do
+    for _ in $(seq 400); do
         port=$(sed -n 's/^LISTENING //p' "$room/said")
         [ -z "$port" ] || return 0
+        kill -0 "$server" 2> /dev/null || break
         sleep 0.05
     done
-    echo 'no server listens'
+    echo "no server listens with the flags $*"
+    return 1
 }
 
 # What the server has said, once it has ended, without the line that tells the port.
@@ -42,9 +46,14 @@ ended() {
     text=$(sed 1d "$room/said")
 }
 
-# A port on which nothing listens.
+# A port on which nothing listened a moment ago.
 free_port() {
-    python3 -c 'import socket; s = socket.socket(); s.bind(("127.0.0.1", 0)); print(s.getsockname()[1])'
+    timeout 20 python3 -c 'import socket; s = socket.socket(); s.bind(("127.0.0.1", 0)); print(s.getsockname()[1])'
+}
+
+# `ask` with a port that is taken, and on which nobody listens.
+ask_nobody() {
+    timeout 20 python3 -c 'import socket, subprocess, sys; s = socket.socket(); s.bind(("127.0.0.1", 0)); sys.exit(subprocess.run([sys.argv[1], "ask", "--port", str(s.getsockname()[1])]).returncode)' "$program"
 }
 
 check_dist() {
@@ -92,19 +101,20 @@ check_serve() {
     serve --connections 1
     text=$(printf 'P1\n2 2\n1' | clearmap serve --connections 1 --port "$port"); expect 'a bad image, and a port in use' $? 1 "$text" 'ERR 15 BadImage Truncated'
     text=$(image | clearmap serve --connections 1 --port "$port"); expect 'a port in use' $? 1 "$text" 'FAULT net'
-    python3 -c "import socket; socket.create_connection(('127.0.0.2', $port), 5)" 2> /dev/null; expect 'another address of this machine' $? 1 '' ''
+    timeout 20 python3 -c "import socket; socket.create_connection(('127.0.0.2', $port), 5)" 2> /dev/null; expect 'another address of this machine' $? 1 '' ''
     text=$(printf 'QUIT\n' | clearmap ask --port "$port"); expect 'the one connection' $? 0 "$text" 'BYE'
     ended; expect 'a server that has served one' "$status" 0 "$text" 'SERVED 1 0'
-    wanted=$(free_port)
-    serve --connections 1 --port "$wanted"
+    for _ in 1 2 3; do # another program may take it meanwhile
+        wanted=$(free_port)
+        serve --connections 1 --port "$wanted" && break
+    done
     expect 'a port that was asked for' 0 0 "$port" "$wanted"
     clearmap ask --port "$port" < /dev/null; expect 'a client without a line' $? 0 '' ''
     ended; expect 'a server of a client without a line' "$status" 0 "$text" 'SERVED 1 0'
 }
 
 check_ask() {
-    port=$(free_port)
-    text=$(printf 'PIN\n' | clearmap ask --port "$port"); expect 'no server' $? 1 "$text" 'FAULT net'
+    text=$(printf 'PIN\n' | ask_nobody); expect 'no server' $? 1 "$text" 'FAULT net'
     serve --connections 8
     text=$(clearmap ask --port "$port" <&-); expect 'ask with a closed standard input' $? 1 "$text" ''
     printf 'PAINT 0 0 1 1\n' | clearmap ask --port "$port" >&-; expect 'ask with a closed standard output' $? 1 '' ''
@@ -117,21 +127,41 @@ check_ask() {
     ended; expect 'a server of eight clients' "$status" 0 "$text" 'SERVED 8 4'
 }
 
-# Where no descriptor is left nothing can be accepted: such a connection counts, and the server waits in place of burning all of them.
+# Where no descriptor is left nothing can be accepted: such a connection counts, and the server waits before it tries again. It has four for itself.
 check_descriptors() {
-    image > "$room/map"
-    : > "$room/said"
-    bash -c 'ulimit -n 4; exec "$0" serve --connections 1000000' "$program" < "$room/map" > "$room/said" &
-    server=$!
-    for _ in $(seq 100); do
-        port=$(sed -n 's/^LISTENING //p' "$room/said")
-        [ -z "$port" ] || break
-        sleep 0.05
-    done
-    python3 -c "import socket, time; held = socket.create_connection(('127.0.0.1', $port), 5); time.sleep(3)" 2> /dev/null
-    kill -0 "$server" 2> /dev/null; expect 'a server without descriptors goes on' $? 0 "$(sed 1d "$room/said")" ''
+    descriptors=4
+    serve --connections 1000; expect 'a server that may have no connection' $? 0 '' ''
+    timeout 20 python3 -c "import socket, time; held = socket.create_connection(('127.0.0.1', $port), 5); time.sleep(2)"; expect 'a connection that waits' $? 0 '' ''
+    kill -0 "$server" 2> /dev/null; expect 'a server that goes on' $? 0 "$(sed 1d "$room/said")" ''
     kill "$server" 2> /dev/null
     wait "$server" 2> /dev/null
+    serve --connections 3; expect 'a server for three connections' $? 0 '' ''
+    timeout 20 python3 -c "import socket; held = socket.create_connection(('127.0.0.1', $port), 5); held.settimeout(15); held.recv(1)" 2> /dev/null
+    ended; expect 'connections that were never accepted' "$status" 0 "$text" 'SERVED 3 0'
+    descriptors=5
+    serve --connections 1000; expect 'a server that may have one connection' $? 0 '' ''
+    text=$(timeout 30 python3 - "$port" << 'PYTHON'
+import socket
+import sys
+first, second = (socket.create_connection(("127.0.0.1", int(sys.argv[1])), 10) for _ in range(2))
+first.sendall(b"PIN\n")
+print(first.recv(99))
+second.sendall(b"PIN\n")
+second.settimeout(0.5)
+try:
+    print(second.recv(99))
+except socket.timeout:
+    print("waits")
+first.sendall(b"QUIT\n")
+print(first.recv(99))
+first.close()
+second.settimeout(10)
+print(second.recv(99))
+PYTHON
+    ); expect 'one descriptor for two clients' $? 0 "$text" "$(printf '%s\n' "b'OK 0\\n'" waits "b'BYE\\n'" "b'OK 0\\n'")"
+    kill "$server" 2> /dev/null
+    wait "$server" 2> /dev/null
+    descriptors=''
 }
 
 check_dist
