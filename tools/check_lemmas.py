@@ -14,6 +14,8 @@ import sys
 
 TOP = pathlib.Path(__file__).resolve().parent.parent
 LEMMA = re.compile(r"(pub )?([\w◌-]+) : (.*)")
+# Files of lemmas, in folders of their own too; what a function's folder has is an answer to its goals.
+LEMMAS = re.compile(r"crates/(\w+)/proofs/((?:\w+/)*)(?!(?:Answers|Invariants|Proof|Given|Statement|Send)\.antt)(\w+)\.antt")
 RUNS = {"WorkedRows"}  # its lemmas are runs that are worked out, so nothing cites them
 
 
@@ -64,18 +66,19 @@ def main():
     cited = citations(texts)
     found, stated = [], collections.defaultdict(list)
     for path, text in sorted(texts.items()):
-        crate, *_, name = pathlib.PurePath(path).parts[1:]
-        if not re.fullmatch(r"crates/\w+/proofs/\w+\.antt", path) or (asked and crate not in asked):
+        named = LEMMAS.fullmatch(path)
+        if not named or (asked and named[1] not in asked) or named[3] in RUNS:
             continue
-        if name[:-5] in RUNS:
-            continue
-        if name == "Lib.antt":
-            for module in re.findall(r"^pub mod (\w+)", text, re.M):
-                if all(user.startswith(f"crates/{crate}/") for user in cited[f"Rattle.{crate}.proofs.{module}", ""]):
-                    found.append(f"{path}: no other crate cites {module}")
-            continue
+        crate, folder, name = named.groups()
+        module = f"Rattle.{crate}.proofs.{folder.replace('/', '.')}" + name
+        for part in re.findall(r"^pub mod (\w+)", text, re.M):
+            below = f"{module.removesuffix('.Lib')}.{part}"
+            users = {user for (cites, _), users in cited.items() if cites == below or cites.startswith(below + ".") for user in users}
+            inside = f"crates/{crate}/" if name == "Lib" else path.removesuffix(".antt") + "/"
+            if all(user.startswith(inside) for user in users):
+                found.append(f"{path}: nothing outside of {inside} cites {part}")
         for number, is_pub, lemma, statement, rest in lemmas(text):
-            users = cited[f"Rattle.{crate}.proofs.{name[:-5]}", lemma] - {path}
+            users = cited[module, lemma] - {path}
             is_used = re.search(rf"(?<![\w'.-]){re.escape(lemma)}(?![\w'-])", rest)
             stated[plain(statement)].append(f"{path}:{number}")
             if not users and not is_used:

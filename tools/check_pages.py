@@ -1,7 +1,7 @@
 #!/usr/bin/env python3
 """Checks what README.md and docs/ quote and name: pieces of files, runs at a terminal, the conversation of docs/PROTOCOL.md, links, and names in backticks.
 
-A block after `<!-- from FILE -->` stands so in that file; a line `..` in it stands for what is left out. A block whose first line begins with `$ ` is run
+A block after `<!-- from FILE -->` stands so in that file; a line `..` in it stands for what is left out. A block whose first line has `$ ` in front is run
 by bash, with `clearmap` on the path, in a scratch folder of its page; blocks that name a port are left out, as they take two terminals.
 """
 import os

@@ -1,5 +1,5 @@
 #!/usr/bin/env python3
-"""Lists what isn't plain English: in the pages, in the `--` lines of .antt files and in the `///` lines of .rt files. It isn't in the gate.
+"""Lists what isn't plain English: in the pages, in the `--` lines of .antt files, in the `///` lines and the texts of .rt files, and in scripts. It isn't in the gate.
 
     tools/check_words.py [PATH ..]
 
@@ -13,6 +13,7 @@ import subprocess
 import sys
 
 sys.dont_write_bytecode = True
+from check_lemmas import LEMMAS
 from page_names import lines_of_text
 
 TOP = pathlib.Path(__file__).resolve().parent.parent
@@ -25,6 +26,7 @@ PLAINER = {
     r"whence|thereof|hitherto|therein": "say it in other words",
     r"spare[sd]?": "save, do without",
 }
+SCRIPTS = (".py", ".sh", ".cpp", ".hpp", ".c", ".rs", ".rt.in", ".js", ".html", ".bash", ".service", "Makefile", "/run", "clearmap", "_to_pgm", "more_edits")
 MOST_WORDS = 45
 MOST_PARTS = 2
 VERBS = (
@@ -85,7 +87,7 @@ def in_proofs(path, told):
             for found in plainer(said[1]):
                 yield number, found
         lemma = re.match(r"(?:pub )?([\w◌-]+) : ", line)
-        if not lemma or not re.fullmatch(r"crates/\w+/proofs/\w+\.antt", path):
+        if not lemma or not LEMMAS.fullmatch(path):
             continue
         said = re.match(r"-- (.*)", lines[number - 2])
         if not said:
@@ -100,14 +102,23 @@ def in_proofs(path, told):
 
 def in_code(path):
     for number, line in enumerate((TOP / path).read_text().split("\n"), 1):
-        if said := re.match(r"\s*//[/!] (.*)", line):
-            for found in plainer(said[1]):
+        for said in re.findall(r"^\s*//[/!] (.*)" if line.lstrip().startswith("//") else r'"((?:[^"\\]|\\.)*)"', line):
+            for found in plainer(said.replace("\\n", " ")):
                 yield number, found
+
+
+def in_script(path):
+    """Names, comments and texts alike."""
+    for number, line in enumerate((TOP / path).read_text().split("\n"), 1):
+        for found in plainer(line):
+            yield number, found
 
 
 def main():
     count, told = 0, collections.defaultdict(list)
-    listed = [(path, in_page(path)) for path in files(".md")] + [(path, in_proofs(path, told)) for path in files(".antt")] + [(path, in_code(path)) for path in files(".rt")]
+    scripts = [path for path in files(*SCRIPTS) if path != "tools/check_words.py"]  # which has the words themselves
+    listed = [(path, in_page(path)) for path in files(".md")] + [(path, in_proofs(path, told)) for path in files(".antt")]
+    listed += [(path, in_code(path)) for path in files(".rt")] + [(path, in_script(path)) for path in scripts]
     for path, found in listed:
         for number, what in found:
             count += 1

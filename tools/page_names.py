@@ -57,7 +57,7 @@ def words():
 
 
 def is_path(name):
-    """Whether a name begins with a folder or a crate of the repository, or ends like a source."""
+    """Whether a name has a folder or a crate of the repository in front, or ends like a source."""
     return re.fullmatch(r"[\w.*-]+(/[\w.*-]+)*/?", name) and (
         ("/" in name and name.split("/")[0] in {*FOLDERS, *crates()}) or name.endswith((".rt", ".antt", ".py", ".sh", ".edit"))
     )

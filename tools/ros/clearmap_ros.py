@@ -305,7 +305,7 @@ def corners(cells: Sequence[Cell]) -> List[Cell]:
 
 
 def pieces(path: Sequence[Cell]) -> Iterator[Sequence[Cell]]:
-    """A path in pieces of at most 1000 points. Each begins with the last point of the one before, so that no cell between is left out."""
+    """A path in pieces of at most 1000 points. Each starts at the last point of the one before, so that no cell between is left out."""
     yield path[:LONGEST_PATH]
     for start in range(LONGEST_PATH - 1, len(path) - 1, LONGEST_PATH - 1):
         yield path[start : start + LONGEST_PATH]
@@ -328,7 +328,7 @@ def least_whole(holds_from: Fraction, root_two_times: Fraction) -> int:
 
 
 def clear_distance(radius: Number, resolution: Number, metric: str = "euclid2", whole_cells: bool = True) -> int:
-    """The least `d` to hand to CLEAROF for a round robot of this radius, both in metres.
+    """The least `d` of CLEAROF for a round robot of this radius, both in metres.
 
     With `whole_cells`, which is the safe reading, the robot's middle may be anywhere in its cell and the obstacle anywhere in its own. Without
     it both are in the middle of their cells, as costmaps inflate, and a robot may come nearer than its radius by up to sqrt 2 cells.

@@ -14,7 +14,7 @@ import numpy
 
 SIDE = 512  # pixels of a piece's side
 FARTHEST = 254
-BESIDE = 255
+OUTSIDE = 255
 LONGEST = 120  # seconds for one picture
 AT_ONCE = 2**22  # bytes of a table that are read at once
 ANCHORS = ((178, 24, 43), (239, 138, 98), (253, 219, 199), (209, 229, 240), (103, 169, 207), (33, 102, 172))  # from near to far
@@ -45,14 +45,14 @@ def png(pixels: "numpy.ndarray[object, object]") -> bytes:
         return struct.pack(">I", len(data)) + name + data + struct.pack(">I", zlib.crc32(name + data))
 
     header = struct.pack(">IIBBBBB", width, height, 8, 3, 0, 0, 0)
-    parts = ((b"IHDR", header), (b"PLTE", COLOURS + b"\0\0\0"), (b"tRNS", b"\xff" * BESIDE + b"\0"), (b"IDAT", zlib.compress(rows.tobytes(), 1)), (b"IEND", b""))
+    parts = ((b"IHDR", header), (b"PLTE", COLOURS + b"\0\0\0"), (b"tRNS", b"\xff" * OUTSIDE + b"\0"), (b"IDAT", zlib.compress(rows.tobytes(), 1)), (b"IEND", b""))
     return b"\x89PNG\r\n\x1a\n" + b"".join(chunk(name, data) for name, data in parts)
 
 
 def halved(pixels: "numpy.ndarray[object, object]") -> "numpy.ndarray[object, object]":
     """The next level."""
     height, width = pixels.shape
-    even = numpy.pad(pixels, ((0, height % 2), (0, width % 2)), constant_values=BESIDE)
+    even = numpy.pad(pixels, ((0, height % 2), (0, width % 2)), constant_values=OUTSIDE)
     across = numpy.minimum(even[:, ::2], even[:, 1::2])
     return numpy.minimum(across[::2], across[1::2])
 
