@@ -1,16 +1,29 @@
 #!/bin/sh
 # Installs what is built into a scratch folder, and tries it there: the program, the pages of the manual, completion, the unit, the clients, the scripts,
 # the package for Debian, and the wrapper ./clearmap through a symbolic link and without rt. Leaves out, with a word, what isn't installed here.
+# What may wait has a time limit.
 set -u
 cd "$(dirname "$0")/.." || exit 1
 top=$PWD
 program=$top/crates/clearmap/out/clearmap
 "$program" --version > /dev/null || exit 1
 scratch=$(mktemp -d)
-trap 'rm -rf "$scratch"' EXIT
+server=''
+view=''
+trap 'for started in $server $view; do kill "$started" 2> /dev/null; done; rm -rf "$scratch"' EXIT
 trap 'exit 1' INT TERM
 export PYTHONDONTWRITEBYTECODE=1
 wrong=0
+
+# The word after this one in the first line of a file, once the process that writes it has said it.
+told() { # told PROCESS FILE WORD
+    for _ in $(seq 300); do
+        said=$(sed -n "s/^$3 //p" "$2")
+        [ -z "$said" ] && kill -0 "$1" 2> /dev/null || break
+        sleep 0.1
+    done
+    echo "$said"
+}
 
 expect() { # expect WHAT GOT WANTED
     [ "$2" = "$3" ] && return
@@ -45,14 +58,14 @@ chmod +x out/clearmap
 RT
 chmod +x "$scratch/fresh/bin/rt"
 if command -v script > /dev/null; then
-    told=$(PATH=$scratch/fresh/bin:$PATH script -qec "$scratch/fresh/clearmap one two" /dev/null < /dev/null | tr '\r' '\n' | sed 's/\x1b\[K//')
-    expect 'a first run at a terminal' "$(echo "$told" | sed -n 's/ took [0-9]* s/ took so long/; /^clearmap: proved.*work: [a-z]*$/p; /^ran/p' | uniq)" \
+    shown=$(PATH=$scratch/fresh/bin:$PATH timeout 60 script -qec "$scratch/fresh/clearmap one two" /dev/null < /dev/null | tr '\r' '\n' | sed 's/\x1b\[K//')
+    expect 'a first run at a terminal' "$(echo "$shown" | sed -n 's/ took [0-9]* s/ took so long/; /^clearmap: proved.*work: [a-z]*$/p; /^ran/p' | uniq)" \
         "$(printf '%s\n' 'clearmap: proved 0 of 2 crates; at work: low' 'clearmap: proved 1 of 2 crates; low took so long; at work: clearmap' 'ran one two')"
     rm -r "$scratch/fresh/crates/clearmap/out" "$scratch/fresh/crates/low/out"
 else
     echo 'the first run at a terminal left out: there is no script'
 fi
-expect 'a first run without a terminal' "$(PATH=$scratch/fresh/bin:$PATH "$scratch/fresh/clearmap" one 2>&1)" \
+expect 'a first run without a terminal' "$(PATH=$scratch/fresh/bin:$PATH timeout 60 "$scratch/fresh/clearmap" one 2>&1)" \
     "$(printf '%s\n' "clearmap: the first run proves and builds the program's crates, which takes about half an hour" 'ran one')"
 
 # What make install puts in place; `all` is left to the program that stands.
@@ -66,8 +79,9 @@ usr=$scratch/root/usr
 expect 'the installed program' "$("$usr/bin/clearmap" --version)" "$version"
 tried_scripts() { # tried_scripts PREFIX: the scripts and the client there
     for script in clearmap-ros clearmap-ros-node clearmap-view; do
-        expect "$1/bin/$script" "$("$1/bin/$script" --help | sed -n "1s/^usage: \($script\) .*/\1/p")" "$script"
+        expect "$1/bin/$script" "$(timeout 60 "$1/bin/$script" --help | sed -n "1s/^usage: \($script\) .*/\1/p")" "$script"
     done
+    expect "$1/bin/clearmap-backup" "$("$1/bin/clearmap-backup" --help | sed -n "s/^Usage: \([a-z-]*\) .*/\1/p")" clearmap-backup
     expect 'the client in Python' "$(PYTHONPATH=$1/share/clearmap/python python3 -c 'import clearmap, clearmap_feed, clearmap_grid, clearmap_ros; print(clearmap.CITY)')" city
 }
 tried_scripts "$usr"
@@ -83,7 +97,7 @@ fi
 # The pages are what --help and docs/PROTOCOL.md say, and man has nothing to complain of.
 tools/make_man.py --check "$program" || wrong=$((wrong + 1))
 if command -v man > /dev/null; then
-    for page in man1/clearmap.1 man1/clearmap-ros.1 man1/clearmap-ros-node.1 man1/clearmap-view.1 man7/clearmap-protocol.7; do
+    for page in man1/clearmap.1 man1/clearmap-backup.1 man1/clearmap-ros.1 man1/clearmap-ros-node.1 man1/clearmap-view.1 man7/clearmap-protocol.7; do
         expect "man $page" "$(man --warnings -l "$usr/share/man/$page" 2>&1 > /dev/null)" ''
     done
 else
@@ -121,22 +135,27 @@ add_executable(by_cmake main.cpp)
 target_link_libraries(by_cmake clearmap::clearmap)
 CMAKE
 : > "$scratch/port"
-printf "$room" | "$program" serve --connections 20 > "$scratch/port" &
+printf "$room" > "$scratch/map"
+timeout 300 "$program" serve --connections 20 < "$scratch/map" > "$scratch/port" &
 server=$!
-until port=$(sed -n 's/^LISTENING //p' "$scratch/port") && [ -n "$port" ]; do kill -0 "$server" && sleep 0.1 || break; done
+port=$(told "$server" "$scratch/port" LISTENING)
 if command -v pkg-config > /dev/null && command -v g++ > /dev/null; then
     flags=$(PKG_CONFIG_SYSROOT_DIR=$scratch/root PKG_CONFIG_PATH=$usr/share/pkgconfig PKG_CONFIG_ALLOW_SYSTEM_CFLAGS=1 pkg-config --cflags 'clearmap >= 0.1')
     g++ -std=c++17 $flags -o "$scratch/by_pkg_config" "$scratch/main.cpp"
-    expect 'by pkg-config' "$("$scratch/by_pkg_config" "$port")" 2
+    expect 'by pkg-config' "$(timeout 60 "$scratch/by_pkg_config" "$port")" 2
 else
     echo 'clearmap.pc left out: there is no pkg-config, or no g++'
 fi
 if command -v cmake > /dev/null && command -v g++ > /dev/null; then
-    (cd "$scratch" && cmake -S . -B by -DCMAKE_PREFIX_PATH="$usr" && cmake --build by) > "$scratch/log" 2>&1 || cat "$scratch/log"
-    expect 'by CMake' "$("$scratch/by/by_cmake" "$port")" 2
+    (cd "$scratch" && timeout 120 cmake -S . -B by -DCMAKE_PREFIX_PATH="$usr" && timeout 120 cmake --build by) > "$scratch/log" 2>&1 || cat "$scratch/log"
+    expect 'by CMake' "$(timeout 60 "$scratch/by/by_cmake" "$port")" 2
 else
     echo 'clearmapConfig.cmake left out: there is no cmake, or no g++'
 fi
+# The installed backup of this server, which asks by the program next to it, and one of no server.
+expect 'a backup' "$(timeout 60 "$usr/bin/clearmap-backup" --port "$port")" "$(printf "$room")"
+expect 'a backup of nothing' "$(timeout 60 "$usr/bin/clearmap-backup" --port 1 2> /dev/null; echo "status $?")" 'status 1'
+
 # The installed page of this server.
 web=''
 for python in python3 /usr/bin/python3; do
@@ -144,11 +163,11 @@ for python in python3 /usr/bin/python3; do
 done
 if [ -n "$web" ]; then
     : > "$scratch/url"
-    "$web" "$usr/bin/clearmap-view" --port "$port" --web 0 > "$scratch/url" &
+    timeout 300 "$web" "$usr/bin/clearmap-view" --port "$port" --web 0 > "$scratch/url" &
     view=$!
-    until url=$(sed -n 's/^VIEW //p' "$scratch/url") && [ -n "$url" ]; do kill -0 "$view" && sleep 0.1 || break; done
-    expect 'the installed page' "$("$web" -c 'import sys, urllib.request as it; print(it.urlopen(sys.argv[1]).read().decode())' "$url" | grep '^<title>')" '<title>clearmap</title>'
-    kill "$view"
+    url=$(told "$view" "$scratch/url" VIEW)
+    expect 'the installed page' "$(timeout 60 "$web" -c 'import sys, urllib.request as it; print(it.urlopen(sys.argv[1]).read().decode())' "$url" | grep '^<title>')" '<title>clearmap</title>'
+    kill "$view" 2> /dev/null
 else
     echo 'the installed page left out: there is no python3 with aiohttp and numpy'
 fi
@@ -156,7 +175,7 @@ kill "$server" 2> /dev/null
 
 # The client by pip, without a network.
 if python3 -m pip --version > /dev/null 2>&1; then
-    PIP_NO_INDEX=1 PIP_DISABLE_PIP_VERSION_CHECK=1 python3 -m pip install --no-cache-dir --root-user-action ignore -q --target "$scratch/pip" clients/python || wrong=$((wrong + 1))
+    PIP_NO_INDEX=1 PIP_DISABLE_PIP_VERSION_CHECK=1 timeout 120 python3 -m pip install --no-cache-dir --root-user-action ignore -q --target "$scratch/pip" clients/python || wrong=$((wrong + 1))
     expect 'the client by pip' "clearmap $(PYTHONPATH=$scratch/pip python3 -c 'import clearmap, importlib.metadata as it; print(it.version("clearmap"))')" "$version"
     expect 'its types' "$(ls "$scratch/pip/clearmap/py.typed")" "$scratch/pip/clearmap/py.typed"
 else
@@ -165,12 +184,12 @@ fi
 
 # The package for Debian, unpacked.
 if command -v dpkg-deb > /dev/null && command -v strip > /dev/null; then
-    deb=$(tools/make_deb.sh "$scratch/packages") && dpkg-deb -x "$deb" "$scratch/unpacked" || wrong=$((wrong + 1))
+    deb=$(timeout 120 tools/make_deb.sh "$scratch/packages") && dpkg-deb -x "$deb" "$scratch/unpacked" || wrong=$((wrong + 1))
     expect 'the unpacked program' "$(printf "$room" | "$scratch/unpacked/usr/bin/clearmap" dist)" "$(printf '0 1 4\n1 2 5')"
     expect 'its version' "clearmap $(dpkg-deb -f "$deb" Version)" "$version"
     tried_scripts "$scratch/unpacked/usr"
     if command -v lintian > /dev/null; then
-        expect 'lintian' "$(lintian --allow-root "$deb" 2>&1 | grep '^E:')" ''
+        expect 'lintian' "$(timeout 120 lintian --allow-root "$deb" 2>&1 | grep '^E:')" ''
     else
         echo 'the package is not read by lintian: there is none'
     fi

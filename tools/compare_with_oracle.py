@@ -1,4 +1,5 @@
 #!/usr/bin/python3
+# Debian's own python3, as its packages python3-numpy and python3-scipy are for that one alone.
 """Compares the built program with a plain minimum written here, on random small maps.
 
 Maps of all small sizes and densities, in both forms of PBM with comments and odd whitespace, every metric, with an open

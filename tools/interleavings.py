@@ -1,4 +1,4 @@
-#!/usr/bin/python3
+#!/usr/bin/env python3
 """Every interleaving of two readers with a publish, a checkpoint and a collect, through `clearmap steps`, against a plain model.
 
 The first reader announces, loads, announces what it holds exactly, and looks and leaves; the second one announces, loads, looks and leaves. The keeper publishes a painted cell (its stores as one lump, then the commit), then does a
