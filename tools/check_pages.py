@@ -1,5 +1,5 @@
 #!/usr/bin/env python3
-"""Checks what README.md and docs/ quote and name: pieces of files, runs at a terminal, the conversation of docs/PROTOCOL.md, links, and names in backticks.
+"""Checks what README.md, CONTRIBUTING.md, CHANGELOG.md and docs/ quote and name: pieces of files, runs at a terminal, the conversation of docs/PROTOCOL.md, links, and names in backticks.
 
 A block after `<!-- from FILE -->` stands so in that file; a line `..` in it stands for what is left out. A block whose first line has `$ ` in front is run
 by bash, with `clearmap` on the path, in a scratch folder of its page; blocks that name a port are left out, as they take two terminals.
@@ -16,7 +16,7 @@ from page_names import wrong_names, wrong_promises
 from served import PROGRAM, Served
 
 TOP = pathlib.Path(__file__).resolve().parent.parent
-PAGES = [TOP / "README.md", TOP / "CONTRIBUTING.md", *sorted((TOP / "docs").glob("*.md"))]
+PAGES = [TOP / "README.md", TOP / "CONTRIBUTING.md", TOP / "CHANGELOG.md", *sorted((TOP / "docs").glob("*.md"))]
 wrong = []
 
 
