@@ -26,7 +26,7 @@ sys.path[:0] = [str(HERE), str(HERE.parent), str(HERE.parent.parent / "clients/p
 import clearmap
 import numpy
 import picture
-from served import Served
+from served import PROGRAM, Served
 
 try:
     from selenium import webdriver
