@@ -178,6 +178,9 @@ static void commands(std::uint16_t port) {
     CHECK(renewed.renew() == 2 && renewed.version() == 2 && renewed.at({0, 0})->distance == 0);
     renewed.unpin();
     CHECK(throws<ConnectionLost>([&] { renewed.renew(); }));
+    Pinned other = planner.pin();  // a pin that was left isn't answered from another one's version
+    CHECK(throws<ConnectionLost>([&] { renewed.at({0, 0}); }) && throws<ConnectionLost>([&] { renewed.dump(); }));
+    CHECK(throws<ConnectionLost>([&] { renewed.unpin(); }) && other.at({0, 0})->distance == 0);
 }
 
 static void refusals(std::uint16_t port) {

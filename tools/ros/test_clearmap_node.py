@@ -26,7 +26,7 @@ from std_msgs.msg import Float64
 from visualization_msgs.msg import Marker
 
 import clearmap
-from served import PROGRAM, Served, blank
+from served import Served, blank
 
 WIDTH, HEIGHT, RESOLUTION = 400, 300, 0.05
 PATIENCE = 30  # seconds for what a busy machine takes its time for

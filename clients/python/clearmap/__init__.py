@@ -495,8 +495,9 @@ class Pinned:
 
     def unpin(self) -> None:
         """Leaves the pin. What is asked of it later is refused here, and isn't sent."""
-        self._wire()._call("UNPIN", _one)
+        client = self._wire()
         self._left = True
+        client._call("UNPIN", _one)
 
     def renew(self) -> int:
         """Moves the pin to the newest version, and answers its number. Nothing else tells of a publish."""
