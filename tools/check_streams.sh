@@ -23,11 +23,20 @@ clearmap() { timeout 20 "$program" "$@"; }
 image() { printf 'P1\n3 2\n100\n000\n'; }
 image > "$room/map"
 
+# Closes each descriptor but the three standard streams: those that this script was started with would count among the few of a server.
+no_others() {
+    local open
+    for open in /proc/self/fd/*; do
+        open=${open##*/}
+        [ "$open" -le 2 ] || eval "exec $open>&-"
+    done
+}
+
 # A server of the worked map with these flags, with at most so many descriptors where `descriptors` is set: its port comes into `port`, its process into
 # `server`, and what it prints into the file `said`.
 serve() {
     : > "$room/said"
-    (ulimit -n "${descriptors:-$(ulimit -n)}" && exec timeout 60 "$program" serve "$@") < "$room/map" > "$room/said" &
+    (no_others && ulimit -n "${descriptors:-$(ulimit -n)}" && exec timeout 60 "$program" serve "$@") < "$room/map" > "$room/said" &
     server=$!
     for _ in $(seq 400); do
         port=$(sed -n 's/^LISTENING //p' "$room/said")
