@@ -1,11 +1,29 @@
-//! Laws of tiles: what is counted tile by tile, and what filling the words of a tile does to a bitmap.
+//! Laws of a map: its nearest obstacle, what is counted tile by tile, and what filling the words of a tile does to a bitmap.
 
-ghost use Rattle.std.specs.Prelude.{◌≡◌, ℕ, ◌<◌, ◌≤◌, ◌-◌, ◌*◌, ◌/◌, ◌%◌, ◌+◌, Bool, min};
+ghost use Rattle.std.specs.Prelude.{◌≡◌, ℕ, ◌<◌, ◌≤◌, ◌-◌, ◌*◌, ◌/◌, ◌%◌, ◌+◌, Bool, Option, min};
+ghost use Rattle.std.specs.Option.{option_map};
+ghost use Rattle.metric.specs.Nearest.{IsLeastDistance, IsNear};
+ghost use Rattle.metric.specs.declared.edge.Edge.{Edge};
+ghost use Rattle.metric.specs.declared.near.Near.{Near};
 ghost use Rattle.bits.specs.Cells.{Cells, with_values, IsBitmap};
 ghost use Rattle.bits.specs.Changes.{changes};
+ghost use Rattle.bits.specs.Edges.{IsBlocked};
 ghost use Rattle.bits.specs.Words.{words_across};
 ghost use Rattle.bits.specs.Tiles.{tile_count};
 ghost use Rattle.bits.specs.TileWords.{tile_words, tile_changes, changes_by_tile, words_changed, filled_words, within_column, within_row, laid};
+
+/// A cell of a map has one nearest obstacle, or none: the rule for ties leaves no choice. So what answers a cell by it has one answer, whichever way it takes.
+pub fn one_nearest()
+    ensures { (distance : ℕ → ℕ → ℕ) (cells : Cells) (edge : Edge) (x y : ℕ) (p q : Option Near)
+        → IsNear distance (IsBlocked cells edge) x y p → IsNear distance (IsBlocked cells edge) x y q → p ≡ q }
+{}
+
+/// The distance of the nearest obstacle is the least distance to an obstacle; where the one is none, so is the other.
+pub fn nearest_is_least()
+    ensures { (distance : ℕ → ℕ → ℕ) (cells : Cells) (edge : Edge) (x y : ℕ) (near : Option Near)
+        → IsNear distance (IsBlocked cells edge) x y near
+        → IsLeastDistance distance (IsBlocked cells edge) x y (option_map (λ n. n.dist) near) }
+{}
 
 /// Counted row by row or tile by tile, as many cells differ between two bitmaps of one size.
 pub fn tiles_count_all_changes()

@@ -13,5 +13,8 @@ mod word;
 mod write;
 
 pub use bitmap::Bitmap;
-pub use laws::{tiles_count_all_changes, tiles_fill_their_part, words_count_changes};
+pub use laws::{
+    nearest_is_least, one_nearest, tiles_count_all_changes, tiles_fill_their_part,
+    words_count_changes,
+};
 pub use tile_bits::TileBits;

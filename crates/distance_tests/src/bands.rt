@@ -61,17 +61,6 @@ fn three_rows_over_four_workers(rt: HostRuntime) -> Result<(), Fail> {
     Ok(())
 }
 
-#[test]
-fn so_many_workers(rt: HostRuntime) -> Result<(), Fail> {
-    for count in [1, 2, 16] {
-        let workers = Workers::new(count).ok_or("no workers")?;
-        same(&rt, workers.count, count, "workers");
-    }
-    holds(&rt, Workers::new(0).is_none(), "no workers");
-    holds(&rt, Workers::new(17).is_none(), "17 workers");
-    Ok(())
-}
-
 /// Compares the rows from one on, worked by so many workers, with those that one thread works.
 pub fn compare<M: Metric + Sync>(
     rt: &(impl Abort + Threads + Sync),

@@ -8,8 +8,12 @@ use std::alloc::Global;
 use std::process::Abort;
 use std::test::Fail;
 
-/// The largest sides alone and together, and heights round 32.
-const SIZES: [(u16, u16); 6] = [
+/// The largest sides alone and together, heights round 32, and widths at the edges of bytes, words and lines.
+const SIZES: [(u16, u16); 10] = [
+    (7, 3),
+    (9, 2),
+    (64, 1),
+    (141, 2),
     (4096, 4096),
     (4096, 1),
     (1, 4096),
@@ -82,7 +86,7 @@ fn digits_with(alloc: Global, gap: &[u8], before: usize) -> Result<Vec<u8>, Fail
 }
 
 #[test]
-fn gaps_stand_behind_each_pixel(rt: HostRuntime) -> Result<(), Fail> {
+fn gaps_stand_after_each_pixel(rt: HostRuntime) -> Result<(), Fail> {
     let (plain, _) = read_image(rt.alloc(), &digits_with(rt.alloc(), b"", 0)?)?;
     for before in 0..140usize {
         let gap = if before % 2 == 0 {
@@ -92,30 +96,11 @@ fn gaps_stand_behind_each_pixel(rt: HostRuntime) -> Result<(), Fail> {
         };
         let text = digits_with(rt.alloc(), gap, before)?;
         let (again, taken) = read_image(rt.alloc(), &text)?;
-        holds(&rt, are_same(&again, &plain), ("a gap behind", before));
+        holds(&rt, are_same(&again, &plain), ("a gap after", before));
         same(&rt, taken, text.len(), "taken");
         let spoilt = digits_with(rt.alloc(), b"2", before)?;
         let fault = read_image(rt.alloc(), &spoilt).err();
-        same(&rt, fault, Some(PbmFault::BadPixel), ("a 2 behind", before));
+        same(&rt, fault, Some(PbmFault::BadPixel), ("a 2 after", before));
     }
     Ok(())
-}
-
-/// A raw image of 10 by 1, and a plain one with a comment, each to its last byte.
-const WHOLE: [&[u8]; 2] = [b"P4\n10 1\n\x80\x7f", b"P1\n# made by hand\n3 1\n101"];
-
-#[test]
-fn each_front_is_truncated(rt: HostRuntime) {
-    for image in WHOLE {
-        assert!(rt; read_image(rt.alloc(), image).is_ok());
-        for length in 0..image.len() {
-            let front = read_image(rt.alloc(), &image[..length]);
-            same(
-                &rt,
-                front.err(),
-                Some(PbmFault::Truncated),
-                ("bytes", length),
-            );
-        }
-    }
 }

@@ -30,13 +30,13 @@ mod obstacle_tables;
 #[cfg(test)]
 mod phases;
 #[cfg(test)]
+mod quadrupled;
+#[cfg(test)]
 mod queries;
 #[cfg(test)]
 mod row_answers;
 #[cfg(test)]
 mod row_bands;
-#[cfg(test)]
-mod row_phase;
 #[cfg(test)]
 mod streams;
 #[cfg(test)]

@@ -50,7 +50,7 @@ pub fn compare<M: Metric + Sync>(
     for (y, want) in (y0..y1).zip(nears.as_slice().chunks_exact(width)) {
         compare_row::<M>(rt, alloc, &table, y, want)?;
     }
-    holds(rt, !table.has_row(y1), "a row behind the last");
+    holds(rt, !table.has_row(y1), "a row after the last");
     holds(
         rt,
         y0 == 0 || !table.has_row(y0 - 1),
@@ -75,12 +75,6 @@ fn tells_what_the_rows_have(rt: HostRuntime) -> Result<(), Fail> {
         }
     }
     Ok(())
-}
-
-#[test]
-fn no_obstacle_is_told(rt: HostRuntime) -> Result<(), Fail> {
-    let bitmap = Bitmap::blank(rt.alloc(), 70, 3)?;
-    compare::<Chess>(&rt, rt.alloc(), &bitmap, Edge::Open, 4, 0)
 }
 
 #[test]

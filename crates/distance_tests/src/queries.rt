@@ -35,13 +35,6 @@ const PATHS: [(&[Place], Result<(Place, u32), Refusal>); 10] = [
     (&[(0, 0), (1, 1), (6, 1)], Err(Refusal::OutOfRange)),
 ];
 
-/// Distances, and the first cell of the path round the obstacle that is nearer, with its distance.
-const CLEARANCES: [(u32, Option<(Place, u32)>); 3] = [
-    (1, None),
-    (2, Some(((2, 0), 1))),
-    (3, Some(((1, 0), 2))),
-];
-
 /// The bitmap of this size with these obstacles.
 fn drawn(
     rt: &impl Abort,
@@ -97,40 +90,6 @@ fn paths_are_answered(rt: HostRuntime) -> Result<(), Fail> {
 }
 
 #[test]
-fn long_paths_are_refused(rt: HostRuntime) -> Result<(), Fail> {
-    let bitmap = drawn(&rt, rt.alloc(), 6, 4, &[(2, 1)])?;
-    let points = [Cell { x: 2, y: 3 }; 1001];
-    let answer = along::<City>(rt.alloc(), &bitmap, Edge::Open, &points);
-    same(&rt, answer, Err(Refusal::BadPath), "answer");
-    let answer = along::<City>(rt.alloc(), &bitmap, Edge::Open, &points[..1000]);
-    same(&rt, answer, Ok(Some(beside(((2, 3), 2)))), "answer");
-    Ok(())
-}
-
-#[test]
-fn clear_paths_are_told(rt: HostRuntime) -> Result<(), Fail> {
-    let bitmap = drawn(&rt, rt.alloc(), 6, 4, &[(2, 1)])?;
-    let points = cells(rt.alloc(), &ROUND)?;
-    for (d, want) in CLEARANCES {
-        let answer = clear_of::<City>(rt.alloc(), &bitmap, Edge::Open, &points, d);
-        same(&rt, answer, Ok(want.map(beside)), ("clear of", d));
-    }
-    Ok(())
-}
-
-#[test]
-fn rectangles_are_answered(rt: HostRuntime) -> Result<(), Fail> {
-    let bitmap = drawn(&rt, rt.alloc(), 6, 4, &[(2, 1)])?;
-    let below = Rect::new(0, 2, 6, 4).expect(&rt, "it has a cell");
-    let answer = least_in::<Euclid2>(rt.alloc(), &bitmap, Edge::Open, below);
-    same(&rt, answer, Ok(Some(beside(((2, 2), 1)))), "answer");
-    let wide = Rect::new(0, 0, 7, 4).expect(&rt, "it has a cell");
-    let answer = least_in::<Euclid2>(rt.alloc(), &bitmap, Edge::Open, wide);
-    same(&rt, answer, Err(Refusal::OutOfRange), "answer");
-    Ok(())
-}
-
-#[test]
 fn cells_are_answered(rt: HostRuntime) -> Result<(), Fail> {
     let row = drawn(&rt, rt.alloc(), 3, 1, &[(0, 0), (2, 0)])?;
     let left = Near {
@@ -149,37 +108,5 @@ fn cells_are_answered(rt: HostRuntime) -> Result<(), Fail> {
     };
     let answer = at::<Chess>(rt.alloc(), &column, Edge::Open, Cell { x: 2, y: 1 });
     same(&rt, answer, Ok(Some(lower)), "answer");
-    Ok(())
-}
-
-#[test]
-fn no_obstacle_is_found(rt: HostRuntime) -> Result<(), Fail> {
-    let blank = drawn(&rt, rt.alloc(), 6, 4, &[])?;
-    let points = cells(rt.alloc(), &ROUND)?;
-    let whole = Rect::new(0, 0, 6, 4).expect(&rt, "it has a cell");
-    same(
-        &rt,
-        at::<City>(rt.alloc(), &blank, Edge::Open, Cell { x: 5, y: 3 }),
-        Ok(None),
-        "at",
-    );
-    same(
-        &rt,
-        least_in::<City>(rt.alloc(), &blank, Edge::Open, whole),
-        Ok(None),
-        "least in",
-    );
-    same(
-        &rt,
-        along::<City>(rt.alloc(), &blank, Edge::Open, &points),
-        Ok(None),
-        "along",
-    );
-    same(
-        &rt,
-        clear_of::<City>(rt.alloc(), &blank, Edge::Open, &points, u32::MAX),
-        Ok(None),
-        "clear of",
-    );
     Ok(())
 }

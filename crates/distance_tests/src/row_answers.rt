@@ -3,6 +3,7 @@
 use crate::compare::{holds, same};
 use crate::draws::Draws;
 use crate::nearest::nearest_obstacle;
+use crate::quadrupled::Quadrupled;
 use bits::Bitmap;
 use field::rows;
 use metric::{Cell, Chess, City, Edge, Euclid2, Metric, MetricKind, Near, Rect, Refusal, Spot};
@@ -11,7 +12,7 @@ use std::process::Abort;
 use std::test::Fail;
 
 /// A distance, the width and the height of a bitmap, its obstacles, and of its first rows each cell's distance with the column and the row of the nearest obstacle.
-const NEARS: [(MetricKind, u16, u16, &[(u16, u16)], &[(u32, u16, u16)]); 7] = [
+const NEARS: [(MetricKind, u16, u16, &[(u16, u16)], &[(u32, u16, u16)]); 9] = [
     (
         MetricKind::City,
         5,
@@ -76,6 +77,50 @@ const NEARS: [(MetricKind, u16, u16, &[(u16, u16)], &[(u32, u16, u16)]); 7] = [
         ],
     ),
     (
+        MetricKind::Euclid2,
+        7,
+        2,
+        &[(0, 0), (6, 0), (3, 1)],
+        &[
+            (0, 0, 0),
+            (1, 0, 0),
+            (2, 3, 1),
+            (1, 3, 1),
+            (2, 3, 1),
+            (1, 6, 0),
+            (0, 6, 0),
+            (1, 0, 0),
+            (2, 0, 0),
+            (1, 3, 1),
+            (0, 3, 1),
+            (1, 3, 1),
+            (2, 6, 0),
+            (1, 6, 0),
+        ],
+    ),
+    (
+        MetricKind::City,
+        7,
+        2,
+        &[(0, 0), (6, 0), (3, 1)],
+        &[
+            (0, 0, 0),
+            (1, 0, 0),
+            (2, 0, 0),
+            (1, 3, 1),
+            (2, 3, 1),
+            (1, 6, 0),
+            (0, 6, 0),
+            (1, 0, 0),
+            (2, 0, 0),
+            (1, 3, 1),
+            (0, 3, 1),
+            (1, 3, 1),
+            (2, 3, 1),
+            (1, 6, 0),
+        ],
+    ),
+    (
         MetricKind::Chess,
         7,
         2,
@@ -88,6 +133,13 @@ const NEARS: [(MetricKind, u16, u16, &[(u16, u16)], &[(u32, u16, u16)]); 7] = [
             (1, 3, 1),
             (1, 6, 0),
             (0, 6, 0),
+            (1, 0, 0),
+            (1, 0, 0),
+            (1, 3, 1),
+            (0, 3, 1),
+            (1, 3, 1),
+            (1, 6, 0),
+            (1, 6, 0),
         ],
     ),
     (
@@ -98,9 +150,6 @@ const NEARS: [(MetricKind, u16, u16, &[(u16, u16)], &[(u32, u16, u16)]); 7] = [
         &[(0, 0, 0), (1, 0, 0), (0, 0, 2)],
     ),
 ];
-
-/// The distances of all cells of a bitmap of 7 columns and 2 rows with the obstacles (0, 0), (6, 0) and (3, 1).
-const DISTANCES: [u32; 14] = [0, 1, 2, 1, 2, 1, 0, 1, 2, 1, 0, 1, 2, 1];
 
 /// The bitmap of this size with these obstacles.
 fn drawn(
@@ -153,30 +202,6 @@ fn worked_rows(rt: HostRuntime) -> Result<(), Fail> {
     Ok(())
 }
 
-#[test]
-fn one_row_of_two(rt: HostRuntime) -> Result<(), Fail> {
-    let bitmap = drawn(&rt, rt.alloc(), 7, 2, &[(0, 0), (6, 0), (3, 1)])?;
-    let nears = all_rows(rt.alloc(), &bitmap, MetricKind::Euclid2)?;
-    assert!(rt; nears.len() == DISTANCES.len());
-    for (near, dist) in nears.iter().zip(DISTANCES) {
-        same(&rt, near.map(|near| near.dist), Some(dist), "map");
-    }
-    assert!(rt; bitmap.height() == 2);
-    let lower = rows::<Euclid2>(rt.alloc(), &bitmap, Edge::Open, 1, 2)?;
-    same(&rt, lower.as_slice(), &nears[7..], "as slice");
-    assert!(rt; rows::<Euclid2>(rt.alloc(), &bitmap, Edge::Open, 1, 1)?.is_empty());
-    Ok(())
-}
-
-#[test]
-fn no_obstacle_is_near(rt: HostRuntime) -> Result<(), Fail> {
-    let bitmap = drawn(&rt, rt.alloc(), 3, 2, &[])?;
-    let nears = all_rows(rt.alloc(), &bitmap, MetricKind::City)?;
-    same(&rt, nears.len(), 6, "len");
-    assert!(rt; nears.iter().all(|near| near.is_none()));
-    Ok(())
-}
-
 /// Compares each cell's answer with the plain minimum.
 fn compare<M: Metric>(rt: &impl Abort, alloc: Global, bitmap: &Bitmap) -> Result<(), Refusal> {
     let nears = rows::<M>(alloc, bitmap, Edge::Open, 0, bitmap.height())?;
@@ -204,6 +229,7 @@ fn as_the_plain_minimum(rt: HostRuntime) -> Result<(), Fail> {
                 compare::<Euclid2>(&rt, rt.alloc(), &bitmap)?;
                 compare::<City>(&rt, rt.alloc(), &bitmap)?;
                 compare::<Chess>(&rt, rt.alloc(), &bitmap)?;
+                compare::<Quadrupled>(&rt, rt.alloc(), &bitmap)?;
             }
         }
     }

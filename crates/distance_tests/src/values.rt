@@ -112,20 +112,26 @@ fn rectangles_have_cells(rt: HostRuntime) {
     }
 }
 
-/// Columns and rows, and the distance of cells so far apart.
-const SQUARES: [(u16, u16, u32); 5] = [
-    (0, 0, 0),
-    (3, 4, 25),
-    (4095, 0, 16_769_025),
-    (0, 4095, 16_769_025),
-    (4095, 4095, 33_538_050),
+/// Columns and rows, and the distances of cells so far apart: by the square of the straight one, by steps to four neighbours, and by steps to eight.
+const DISTANCES: [(u16, u16, (u32, u32, u32)); 6] = [
+    (0, 0, (0, 0, 0)),
+    (0, 2, (4, 2, 2)),
+    (3, 4, (25, 7, 4)),
+    (4095, 0, (16_769_025, 4095, 4095)),
+    (0, 4095, (16_769_025, 4095, 4095)),
+    (4095, 4095, (33_538_050, 8190, 4095)),
 ];
 
 #[test]
-fn distances_are_sums_of_squares(rt: HostRuntime) {
-    for (columns, rows, distance) in SQUARES {
+fn distances_are_measured(rt: HostRuntime) {
+    for (columns, rows, distances) in DISTANCES {
         assert!(rt; columns <= 4095 && rows <= 4095);
-        same(&rt, Euclid2::of(columns, rows), distance, (columns, rows));
+        let found = (
+            Euclid2::of(columns, rows),
+            City::of(columns, rows),
+            Chess::of(columns, rows),
+        );
+        same(&rt, found, distances, (columns, rows));
     }
 }
 
@@ -145,20 +151,4 @@ fn separators_of_two_columns(rt: HostRuntime) {
     same(&rt, last_by::<City>(&rt, (0, 3), (2, 0)), -1, "last by");
     same(&rt, last_by::<Chess>(&rt, (0, 1), (4, 1)), 2, "last by");
     same(&rt, last_by::<Chess>(&rt, (0, 3), (4, 0)), 1, "last by");
-}
-
-#[test]
-fn distances_are_measured(rt: HostRuntime) {
-    same(
-        &rt,
-        (Euclid2::of(4, 3), City::of(4, 3), Chess::of(4, 3)),
-        (25, 7, 4),
-        "of and of and of",
-    );
-    same(
-        &rt,
-        (Euclid2::of(0, 2), City::of(0, 2), Chess::of(0, 2)),
-        (4, 2, 2),
-        "of and of and of",
-    );
 }

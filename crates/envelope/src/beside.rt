@@ -36,10 +36,11 @@ const FARTHEST: u16 = 96;
 /// Of the steps outwards that a row may take in all so many are free.
 const FREE_STEPS: u32 = 150;
 
-/// For a column without an obstacle there are so many tenths of a step, and for one with an obstacle so many: about what each costs the stack.
-const STEPS_FREE: u32 = 1;
+/// A column without an obstacle adds so many tenths of a step: about what it costs the stack.
+const TENTHS_WITHOUT: u32 = 1;
 
-const STEPS_TAKEN: u32 = 31;
+/// A column with an obstacle adds so many tenths of a step.
+const TENTHS_WITH: u32 = 31;
 
 /// No row may take more steps.
 const MOST_STEPS: u32 = 20_000;
@@ -227,9 +228,9 @@ fn steps_for(entries: &[u16]) -> u16 {
     let mut tenths = 10 * FREE_STEPS;
     'groups: for group in 0..entries.len() / 16 {
         let steps = if entries[16 * group] == NONE {
-            STEPS_FREE
+            TENTHS_WITHOUT
         } else {
-            STEPS_TAKEN
+            TENTHS_WITH
         };
         tenths = tenths.saturating_add(16 * steps);
     }

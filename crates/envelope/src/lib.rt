@@ -13,4 +13,4 @@ mod stack;
 
 pub use answer::CellAnswer;
 pub use metric::Near;
-pub use stack::{Stack, row, row_alone, row_from};
+pub use stack::{Stack, row, row_from};

@@ -14,8 +14,7 @@ use crate::beside::{SPARE, fill_beside};
 use crate::cover::Span;
 use crate::piece::{Piece, fill_piece};
 use crate::scan::{are_many_far, fill_by_scans};
-use bits::Bitmap;
-use column::{ColumnTable, nearest_rows};
+use column::ColumnTable;
 use metric::{Edge, Metric, Near, Refusal};
 use std::alloc::Global;
 use std::marker::Model;
@@ -92,30 +91,6 @@ pub fn row<M: Metric>(table: &ColumnTable, y: u16, stack: &mut Stack, nears: &mu
 {
     let edge = table.edge();
     row_from::<M, Option<Near>>(table.row(y), y + edge.shift(), edge, stack, nears);
-}
-
-/// The same without a table: the nearest obstacles of the columns, seen from this row alone, are put into `entries`, two more than the map has columns where the border is a wall.
-///
-/// For some dozens of rows this is faster than a table of the whole map. No memory is taken.
-pub fn row_alone<M: Metric>(
-    bitmap: &Bitmap,
-    edge: Edge,
-    y: u16,
-    entries: &mut [u16],
-    stack: &mut Stack,
-    nears: &mut [Option<Near>],
-)
-    requires row { y < bitmap.now.height }
-    requires bitmap { IsBitmap bitmap.now }
-    requires entries { length entries.old ≡ bitmap.now.width + 2 * shift edge }
-    requires stack { bitmap.now.width + 2 * shift edge ≤ stack.old }
-    requires width { length nears.old ≡ bitmap.now.width }
-    ensures nears { AreRowNears M.distance bitmap.now edge y bitmap.now.width nears.new }
-    ensures stack { stack.new ≡ stack.old }
-{
-    let framed = y + edge.shift();
-    nearest_rows(bitmap, edge, framed, entries);
-    row_from::<M, Option<Near>>(entries, framed, edge, stack, nears);
 }
 
 /// Fills a row with what is kept of the nearest obstacle of each cell of row `y`, from the left. `entries` are the row of a table of the map: the nearest obstacles of the columns. Where the border is a wall, `y` and the entries are counted with the frame.

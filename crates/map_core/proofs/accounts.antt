@@ -1,6 +1,6 @@
 -- Lemmas on blocks: which are free, the draft's own, newest's or retired, and how many there are.
 pub mod CameLemmas
-pub mod CountLemmas
+mod CountLemmas
 pub mod FreedLemmas
 pub mod GiveBack
 pub mod PublishOwn

@@ -1,9 +1,9 @@
 pub mod Appending
 pub mod CellwiseLemmas
 pub mod Decimals
-pub mod Fronts
+mod Fronts
 pub mod Growing
 pub mod LaneLemmas
 pub mod NearestLemmas
-pub mod Separators
+mod Separators
 pub mod Taking

@@ -26,7 +26,7 @@ pub record AreSame (p q : SpotKey) : Type 0 where
   pub row : p.row ≡ q.row
 
 -- keys of which each is at most the other are the same
-pub IsNoGreater-both : (p q : SpotKey) → IsNoGreater p q → IsNoGreater q p → AreSame p q
+IsNoGreater-both : (p q : SpotKey) → IsNoGreater p q → IsNoGreater q p → AreSame p q
 IsNoGreater-both p q there back =
     let at_distance = first_both p.distance q.distance there.order back.order in
     let at_column = whole_both p.column q.column at_distance.1 at_distance.2 in

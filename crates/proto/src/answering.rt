@@ -14,7 +14,7 @@ use std::alloc::Global;
 
 /// The answer to a query on a bitmap whose border is this, by its own metric: a distance in cells (for `euclid2` its square) with the nearest obstacle, or none where there is no obstacle. Where the border is a wall, there is always one.
 ///
-/// Refused, in this order: a path of no point or over 1000, a cell, rectangle or point out of the bitmap, the first point of a path that is neither in the row nor in the column of the point before it, and want of memory.
+/// Refused, in this order: a path of no point or over 1000, a cell, rectangle or point out of the bitmap, and the first point of a path that is neither in the row nor in the column of the point before it.
 pub fn answer_query(alloc: Global, bitmap: &Bitmap, edge: Edge, query: &Query) -> Answer
     ensures { IsAnswerBy (distance_of (metric_asked (asked_by query.now))) bitmap.now edge (asked_by query.now) result }
 {

@@ -94,7 +94,7 @@ impl<Id: StoreName> Desk<Id> {
     /// Gives the cells of a rectangle of the draft one value: `Reply::Painted`, with the command's place in the log, from 1, and how many
     /// cells became another.
     ///
-    /// Refused, in this order, where the rectangle isn't in the map (`OutOfRange`), for want of room in the log (`LogFull`), of blocks
+    /// Refused, in this order, where the rectangle isn't in the map (`OutOfRange`), for want of room in the log (`LogFull`), of a place (`PlacesUsed`), of blocks
     /// (`BlocksFull`) and of memory. Refused or not, the seat has then seen the whole log.
     pub fn paint(
         &mut self,
@@ -127,7 +127,7 @@ impl<Id: StoreName> Desk<Id> {
 
     /// Appends the draft as the next version, also where nothing changed: `Reply::Published`.
     ///
-    /// Refused, in this order, for want of room in the log (`LogFull`), of a slot (`VersionsFull`) and of memory.
+    /// Refused, in this order, for want of room in the log (`LogFull`), of a place (`PlacesUsed`), of a slot (`VersionsFull`) and of memory.
     pub fn publish(&mut self, seat: &mut ReaderSeat<Id>) -> Result<Reply, Refusal>
         requires { IsSteady seat.old }
         ensures { IsApplied Id.store self.old seat.old Publish result self.new seat.new }
@@ -137,7 +137,7 @@ impl<Id: StoreName> Desk<Id> {
 
     /// Makes the draft the newest version: `Reply::Reverted`.
     ///
-    /// Refused, in this order, for want of room in the log (`LogFull`) and of memory.
+    /// Refused, in this order, for want of room in the log (`LogFull`), of a place (`PlacesUsed`) and of memory.
     pub fn revert(&mut self, seat: &mut ReaderSeat<Id>) -> Result<Reply, Refusal>
         requires { IsSteady seat.old }
         ensures { IsApplied Id.store self.old seat.old Revert result self.new seat.new }
@@ -149,7 +149,7 @@ impl<Id: StoreName> Desk<Id> {
     /// `Reply::Collected`, with the least of them and how many blocks came back. That these are the versions which the loaded words ask for is a clause of the
     /// keeper's steps (`KeeperSeat::scan`, `commit`), since the words of readers stand in no clause here.
     ///
-    /// Refused, in this order, for want of room in the log (`LogFull`) and of memory.
+    /// Refused, in this order, for want of room in the log (`LogFull`), of a place (`PlacesUsed`) and of memory.
     pub fn collect(&mut self, seat: &mut ReaderSeat<Id>) -> Result<Reply, Refusal>
         requires { IsSteady seat.old }
         ensures { IsApplied Id.store self.old seat.old Collect result self.new seat.new }

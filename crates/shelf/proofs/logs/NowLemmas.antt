@@ -43,7 +43,7 @@ version_after s [] some_version = some_version
 version_after s (e ∷ es) some_version = version_after (told s e.command e.reply) es (version_told s e.command e.reply some_version)
 
 -- the story of each log has a version
-pub version_there : (z : Base) (log : List Entry) → 0 < length (story z log).published
+version_there : (z : Base) (log : List Entry) → 0 < length (story z log).published
 unfolding story opened
 version_there z log = version_after (opened z.opening) log (omega arith)
 

@@ -20,7 +20,7 @@ use Rattle.std.specs.Prelude.{slice_get, Some}
 use Rattle.map_core.proofs.steps.StepLemmas.{number_inside}
 
 -- where no seat has a reader's number, since it isn't dealt yet or is given up, its word is 0
-pub quiet_words : (z : Base) (words : List ℕ) (k : KeeperView) (readers : List Reader) (views : List Role) → IsWhole (core_of z words k readers) → AreSeats z k readers views
+quiet_words : (z : Base) (words : List ℕ) (k : KeeperView) (readers : List Reader) (views : List Role) → IsWhole (core_of z words k readers) → AreSeats z k readers views
     → (q : ℕ) → q < z.setting.sessions → (k.dealt ≤ q) ⊎ (1 ≤ times q k.gone) → get_or words (pin_at q) 0 ≡ 0
 unfolding pin_word
 quiet_words z words k readers views whole seats q inside (inl above) = (whole.reader q fresh_reader (seats.fresh q above inside)).word

@@ -36,7 +36,7 @@ pub fits-task : (z : Base) (k : KeeperView) (readers : List Reader) (task : Opti
 fits-task z k readers task x f = record { dealt = f.dealt; here = f.here; there = f.there; began = f.began; held = f.held; all_seen = f.all_seen; counted = f.counted }
 
 -- the rule holds still where the command in hand becomes another, or more of it is done
-pub task_moves : (z : Base) (s : State Request Role) (r : Agrees z s) (id : ℕ) (words : List ℕ) (l : KeeperView) (task : Option Task) → get_elem? s.views id ≡ some (keeping l) → id ≡ r.seats.keeper
+task_moves : (z : Base) (s : State Request Role) (r : Agrees z s) (id : ℕ) (words : List ℕ) (l : KeeperView) (task : Option Task) → get_elem? s.views id ≡ some (keeping l) → id ≡ r.seats.keeper
     → IsWhole (core_of z words record r.k { task = task } r.readers)
     → Agrees z record { words = words; homes = s.homes; views = set s.views id (keeping record r.k { task = task }) }
 task_moves z s r id words l task at here whole = record {
@@ -49,7 +49,7 @@ task_moves z s r id words l task at here whole = record {
 }
 
 -- the core's state is whole with the command in hand that the keeper's view has
-pub whole_in_hand : (z : Base) (words : List ℕ) (k : KeeperView) (readers : List Reader) (t : Task) → k.task ≡ Some t → IsWhole (core_of z words k readers)
+whole_in_hand : (z : Base) (words : List ℕ) (k : KeeperView) (readers : List Reader) (t : Task) → k.task ≡ Some t → IsWhole (core_of z words k readers)
     → IsWhole (in_hand (core_of z words k readers) (Some t.hand))
 whole_in_hand z words k readers t is whole = subst (λ (o : Option Task). IsWhole (in_hand (core_of z words k readers) (option_map (λ u. u.hand) o))) is whole
 
@@ -107,7 +107,7 @@ some_reader (x ∷ xs) zero h = (x, refl)
 some_reader (x ∷ xs) (suc i) h = some_reader xs i (omega arith)
 
 -- what a reader's word announces is a version that there is
-pub announced_bounded : (z : Base) (words : List ℕ) (k : KeeperView) (readers : List Reader) (i : ℕ) → IsWhole (core_of z words k readers) → i < z.setting.sessions
+announced_bounded : (z : Base) (words : List ℕ) (k : KeeperView) (readers : List Reader) (i : ℕ) → IsWhole (core_of z words k readers) → i < z.setting.sessions
     → get_or words (pin_at i) 0 ≤ 2 * newest (story z (entries k.log)) + 2
 unfolding pin_word
 announced_bounded z words k readers i whole inside =
@@ -155,7 +155,7 @@ fits-committed z k readers t x no_unmet f =
     record { dealt = f.dealt; here = f.here; there = f.there; began = prefix-push x.seen k.log (signed_of z k t) f.began; held = f.held; all_seen = f.all_seen; counted = omega arith }
 
 -- the core's state is whole after a commit
-pub whole-committed : (z : Base) (words : List ℕ) (k : KeeperView) (readers : List Reader) (t : Task) (word : ℕ) → IsWhole (core_of z words k readers) → k.task ≡ Some t
+whole-committed : (z : Base) (words : List ℕ) (k : KeeperView) (readers : List Reader) (t : Task) (word : ℕ) → IsWhole (core_of z words k readers) → k.task ≡ Some t
     → t.hand.done ≡ steps_before z (blocks z (entries k.log)) t.hand.command → word ≡ now_of (story z (entries (committed z k t).log))
     → IsWhole (core_of z (set words now_at word) (committed z k t) readers)
 whole-committed z words k readers t word whole task all is =

@@ -49,7 +49,7 @@ block_seen z s r x f v held p inside =
     (directory-beginning z (entries x.seen) (entries r.k.log) r.whole.ready r.whole.keeper.legal (prefix-entries x.seen r.k.log f.began) v (f.held v held)))
 
 -- the block at a position of the version that a reader holds is one of the setting's
-pub block_fits : (z : Base) (s : State Request Role) (r : Agrees z s) (x : ReaderView) → Fits z r.k r.readers x → (v : ℕ) → x.holds ≡ Some v → (p : ℕ) → p < tiles z
+block_fits : (z : Base) (s : State Request Role) (r : Agrees z s) (x : ReaderView) → Fits z r.k r.readers x → (v : ℕ) → x.holds ≡ Some v → (p : ℕ) → p < tiles z
     → get_or (directory_of (blocks z (entries x.seen)) v) p 0 < z.setting.blocks
 block_fits z s r x f v held p inside =
     let kept = ((r.whole.reader x.number (as_reader x) f.there).holds v held).kept in
@@ -58,7 +58,7 @@ block_fits z s r x f v held p inside =
     subst (λ (d : List ℕ). get_or d p 0 < z.setting.blocks) same (block_within z (story z (entries r.k.log)) (blocks z (entries r.k.log)) tidy v p kept inside)
 
 -- a row's word in the version that a reader holds is that row of the version's bitmap
-pub row_seen : (z : Base) (s : State Request Role) (r : Agrees z s) (x : ReaderView) → Fits z r.k r.readers x → (v : ℕ) → x.holds ≡ Some v → (p i : ℕ) → p < tiles z → i < 64
+row_seen : (z : Base) (s : State Request Role) (r : Agrees z s) (x : ReaderView) → Fits z r.k r.readers x → (v : ℕ) → x.holds ≡ Some v → (p i : ℕ) → p < tiles z → i < 64
     → get_or s.words (tile_at z (get_or (directory_of (blocks z (entries x.seen)) v) p 0) i) 0 ≡ row_word (bitmap_of (story z (entries x.seen)) v) p i
 row_seen z s r x f v held p i inside row =
     let began = prefix-entries x.seen r.k.log f.began in

@@ -23,7 +23,7 @@ use Rattle.shelf.specs.Steps.{announcing, confirming, loaded, leaving, announces
 use Rattle.shelf.proofs.seats.Bridge.{set_get, there_set, seats_reader}
 
 -- the rule holds still where a reader's view becomes another, and the core's reader of its number too
-pub reader_moves : (z : Base) (s : State Request Role) (r : Agrees z s) (id : ℕ) (words : List ℕ) (x y : ReaderView) → get_elem? s.views id ≡ some (reading x) → Knows z r.k r.readers r.seats.keeper r.seats.owner id (reading x)
+reader_moves : (z : Base) (s : State Request Role) (r : Agrees z s) (id : ℕ) (words : List ℕ) (x y : ReaderView) → get_elem? s.views id ≡ some (reading x) → Knows z r.k r.readers r.seats.keeper r.seats.owner id (reading x)
     → y.number ≡ x.number → Fits z r.k (set r.readers x.number (as_reader y)) y → IsWhole (core_of z words r.k (set r.readers x.number (as_reader y)))
     → Agrees z record { words = words; homes = s.homes; views = set s.views id (reading y) }
 reader_moves z s r id words x y at mine same fits whole = record {
