@@ -147,7 +147,7 @@ pub fn ask_command<'a>(alloc: Global) -> Result<Command<'a>, Error>
         Command::new(alloc, "ask")
             .about("Send the lines on standard input to a server, and print each reply")
             .after_help(
-                "Behind a line 'STAMP x y n' come the n bytes of its image. Each line is answered before the next is\nsent. The run ends after BYE, or at the end of standard input; a last line without a line feed isn't\nsent. Without a server, or where it ends before a reply that is due, 'FAULT net' is printed, with\nstatus 1.\n\nExamples:\n  printf 'PIN\\nAT euclid2 3 4\\nQUIT\\n' | clearmap ask --port 7400\n  printf 'PAINT 0 0 8 8\\nPUBLISH\\nQUIT\\n' | clearmap ask --port 7400",
+                "After a line 'STAMP x y n' come the n bytes of its image. Each line is answered before the next is\nsent. The run ends after BYE, or at the end of standard input; a last line without a line feed isn't\nsent. Without a server, or where it ends before a reply that is due, 'FAULT net' is printed, with\nstatus 1.\n\nExamples:\n  printf 'PIN\\nAT euclid2 3 4\\nQUIT\\n' | clearmap ask --port 7400\n  printf 'PAINT 0 0 8 8\\nPUBLISH\\nQUIT\\n' | clearmap ask --port 7400",
             )
             .arg(server_flag(alloc))?,
     )
@@ -216,7 +216,9 @@ fn log_flag<'a>(alloc: Global) -> Arg<'a>
     ensures rule { rule_of result ≡ default_rule (codes "log") (codes "100000") }
     ensures local { result.global ≡ false }
 {
-    default_flag(alloc, "log", "100000").help("How many commands are accepted at most")
+    default_flag(alloc, "log", "100000").help(
+        "How many commands are accepted between two checkpoints, at most",
+    )
 }
 
 /// The flag `--workers`.
