@@ -75,6 +75,9 @@ check_words() {
         clearmap $command --help > /dev/full; expect "help of '$command' on a full disk" $? 1 '' ''
     done
     text=$(clearmap --version); expect 'the version' $? 0 "$text" 'clearmap 0.1.0'
+    text=$(clearmap --version <&-); expect 'the version with a closed standard input' $? 0 "$text" 'clearmap 0.1.0'
+    clearmap --help >&-; expect 'help with a closed standard output' $? 1 '' ''
+    clearmap dist --metric no 2> /dev/null >&-; expect 'a mistake with a closed standard output' $? 2 '' ''
     text=$(clearmap 2> /dev/null); expect 'no command' $? 2 "$text" ''
     clearmap dist --metric no 2>&-; expect 'a mistake that nobody reads' $? 1 '' ''
     for words in 'dist map.pbm' 'steps events.txt' 'dist --workers 17' 'serve' 'serve --connections 0' 'serve --connections 1 --port 65536' 'ask' 'ask --port 0' 'ask --port 1 2'; do

@@ -7,14 +7,13 @@ use engines::net::ask;
 use engines::{AskOptions, Listening, ServeOptions, Socket, ask_run, serve_run};
 use metric::{Edge, MemorySink, MemorySource};
 use std::alloc::Global;
-use std::io;
 use std::io::Write;
 use std::net::{Ipv4Addr, Net, SocketAddr, SocketAddrV4, TcpListener, TcpStream};
 use std::process::Abort;
 use std::sync::Wait;
 use std::test::Fail;
-use std::thread;
 use std::thread::Threads;
+use std::{io, thread};
 
 /// The worked map of three columns and two rows.
 const ROOM: &[u8] = b"P1\n3 2\n100\n000\n";
@@ -158,7 +157,12 @@ fn a_broken_connection_counts(rt: HostRuntime) -> Result<(), Fail> {
             break_off(&rt, port, b"PIN\nUNP");
             break_off(&rt, port, b"STAMP 0 0 11\nP1\n2 2\n100");
             break_off(&rt, port, b"PAINT 0 0 3 2\n");
-            ask_at(&rt, alloc, port, b"PIN\nAT city 2 1\nDUMP\nCOLLECT\nNO\nQUIT\n")
+            ask_at(
+                &rt,
+                alloc,
+                port,
+                b"PIN\nAT city 2 1\nDUMP\nCOLLECT\nNO\nQUIT\n",
+            )
         },
     );
     assert!(rt;

@@ -68,10 +68,9 @@ fn dist_options<'a>(flags: &ArgMatches<'a>) -> Result<DistOptions<'a>, Fault<'a>
 fn metric_given(flags: &ArgMatches<'_>) -> Option<MetricKind>
     ensures { result ≡ option_and_then metric_named (first_value (found_of flags.now) (codes "metric")) }
 {
-    match flags.get_str("metric") {
-        Some(name) => MetricKind::named(name.as_bytes()),
-        None => None,
-    }
+    flags
+        .get_str("metric")
+        .and_then(|name| MetricKind::named(name.as_bytes()))
 }
 
 /// What the words say to the program's commands and flags.

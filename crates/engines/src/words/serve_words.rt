@@ -64,10 +64,9 @@ pub fn edge_given<'a>(flags: &ArgMatches<'a>) -> Result<Edge, Fault<'a>>
 fn edge_of(flags: &ArgMatches<'_>) -> Option<Edge>
     ensures { result ≡ option_and_then edge_named (first_value (found_of flags.now) (codes "edge")) }
 {
-    match flags.get_str("edge") {
-        Some(name) => Edge::named(name.as_bytes()),
-        None => None,
-    }
+    flags
+        .get_str("edge")
+        .and_then(|name| Edge::named(name.as_bytes()))
 }
 
 /// The flag of `ask`.
@@ -109,10 +108,9 @@ pub fn number_given(
 fn value_given(flags: &ArgMatches<'_>, name: &str) -> Option<u32>
     ensures { result ≡ option_and_then number (first_value (found_of flags.now) name.now) }
 {
-    match flags.get_str(name) {
-        Some(value) => read_number(value.as_bytes()),
-        None => None,
-    }
+    flags
+        .get_str(name)
+        .and_then(|value| read_number(value.as_bytes()))
 }
 
 /// The command `serve` and its flags.

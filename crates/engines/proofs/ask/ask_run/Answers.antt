@@ -1,5 +1,5 @@
 -- A run that ends early has written a beginning of what the server said, and then why it ends.
-use Rattle.std.proofs.Common.{arith, rules}
+use Rattle.std.proofs.Common.{rules}
 use Rattle.engines.proofs.Gathering.{BreaksOff-stop, EndsEarly-line}
 use Rattle.engines.proofs.ask.ask_run.Goals as goal
 
