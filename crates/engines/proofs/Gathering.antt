@@ -102,12 +102,6 @@ BreaksOff-stop sound unread left before middle after stops.Standard calm part la
 BreaksOff-stop sound unread left before middle after stops.Net calm part last = BreaksOff-line sound unread left before middle after net_text (inl refl) part last
 BreaksOff-stop sound unread left before middle after stops.Memory calm part last = BreaksOff-line sound unread left before middle after memory_text (inr (refl, calm (λ e. absurd cc))) part last
 
--- what is so at each stop but a standard stream's, and isn't so, tells that a standard stream failed
-pub stops_so : (so : Type 0) (stop : Stop) → (stop ≢ stops.Standard → so) → (so → ⊥) → stop ≡ stops.Standard
-stops_so so stops.Standard others not = refl
-stops_so so stops.Net others not = absurd (not (others (λ e. absurd cc)))
-stops_so so stops.Memory others not = absurd (not (others (λ e. absurd cc)))
-
 -- a text was written whole where no write failed
 pub written_whole : {T E : Type 0} (failed_before failed_after : ℕ) (before after : Option (List ℕ)) (text : List ℕ) (result : Result T E) → Counts failed_before result failed_after → OnOk result (Appends before text after)
     → failed_after ≡ failed_before → Appends before text after
