@@ -93,6 +93,9 @@ check_words() {
         clearmap $command --help > /dev/full; expect "help of '$command' on a full disk" $? 1 '' ''
     done
     text=$(clearmap --version); expect 'the version' $? 0 "$text" 'clearmap 0.1.0'
+    text=$(clearmap --version <&-); expect 'the version with a closed standard input' $? 0 "$text" 'clearmap 0.1.0'
+    clearmap --help >&-; expect 'help with a closed standard output' $? 1 '' ''
+    clearmap dist --metric no 2> /dev/null >&-; expect 'a mistake with a closed standard output' $? 2 '' ''
     text=$(clearmap 2> /dev/null); expect 'no command' $? 2 "$text" ''
     clearmap dist --metric no 2>&-; expect 'a mistake that nobody reads' $? 1 '' ''
     for words in 'dist map.pbm' 'steps events.txt' 'dist --workers 17' 'serve' 'serve --connections 0' 'serve --connections 1 --port 65536' 'ask' 'ask --port 0' 'ask --port 1 2'; do
@@ -124,16 +127,16 @@ check_serve() {
 
 check_ask() {
     text=$(printf 'PIN\n' | ask_nobody); expect 'no server' $? 1 "$text" 'FAULT net'
-    serve --connections 8
+    serve --connections 6
     text=$(clearmap ask --port "$port" <&-); expect 'ask with a closed standard input' $? 1 "$text" ''
     printf 'PAINT 0 0 1 1\n' | clearmap ask --port "$port" >&-; expect 'ask with a closed standard output' $? 1 '' ''
     printf 'PIN\nPIN\n' | clearmap ask --port "$port" > /dev/full; expect 'ask on a full disk' $? 1 '' ''
     text=$(clearmap ask --port "$port" < .); expect 'a folder as lines' $? 1 "$text" ''
-    text=$(printf 'PIN\r\nDUMP\r\nSTAMP 0 0 9\r\nP1 1 1 1\nQUIT\r\n' | clearmap ask --port "$port"); expect 'lines that end with CR' $? 0 "$text" "$(printf 'OK 0\nOK 15\nP1\n3 2\n100\n000\nOK 2 0\nBYE')"
-    text=$({ printf 'STAMP 0 0 4000008\nP1\n1 1\n1'; head -c 4000000 /dev/zero | tr '\0' '\n'; printf 'QUIT\n'; } | clearmap ask --port "$port"); expect 'a stamp of four million bytes' $? 0 "$text" "$(printf 'OK 3 0\nBYE')"
-    text=$(printf 'REVERT\nQUIT\nPUBLISH\n' | clearmap ask --port "$port"); expect 'lines after QUIT' $? 0 "$text" "$(printf 'OK 4\nBYE')"
+    text=$(printf 'PIN\r\nDUMP\r\nSTAMP 0 0 9\r\nP1 1 1 1\nQUIT\r\n' | clearmap ask --port "$port"); expect 'lines that end with CR' $? 0 "$text" "$(printf 'OK 0\nOK 15\nP1\n3 2\n100\n000\nOK 1 0\nBYE')"
+    text=$({ printf 'STAMP 0 0 4000008\nP1\n1 1\n1'; head -c 4000000 /dev/zero | tr '\0' '\n'; printf 'QUIT\n'; } | clearmap ask --port "$port"); expect 'a stamp of four million bytes' $? 0 "$text" "$(printf 'OK 2 0\nBYE')"
+    text=$(printf 'REVERT\nQUIT\nPUBLISH\n' | clearmap ask --port "$port"); expect 'lines after QUIT' $? 0 "$text" "$(printf 'OK 3\nBYE')"
     text=$(printf 'PIN' | clearmap ask --port "$port"); expect 'a line without its end' $? 0 "$text" ''
-    ended; expect 'a server of eight clients' "$status" 0 "$text" 'SERVED 8 4'
+    ended; expect 'a server of six clients, to which two others sent nothing' "$status" 0 "$text" 'SERVED 6 3'
 }
 
 # Where no descriptor is left nothing can be accepted: such a connection counts, and the server waits before it tries again. It has four for itself.

@@ -1,8 +1,8 @@
-//! The worked rows through `dist`, and streams that fail.
+//! The worked rows through `dist`, and writes that fail.
 
 use crate::compare::same;
 use engines::{DistOptions, dist_run};
-use metric::{Edge, MemorySink, MemorySource, MetricKind, Sink, Source};
+use metric::{Edge, MemorySink, MemorySource, MetricKind, Sink};
 use std::process::Abort;
 use std::thread::Threads;
 
@@ -237,32 +237,6 @@ fn queries_see_the_wall(rt: HostRuntime) {
             ..DEFAULT
         };
         answers(&rt, &options, FIELD, want, 0);
-    }
-}
-
-/// What a run writes whose reader fails at a read.
-fn written_after_failed_read<R: Abort + AllocGlobal + Threads + Sync>(rt: &R, read: u64) -> usize {
-    let mut reader = MemorySource::new(ROOM).failing_at(read);
-    let mut writer = MemorySink::new(rt.alloc());
-    let status = dist_run(rt, rt.alloc(), &DEFAULT, &mut reader, &mut writer);
-    same(
-        rt,
-        (status, reader.failed_reads()),
-        (1, 1),
-        ("at read", read),
-    );
-    writer.bytes().len()
-}
-
-#[test]
-fn a_failed_read_writes_nothing(rt: HostRuntime) {
-    for read in 1..16 {
-        same(
-            &rt,
-            written_after_failed_read(&rt, read),
-            0,
-            ("at read", read),
-        );
     }
 }
 

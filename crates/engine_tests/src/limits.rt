@@ -1,4 +1,4 @@
-//! Images and lines at their limits, and worked rows on images with so many rows that each row takes the table of columns.
+//! Worked rows on images with so many rows that each row takes the table of columns, up to the highest.
 
 ghost use Rattle.std.specs.Prelude.{◌<◌};
 
@@ -70,75 +70,6 @@ fn images_of_many_rows(rt: HostRuntime) -> Result<(), Fail> {
             }
             same(&rt, writer.bytes(), want.as_bytes(), ("rows", height));
         }
-    }
-    Ok(())
-}
-
-#[test]
-fn images_without_an_obstacle(rt: HostRuntime) -> Result<(), Fail> {
-    for metric in [MetricKind::Euclid2, MetricKind::City, MetricKind::Chess] {
-        let options = DistOptions {
-            metric,
-            edge: Edge::Open,
-            nearest: false,
-            query: None,
-            workers: 1,
-        };
-        let writer = written(&rt, &options, b"P1\n3 2\n000\n000\n");
-        same(&rt, writer.bytes(), b"- - -\n- - -\n".as_slice(), "bytes");
-    }
-    Ok(())
-}
-
-/// The raw image of 4096 columns and rows whose first cell alone is an obstacle.
-fn largest_image(alloc: Global) -> Result<Vec<u8>, Fail> {
-    let mut image = Vec::new(alloc);
-    image.extend_from_slice(b"P4\n4096 4096\n\x80")?;
-    for _ in 1..4096u32 * 512 {
-        image.push(0)?;
-    }
-    Ok(image)
-}
-
-#[test]
-fn the_last_cell_of_the_largest_map(rt: HostRuntime) -> Result<(), Fail> {
-    let image = largest_image(rt.alloc())?;
-    let options = DistOptions {
-        metric: MetricKind::City,
-        edge: Edge::Open,
-        nearest: false,
-        query: Some("AT euclid2 4095 4095"),
-        workers: 1,
-    };
-    let writer = written(&rt, &options, image.as_slice());
-    same(
-        &rt,
-        writer.bytes(),
-        b"OK 33538050 0 0\n".as_slice(),
-        "bytes",
-    );
-    Ok(())
-}
-
-#[test]
-fn a_path_of_a_thousand_points(rt: HostRuntime) -> Result<(), Fail> {
-    let mut line = String::from_str(rt.alloc(), "PATH city")?;
-    for _ in 0..500 {
-        line.push_str(" 2 1 2 0")?;
-    }
-    for (more, want) in [("", "OK 2 2 0 0 0\n"), (" 2 1", "ERR 8 BadPath\n")] {
-        line.push_str(more)?;
-        let options = DistOptions {
-            metric: MetricKind::City,
-            edge: Edge::Open,
-            nearest: false,
-            query: Some(line.as_str()),
-            workers: 1,
-        };
-        let mut reader = MemorySource::new(b"P1\n3 2\n100\n000\n");
-        let mut writer = MemorySink::new(rt.alloc());
-        let _status = dist_run(&rt, rt.alloc(), &options, &mut reader, &mut writer);
-        same(&rt, writer.bytes(), want.as_bytes(), "bytes");
     }
     Ok(())
 }

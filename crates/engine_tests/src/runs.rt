@@ -1,8 +1,8 @@
-//! Whole runs by their words: which stream a text goes to, its status, and streams that fail.
+//! Whole runs by their words: which stream a text goes to, its status, and writes that fail.
 
 use crate::compare::{holds, same};
 use engines::run_words;
-use metric::{MemorySink, MemorySource, Sink, Source};
+use metric::{MemorySink, MemorySource, Sink};
 use std::process::Abort;
 use std::thread::Threads;
 
@@ -15,7 +15,7 @@ const DIST_HELP: &str =
     "Print each cell's distance to the nearest obstacle of the image on standard input\n\nUsage: clearmap dist [OPTIONS]\n\nOptions:\n      --metric <METRIC>   The distance, in cells: euclid2 (straight, squared), city or chess [default: euclid2]\n      --nearest           Print each entry as distance/x/y, with its nearest obstacle\n      --query <LINE>      Print only the answer to LINE, as 'AT city 3 4'; there are AT, RECT, PATH and CLEAROF\n      --workers <NUMBER>  How many workers share the rows, 1 to 16 [default: 1]\n      --edge <EDGE>       What the border is: open, or a wall, of obstacles one cell outside [default: open]\n  -h, --help              Print help\n\nStandard input is an image, PBM plain (P1) or raw (P4), 1 to 4096 pixels a side; a black pixel is an\nobstacle. Each line of the answer is a row of distances, and '-' stands where there is no obstacle.\nStatus 1: a fault of the image or the line is one line in its place, as 'ERR 15 BadImage BadMagic', or a\nstandard stream failed. Status 2: the command line was refused.\n\nExamples:\n  clearmap dist --metric chess < map.pbm\n  clearmap dist --query 'AT euclid2 3 4' < map.pbm\n  clearmap dist --edge wall --nearest < map.pbm\n  clearmap dist --workers 4 < map.pbm\n";
 
 /// What words that are no run write to the standard output, to the standard error, and their status.
-static TOLD: [(&[&str], &str, &str, u8); 15] = [
+static TOLD: [(&[&str], &str, &str, u8); 22] = [
     (
         &["clearmap", "serve"],
         "",
@@ -86,6 +86,48 @@ static TOLD: [(&[&str], &str, &str, u8); 15] = [
     ),
     (
         &["clearmap", "dist", "--workers", "17"],
+        "",
+        "clearmap: --workers is a number from 1 to 16\n",
+        2,
+    ),
+    (
+        &["clearmap", "dist", "--edge", "fence"],
+        "",
+        "clearmap: --edge is one of open and wall, not 'fence'\n",
+        2,
+    ),
+    (
+        &["clearmap", "dist", "--edge", ""],
+        "",
+        "clearmap: --edge is one of open and wall, not ''\n",
+        2,
+    ),
+    (
+        &["clearmap", "serve", "--connections", "1", "--edge", "Wall"],
+        "",
+        "clearmap: --edge is one of open and wall, not 'Wall'\n",
+        2,
+    ),
+    (
+        &["clearmap", "dist", "--workers", "0"],
+        "",
+        "clearmap: --workers is a number from 1 to 16\n",
+        2,
+    ),
+    (
+        &["clearmap", "dist", "--workers", "4294967296"],
+        "",
+        "clearmap: --workers is a number from 1 to 16\n",
+        2,
+    ),
+    (
+        &["clearmap", "dist", "--workers", "two"],
+        "",
+        "clearmap: --workers is a number from 1 to 16\n",
+        2,
+    ),
+    (
+        &["clearmap", "dist", "--workers", ""],
         "",
         "clearmap: --workers is a number from 1 to 16\n",
         2,
@@ -214,28 +256,5 @@ fn a_text_is_written_and_flushed(rt: HostRuntime) {
     }
     for (words, text, mistake, _) in &TOLD {
         fails_at_each(&rt, words, ROOM, (text, mistake));
-    }
-}
-
-#[test]
-fn a_failed_read_writes_nothing(rt: HostRuntime) {
-    for words in [["clearmap", "dist"], ["clearmap", "steps"]] {
-        let mut reader = MemorySource::new(ROOM.as_bytes()).failing_at(4);
-        let mut writer = MemorySink::new(rt.alloc());
-        let mut errors = MemorySink::new(rt.alloc());
-        let status = run_words(
-            &rt,
-            rt.alloc(),
-            &words,
-            &mut reader,
-            &mut writer,
-            &mut errors,
-        );
-        same(&rt, (status, reader.failed_reads()), (1, 1), words);
-        holds(
-            &rt,
-            writer.bytes().is_empty() && errors.bytes().is_empty(),
-            words,
-        );
     }
 }

@@ -4,7 +4,7 @@ use crate::compare::same;
 use bits::Bitmap;
 use crossbeam_channel::{Receiver, Sender, bounded};
 use engines::net::ask;
-use engines::{AskOptions, ServeOptions, Socket, ask_run, serve_run};
+use engines::{AskOptions, Listening, ServeOptions, Socket, ask_run, serve_run};
 use metric::{Edge, MemorySink, MemorySource};
 use std::alloc::Global;
 use std::io::Write;
@@ -12,8 +12,8 @@ use std::net::{Ipv4Addr, Net, SocketAddr, SocketAddrV4, TcpListener, TcpStream};
 use std::process::Abort;
 use std::sync::Wait;
 use std::test::Fail;
-use std::thread;
 use std::thread::Threads;
+use std::{io, thread};
 
 /// The worked map of three columns and two rows.
 const ROOM: &[u8] = b"P1\n3 2\n100\n000\n";
@@ -44,6 +44,14 @@ fn local(port: u16) -> SocketAddr {
     SocketAddr::V4(SocketAddrV4::new(Ipv4Addr::LOCALHOST, port))
 }
 
+/// A port of this machine on which so many connections are accepted.
+fn listen<R: Net<Listener = TcpListener, Stream = TcpStream>>(
+    rt: &R,
+    connections: u32,
+) -> io::Result<Listening> {
+    Listening::of(TcpListener::bind(rt, local(0))?, connections)
+}
+
 /// Asks lines of a server, and gives what is printed and the status.
 fn ask_at<R: Net<Listener = TcpListener, Stream = TcpStream>>(
     rt: &R,
@@ -71,14 +79,18 @@ fn told(alloc: Global, port: u16, end: &str) -> Result<String, Fail> {
 fn two_clients_are_served(rt: HostRuntime) -> Result<(), Fail> {
     let alloc = rt.alloc();
     let map = room(alloc)?;
-    let listener = TcpListener::bind(&rt, local(0))?;
-    let port = listener.local_addr()?.port();
+    let place = listen(&rt, 2)?;
+    let port = place.port();
+    let options = ServeOptions {
+        edge: Edge::Wall,
+        ..two_workers(2)
+    };
     let (sender, receiver): (Sender<u8>, Receiver<u8>) = bounded(alloc, 1)?;
     let (served, asked) = thread::join(
         &rt,
         || {
             let mut writer = MemorySink::new(alloc);
-            let status = serve_run(&rt, alloc, listener, map, &two_workers(2), &mut writer);
+            let status = serve_run(&rt, alloc, place, map, &options, &mut writer);
             (writer, status)
         },
         || {
@@ -106,7 +118,7 @@ fn two_clients_are_served(rt: HostRuntime) -> Result<(), Fail> {
     same(
         &rt,
         second.0.bytes(),
-        b"OK 1\nOK 2 1 0\nBYE\n".as_slice(),
+        b"OK 1\nOK 1 2 2\nBYE\n".as_slice(),
         "bytes",
     );
     same(
@@ -130,13 +142,14 @@ fn break_off<R: Net<Listener = TcpListener, Stream = TcpStream>>(rt: &R, port: u
 fn a_broken_connection_counts(rt: HostRuntime) -> Result<(), Fail> {
     let alloc = rt.alloc();
     let map = room(alloc)?;
-    let listener = TcpListener::bind(&rt, local(0))?;
-    let port = listener.local_addr()?.port();
+    let place = listen(&rt, 5)?;
+    let port = place.port();
+    let options = two_workers(5);
     let (served, asked) = thread::join(
         &rt,
         || {
             let mut writer = MemorySink::new(alloc);
-            let status = serve_run(&rt, alloc, listener, map, &two_workers(5), &mut writer);
+            let status = serve_run(&rt, alloc, place, map, &options, &mut writer);
             (writer, status)
         },
         || {
@@ -144,14 +157,19 @@ fn a_broken_connection_counts(rt: HostRuntime) -> Result<(), Fail> {
             break_off(&rt, port, b"PIN\nUNP");
             break_off(&rt, port, b"STAMP 0 0 11\nP1\n2 2\n100");
             break_off(&rt, port, b"PAINT 0 0 3 2\n");
-            ask_at(&rt, alloc, port, b"PIN\nDUMP\nCOLLECT\nNO\nQUIT\n")
+            ask_at(
+                &rt,
+                alloc,
+                port,
+                b"PIN\nAT city 2 1\nDUMP\nCOLLECT\nNO\nQUIT\n",
+            )
         },
     );
     assert!(rt;
         asked
             .0
             .bytes()
-            .starts_with(b"OK 0\nOK 15\nP1\n3 2\n100\n000\nOK ")
+            .starts_with(b"OK 0\nOK 3 0 0\nOK 15\nP1\n3 2\n100\n000\nOK ")
     );
     assert!(rt;
         asked
@@ -166,44 +184,6 @@ fn a_broken_connection_counts(rt: HostRuntime) -> Result<(), Fail> {
         "bytes",
     );
     assert!(rt; asked.1 == 0 && served.1 == 0);
-    Ok(())
-}
-
-#[test]
-fn a_bad_setting_is_told(rt: HostRuntime) -> Result<(), Fail> {
-    let alloc = rt.alloc();
-    let rows = [
-        (
-            ServeOptions {
-                blocks: 0,
-                versions: 1,
-                ..two_workers(1)
-            },
-            "ERR 16 BadSetting Blocks\n",
-        ),
-        (
-            ServeOptions {
-                versions: 65,
-                log: 0,
-                ..two_workers(1)
-            },
-            "ERR 16 BadSetting Versions\n",
-        ),
-        (
-            ServeOptions {
-                log: 0,
-                ..two_workers(1)
-            },
-            "ERR 16 BadSetting Log\n",
-        ),
-    ];
-    for (options, want) in rows {
-        let listener = TcpListener::bind(&rt, local(0))?;
-        let mut writer = MemorySink::new(alloc);
-        let status = serve_run(&rt, alloc, listener, room(alloc)?, &options, &mut writer);
-        same(&rt, status, 1, "status");
-        same(&rt, writer.bytes(), want.as_bytes(), "bytes");
-    }
     Ok(())
 }
 

@@ -1,8 +1,8 @@
-//! Worked texts through the engine, lines of other forms, and streams that fail.
+//! Worked texts through the engine, lines of other forms, and writes that fail.
 
-use crate::compare::{holds, same};
+use crate::compare::same;
 use engines::steps_run;
-use metric::{MemorySink, MemorySource, Sink, Source};
+use metric::{MemorySink, MemorySource, Sink};
 use std::alloc::Global;
 use std::process::Abort;
 use std::test::Fail;
@@ -222,22 +222,6 @@ const SHORT: &str = "OPEN 64 64 3 2 1 10\nL 0\nA 0";
 #[test]
 fn what_no_line_feed_ends_is_no_line(rt: HostRuntime) {
     answers(&rt, SHORT, "OPENED 1\nNOW 0 0\n", 0);
-}
-
-#[test]
-fn a_failed_read_writes_nothing(rt: HostRuntime) {
-    for read in 1..28 {
-        let mut reader = MemorySource::new(SHORT.as_bytes()).failing_at(read);
-        let mut writer = MemorySink::new(rt.alloc());
-        let status = steps_run(rt.alloc(), &mut reader, &mut writer);
-        same(
-            &rt,
-            (status, reader.failed_reads()),
-            (1, 1),
-            ("at read", read),
-        );
-        holds(&rt, writer.bytes().is_empty(), ("at read", read));
-    }
 }
 
 #[test]

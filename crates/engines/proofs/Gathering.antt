@@ -1,10 +1,13 @@
 -- Bytes that are taken from a stream, and put into a buffer or written to another stream.
-use Rattle.std.proofs.Common.{◌≡◌, ℕ, List, [], ◌∷◌, ◌++◌, Option, Some, Result, Ok, Err, OnOk, OnErr, refl, ap, ◌∙◌, append_assoc}
-use Rattle.metric.specs.Stream.{Takes, TakesByte, Appends, AppendsFront}
+use Rattle.std.proofs.Common.{◌≡◌, ◌≢◌, ℕ, List, [], ◌∷◌, ◌++◌, Option, Some, Result, Ok, Err, OnOk, OnErr, inl, inr, refl, ap, arith, ◌∙◌, append_assoc}
+use Rattle.metric.specs.Stream.{Takes, TakesByte, Appends, AppendsFront, Counts}
 use Rattle.metric.proofs.Appending.{Appends-nothing, Appends-more, AppendsFront-whole}
 use Rattle.metric.proofs.Taking.{Takes-nothing, Takes-more, Takes-behind}
-use Rattle.engines.specs.streams.Passing.{Gathers, PassesOn, PassesFront, EndsEarly, WritesEnd}
-use Rattle.engines.proofs.RefusalLines.{front_second}
+use Rattle.engines.specs.streams.Passing.{BreaksOff, EndsEarly, Gathers, IsEndLine, PassesOn, PassesFront, stop_text}
+use Rattle.engines.specs.words.Refusals.{memory_text, net_text}
+use Rattle.engines.specs.declared.ask.Stop.{Stop}
+use Rattle.engines.specs.declared.ask.Stop.TheVariants as stops
+use Rattle.engines.proofs.RefusalLines.{front_first, front_second}
 
 -- a byte that was met is one that was taken
 pub Takes-byte : (old new : Option (List ℕ)) (byte : ℕ) → TakesByte old (Some byte) new → Takes old (byte ∷ []) new
@@ -59,18 +62,51 @@ PassesFront-both unread between left before middle after one two = record {
   written = front_second before middle after one.bytes two.bytes one.written two.written;
 }
 
+-- a run of `ask` that stops, though no standard stream failed, tells why in such a line
+end_line : (sound : Type 0) (stop : Stop) → stop ≢ stops.Standard → (stop ≢ stops.Net → sound) → IsEndLine sound (stop_text stop)
+end_line sound stops.Standard other calm = absurd (other refl)
+end_line sound stops.Net other calm = inl refl
+end_line sound stops.Memory other calm = inr (refl, calm (λ e. absurd cc))
+
 -- a beginning of what was read, and then the line that tells why it ended, end a run of `ask` early
-pub EndsEarly-line : (unread left before middle after : Option (List ℕ)) → PassesFront unread left before middle → WritesEnd middle after → EndsEarly unread left before after
-EndsEarly-line unread left before middle after part last = record {
+pub EndsEarly-line : (sound : Type 0) (unread left before middle after : Option (List ℕ)) (stop : Stop) → stop ≢ stops.Standard → (stop ≢ stops.Net → sound) → PassesFront unread left before middle → Appends middle (stop_text stop) after
+    → EndsEarly sound unread left before after
+EndsEarly-line sound unread left before middle after stop other calm part last = record {
   bytes = part.bytes;
   front = part.written.front;
   back = part.written.back;
-  line = last.line;
+  line = stop_text stop;
   taken = part.taken;
   bytes_are = part.written.whole;
-  line_is = last.line_is;
-  written = front_second before middle after part.written.front last.line part.written.appended last.written;
+  line_is = end_line sound stop other calm;
+  written = Appends-more before middle after part.written.front (stop_text stop) part.written.appended last;
 }
+
+-- a beginning of what was read, and then a beginning of such a line, break a run of `ask` off
+BreaksOff-line : (sound : Type 0) (unread left before middle after : Option (List ℕ)) (line : List ℕ) → IsEndLine sound line → PassesFront unread left before middle → AppendsFront middle line after → BreaksOff sound unread left before after
+BreaksOff-line sound unread left before middle after line is part last = record {
+  bytes = part.bytes;
+  front = part.written.front;
+  back = part.written.back;
+  line = line;
+  taken = part.taken;
+  bytes_are = part.written.whole;
+  line_is = is;
+  written = front_second before middle after part.written.front line part.written.appended last;
+}
+
+-- a beginning of what was read, and then a beginning of what a run tells that stops, break a run of `ask` off
+pub BreaksOff-stop : (sound : Type 0) (unread left before middle after : Option (List ℕ)) (stop : Stop) → (stop ≢ stops.Net → sound) → PassesFront unread left before middle → AppendsFront middle (stop_text stop) after
+    → BreaksOff sound unread left before after
+BreaksOff-stop sound unread left before middle after stops.Standard calm part last = BreaksOff-line sound unread left before middle after net_text (inl refl) part (front_first middle after [] net_text last)
+BreaksOff-stop sound unread left before middle after stops.Net calm part last = BreaksOff-line sound unread left before middle after net_text (inl refl) part last
+BreaksOff-stop sound unread left before middle after stops.Memory calm part last = BreaksOff-line sound unread left before middle after memory_text (inr (refl, calm (λ e. absurd cc))) part last
+
+-- a text was written whole where no write failed
+pub written_whole : {T E : Type 0} (failed_before failed_after : ℕ) (before after : Option (List ℕ)) (text : List ℕ) (result : Result T E) → Counts failed_before result failed_after → OnOk result (Appends before text after)
+    → failed_after ≡ failed_before → Appends before text after
+written_whole failed_before failed_after before after text (Ok value) counts whole same = whole
+written_whole failed_before failed_after before after text (Err fault) counts whole same = absurd (omega (arith, counts, same))
 
 -- a text that was written whole or in part was written in part
 pub written_either : {T E : Type 0} (before after : Option (List ℕ)) (text : List ℕ) (result : Result T E) → OnOk result (Appends before text after) → OnErr result (AppendsFront before text after) → AppendsFront before text after

@@ -1,9 +1,9 @@
 //! The command `ask`: lines to a server, and its replies.
 
-ghost use Rattle.std.specs.Prelude.{◌≡◌, ◌≢◌, ◌++◌, ◌∷◌, [], OnOk, OnErr, IfErr, Err, Ok, true, false, bytes_eq, codes};
-ghost use Rattle.metric.specs.Stream.{Appends, AppendsFront, CanFail};
-ghost use Rattle.engines.specs.streams.Passing.{Asks, AsksAll, EndsEarly, PassesFront, PassesOn, WritesEnd};
-ghost use Rattle.engines.specs.declared.ask.Stop.TheVariants.{Standard};
+ghost use Rattle.std.specs.Prelude.{◌≡◌, ◌≢◌, ◌≤◌, ◌+◌, ◌++◌, ◌∷◌, [], IfOk, OnOk, OnErr, IfErr, Err, Ok, true, false, bytes_eq, codes};
+ghost use Rattle.metric.specs.Stream.{Appends, AppendsFront, CanFail, Counts};
+ghost use Rattle.engines.specs.streams.Passing.{Asks, AsksAll, BreaksOff, EndsEarly, PassesFront, PassesOn, stop_text};
+ghost use Rattle.engines.specs.declared.ask.Stop.TheVariants.{Net, Standard};
 
 mod exchange;
 mod request;
@@ -50,10 +50,25 @@ pub fn ask_run<S: Stream, R: Source, W: Sink>(
     // A run that is done has written all that the server said, and nothing else.
     ensures printed { result ≡ 0 → PassesOn (S.rest stream.old) (S.rest stream.new) (W.held writer.old) (W.held writer.new) }
     ensures well { result ≡ 0 → (R.failed_reads reader.new ≡ R.failed_reads reader.old)
-        × (W.failed_writes writer.new ≡ W.failed_writes writer.old) }
+        × (W.failed_writes writer.new ≡ W.failed_writes writer.old)
+        × (S.failed_reads stream.new ≡ S.failed_reads stream.old) × (S.failed_writes stream.new ≡ S.failed_writes stream.old) }
 
-    // Any other has written a beginning of it, and after that why it ended.
-    ensures ended { result ≢ 0 → EndsEarly (S.rest stream.old) (S.rest stream.new) (W.held writer.old) (W.held writer.new) × (result ≡ 1) }
+    // Where a read failed, a beginning of that was written, and nothing after it.
+    ensures failed_read { R.failed_reads reader.new ≢ R.failed_reads reader.old
+        → PassesFront (S.rest stream.old) (S.rest stream.new) (W.held writer.old) (W.held writer.new) × (result ≡ 1) }
+
+    // Where a write failed, a beginning of that was written, and after it at most a beginning of why the run ended.
+    ensures failed_write { W.failed_writes writer.new ≢ W.failed_writes writer.old
+        → BreaksOff ((S.failed_reads stream.new ≡ S.failed_reads stream.old) × (S.failed_writes stream.new ≡ S.failed_writes stream.old))
+        (S.rest stream.old) (S.rest stream.new) (W.held writer.old) (W.held writer.new) × (result ≡ 1) }
+
+    // Where neither failed, a run that isn't done has written a beginning of that, and after it the line of why it ended.
+    ensures ended { R.failed_reads reader.new ≡ R.failed_reads reader.old → W.failed_writes writer.new ≡ W.failed_writes writer.old
+        → result ≢ 0
+        → EndsEarly ((S.failed_reads stream.new ≡ S.failed_reads stream.old) × (S.failed_writes stream.new ≡ S.failed_writes stream.old))
+        (S.rest stream.old) (S.rest stream.new) (W.held writer.old) (W.held writer.new) × (result ≡ 1) }
+    ensures one_failure { R.failed_reads reader.new + W.failed_writes writer.new
+        ≤ R.failed_reads reader.old + W.failed_writes writer.old + 1 }
 {
     let mut request = Vec::new(alloc);
     let mut reply = Vec::new(alloc);
@@ -67,16 +82,23 @@ pub fn ask_run<S: Stream, R: Source, W: Sink>(
 fn end<W: Sink>(writer: &mut W, stop: Stop) -> u8
     requires { stop ≢ Standard → CanFail (W.failed_writes writer.old) }
     ensures status { result ≡ 1 }
-    ensures line { WritesEnd (W.held writer.old) (W.held writer.new) }
+    ensures whole { W.failed_writes writer.new ≡ W.failed_writes writer.old
+        → Appends (W.held writer.old) (stop_text stop) (W.held writer.new) }
+    ensures front { AppendsFront (W.held writer.old) (stop_text stop) (W.held writer.new) }
+    ensures counts { W.failed_writes writer.new ≤ W.failed_writes writer.old + 1 }
+    ensures standard { stop ≡ Standard → writer.new ≡ writer.old }
 {
-    let _ = write_end(writer, stop);
-    REFUSED
+    write_end(writer, stop).unwrap_or(REFUSED)
 }
 
 /// Writes why a run ended early; nothing where a standard stream failed.
 fn write_end<W: Sink>(writer: &mut W, stop: Stop) -> Result<u8, WriteFault>
     requires { stop ≢ Standard → CanFail (W.failed_writes writer.old) }
-    ensures { WritesEnd (W.held writer.old) (W.held writer.new) }
+    ensures status { IfOk result (λ status. status ≡ 1) }
+    ensures whole { OnOk result (Appends (W.held writer.old) (stop_text stop) (W.held writer.new)) }
+    ensures front { OnErr result (AppendsFront (W.held writer.old) (stop_text stop) (W.held writer.new)) }
+    ensures counts { Counts (W.failed_writes writer.old) result (W.failed_writes writer.new) }
+    ensures standard { stop ≡ Standard → writer.new ≡ writer.old }
 {
     match stop {
         Stop::Standard => Ok(REFUSED),
@@ -90,7 +112,7 @@ fn print<W: Sink>(writer: &mut W, reply: &[u8]) -> Result<(), Stop>
     requires { CanFail (W.failed_writes writer.old) }
     ensures all { OnOk result (Appends (W.held writer.old) reply.now (W.held writer.new)) }
     ensures front { AppendsFront (W.held writer.old) reply.now (W.held writer.new) }
-    ensures counts { OnOk result (W.failed_writes writer.new ≡ W.failed_writes writer.old) }
+    ensures counts { Counts (W.failed_writes writer.old) result (W.failed_writes writer.new) }
     ensures stop { IfErr result (λ stop. stop ≡ Standard) }
 {
     match write_text(writer, reply, DONE) {
@@ -114,8 +136,12 @@ fn ask_lines<S: Stream, R: Source, W: Sink>(
     ensures sent { PassesFront (R.rest reader.old) (R.rest reader.new) (S.held stream.old) (S.held stream.new) }
     ensures printed { OnOk result (PassesOn (S.rest stream.old) (S.rest stream.new) (W.held writer.old) (W.held writer.new)) }
     ensures cut { OnErr result (PassesFront (S.rest stream.old) (S.rest stream.new) (W.held writer.old) (W.held writer.new)) }
-    ensures reader { OnOk result (R.failed_reads reader.new ≡ R.failed_reads reader.old) }
+    ensures stream_reads { result ≢ Err Net → S.failed_reads stream.new ≡ S.failed_reads stream.old }
+    ensures stream_writes { result ≢ Err Net → S.failed_writes stream.new ≡ S.failed_writes stream.old }
+    ensures reader { result ≢ Err Standard → R.failed_reads reader.new ≡ R.failed_reads reader.old }
     ensures writer { result ≢ Err Standard → W.failed_writes writer.new ≡ W.failed_writes writer.old }
+    ensures failed { result ≡ Err Standard → R.failed_reads reader.new + W.failed_writes writer.new
+        ≡ R.failed_reads reader.old + W.failed_writes writer.old + 1 }
     ensures asked { OnOk result (AsksAll (R.rest reader.old) (R.rest reader.new) (S.held stream.old) (S.held stream.new)
         (W.held writer.old) (W.held writer.new)) }
 {
@@ -145,10 +171,12 @@ fn ask_line<S: Stream, R: Source, W: Sink>(
     ensures sent { PassesFront (R.rest reader.old) (R.rest reader.new) (S.held stream.old) (S.held stream.new) }
     ensures printed { OnOk result (PassesOn (S.rest stream.old) (S.rest stream.new) (W.held writer.old) (W.held writer.new)) }
     ensures cut { OnErr result (PassesFront (S.rest stream.old) (S.rest stream.new) (W.held writer.old) (W.held writer.new)) }
-    ensures stream { OnOk result ((S.failed_reads stream.new ≡ S.failed_reads stream.old)
-        × (S.failed_writes stream.new ≡ S.failed_writes stream.old)) }
-    ensures reader { OnOk result (R.failed_reads reader.new ≡ R.failed_reads reader.old) }
+    ensures stream_reads { result ≢ Err Net → S.failed_reads stream.new ≡ S.failed_reads stream.old }
+    ensures stream_writes { result ≢ Err Net → S.failed_writes stream.new ≡ S.failed_writes stream.old }
+    ensures reader { result ≢ Err Standard → R.failed_reads reader.new ≡ R.failed_reads reader.old }
     ensures writer { result ≢ Err Standard → W.failed_writes writer.new ≡ W.failed_writes writer.old }
+    ensures failed { result ≡ Err Standard → R.failed_reads reader.new + W.failed_writes writer.new
+        ≡ R.failed_reads reader.old + W.failed_writes writer.old + 1 }
 {
     if !read_request(reader, request)? {
         return Ok(false);

@@ -15,7 +15,7 @@ pub use ask::ask_run;
 pub use dist::dist_run;
 pub use engine::run_words;
 pub use run::run_process;
-pub use serve::serve_run;
+pub use serve::{Listening, serve_run};
 pub use steps::steps_run;
 pub use streams::socket::{NoSocket, Socket};
 pub use words::arguments::{AskOptions, DistOptions, Fault, Options, ServeOptions};

@@ -6,7 +6,7 @@ ghost use Rattle.engines.specs.words.Refusals.{HasWordsAlone};
 
 use crate::REFUSED;
 use crate::ask::ask_run;
-use crate::serve::serve_run;
+use crate::serve::{Listening, serve_run};
 use crate::streams::output::{write_net_fault, write_refusal};
 use crate::streams::socket::{NoSocket, Socket};
 use crate::words::arguments::{AskOptions, ServeOptions};
@@ -14,6 +14,7 @@ use bits::Bitmap;
 use metric::{Refusal, Sink, Source};
 use pbm::{ImageStop, read_source};
 use std::alloc::Global;
+use std::io;
 use std::net::{Ipv4Addr, Net, SocketAddr, SocketAddrV4, TcpListener, TcpStream};
 use std::sync::Wait;
 use std::thread::Threads;
@@ -35,6 +36,15 @@ fn read_map<R: Source>(alloc: Global, reader: &mut R) -> Result<Bitmap, Option<R
         Err(ImageStop::Memory) => Err(Some(Refusal::Memory)),
         Err(ImageStop::Failed) => Err(None),
     }
+}
+
+/// Listens on the port that is asked for.
+fn listen<N>(rt: &N, options: &ServeOptions) -> io::Result<Listening>
+where
+    N: Net<Listener = TcpListener, Stream = TcpStream>,
+{
+    let listener = TcpListener::bind(rt, local(options.port))?;
+    Listening::of(listener, options.connections)
 }
 
 /// Reads the map and listens on the port, and then serves. Answers the status.
@@ -59,8 +69,8 @@ where
         Err(Some(refusal)) => return write_refusal(writer, refusal).unwrap_or(REFUSED),
         Err(None) => return REFUSED,
     };
-    match TcpListener::bind(rt, local(options.port)) {
-        Ok(listener) => serve_run(rt, alloc, listener, map, options, writer),
+    match listen(rt, options) {
+        Ok(place) => serve_run(rt, alloc, place, map, options, writer),
         Err(_) => write_net_fault(writer).unwrap_or(REFUSED),
     }
 }

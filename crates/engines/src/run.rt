@@ -20,6 +20,8 @@ use std::time::Clock;
 use std::{env, io};
 
 /// Runs what the process's words name, on the standard streams. Answers the exit status. Standard streams that are closed stay closed: nothing that is opened takes their place.
+///
+/// A command reads the standard input and writes the standard output. Where one of them is closed it does nothing, and the status is 1.
 pub fn run_process<R>(rt: &R) -> u8
 where
     R: Env
@@ -34,9 +36,9 @@ where
         + Threads
         + Sync,
 {
-    let _held = Held::open(rt);
+    let held = Held::open(rt);
     match words_of(rt) {
-        Ok(words) => run_texts(rt, words.as_slice()),
+        Ok(words) => run_texts(rt, words.as_slice(), &held),
         Err(fault) => tell_fault(rt, &fault),
     }
 }
@@ -46,8 +48,8 @@ fn words_of<R: Env + AllocGlobal>(rt: &R) -> Result<Vec<String>, Fault<'static>>
     Ok(env::args(rt)?.collect(rt.alloc())?)
 }
 
-/// Runs what these words name.
-fn run_texts<R>(rt: &R, words: &[String]) -> u8
+/// Runs what these words name, where the streams that it needs are open.
+fn run_texts<R>(rt: &R, words: &[String], held: &Held) -> u8
 where
     R: Input
         + Print
@@ -72,6 +74,7 @@ where
         return refuse(rt);
     };
     match options(alloc, texts.as_slice()) {
+        Ok(_) if held.lacks_input_or_output() => REFUSED,
         Ok(Options::Serve(options)) => serve(rt, alloc, &options, &mut reader, &mut writer),
         Ok(Options::Ask(options)) => ask(rt, alloc, &options, &mut reader, &mut writer),
         said => run_said(

@@ -12,7 +12,7 @@ mod accepted;
 mod lines;
 mod pause;
 
-use crate::streams::output::{write_net_fault, write_refusal, write_text};
+use crate::streams::output::{write_refusal, write_text};
 use crate::words::arguments::ServeOptions;
 use crate::{DONE, REFUSED};
 use accepted::Accepted;
@@ -24,6 +24,7 @@ use proto::{Text, pool};
 use session::{Blank, Session, Store};
 use shelf::StoreName;
 use std::alloc::Global;
+use std::io;
 use std::marker::Brand;
 use std::net::TcpListener;
 use std::sync::Wait;
@@ -32,10 +33,31 @@ use std::time::Clock;
 
 /// Where connections come from, and how many are served.
 #[derive(Drop)]
-struct Listening {
+pub struct Listening {
     listener: TcpListener,
     port: u16,
     connections: u32,
+}
+
+impl Listening {
+    /// A listener, and how many connections it accepts. It fails where the listener has no port.
+    pub fn of(listener: TcpListener, connections: u32) -> io::Result<Self>
+        ensures { IfOk result (λ place. place.connections ≡ connections) }
+    {
+        let port = listener.local_addr()?.port();
+        Ok(Listening {
+            listener,
+            port,
+            connections,
+        })
+    }
+
+    /// The port that it listens on.
+    pub fn port(&self) -> u16
+        ensures { result ≡ self.now.port }
+    {
+        self.port
+    }
 }
 
 impl ServeOptions {
@@ -56,11 +78,11 @@ impl ServeOptions {
 /// Serves the map to the connections that the listener accepts, and answers the status once there were so many.
 /// The line `LISTENING <port>` is written before the first is accepted, and `SERVED <connections> <log length>` after the last.
 ///
-/// In place of these it writes one line, with status 1: `FAULT net` where the listener has no port, `ERR 16 ..` for the first of blocks, versions, workers (as `Sessions`) and log that is out of its limits for this map, and `ERR 5 Memory`. A connection that can't be accepted, or fails, counts as served. Where a write fails nothing more is written, and the status is 1.
+/// In place of these it writes one line, with status 1: `ERR 16 ..` for the first of blocks, versions, workers (as `Sessions`) and log that is out of its limits for this map, and `ERR 5 Memory`. A connection that can't be accepted, or fails, counts as served. Where a write fails nothing more is written, and the status is 1.
 pub fn serve_run<R: Clock + Wait + Threads + Sync, W: Sink>(
     rt: &R,
     alloc: Global,
-    listener: TcpListener,
+    place: Listening,
     map: Bitmap,
     options: &ServeOptions,
     writer: &mut W,
@@ -69,28 +91,19 @@ pub fn serve_run<R: Clock + Wait + Threads + Sync, W: Sink>(
 
     // Where the setting is out of its limits nothing is served, and one line says so.
     ensures setting { IfSome (bad_field (tile_count map) (setting_served options.now)) (λ field.
-        WritesOnly (refusal_text (BadSetting field) ++ 10 ∷ []) (W.held writer.old) (W.held writer.new) × (result ≡ 1)) }
+        WritesOnly (refusal_text (BadSetting field) ++ 10 ∷ []) (W.failed_writes writer.old) (W.failed_writes writer.new)
+        (W.held writer.old) (W.held writer.new) × (result ≡ 1)) }
 
     // Otherwise the port is told, and how many connections were served; or why nothing is.
     ensures served { bad_field (tile_count map) (setting_served options.now) ≡ None
         → W.failed_writes writer.new ≡ W.failed_writes writer.old
-        → WritesServed options.now.connections (W.held writer.old) (W.held writer.new) result }
+        → WritesServed place.port place.connections (W.held writer.old) (W.held writer.new) result }
     ensures failed { bad_field (tile_count map) (setting_served options.now) ≡ None
         → W.failed_writes writer.new ≢ W.failed_writes writer.old
-        → BeginsServed options.now.connections (W.held writer.old) (W.held writer.new) × (result ≡ 1) }
+        → BeginsServed place.port place.connections (W.held writer.old) (W.held writer.new) × (result ≡ 1) }
     ensures one_failure { W.failed_writes writer.new ≤ W.failed_writes writer.old + 1 }
 {
-    match listener.local_addr() {
-        Ok(address) => {
-            let place = Listening {
-                listener,
-                port: address.port(),
-                connections: options.connections,
-            };
-            serve_at(rt, alloc, place, map, options.setting(), writer).unwrap_or(REFUSED)
-        }
-        Err(_) => write_net_fault(writer).unwrap_or(REFUSED),
-    }
+    serve_at(rt, alloc, place, map, options.setting(), writer).unwrap_or(REFUSED)
 }
 
 /// Serves the map with a store of this setting.
@@ -104,12 +117,12 @@ fn serve_at<R: Clock + Wait + Threads + Sync, W: Sink>(
 ) -> Result<u8, WriteFault>
     requires { CanFail (W.failed_writes writer.old) }
     ensures setting { IfSome (bad_field (tile_count map) setting) (λ field.
-        WritesOnly (refusal_text (BadSetting field) ++ 10 ∷ []) (W.held writer.old) (W.held writer.new) × IfOk result
-        (λ status. status ≡ 1)) }
+        WritesOnly (refusal_text (BadSetting field) ++ 10 ∷ []) (W.failed_writes writer.old) (W.failed_writes writer.new)
+        (W.held writer.old) (W.held writer.new) × IfOk result (λ status. status ≡ 1)) }
     ensures served { bad_field (tile_count map) setting ≡ None
-        → IfOk result (WritesServed place.connections (W.held writer.old) (W.held writer.new)) }
+        → IfOk result (WritesServed place.port place.connections (W.held writer.old) (W.held writer.new)) }
     ensures begun { bad_field (tile_count map) setting ≡ None
-        → OnErr result (BeginsServed place.connections (W.held writer.old) (W.held writer.new)) }
+        → OnErr result (BeginsServed place.port place.connections (W.held writer.old) (W.held writer.new)) }
     ensures counts { Counts (W.failed_writes writer.old) result (W.failed_writes writer.new) }
 {
     match Blank::of(alloc, setting, map) {
@@ -128,8 +141,8 @@ fn serve_blank<Id: StoreName + Send + Sync, R: Clock + Wait + Threads + Sync, W:
 ) -> Result<u8, WriteFault>
     requires name { blank ≡ Id.store }
     requires writer { CanFail (W.failed_writes writer.old) }
-    ensures served { IfOk result (WritesServed place.connections (W.held writer.old) (W.held writer.new)) }
-    ensures begun { OnErr result (BeginsServed place.connections (W.held writer.old) (W.held writer.new)) }
+    ensures served { IfOk result (WritesServed place.port place.connections (W.held writer.old) (W.held writer.new)) }
+    ensures begun { OnErr result (BeginsServed place.port place.connections (W.held writer.old) (W.held writer.new)) }
     ensures counts { Counts (W.failed_writes writer.old) result (W.failed_writes writer.new) }
 {
     match Store::<Id>::open(alloc, blank) {
@@ -151,8 +164,8 @@ fn serve_store<Id: StoreName + Send + Sync, R: Clock + Wait + Threads + Sync, W:
     writer: &mut W,
 ) -> Result<u8, WriteFault>
     requires { CanFail (W.failed_writes writer.old) }
-    ensures served { IfOk result (WritesServed place.connections (W.held writer.old) (W.held writer.new)) }
-    ensures begun { OnErr result (BeginsServed place.connections (W.held writer.old) (W.held writer.new)) }
+    ensures served { IfOk result (WritesServed place.port place.connections (W.held writer.old) (W.held writer.new)) }
+    ensures begun { OnErr result (BeginsServed place.port place.connections (W.held writer.old) (W.held writer.new)) }
     ensures counts { Counts (W.failed_writes writer.old) result (W.failed_writes writer.new) }
 {
     let Ok(mut text) = Text::new(alloc) else {

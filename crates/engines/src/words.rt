@@ -68,10 +68,9 @@ fn dist_options<'a>(flags: &ArgMatches<'a>) -> Result<DistOptions<'a>, Fault<'a>
 fn metric_given(flags: &ArgMatches<'_>) -> Option<MetricKind>
     ensures { result ≡ option_and_then metric_named (first_value (found_of flags.now) (codes "metric")) }
 {
-    match flags.get_str("metric") {
-        Some(name) => MetricKind::named(name.as_bytes()),
-        None => None,
-    }
+    flags
+        .get_str("metric")
+        .and_then(|name| MetricKind::named(name.as_bytes()))
 }
 
 /// What the words say to the program's commands and flags.
@@ -134,7 +133,7 @@ fn steps_command<'a>(alloc: Global) -> Command<'a>
             "Do the events on standard input in a map with numbered versions, one word at a time",
         )
         .after_help(
-            "The first line is OPEN and six numbers: the columns and rows of a blank map, its blocks,\nversions, sessions and the length of its log. Each line behind it is one of these, and gets\none answer line:\n  A r      reader r announces the newest version that it has seen, and those after it\n  L r      it loads the newest version, and holds it if it has announced\n  M r k    it looks up the block of position k\n  T r b i  it looks at row i of block b\n  V r      it leaves\n  E r      it announces the version that it holds, and no other\n  C LINE   the keeper gets a command: PAINT x0 y0 x1 y1, CLEAR x0 y0 x1 y1, PUBLISH, REVERT, COLLECT,\n           CHECKPOINT\n  K n      the keeper does the next n steps of its command\n\nExample:\n  printf 'OPEN 64 64 3 2 1 10\\nC PAINT 0 0 1 1\\nK 1\\n' | clearmap steps",
+            "The first line is OPEN and six numbers: the columns and rows of a blank map, its blocks,\nversions, sessions and the length of its log. Each line after it is one of these, and gets\none answer line:\n  A r      reader r announces the newest version that it has seen, and those after it\n  L r      it loads the newest version, and holds it if it has announced\n  M r k    it looks up the block of position k\n  T r b i  it looks at row i of block b\n  E r      it announces the version that it holds, and no other\n  V r      it leaves\n  C LINE   the keeper gets a command: PAINT x0 y0 x1 y1, CLEAR x0 y0 x1 y1, PUBLISH, REVERT, COLLECT,\n           CHECKPOINT\n  K n      the keeper does the next n steps of its command\n\nExample:\n  printf 'OPEN 64 64 3 2 1 10\\nC PAINT 0 0 1 1\\nK 1\\n' | clearmap steps",
         )
 }
 

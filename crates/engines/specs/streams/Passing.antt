@@ -1,11 +1,11 @@
 -- Bytes that are read from one stream and written to another: this project's own rule.
 use Rattle.std.specs.Prelude.{◌≡◌, ◌<◌, ℕ, ◌⊎◌, All, List, [], ◌∷◌, ◌++◌, codes, length, Option}
 use Rattle.std.specs.List.{concat}
-use Rattle.metric.specs.Refusal.{refusal_text}
 use Rattle.metric.specs.Stream.{AreAll, Takes, Appends, AppendsFront}
-use Rattle.metric.specs.declared.refusal.Refusal.TheVariants as refusals
 use Rattle.engines.specs.ask.Asking.{IsLessThanRequest, IsRequest, IsUnended}
-use Rattle.engines.specs.words.Refusals.{net_text}
+use Rattle.engines.specs.words.Refusals.{memory_text, net_text}
+use Rattle.engines.specs.declared.ask.Stop.{Stop}
+use Rattle.engines.specs.declared.ask.Stop.TheVariants as stops
 
 -- what was read stands in a buffer, after what it held
 pub record Gathers (unread : Option (List ℕ)) (before after : List ℕ) (left : Option (List ℕ)) : Type 0 where
@@ -54,25 +54,36 @@ pub record PassesFront (unread left held_before held_after : Option (List ℕ)) 
   pub taken : Takes unread bytes left
   pub written : AppendsFront held_before bytes held_after
 
--- a run of `ask` that ended early tells why in this line: the network, want of memory, or nothing where a standard stream failed
-abbrev pub IsEndLine : List ℕ → Type 0
-IsEndLine line = (line ≡ []) ⊎ ((line ≡ net_text) ⊎ (line ≡ refusal_text refusals.Memory ++ 10 ∷ []))
+-- a run of `ask` that stops tells why in this line, and tells nothing where a standard stream failed
+abbrev pub stop_text : Stop → List ℕ
+stop_text stops.Standard = []
+stop_text stops.Net = net_text
+stop_text stops.Memory = memory_text
 
--- the line that tells why a run ended was written, or a beginning of it
-pub record WritesEnd (held_before held_after : Option (List ℕ)) : Type 0 where
-  pub line : List ℕ
-  pub line_is : IsEndLine line
-  pub written : AppendsFront held_before line held_after
+-- a run of `ask` that ended early tells why in this line: the network's fault, or want of memory where the connection is sound
+abbrev pub IsEndLine : Type 0 → List ℕ → Type 0
+IsEndLine sound line = (line ≡ net_text) ⊎ ((line ≡ memory_text) × sound)
 
--- a beginning of what was read was written, and after it the line that tells why it ended, or a beginning of that
-pub record EndsEarly (unread left held_before held_after : Option (List ℕ)) : Type 0 where
+-- a beginning of what was read was written, and after it the line that tells why it ended
+pub record EndsEarly (sound : Type 0) (unread left held_before held_after : Option (List ℕ)) : Type 0 where
   pub bytes : List ℕ
   pub front : List ℕ
   pub back : List ℕ
   pub line : List ℕ
   pub taken : Takes unread bytes left
   pub bytes_are : bytes ≡ front ++ back
-  pub line_is : IsEndLine line
+  pub line_is : IsEndLine sound line
+  pub written : Appends held_before (front ++ line) held_after
+
+-- a beginning of what was read was written, and after it a beginning of the line that tells why it ended
+pub record BreaksOff (sound : Type 0) (unread left held_before held_after : Option (List ℕ)) : Type 0 where
+  pub bytes : List ℕ
+  pub front : List ℕ
+  pub back : List ℕ
+  pub line : List ℕ
+  pub taken : Takes unread bytes left
+  pub bytes_are : bytes ≡ front ++ back
+  pub line_is : IsEndLine sound line
   pub written : AppendsFront held_before (front ++ line) held_after
 
 -- requests were read and sent, each whole

@@ -1,6 +1,7 @@
--- Refusals whose lines have no number, and the network's fault: this project's own rule.
+-- Refusals whose lines have no number, want of memory, and the network's fault: this project's own rule.
 use Rattle.std.specs.Prelude.{ℕ, List, [], ◌∷◌, ◌++◌, codes, Option, Some, None}
 use Rattle.std.specs.Borrow.{Bor}
+use Rattle.metric.specs.Refusal.{refusal_text}
 use Rattle.metric.specs.declared.refusal.Refusal.{Refusal}
 use Rattle.metric.specs.declared.refusal.Refusal.TheVariants as refusals
 
@@ -18,3 +19,7 @@ name_text (Some name) = 32 ∷ name.now
 -- the network's fault is told in this line
 abbrev pub net_text : List ℕ
 net_text = codes "FAULT net" ++ 10 ∷ []
+
+-- want of memory is told in this line
+abbrev pub memory_text : List ℕ
+memory_text = refusal_text refusals.Memory ++ 10 ∷ []

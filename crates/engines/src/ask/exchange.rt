@@ -4,6 +4,7 @@ ghost use Rattle.std.specs.Prelude.{◌≡◌, ◌≢◌, ℕ, List, OnOk, IfErr
 ghost use Rattle.metric.specs.Stream.{Appends, AppendsFront, CanFail, Takes};
 ghost use Rattle.engines.specs.streams.Passing.{Gathers};
 ghost use Rattle.engines.specs.declared.ask.Stop.TheVariants.{Net, Standard};
+ghost use Rattle.engines.specs.declared.streams.gather.PartStop.TheVariants.{Failed};
 
 use crate::ask::Stop;
 use crate::ask::request::without_end;
@@ -19,8 +20,8 @@ pub fn exchange<S: Stream>(stream: &mut S, request: &[u8], reply: &mut Vec<u8>) 
     ensures front { AppendsFront (S.held stream.old) request.now (S.held stream.new) }
     ensures all { OnOk result (Takes (S.rest stream.old) reply.new.items (S.rest stream.new)) }
     ensures taken { (taken : List ℕ) × Takes (S.rest stream.old) taken (S.rest stream.new) }
-    ensures counts { OnOk result ((S.failed_reads stream.new ≡ S.failed_reads stream.old)
-        × (S.failed_writes stream.new ≡ S.failed_writes stream.old)) }
+    ensures counts { result ≢ Err Net → (S.failed_reads stream.new ≡ S.failed_reads stream.old)
+        × (S.failed_writes stream.new ≡ S.failed_writes stream.old) }
     ensures net { result ≢ Err Standard }
 {
     send(stream, request)?;
@@ -54,7 +55,7 @@ fn read_reply<S: Stream>(stream: &mut S, dump: bool, reply: &mut Vec<u8>) -> Res
     ensures all { OnOk result (Gathers (S.rest stream.old) reply.old.items reply.new.items (S.rest stream.new)) }
     ensures taken { (taken : List ℕ) × Takes (S.rest stream.old) taken (S.rest stream.new) }
     ensures written { S.written stream.new ≡ S.written stream.old }
-    ensures reads { OnOk result (S.failed_reads stream.new ≡ S.failed_reads stream.old) }
+    ensures reads { result ≢ Err Net → S.failed_reads stream.new ≡ S.failed_reads stream.old }
     ensures net { result ≢ Err Standard }
 {
     match read_whole(stream, dump, reply) {
@@ -70,7 +71,7 @@ fn read_whole<S: Stream>(stream: &mut S, dump: bool, reply: &mut Vec<u8>) -> Res
     ensures all { OnOk result (Gathers (S.rest stream.old) reply.old.items reply.new.items (S.rest stream.new)) }
     ensures taken { (taken : List ℕ) × Takes (S.rest stream.old) taken (S.rest stream.new) }
     ensures written { S.written stream.new ≡ S.written stream.old }
-    ensures reads { OnOk result (S.failed_reads stream.new ≡ S.failed_reads stream.old) }
+    ensures reads { result ≢ Err Failed → S.failed_reads stream.new ≡ S.failed_reads stream.old }
 {
     read_line(stream, reply)?;
     let count = if dump { counted(reply.as_slice()) } else { 0 };

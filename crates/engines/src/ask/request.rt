@@ -1,11 +1,12 @@
 //! A line of `ask`, with the bytes that it counts.
 
-ghost use Rattle.std.specs.Prelude.{◌≡◌, ◌≢◌, ◌++◌, ◌∷◌, [], ℕ, List, OnOk, Ok, Err, true, false};
+ghost use Rattle.std.specs.Prelude.{◌≡◌, ◌≢◌, ◌++◌, ◌∷◌, [], ℕ, List, ◌+◌, OnOk, Ok, Err, true, false};
 ghost use Rattle.std.specs.Str.Lines.{strip_carriage_return};
 ghost use Rattle.metric.specs.Stream.{CanFail, Takes};
 ghost use Rattle.proto.specs.Said.{said, verb_in};
 ghost use Rattle.engines.specs.ask.Asking.{IsRequest, bytes_behind};
 ghost use Rattle.engines.specs.streams.Passing.{EndsCut, Gathers};
+ghost use Rattle.engines.specs.declared.ask.Stop.TheVariants.{Standard};
 ghost use Rattle.engines.specs.declared.streams.gather.PartStop.TheVariants.{Ended, Failed};
 
 use crate::ask::Stop;
@@ -18,7 +19,8 @@ pub fn read_request<R: Source>(reader: &mut R, request: &mut Vec<u8>) -> Result<
     requires { CanFail (R.failed_reads reader.old) }
     ensures all { result ≡ Ok true → Takes (R.rest reader.old) request.new.items (R.rest reader.new) }
     ensures taken { (taken : List ℕ) × Takes (R.rest reader.old) taken (R.rest reader.new) }
-    ensures counts { OnOk result (R.failed_reads reader.new ≡ R.failed_reads reader.old) }
+    ensures counts { result ≢ Err Standard → R.failed_reads reader.new ≡ R.failed_reads reader.old }
+    ensures failed { result ≡ Err Standard → R.failed_reads reader.new ≡ R.failed_reads reader.old + 1 }
     ensures request { result ≡ Ok true → IsRequest request.new.items }
     ensures ended { result ≡ Ok false → EndsCut (R.rest reader.old) (R.rest reader.new) }
 {
@@ -37,6 +39,7 @@ fn read_whole<R: Source>(reader: &mut R, request: &mut Vec<u8>) -> Result<(), Pa
     ensures all { OnOk result (Gathers (R.rest reader.old) request.old.items request.new.items (R.rest reader.new)) }
     ensures taken { (taken : List ℕ) × Takes (R.rest reader.old) taken (R.rest reader.new) }
     ensures counts { result ≢ Err Failed → R.failed_reads reader.new ≡ R.failed_reads reader.old }
+    ensures failed { result ≡ Err Failed → R.failed_reads reader.new ≡ R.failed_reads reader.old + 1 }
     ensures request { request.old.items ≡ [] → OnOk result (IsRequest request.new.items) }
     ensures ended { request.old.items ≡ [] → result ≡ Err Ended → EndsCut (R.rest reader.old) (R.rest reader.new) }
 {

@@ -5,6 +5,7 @@ ghost use Rattle.metric.specs.declared.refusal.Refusal.{Refusal};
 ghost use Rattle.proto.specs.Asked.{asked_by, HasPoints};
 ghost use Rattle.engines.specs.dist.Query.{IsReplyTo, asked_in, status_of};
 
+use crate::{DONE, REFUSED};
 use bits::Bitmap;
 use metric::{Edge, Refusal};
 use proto::{Answer, Query, Verb, answer_query, read_query, split_verb};
@@ -37,7 +38,7 @@ pub fn status(answer: &Answer) -> u8
     ensures { result ≡ status_of answer.now }
 {
     match answer {
-        Answer::Refused(_) => 1,
-        _ => 0,
+        Answer::Refused(_) => REFUSED,
+        _ => DONE,
     }
 }

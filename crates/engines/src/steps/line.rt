@@ -1,9 +1,9 @@
 //! A line of steps, and what it says.
 
-ghost use Rattle.std.specs.Prelude.{◌≡◌};
+ghost use Rattle.std.specs.Prelude.{◌≡◌, option_map, unwrap_or};
 ghost use Rattle.proto.specs.Said.{first_verb, said_of};
 ghost use Rattle.proto.specs.Words.{words_left};
-ghost use Rattle.engines.specs.steps.StepLines.{letter_named, letter_said, order_said, step_said, step_said_by};
+ghost use Rattle.engines.specs.steps.StepLines.{bad, letter_named, letter_said, order_said, step_said, step_said_by};
 
 use map_core::Event;
 use metric::Refusal;
@@ -77,41 +77,36 @@ fn order(rest: Option<&[u8]>) -> StepLine
     }
 }
 
-/// What a letter says with what is left of its line.
-fn letter_line(letter: Letter, rest: Option<&[u8]>) -> StepLine
-    ensures { step_said_by result ≡ letter_said letter (words_left rest.entry) }
+/// What a letter says with what is left of its line; nothing where that isn't what the letter takes.
+fn letter_line(letter: Letter, rest: Option<&[u8]>) -> Option<StepLine>
+    ensures { unwrap_or (option_map step_said_by result) bad ≡ letter_said letter (words_left rest.entry) }
 {
-    match letter {
-        Letter::Announce => match only_number(rest) {
-            Some(reader) => StepLine::Event(Event::Announce { reader }),
-            None => StepLine::Bad,
-        },
-        Letter::Load => match only_number(rest) {
-            Some(reader) => StepLine::Event(Event::Load { reader }),
-            None => StepLine::Bad,
-        },
-        Letter::LookMap => match number_pair(rest) {
-            Some((reader, position)) => StepLine::Event(Event::LookMap { reader, position }),
-            None => StepLine::Bad,
-        },
-        Letter::LookTile => match number_triple(rest) {
-            Some((reader, block, row)) => StepLine::Event(Event::LookTile { reader, block, row }),
-            None => StepLine::Bad,
-        },
-        Letter::Leave => match only_number(rest) {
-            Some(reader) => StepLine::Event(Event::Leave { reader }),
-            None => StepLine::Bad,
-        },
-        Letter::Confirm => match only_number(rest) {
-            Some(reader) => StepLine::Event(Event::Confirm { reader }),
-            None => StepLine::Bad,
-        },
+    Some(match letter {
+        Letter::Announce => StepLine::Event(Event::Announce {
+            reader: only_number(rest)?,
+        }),
+        Letter::Load => StepLine::Event(Event::Load {
+            reader: only_number(rest)?,
+        }),
+        Letter::LookMap => {
+            let (reader, position) = number_pair(rest)?;
+            StepLine::Event(Event::LookMap { reader, position })
+        }
+        Letter::LookTile => {
+            let (reader, block, row) = number_triple(rest)?;
+            StepLine::Event(Event::LookTile { reader, block, row })
+        }
+        Letter::Leave => StepLine::Event(Event::Leave {
+            reader: only_number(rest)?,
+        }),
+        Letter::Confirm => StepLine::Event(Event::Confirm {
+            reader: only_number(rest)?,
+        }),
         Letter::Order => order(rest),
-        Letter::Keep => match only_number(rest) {
-            Some(count) => StepLine::Keep { count },
-            None => StepLine::Bad,
+        Letter::Keep => StepLine::Keep {
+            count: only_number(rest)?,
         },
-    }
+    })
 }
 
 /// What a line says, without its LF and the CR before it.
@@ -120,8 +115,8 @@ pub fn parse_step(line: &[u8]) -> StepLine
     ensures { step_said_by result ≡ step_said line.now }
 {
     let (word, rest) = split_word(line);
-    match letter_of(word) {
-        Some(letter) => letter_line(letter, rest),
-        None => StepLine::Bad,
-    }
+    let Some(letter) = letter_of(word) else {
+        return StepLine::Bad;
+    };
+    letter_line(letter, rest).unwrap_or(StepLine::Bad)
 }

@@ -10,10 +10,8 @@ pub fn split_line(text: &[u8]) -> Option<(&[u8], &[u8])>
     ensures lines { MatchOption result (lines_of text.now ≡ []) (λ found. lines_of text.now ≡ found.0.now ∷ lines_of found.1.now) }
     ensures fewer { IfSome result (λ found. length found.1.now < length text.now) }
 {
-    match first_end(text) {
-        Some(end) => Some((without_cr(&text[..end]), &text[end + 1..])),
-        None => None,
-    }
+    let end = first_end(text)?;
+    Some((without_cr(&text[..end]), &text[end + 1..]))
 }
 
 /// The place of the first LF.

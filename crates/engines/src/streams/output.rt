@@ -8,7 +8,7 @@ ghost use Rattle.engines.specs.words.Refusals.{HasWordsAlone, name_text, net_tex
 use crate::REFUSED;
 use metric::{PbmFault, Refusal, Sink, WriteFault};
 
-/// Writes a text of one line, and answers the status that goes with it.
+/// Writes a text, and answers the status that goes with it.
 pub fn write_text<W: Sink>(writer: &mut W, text: &[u8], status: u8) -> Result<u8, WriteFault>
     requires { CanFail (W.failed_writes writer.old) }
     ensures status { IfOk result (λ told. told ≡ status) }

@@ -46,7 +46,7 @@ pub struct ServeOptions {
     pub blocks: u32,
     /// How many versions it keeps at most.
     pub versions: u32,
-    /// How many entries its log has at most.
+    /// How many commands are accepted between two checkpoints, at most.
     pub log: u32,
     /// How many connections are served at once, 1 to 16.
     pub workers: u32,

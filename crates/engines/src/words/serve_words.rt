@@ -64,10 +64,9 @@ pub fn edge_given<'a>(flags: &ArgMatches<'a>) -> Result<Edge, Fault<'a>>
 fn edge_of(flags: &ArgMatches<'_>) -> Option<Edge>
     ensures { result ≡ option_and_then edge_named (first_value (found_of flags.now) (codes "edge")) }
 {
-    match flags.get_str("edge") {
-        Some(name) => Edge::named(name.as_bytes()),
-        None => None,
-    }
+    flags
+        .get_str("edge")
+        .and_then(|name| Edge::named(name.as_bytes()))
 }
 
 /// The flag of `ask`.
@@ -109,10 +108,9 @@ pub fn number_given(
 fn value_given(flags: &ArgMatches<'_>, name: &str) -> Option<u32>
     ensures { result ≡ option_and_then number (first_value (found_of flags.now) name.now) }
 {
-    match flags.get_str(name) {
-        Some(value) => read_number(value.as_bytes()),
-        None => None,
-    }
+    flags
+        .get_str(name)
+        .and_then(|value| read_number(value.as_bytes()))
 }
 
 /// The command `serve` and its flags.
@@ -147,7 +145,7 @@ pub fn ask_command<'a>(alloc: Global) -> Result<Command<'a>, Error>
         Command::new(alloc, "ask")
             .about("Send the lines on standard input to a server, and print each reply")
             .after_help(
-                "Behind a line 'STAMP x y n' come the n bytes of its image. Each line is answered before the next is\nsent. The run ends after BYE, or at the end of standard input; a last line without a line feed isn't\nsent. Without a server, or where it ends before a reply that is due, 'FAULT net' is printed, with\nstatus 1.\n\nExamples:\n  printf 'PIN\\nAT euclid2 3 4\\nQUIT\\n' | clearmap ask --port 7400\n  printf 'PAINT 0 0 8 8\\nPUBLISH\\nQUIT\\n' | clearmap ask --port 7400",
+                "After a line 'STAMP x y n' come the n bytes of its image. Each line is answered before the next is\nsent. The run ends after BYE, or at the end of standard input; a last line without a line feed isn't\nsent. Without a server, or where it ends before a reply that is due, 'FAULT net' is printed, with\nstatus 1.\n\nExamples:\n  printf 'PIN\\nAT euclid2 3 4\\nQUIT\\n' | clearmap ask --port 7400\n  printf 'PAINT 0 0 8 8\\nPUBLISH\\nQUIT\\n' | clearmap ask --port 7400",
             )
             .arg(server_flag(alloc))?,
     )
@@ -216,7 +214,9 @@ fn log_flag<'a>(alloc: Global) -> Arg<'a>
     ensures rule { rule_of result ≡ default_rule (codes "log") (codes "100000") }
     ensures local { result.global ≡ false }
 {
-    default_flag(alloc, "log", "100000").help("How many commands are accepted at most")
+    default_flag(alloc, "log", "100000").help(
+        "How many commands are accepted between two checkpoints, at most",
+    )
 }
 
 /// The flag `--workers`.

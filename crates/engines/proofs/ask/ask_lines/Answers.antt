@@ -23,9 +23,9 @@ pub lines-preserved : goal.lines-preserved
 lines-preserved g c = record {
   asked = Asks-both _ _ _ _ _ _ c.lines.invariant.asked (c.in_ok-ask_line.ensures.went (search rules));
   printed = PassesOn-both _ _ _ _ _ _ c.lines.invariant.printed c.in_ok-ask_line.ensures.printed;
-  stream_reads = c.in_ok-ask_line.ensures.stream.0 ∙ c.lines.invariant.stream_reads;
-  stream_writes = c.in_ok-ask_line.ensures.stream.1 ∙ c.lines.invariant.stream_writes;
-  reader = c.in_ok-ask_line.ensures.reader ∙ c.lines.invariant.reader;
+  stream_reads = c.in_ok-ask_line.ensures.stream_reads (λ e. absurd cc) ∙ c.lines.invariant.stream_reads;
+  stream_writes = c.in_ok-ask_line.ensures.stream_writes (λ e. absurd cc) ∙ c.lines.invariant.stream_writes;
+  reader = c.in_ok-ask_line.ensures.reader (λ e. absurd cc) ∙ c.lines.invariant.reader;
   writer = c.in_ok-ask_line.ensures.writer (λ e. absurd cc) ∙ c.lines.invariant.writer;
 }
 

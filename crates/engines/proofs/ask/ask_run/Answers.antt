@@ -1,6 +1,12 @@
 -- A run that ends early has written a beginning of what the server said, and then why it ends.
-use Rattle.engines.proofs.Gathering.{EndsEarly-line}
+use Rattle.std.proofs.Common.{rules}
+use Rattle.engines.proofs.Gathering.{BreaksOff-stop, EndsEarly-line}
 use Rattle.engines.proofs.ask.ask_run.Goals as goal
 
 pub returns-clause-ended : goal.returns-clause-ended
-returns-clause-ended g c = λ other. (EndsEarly-line _ _ _ _ _ c.in-Err.ensures.cut c.end.ensures.line, c.end.ensures.status)
+returns-clause-ended g c = λ reads writes other.
+    (EndsEarly-line _ _ _ _ _ _ _ (search rules) (search rules) c.in-Err.ensures.cut (c.end.ensures.whole (search rules)), c.end.ensures.status)
+
+pub returns-clause-failed_write : goal.returns-clause-failed_write
+returns-clause-failed_write g c = λ failed.
+    (BreaksOff-stop _ _ _ _ _ _ _ (search rules) c.in-Err.ensures.cut c.end.ensures.front, c.end.ensures.status)

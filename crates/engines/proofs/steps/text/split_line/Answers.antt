@@ -3,8 +3,8 @@ use Rattle.std.proofs.Common.{sym}
 use Rattle.engines.proofs.LineSplitting.{lines_of-more, lines_of-none}
 use Rattle.engines.proofs.steps.text.split_line.Goals as goal
 
-pub returns-in-Some-clause-lines : goal.returns-in-Some-clause-lines
-returns-in-Some-clause-lines c = rw c.without_cr.ensures (lines_of-more c.args.text.now c.in-Some.end (sym c.in-Some.ensures))
+pub returns-clause-lines : goal.returns-clause-lines
+returns-clause-lines c = rw c.without_cr.ensures (lines_of-more c.args.text.now c.in_ok-end.end (sym c.in_ok-end.ensures))
 
-pub returns-in-None-clause-lines : goal.returns-in-None-clause-lines
-returns-in-None-clause-lines c = lines_of-none c.args.text.now (sym c.in-None.ensures)
+pub returns-in_err-end-clause-lines : goal.returns-in_err-end-clause-lines
+returns-in_err-end-clause-lines c = rw c.from_residual.ensures (lines_of-none c.args.text.now (sym c.in_err-end.ensures))
