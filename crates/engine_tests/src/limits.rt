@@ -1,4 +1,4 @@
-//! Worked rows on images with so many rows that each row takes the table of columns, up to the highest.
+//! Worked rows on images of so many rows that lines are carried from row to row, up to the highest.
 
 ghost use Rattle.std.specs.Prelude.{◌<◌};
 

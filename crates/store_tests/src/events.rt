@@ -1,10 +1,12 @@
 //! The core over events, what no clause says: that memory is found, and worked runs of events with answers from outside.
 
 use crate::compare::same;
-use crate::script::{Script, kept};
-use bits::Bitmap;
-use map_core::{Command, Event, NotEnabled, Reply, Setting, StepReply, World, run};
-use metric::{Cell, Edge, Field, Rect, Refusal};
+use crate::keeping::kept;
+use crate::opened::{Spotted, rect, spotted};
+use map_core::{Command, Event, Reply, Setting, StepReply, World};
+use metric::Edge;
+use std::alloc::Global;
+use std::process::Abort;
 use std::test::Fail;
 
 /// Room for three blocks, two versions, one reader and ten entries.
@@ -16,256 +18,221 @@ pub const SMALL: Setting = Setting {
     edge: Edge::Open,
 };
 
-#[test]
-fn a_stale_announcement_does_no_harm(rt: HostRuntime) -> Result<(), Fail> {
-    let cell = Rect::new(0, 0, 1, 1).expect(&rt, "the first cell");
-    let mut script = Script::new(rt.alloc());
-    script.paint(cell, 1, 1)?;
-    script.publish(66, 2, 1)?;
-    script.order(Command::Collect, 2)?;
-    script.scan(0)?;
-    script.announce(0)?;
-    script.commit(Reply::Collected {
-        place: 3,
-        floor: 1,
-        freed: 1,
-        kept: kept(0, 2),
-    })?;
-    script.not_enabled(Event::Announce { reader: 0 })?;
-    script.load(3, 1)?;
-    script.look_map(0, 1)?;
-    script.look_tile(1, 0, 1)?;
-    script.not_enabled(Event::LookTile {
-        reader: 0,
-        block: 0,
-        row: 0,
-    })?;
-    script.leave()?;
-    let map = Bitmap::blank(rt.alloc(), 64, 64)?;
-    assert!(rt; script.is_answered(rt.alloc(), SMALL, &map)?);
-    Ok(())
+/// What happens in a run.
+#[derive(Clone, Copy)]
+enum Step {
+    /// This reader announces, and the version.
+    Announces(u32, u32),
+    /// It loads NOW: the entries and the newest version.
+    Loads(u32, u32, u32),
+    /// It looks at a position: its block.
+    Finds(u32, u32, u32),
+    /// It looks at a row of a block: its word.
+    Reads(u32, u32, u32, u64),
+    Leaves(u32),
+    /// A paint of the cells of the rectangle with these corners, its place, and how many cells change.
+    Paints([u16; 4], u32, u32),
+    /// A stamp of such a map whose first cell is here, its place, and how many cells change.
+    Stamps(u16, u16, Spotted, u32, u32),
+    /// A publish of so many steps, its place, and the version.
+    Publishes(u32, u32, u32),
+    /// A collect of so many steps, which scans these words; its place, the least version that is kept, how many blocks came back, and the first slots.
+    Collects(u32, (u64, u64), (u32, u32, u32), [u32; 4]),
+    /// A revert, and its place.
+    Reverts(u32),
 }
 
-#[test]
-fn a_reader_and_a_collect_take_turns(rt: HostRuntime) -> Result<(), Fail> {
-    let beside = Rect::new(0, 0, 65, 1).expect(&rt, "a row, and a cell beside the map");
-    let mut script = Script::new(rt.alloc());
-    script.load(0, 0)?;
-    script.not_enabled(Event::LookMap {
-        reader: 0,
-        position: 0,
-    })?;
-    script.announce(0)?;
-    let paint = Command::Paint {
-        rect: beside,
-        black: true,
-    };
-    script.refused(paint, Refusal::OutOfRange)?;
-    script.order(Command::Collect, 2)?;
-    script.not_enabled(Event::Order {
-        command: Command::Revert,
-    })?;
-    script.scan(1)?;
-    script.commit(Reply::Collected {
-        place: 1,
-        floor: 0,
-        freed: 0,
-        kept: kept(1, 0),
-    })?;
-    script.not_enabled(Event::Keep)?;
-    script.load(1, 0)?;
-    script.look_map(0, 0)?;
-    script.not_enabled(Event::LookMap {
-        reader: 0,
-        position: 1,
-    })?;
-    script.not_enabled(Event::Load { reader: 1 })?;
-    script.not_enabled(Event::LookTile {
-        reader: 0,
-        block: 0,
-        row: 64,
-    })?;
-    let map = Bitmap::blank(rt.alloc(), 64, 64)?;
-    assert!(rt; script.is_answered(rt.alloc(), SMALL, &map)?);
-    Ok(())
-}
-
-#[test]
-fn blocks_are_given_back_to_the_front(rt: HostRuntime) -> Result<(), Fail> {
-    let row = Rect::new(0, 0, 192, 1).expect(&rt, "three tiles");
-    let first = Rect::new(0, 0, 1, 1).expect(&rt, "a cell of the first tile");
-    let last = Rect::new(191, 0, 192, 1).expect(&rt, "a cell of the last tile");
-    let mut script = Script::new(rt.alloc());
-    script.paint(row, 1, 192)?;
-    script.order(Command::Revert, 1)?;
-    script.commit(Reply::Reverted { place: 2 })?;
-    script.paint(first, 3, 1)?;
-    script.publish(68, 4, 1)?;
-    script.load(4, 1)?;
-    script.announce(1)?;
-    script.load(4, 1)?;
-    script.look_map(0, 5)?;
-    script.look_map(1, 1)?;
-    script.collect(3, 5, 1)?;
-    script.paint(last, 6, 1)?;
-    script.publish(68, 7, 2)?;
-    script.look_map(2, 2)?;
-    script.leave()?;
-    script.load(7, 2)?;
-    script.announce(2)?;
-    script.load(7, 2)?;
-    script.look_map(2, 0)?;
-    script.look_tile(0, 0, 1 << 63)?;
-    let map = Bitmap::blank(rt.alloc(), 192, 1)?;
-    let setting = Setting { blocks: 6, ..SMALL };
-    assert!(rt; script.is_answered(rt.alloc(), setting, &map)?);
-    Ok(())
-}
-
-#[test]
-fn refusals_come_in_their_order(rt: HostRuntime) -> Result<(), Fail> {
-    let inside = Rect::new(0, 0, 1, 1).expect(&rt, "a cell of the map");
-    let beside = Rect::new(64, 0, 65, 1).expect(&rt, "a cell beside the map");
-    let clear = Command::Paint {
-        rect: inside,
-        black: false,
-    };
-    let outside = Command::Paint {
-        rect: beside,
-        black: true,
-    };
-    let again = Command::Paint {
-        rect: inside,
-        black: true,
-    };
-    let mut script = Script::new(rt.alloc());
-    script.paint(inside, 1, 1)?;
-    script.publish(66, 2, 1)?;
-    script.refused(clear, Refusal::BlocksFull { needed: 1, free: 0 })?;
-    script.refused(Command::Publish, Refusal::VersionsFull)?;
-    script.paint(inside, 3, 0)?;
-    script.refused(Command::Publish, Refusal::LogFull)?;
-    script.refused(outside, Refusal::OutOfRange)?;
-    script.refused(again, Refusal::LogFull)?;
-    script.refused(Command::Revert, Refusal::LogFull)?;
-    script.refused(Command::Collect, Refusal::LogFull)?;
-    let map = Bitmap::blank(rt.alloc(), 64, 1)?;
-    let setting = Setting {
-        blocks: 2,
-        log: 3,
-        ..SMALL
-    };
-    assert!(rt; script.is_answered(rt.alloc(), setting, &map)?);
-    Ok(())
-}
-
-#[test]
-fn a_stamp_sets_and_clears(rt: HostRuntime) -> Result<(), Fail> {
-    let mut corners = Bitmap::blank(rt.alloc(), 2, 2)?;
-    corners.set(Cell { x: 0, y: 0 }, true);
-    corners.set(Cell { x: 1, y: 1 }, true);
-    let blank = Bitmap::blank(rt.alloc(), 2, 2)?;
-    let mut script = Script::new(rt.alloc());
-    script.order(
-        Command::Stamp {
-            x: 62,
-            y: 62,
-            bitmap: corners,
-        },
-        1,
-    )?;
-    script.commit(Reply::Painted {
-        place: 1,
-        changed: 2,
-    })?;
-    script.order(
-        Command::Stamp {
-            x: 61,
-            y: 61,
-            bitmap: blank,
-        },
-        1,
-    )?;
-    script.commit(Reply::Painted {
-        place: 2,
-        changed: 1,
-    })?;
-    script.publish(66, 3, 1)?;
-    script.load(3, 1)?;
-    script.announce(1)?;
-    script.load(3, 1)?;
-    script.look_tile(1, 63, 1 << 63)?;
-    script.look_tile(1, 62, 0)?;
-    let map = Bitmap::blank(rt.alloc(), 64, 64)?;
-    assert!(rt; script.is_answered(rt.alloc(), SMALL, &map)?);
-    Ok(())
-}
-
-/// Events of a collect in a world of two readers but for its last, what each answers, and how many steps are left after it.
-const COLLECT: [(Event, StepReply, u32); 3] = [
-    (
-        Event::Order {
-            command: Command::Collect,
-        },
-        StepReply::Ordered { steps: 3 },
-        3,
-    ),
-    (Event::Keep, StepReply::Scanned { reader: 0, word: 0 }, 2),
-    (Event::Keep, StepReply::Scanned { reader: 1, word: 1 }, 1),
+/// What a map with obstacles at `(17, 0)` and `(64, 1)` looks like once it is opened.
+const OPENED: [Step; 10] = [
+    Step::Announces(0, 0),
+    Step::Loads(0, 0, 0),
+    Step::Finds(0, 0, 0),
+    Step::Reads(0, 0, 0, 1 << 17),
+    Step::Reads(0, 0, 1, 0),
+    Step::Finds(0, 1, 1),
+    Step::Reads(0, 1, 0, 0),
+    Step::Reads(0, 1, 1, 1),
+    Step::Reads(0, 1, 63, 0),
+    Step::Publishes(3, 1, 1),
 ];
 
-#[test]
-fn steps_are_counted_down(rt: HostRuntime) -> Result<(), Fail> {
-    let map = Bitmap::blank(rt.alloc(), 64, 64)?;
-    let setting = Setting {
-        sessions: 2,
-        ..SMALL
+/// Blocks are given back to the front, and a version that is held stays.
+const GIVEN: [Step; 19] = [
+    Step::Paints([0, 0, 192, 1], 1, 192),
+    Step::Reverts(2),
+    Step::Paints([0, 0, 1, 1], 3, 1),
+    Step::Publishes(68, 4, 1),
+    Step::Loads(0, 4, 1),
+    Step::Announces(0, 1),
+    Step::Loads(0, 4, 1),
+    Step::Finds(0, 0, 5),
+    Step::Finds(0, 1, 1),
+    Step::Collects(2, (3, 0), (5, 1, 1), [0, 2, 0, 0]),
+    Step::Paints([191, 0, 192, 1], 6, 1),
+    Step::Publishes(68, 7, 2),
+    Step::Finds(0, 2, 2),
+    Step::Leaves(0),
+    Step::Loads(0, 7, 2),
+    Step::Announces(0, 2),
+    Step::Loads(0, 7, 2),
+    Step::Finds(0, 2, 0),
+    Step::Reads(0, 0, 0, 1 << 63),
+];
+
+/// A stamp sets cells, and clears them.
+const STAMPED: [Step; 8] = [
+    Step::Stamps(62, 62, ([2, 2], 1), 1, 4),
+    Step::Stamps(61, 61, ([2, 2], 0), 2, 1),
+    Step::Publishes(66, 3, 1),
+    Step::Loads(0, 3, 1),
+    Step::Announces(0, 1),
+    Step::Loads(0, 3, 1),
+    Step::Reads(0, 1, 63, 3 << 62),
+    Step::Reads(0, 1, 62, 1 << 63),
+];
+
+/// A collect scans two readers, the second of which has announced version 0.
+const SCANNED: [Step; 2] = [
+    Step::Announces(1, 0),
+    Step::Collects(3, (0, 1), (1, 0, 0), [1, 0, 0, 0]),
+];
+
+/// The last cell of the largest map, and the last of the most readers.
+const LARGEST: [Step; 6] = [
+    Step::Paints([4_095, 4_095, 4_096, 4_096], 1, 1),
+    Step::Publishes(4_161, 2, 1),
+    Step::Announces(63, 0),
+    Step::Loads(63, 2, 1),
+    Step::Finds(63, 4_095, 4_096),
+    Step::Reads(63, 4_096, 63, 1 << 63),
+];
+
+/// A map, a setting for it, and a run.
+const RUNS: [(Spotted, Setting, &[Step]); 5] = [
+    (([65, 2], 80), SMALL, &OPENED),
+    (([192, 1], 0), Setting { blocks: 6, ..SMALL }, &GIVEN),
+    (([64, 64], 0), SMALL, &STAMPED),
+    (
+        ([64, 64], 0),
+        Setting {
+            sessions: 2,
+            ..SMALL
+        },
+        &SCANNED,
+    ),
+    (
+        ([4_096, 4_096], 0),
+        Setting {
+            blocks: 4_097,
+            sessions: 64,
+            ..SMALL
+        },
+        &LARGEST,
+    ),
+];
+
+/// What a reader does in a step of a run, and its answer; or a command's order, how many steps it takes, the words that these scan, and its answer.
+enum Turn {
+    Read(Event, StepReply),
+    Ordered(Command, u32, Option<(u64, u64)>, Reply),
+}
+
+/// What happens in a step of a run.
+fn turn_of(rt: &impl Abort, alloc: Global, step: Step) -> Result<Turn, Fail> {
+    Ok(match step {
+        Step::Announces(reader, version) => Turn::Read(
+            Event::Announce { reader },
+            StepReply::Announced { version },
+        ),
+        Step::Loads(reader, place, version) => Turn::Read(
+            Event::Load { reader },
+            StepReply::Now { place, version },
+        ),
+        Step::Finds(reader, position, block) => Turn::Read(
+            Event::LookMap { reader, position },
+            StepReply::Block { block },
+        ),
+        Step::Reads(reader, block, row, word) => Turn::Read(
+            Event::LookTile { reader, block, row },
+            StepReply::Word { word },
+        ),
+        Step::Leaves(reader) => Turn::Read(Event::Leave { reader }, StepReply::Left),
+        Step::Paints(corners, place, changed) => {
+            let rect = rect(rt, corners);
+            Turn::Ordered(
+                Command::Paint { rect, black: true },
+                1,
+                None,
+                Reply::Painted { place, changed },
+            )
+        }
+        Step::Stamps(x, y, map, place, changed) => {
+            let bitmap = spotted(rt, alloc, map)?;
+            Turn::Ordered(
+                Command::Stamp { x, y, bitmap },
+                1,
+                None,
+                Reply::Painted { place, changed },
+            )
+        }
+        Step::Publishes(steps, place, version) => Turn::Ordered(
+            Command::Publish,
+            steps,
+            None,
+            Reply::Published { place, version },
+        ),
+        Step::Collects(steps, words, (place, floor, freed), slots) => {
+            let kept = kept(slots);
+            Turn::Ordered(
+                Command::Collect,
+                steps,
+                Some(words),
+                Reply::Collected {
+                    place,
+                    floor,
+                    freed,
+                    kept,
+                },
+            )
+        }
+        Step::Reverts(place) => Turn::Ordered(Command::Revert, 1, None, Reply::Reverted { place }),
+    })
+}
+
+/// Has it happen in a world.
+fn play(rt: &impl Abort, alloc: Global, world: &mut World, turn: Turn, case: (usize, usize)) {
+    let (command, steps, words, reply) = match turn {
+        Turn::Read(event, reply) => return same(rt, world.step(alloc, &event), Ok(reply), case),
+        Turn::Ordered(command, steps, words, reply) => (command, steps, words, reply),
     };
-    let mut world = World::open(rt.alloc(), setting, &map)?;
-    same(
-        &rt,
-        world.step(rt.alloc(), &Event::Keep),
-        Err(NotEnabled),
-        "step",
-    );
-    same(&rt, world.steps_left(), 0, "steps left");
-    let announced = world.step(rt.alloc(), &Event::Announce { reader: 1 });
-    same(
-        &rt,
-        announced,
-        Ok(StepReply::Announced { version: 0 }),
-        "announced",
-    );
-    for (event, answer, left) in COLLECT {
-        same(&rt, world.step(rt.alloc(), &event), Ok(answer), "step");
-        same(&rt, world.steps_left(), left, "steps left");
+    let ordered = world.step(alloc, &Event::Order { command });
+    same(rt, ordered, Ok(StepReply::Ordered { steps }), case);
+    for number in 1..steps {
+        same(rt, world.steps_left(), steps - number + 1, case);
+        let want = match words {
+            Some((first, second)) => StepReply::Scanned {
+                reader: number - 1,
+                word: if number == 1 { first } else { second },
+            },
+            None => StepReply::Written,
+        };
+        same(rt, world.step(alloc, &Event::Keep), Ok(want), case);
     }
-    let reply = Reply::Collected {
-        place: 1,
-        floor: 0,
-        freed: 0,
-        kept: kept(1, 0),
-    };
-    same(
-        &rt,
-        world.step(rt.alloc(), &Event::Keep),
-        Ok(StepReply::Committed { reply }),
-        "the last step",
-    );
-    same(&rt, world.steps_left(), 0, "no step left");
-    Ok(())
+    same(rt, world.steps_left(), 1, case);
+    let last = world.step(alloc, &Event::Keep);
+    same(rt, last, Ok(StepReply::Committed { reply }), case);
+    same(rt, world.steps_left(), 0, case);
 }
 
 #[test]
-fn a_run_is_refused_for_its_setting(rt: HostRuntime) -> Result<(), Fail> {
-    let map = Bitmap::blank(rt.alloc(), 128, 1)?;
-    let setting = Setting { blocks: 1, ..SMALL };
-    let refused = run(rt.alloc(), setting, &map, &[Event::Keep]);
-    same(
-        &rt,
-        refused.err(),
-        Some(Refusal::BadSetting(Field::Blocks)),
-        "err",
-    );
+fn worked_runs(rt: HostRuntime) -> Result<(), Fail> {
+    for (run, (map, setting, steps)) in RUNS.iter().enumerate() {
+        let bitmap = spotted(&rt, rt.alloc(), *map)?;
+        let mut world = World::open(rt.alloc(), *setting, &bitmap)?;
+        for (number, step) in steps.iter().enumerate() {
+            let turn = turn_of(&rt, rt.alloc(), *step)?;
+            play(&rt, rt.alloc(), &mut world, turn, (run, number));
+        }
+    }
     Ok(())
 }

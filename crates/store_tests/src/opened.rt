@@ -12,23 +12,6 @@ use std::alloc::Global;
 use std::process::Abort;
 use std::test::Fail;
 
-/// What a store is opened from.
-pub fn blank(setting: Setting, map: Bitmap, alloc: Global) -> Result<Blank, Fail> {
-    match Blank::of(alloc, setting, map) {
-        Ok(blank) => Ok(blank),
-        Err((_, refusal)) => Err(Fail::from(refusal)),
-    }
-}
-
-/// What a store on a map of this size without an obstacle is opened from.
-pub fn free(alloc: Global, setting: Setting, size: [u16; 2]) -> Result<Blank, Fail> {
-    let [width, height] = size;
-    if width == 0 || 4096 < width || height == 0 || 4096 < height {
-        return Err(Fail::from("a side that no map has"));
-    }
-    blank(setting, Bitmap::blank(alloc, width, height)?, alloc)
-}
-
 /// The size of a map, and how rare its obstacles are; 0 for none.
 pub type Spotted = ([u16; 2], u32);
 
@@ -39,10 +22,13 @@ pub fn spotted(rt: &impl Abort, alloc: Global, map: Spotted) -> Result<Bitmap, F
         return Err(Fail::from("a side that no map has"));
     }
     let mut bitmap = Bitmap::blank(alloc, width, height)?;
+    if rare == 0 {
+        return Ok(bitmap);
+    }
     for y in 0..height {
         for x in 0..width {
             let number = u32::from(x) * 37 + u32::from(y) * 101 + 11;
-            if rare != 0 && number % rare == 0 {
+            if number % rare == 0 {
                 let cell = Cell { x, y };
                 holds(rt, bitmap.holds(cell), cell);
                 bitmap.set(cell, true);
@@ -50,6 +36,19 @@ pub fn spotted(rt: &impl Abort, alloc: Global, map: Spotted) -> Result<Bitmap, F
         }
     }
     Ok(bitmap)
+}
+
+/// What a store on such a map is opened from.
+pub fn blank(
+    rt: &impl Abort,
+    alloc: Global,
+    setting: Setting,
+    map: Spotted,
+) -> Result<Blank, Fail> {
+    match Blank::of(alloc, setting, spotted(rt, alloc, map)?) {
+        Ok(blank) => Ok(blank),
+        Err((_, refusal)) => Err(Fail::from(refusal)),
+    }
 }
 
 /// Opens a store.

@@ -3,15 +3,12 @@
 mod acts;
 mod beside;
 mod busy;
-mod closing;
 mod counted;
-mod framed;
 mod fresh;
 mod held;
 mod later;
 mod limits;
 mod looks;
-mod pins;
 mod players;
 mod seat;
 mod tutorial;

@@ -17,8 +17,9 @@ const OBSTACLE: Cell = Cell { x: 3, y: 4 };
 /// A few rows, which are worked without a table, and many.
 const SIZES: [[u16; 2]; 2] = [[64, 8], [64, 70]];
 
-/// How many workers there are, and what is told of them.
-const WORKERS: [(u8, &str); 3] = [
+/// How many workers there are, none for the call without any, and what is told of them.
+const WORKERS: [(u8, &str); 4] = [
+    (0, "rows"),
     (1, "rows_with of 1 worker"),
     (2, "rows_with of 2 workers"),
     (16, "rows_with of 16 workers"),
@@ -31,21 +32,20 @@ impl Gate for Open {
     fn enter(&self, _band: u8) {}
 }
 
-/// How far apart two coordinates are, squared.
-fn squared(a: u16, b: u16) -> u32 {
-    let apart = u32::from(a.abs_diff(b));
-    apart.saturating_mul(apart)
-}
-
 /// Looks at the answers of all cells of a map of 64 columns.
-fn look_at(rt: &impl Abort, nears: &[Option<Near>], size: [u16; 2]) {
-    let [width, height] = size;
-    let cells = usize::from(width).saturating_mul(usize::from(height));
-    same(rt, nears.len(), cells, "cells");
+fn look_at(rt: &impl Abort, nears: &[Option<Near>], height: u16) {
+    same(
+        rt,
+        nears.len(),
+        usize::from(height).saturating_mul(64),
+        "cells",
+    );
     for (index, near) in nears.iter().enumerate() {
-        let (x, y) = ((index % 64) as u16, (index / 64 % 128) as u16);
-        let columns = squared(x, OBSTACLE.x);
-        let dist = columns.saturating_add(squared(y, OBSTACLE.y));
+        let column = ((index % 64) as u32).abs_diff(u32::from(OBSTACLE.x));
+        let row = ((index / 64 % 128) as u32).abs_diff(u32::from(OBSTACLE.y));
+        let dist = column
+            .saturating_mul(column)
+            .saturating_add(row.saturating_mul(row));
         let want = Near {
             dist,
             cell: Spot { x: 3, y: 4 },
@@ -54,70 +54,41 @@ fn look_at(rt: &impl Abort, nears: &[Option<Near>], size: [u16; 2]) {
     }
 }
 
+/// Works all rows of a map with so many workers.
+fn work<R: Threads + Sync>(
+    rt: &R,
+    alloc: Global,
+    map: &Bitmap,
+    workers: Option<Workers>,
+) -> Result<Vec<Option<Near>>, Refusal> {
+    let height = map.height();
+    match workers {
+        Some(workers) => {
+            rows_with::<Euclid2, _, _>(rt, alloc, map, Edge::Open, 0, height, workers, &Open)
+        }
+        None => rows::<Euclid2>(alloc, map, Edge::Open, 0, height),
+    }
+}
+
 #[test]
 fn rows_are_worked_again(rt: HostRuntime) -> Result<(), Fail> {
     for size in SIZES {
         let map = drawn(&rt, rt.alloc(), size, OBSTACLE)?;
-        works(&rt, rt.alloc(), &map, size)?;
-    }
-    Ok(())
-}
-
-/// Works all rows of a map.
-fn works<R: Abort + Print>(
-    rt: &R,
-    alloc: Global,
-    map: &Bitmap,
-    size: [u16; 2],
-) -> Result<(), Fail> {
-    let call: Call = ("field", "rows");
-    let height = map.height();
-    begin(rt, call);
-    let first = rows::<Euclid2>(alloc, map, Edge::Open, 0, height);
-    end(rt, call, first.is_err());
-    let nears = match first {
-        Ok(nears) => nears,
-        Err(refusal) => {
-            same(rt, refusal, Refusal::Memory, "rows");
-            rows::<Euclid2>(alloc, map, Edge::Open, 0, height)?
-        }
-    };
-    look_at(rt, nears.as_slice(), size);
-    Ok(())
-}
-
-#[test]
-fn bands_are_worked_again(rt: HostRuntime) -> Result<(), Fail> {
-    for size in SIZES {
-        let map = drawn(&rt, rt.alloc(), size, OBSTACLE)?;
         for (count, name) in WORKERS {
-            let workers = Workers::new(count).ok_or("no workers")?;
-            works_with(&rt, rt.alloc(), &map, size, workers, ("field", name))?;
+            let call: Call = ("field", name);
+            let workers = Workers::new(count);
+            begin(&rt, call);
+            let first = work(&rt, rt.alloc(), &map, workers);
+            end(&rt, call, first.is_err());
+            let nears = match first {
+                Ok(nears) => nears,
+                Err(refusal) => {
+                    same(&rt, refusal, Refusal::Memory, name);
+                    work(&rt, rt.alloc(), &map, workers)?
+                }
+            };
+            look_at(&rt, nears.as_slice(), map.height());
         }
     }
-    Ok(())
-}
-
-/// Works all rows of a map with so many workers.
-fn works_with<R: Abort + Print + Threads + Sync>(
-    rt: &R,
-    alloc: Global,
-    map: &Bitmap,
-    size: [u16; 2],
-    workers: Workers,
-    call: Call,
-) -> Result<(), Fail> {
-    let height = map.height();
-    begin(rt, call);
-    let first = rows_with::<Euclid2, _, _>(rt, alloc, map, Edge::Open, 0, height, workers, &Open);
-    end(rt, call, first.is_err());
-    let nears = match first {
-        Ok(nears) => nears,
-        Err(refusal) => {
-            same(rt, refusal, Refusal::Memory, "bands");
-            rows_with::<Euclid2, _, _>(rt, alloc, map, Edge::Open, 0, height, workers, &Open)?
-        }
-    };
-    look_at(rt, nears.as_slice(), size);
     Ok(())
 }

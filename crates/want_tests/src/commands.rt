@@ -133,15 +133,10 @@ const GAMES: [Game; 14] = [
 #[test]
 fn commands_are_made_again(rt: HostRuntime) -> Result<(), Fail> {
     for game in &GAMES {
-        plays(&rt, rt.alloc(), *game)?;
+        let blank = blank(&rt, rt.alloc(), SETTING, SIZE, FIRST)?;
+        plays_in::<Brand, _>(&rt, rt.alloc(), blank, *game)?;
     }
     Ok(())
-}
-
-/// Plays a game on a store that is opened for it.
-fn plays<R: Wait + Abort + Print>(rt: &R, alloc: Global, game: Game) -> Result<(), Fail> {
-    let blank = blank(rt, alloc, SETTING, SIZE, FIRST)?;
-    plays_in::<Brand, _>(rt, alloc, blank, game)
 }
 
 /// Plays a game on a store that is opened from this.

@@ -85,14 +85,6 @@ fn append(map: &Bitmap, is_raw: bool, text: &mut Vec<u8>) -> Result<(), Refusal>
     }
 }
 
-/// A text that something stands in, made again where there was no memory.
-fn begun(alloc: Global) -> Result<Vec<u8>, Fail> {
-    match Vec::from_slice(alloc, BEFORE) {
-        Ok(text) => Ok(text),
-        Err(_) => Ok(Vec::from_slice(alloc, BEFORE)?),
-    }
-}
-
 /// Appends an image to a text, and looks at the whole text.
 fn write<R: Abort + Print>(
     rt: &R,
@@ -101,7 +93,10 @@ fn write<R: Abort + Print>(
     writer: (bool, &'static str, &[u8]),
 ) -> Result<(), Fail> {
     let (is_raw, name, want) = writer;
-    let mut text = begun(alloc)?;
+    let mut text = match Vec::from_slice(alloc, BEFORE) {
+        Ok(text) => text,
+        Err(_) => Vec::from_slice(alloc, BEFORE)?,
+    };
     begin(rt, ("pbm", name));
     let first = append(map, is_raw, &mut text);
     end(rt, ("pbm", name), first.is_err());

@@ -47,13 +47,6 @@ pub fn drawn(
     Ok(map)
 }
 
-/// Looks that a map has this size and one obstacle in its first row at least, at the cell.
-fn look_at(rt: &impl Abort, map: &Bitmap, size: [u16; 2], obstacle: Cell) {
-    same(rt, [map.width(), map.height()], size, "the map's size");
-    holds(rt, map.holds(obstacle), obstacle);
-    holds(rt, map.get(obstacle), "the obstacle");
-}
-
 /// What a store on a map of this size with one obstacle is opened from. A refused map is returned as it was.
 pub fn blank<R: Abort + Print>(
     rt: &R,
@@ -73,7 +66,9 @@ pub fn blank<R: Abort + Print>(
     };
     end(rt, BLANK, true);
     same(rt, refusal, Refusal::Memory, "a blank");
-    look_at(rt, &map, size, obstacle);
+    same(rt, [map.width(), map.height()], size, "the map's size");
+    holds(rt, map.holds(obstacle), obstacle);
+    holds(rt, map.get(obstacle), "the obstacle");
     match Blank::of(alloc, setting, map) {
         Ok(blank) => Ok(blank),
         Err((_, refusal)) => Err(Fail::from(refusal)),

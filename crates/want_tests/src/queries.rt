@@ -7,8 +7,8 @@ use crate::opened::{blank, close, hand_back, next, open, pin, rect, unpin};
 use crate::told::{begin, end};
 use map_core::Setting;
 use metric::{Cell, Edge, Euclid2, Near, Spot};
-use session::{Blank, Pinned, Store};
-use shelf::{StoreName, Ticket};
+use session::{Blank, Pinned};
+use shelf::StoreName;
 use std::alloc::Global;
 use std::marker::Brand;
 use std::process::Abort;
@@ -26,16 +26,8 @@ const SETTING: Setting = Setting {
 /// The map's only obstacle.
 const OBSTACLE: Cell = Cell { x: 3, y: 4 };
 
-/// It is nearest, so far away.
-fn near(dist: u32) -> Near {
-    Near {
-        dist,
-        cell: Spot {
-            x: OBSTACLE.x as i16,
-            y: OBSTACLE.y as i16,
-        },
-    }
-}
+/// It stands here.
+const SPOT: Spot = Spot { x: 3, y: 4 };
 
 /// A query of a pin.
 #[derive(Clone, Copy)]
@@ -57,15 +49,35 @@ const QUERIES: [(Query, &str); 4] = [
 /// Asks a query, and looks at its answer.
 fn ask<Id: StoreName>(rt: &impl Abort, alloc: Global, pinned: &mut Pinned<Id>, query: Query) {
     let path = [Cell { x: 0, y: 0 }, Cell { x: 0, y: 10 }];
-    let beside = (Cell { x: 0, y: 4 }, near(9));
+    let beside = (
+        Cell { x: 0, y: 4 },
+        Near {
+            dist: 9,
+            cell: SPOT,
+        },
+    );
     match query {
         Query::At => {
             let at = pinned.at::<Euclid2>(alloc, Cell { x: 0, y: 0 });
-            same(rt, at, Ok(Some(near(25))), "a cell");
+            same(
+                rt,
+                at,
+                Ok(Some(Near {
+                    dist: 25,
+                    cell: SPOT,
+                })),
+                "a cell",
+            );
         }
         Query::LeastIn => {
             let least = pinned.least_in::<Euclid2>(alloc, rect(rt, [0, 0, 2, 2]));
-            let corner = (Cell { x: 1, y: 1 }, near(13));
+            let corner = (
+                Cell { x: 1, y: 1 },
+                Near {
+                    dist: 13,
+                    cell: SPOT,
+                },
+            );
             same(rt, least, Ok(Some(corner)), "a rectangle");
         }
         Query::Along => {
@@ -95,11 +107,6 @@ fn queries_take_no_memory(rt: HostRuntime) -> Result<(), Fail> {
     asks_in::<Brand, _>(&rt, rt.alloc(), blank)
 }
 
-/// A ticket of the log.
-fn ticket<Id: StoreName, R: Wait + Abort>(rt: &R, store: &Store<Id>) -> Ticket<Id> {
-    store.lock(rt).ticket().expect(rt, "a ticket")
-}
-
 /// Asks a pin whose version isn't read yet, and again once it is.
 fn asks_in<Id: StoreName, R: Wait + Abort + Print>(
     rt: &R,
@@ -118,13 +125,14 @@ fn asks_in<Id: StoreName, R: Wait + Abort + Print>(
     holds(rt, map.holds(OBSTACLE), OBSTACLE);
     holds(rt, map.get(OBSTACLE), "the obstacle");
     ask_all(rt, alloc, &mut pinned);
-    let told = ticket(rt, &store);
+    let told = store.lock(rt).ticket().expect(rt, "a ticket");
     begin(rt, learn);
     pinned.learn(told);
     end(rt, learn, false);
     same(rt, pinned.version(), 0, "the pin's version");
     let mut session = unpin(rt, pinned);
-    let (told, learn) = (ticket(rt, &store), ("Session", "learn"));
+    let told = store.lock(rt).ticket().expect(rt, "a ticket");
+    let learn = ("Session", "learn");
     begin(rt, learn);
     session.learn(told);
     end(rt, learn, false);

@@ -39,18 +39,6 @@ fn bar(rt: &impl Abort, alloc: Global) -> Bitmap {
     bar
 }
 
-/// Looks that a stamp was returned as it was.
-fn look_at(rt: &impl Abort, bar: &Bitmap) {
-    same(rt, (bar.width(), bar.height()), (3, 1), "the stamp's size");
-    holds(rt, 0 < bar.height(), "the stamp's row");
-    same(
-        rt,
-        bar.row_words(0),
-        [0b101].as_slice(),
-        "the stamp's cells",
-    );
-}
-
 /// What is left of a stamp: nothing where it was accepted, and otherwise its bitmap.
 fn kept_back(
     stamped: Result<Reply, (Bitmap, Refusal)>,
@@ -140,14 +128,6 @@ impl<Id: StoreName> Seat<Id> {
         }
     }
 
-    /// How many of its commands were accepted.
-    fn made(&self) -> u32 {
-        match self {
-            Seat::Free(session) => session.made(),
-            Seat::Held(pinned) => pinned.made(),
-        }
-    }
-
     /// Makes a command.
     fn make(
         &mut self,
@@ -165,8 +145,15 @@ impl<Id: StoreName> Seat<Id> {
     /// What is seen of the desk and of this seat.
     fn look(&self, desk: &Desk<Id>) -> Seen {
         let entries = desk.log();
-        let last = entries.last().map(|last| last.entry.reply);
-        (desk.base_place(), entries.len(), last, self.made())
+        let last = match entries.last() {
+            Some(last) => Some(last.entry.reply),
+            None => None,
+        };
+        let made = match self {
+            Seat::Free(session) => session.made(),
+            Seat::Held(pinned) => pinned.made(),
+        };
+        (desk.base_place(), entries.len(), last, made)
     }
 
     /// Looks that so many blocks are free, by a paint that is refused for more, and that a stamp was returned.
@@ -186,7 +173,10 @@ impl<Id: StoreName> Seat<Id> {
             "blocks",
         );
         if let Some(bar) = bar {
-            look_at(rt, bar);
+            same(rt, (bar.width(), bar.height()), (3, 1), "the stamp's size");
+            holds(rt, 0 < bar.height(), "the stamp's row");
+            let cells = bar.row_words(0);
+            same(rt, cells, [0b101].as_slice(), "the stamp's cells");
         }
     }
 

@@ -70,49 +70,18 @@ fn blocks_are_taken_and_given_without_memory(rt: HostRuntime) -> Result<(), Fail
     Ok(())
 }
 
-/// The versions in these first slots; the others are free.
-fn kept(first: [u32; 3]) -> Kept {
-    let mut slots = [0; 64];
-    slots[0] = first[0];
-    slots[1] = first[1];
-    slots[2] = first[2];
-    Kept { slots }
-}
-
 #[test]
 fn a_collect_keeps_without_memory(rt: HostRuntime) {
     let call: Call = ("epoch", "kept_after");
-    let announced = [Some(Seen::Exact(0)), None];
+    let mut kept = Kept { slots: [0; 64] };
+    kept.slots[0] = 1;
+    kept.slots[1] = 2;
+    kept.slots[2] = 3;
     begin(&rt, call);
-    let found = kept_after(&kept([1, 2, 3]), 2, &announced);
+    let found = kept_after(&kept, 2, &[Some(Seen::Exact(0)), None]);
     end(&rt, call, false);
-    same(&rt, found, kept([1, 0, 3]), "an exact pin and newest");
-}
-
-/// The stack for a row of this width, made again where there was no memory.
-fn stack_for(alloc: Global, width: u16) -> Result<Stack, Refusal>
-    ensures { IfOk result (λ stack. stack ≡ width) }
-{
-    match Stack::new(alloc, width) {
-        Ok(stack) => Ok(stack),
-        Err(_) => Stack::new(alloc, width),
-    }
-}
-
-/// The answers of a row of this width, made again where there was no memory.
-fn line_of(alloc: Global, width: u16) -> Result<Vec<Option<Near>>, Fail> {
-    match vec![in alloc; None; usize::from(width)] {
-        Ok(line) => Ok(line),
-        Err(_) => Ok(vec![in alloc; None; usize::from(width)]?),
-    }
-}
-
-/// The table of a map's columns, made again where there was no memory.
-fn table_of(alloc: Global, map: &Bitmap, edge: Edge) -> Result<ColumnTable, Refusal> {
-    match ColumnTable::of(alloc, map, edge) {
-        Ok(table) => Ok(table),
-        Err(_) => ColumnTable::of(alloc, map, edge),
-    }
+    kept.slots[1] = 0;
+    same(&rt, found, kept, "an exact pin and newest");
 }
 
 /// For each edge the nearest obstacle of the map's first cell.
@@ -136,13 +105,13 @@ const NEARS: [(Edge, Near); 2] = [
 #[test]
 fn a_row_is_worked_without_memory(rt: HostRuntime) -> Result<(), Fail> {
     let map = drawn(&rt, rt.alloc(), [64, 64], Cell { x: 3, y: 4 })?;
-    for (edge, near) in &NEARS {
-        works(&rt, rt.alloc(), &map, *edge, *near)?;
+    for (edge, near) in NEARS {
+        works(&rt, rt.alloc(), &map, edge, near)?;
     }
     Ok(())
 }
 
-/// Works the first row of a map, whose first cell has this nearest obstacle.
+/// Works the first row of a map, whose first cell has this nearest obstacle. What the call is given is made again where there was no memory.
 fn works<R: Abort + Print>(
     rt: &R,
     alloc: Global,
@@ -151,11 +120,21 @@ fn works<R: Abort + Print>(
     near: Near,
 ) -> Result<(), Fail> {
     let call: Call = ("envelope", "row");
-    let table = table_of(alloc, map, edge)?;
+    let table = match ColumnTable::of(alloc, map, edge) {
+        Ok(table) => table,
+        Err(_) => ColumnTable::of(alloc, map, edge)?,
+    };
     // Two more than a row has cells, for those of the frame.
-    let mut stack = stack_for(alloc, table.width() + 2)?;
-    let mut line = line_of(alloc, table.width())?;
-    assert!(rt; line.len() == usize::from(table.width()));
+    let width = table.width();
+    let mut stack = match Stack::new(alloc, width + 2) {
+        Ok(stack) => stack,
+        Err(_) => Stack::new(alloc, width + 2)?,
+    };
+    let mut line = match vec![in alloc; None; usize::from(width)] {
+        Ok(line) => line,
+        Err(_) => vec![in alloc; None; usize::from(width)]?,
+    };
+    assert!(rt; line.len() == usize::from(width));
     assert!(rt; 0 < table.height());
     begin(rt, call);
     row::<Euclid2>(&table, 0, &mut stack, line.as_mut_slice());

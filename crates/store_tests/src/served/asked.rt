@@ -1,13 +1,12 @@
 //! Queries over served streams: what a fresh pin is asked, and asked again, is answered as on the map's bitmap.
 
-use super::{Input, look, serve, setting};
+use super::{serve, setting};
+use crate::compare::{holds, same};
 use crate::opened::{blank, spotted};
 use map_core::Setting;
 use metric::Edge;
 use proto::{Answer, Bordered, End, Line, Text, answer_of, parse_line, reply_text};
 use std::alloc::Global;
-use std::process::Abort;
-use std::sync::Wait;
 use std::test::Fail;
 
 /// Queries of a map of 130 by 70, of near cells and of far ones, some of them refused.
@@ -36,6 +35,18 @@ const QUERIES: [&[u8]; 24] = [
     b"CLEAROF euclid2 900 129 69 0 69",
     b"CLEAROF city 5 0 0 7",
     b"CLEAROF chess 2 127 3 127 66 2 66",
+];
+
+/// How rare a map's obstacles are, and its border.
+const MAPS: [(u32, Edge); 8] = [
+    (0, Edge::Open),
+    (9, Edge::Open),
+    (300, Edge::Open),
+    (4_000, Edge::Open),
+    (0, Edge::Wall),
+    (9, Edge::Wall),
+    (300, Edge::Wall),
+    (4_000, Edge::Wall),
 ];
 
 /// Adds the line of a query to what is read, and what it is answered on a map to what is written.
@@ -84,30 +95,24 @@ fn lines_of(
     Ok(())
 }
 
-/// Serves these lines on a map whose obstacles are so rare, and whose border is this.
-fn ask<R: Wait + Abort>(rt: &R, alloc: Global, rare: u32, edge: Edge) -> Result<(), Fail> {
-    let bitmap = spotted(rt, alloc, ([130, 70], rare))?;
-    let (mut read, mut written) = (Vec::new(alloc), Vec::new(alloc));
-    let map = Bordered {
-        bitmap: &bitmap,
-        edge,
-    };
-    lines_of(alloc, map, &mut read, &mut written)?;
-    let setting = Setting {
-        edge,
-        ..setting(8, 1)
-    };
-    let blank = blank(setting, bitmap, alloc)?;
-    let run = serve(rt, alloc, blank, Input::whole(&read))?;
-    look(rt, "queries", &run, &written, End::EndOfInput, 0);
-    Ok(())
-}
-
 #[test]
 fn streams_ask_fresh_pins(rt: HostRuntime) -> Result<(), Fail> {
-    for rare in [0, 9, 300, 4_000] {
-        ask(&rt, rt.alloc(), rare, Edge::Open)?;
-        ask(&rt, rt.alloc(), rare, Edge::Wall)?;
+    for (rare, edge) in MAPS {
+        let bitmap = spotted(&rt, rt.alloc(), ([130, 70], rare))?;
+        let (mut read, mut written) = (Vec::new(rt.alloc()), Vec::new(rt.alloc()));
+        let map = Bordered {
+            bitmap: &bitmap,
+            edge,
+        };
+        lines_of(rt.alloc(), map, &mut read, &mut written)?;
+        let setting = Setting {
+            edge,
+            ..setting(8, 1)
+        };
+        let blank = blank(&rt, rt.alloc(), setting, ([130, 70], rare))?;
+        let run = serve(&rt, rt.alloc(), blank, (&read, None, None))?;
+        holds(&rt, run.written == written, ("another text", rare, edge));
+        same(&rt, run.end, End::EndOfInput, (rare, edge));
     }
     Ok(())
 }

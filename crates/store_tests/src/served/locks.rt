@@ -2,7 +2,7 @@
 
 ghost use Rattle.std.specs.Prelude.{◌≡◌};
 
-use super::{Input, setting, square, stream_of};
+use super::{SQUARE, setting, stream_of};
 use crate::compare::{holds, same};
 use crate::opened::{blank, close, hand_back, next, open};
 use proto::{End, serve_stream};
@@ -17,7 +17,7 @@ use std::test::Fail;
 #[test]
 fn planners_pass_a_lock_that_is_held(rt: HostRuntime) -> Result<(), Fail> {
     let alloc = rt.alloc();
-    let blank = blank(setting(2, 1), square(alloc)?, alloc)?;
+    let blank = blank(&rt, alloc, setting(2, 1), SQUARE)?;
     plans_while_the_lock_is_held::<Brand, _>(&rt, alloc, blank)
 }
 
@@ -31,8 +31,9 @@ fn plans_while_the_lock_is_held<Id: StoreName, R: Wait + Abort>(
 {
     let (store, mut sessions) = open::<Id>(alloc, blank)?;
     let session = next(rt, &mut sessions);
-    let read = b"PIN\nAT city 3 4\nRECT chess 0 0 9 9\nPATH city 0 0 9 0\nDUMP\nUNPIN\nPIN\nQUIT\n";
-    let mut stream = stream_of(alloc, Input::whole(read));
+    let read =
+        b"PIN\nAT city 3 4\nRECT chess 0 0 9 9\nPATH city 0 0 9 0\nCLEAROF city 1 0 0\nDUMP\nUNPIN\nPIN\nQUIT\n";
+    let mut stream = stream_of(alloc, (read, None, None));
     let desk = store.lock(rt);
     let (session, end) = serve_stream(rt, alloc, &store, session, &mut stream);
     drop(desk);
@@ -40,7 +41,7 @@ fn plans_while_the_lock_is_held<Id: StoreName, R: Wait + Abort>(
     let written = stream.bytes();
     holds(
         rt,
-        written.starts_with(b"OK 0\nNONE\nNONE\nNONE\nOK "),
+        written.starts_with(b"OK 0\nNONE\nNONE\nNONE\nOK CLEAR\nOK "),
         "replies",
     );
     holds(

@@ -1,40 +1,35 @@
-//! Two streams that wait for one another: they are served at the same time, and no lock is held while a reply is written.
+//! Streams that wait for one another: each worker of a pool serves at once, and no lock is held while a reply is written.
 
-ghost use Rattle.std.specs.Prelude.{◌≡◌, None, IfSome};
+ghost use Rattle.std.specs.Prelude.{◌≡◌, None};
 
-use super::{setting, square};
+use super::{SQUARE, pool_in, setting};
 use crate::compare::same;
-use crate::opened::{blank, close, open};
+use crate::opened::blank;
 use metric::{ReadFault, Sink, Source, Stream, WriteFault};
-use proto::{Streams, pool};
-use session::Blank;
-use shelf::StoreName;
-use std::alloc::Global;
+use proto::Streams;
 use std::marker::Brand;
-use std::process::Abort;
-use std::sync::Wait;
-use std::sync::atomic::{AtomicBool, AtomicU64, Ordering};
+use std::sync::atomic::{AtomicU64, Ordering};
 use std::test::Fail;
 use std::thread;
-use std::thread::Threads;
 
-/// How often a stream looks whether the other one has come so far.
+/// How often a stream looks whether the others have come so far.
 const MOST_TURNS: u32 = 50_000_000;
 
-/// What the streams tell one another, and the test.
+/// What the streams tell one another, and the test: which of four have come, a bit for each; what the two have begun, or 0; and what was written.
 #[derive(Drop)]
 struct Signals {
-    first_replies: AtomicBool,
-    second_painted: AtomicBool,
-    second_bade: AtomicBool,
+    come: AtomicU64,
+    first_replies: AtomicU64,
+    second_painted: AtomicU64,
+    second_bade: AtomicU64,
     right_bytes: AtomicU64,
     wrong_texts: AtomicU64,
 }
 
-/// Waits for this, but not forever.
-fn is_seen(signal: &AtomicBool) -> bool {
+/// Waits until so much was told, but not forever.
+fn is_seen(signal: &AtomicU64, least: u64) -> bool {
     for _ in 0..MOST_TURNS {
-        if signal.load(Ordering::SeqCst) {
+        if least <= signal.load(Ordering::SeqCst) {
             return true;
         }
         thread::yield_now();
@@ -42,11 +37,22 @@ fn is_seen(signal: &AtomicBool) -> bool {
     false
 }
 
-/// One of the two streams: what is left to read and to be written, and how many lines were taken and replies given.
+/// All of four have come.
+const ALL: u64 = 0b1111;
+
+/// Which stream one is: the first of two, the second, or the one of four that has this bit.
+#[derive(Clone, Copy, PartialEq)]
+enum Role {
+    First,
+    Second,
+    OneOfFour(u64),
+}
+
+/// One of the streams: what is left to read and to be written, and how many lines were begun and replies given.
 #[derive(Drop)]
 struct Meeting<'a> {
     signals: &'a Signals,
-    is_first: bool,
+    role: Role,
     left: &'static [u8],
     lines: u32,
     expected: &'static [u8],
@@ -57,17 +63,12 @@ struct Meeting<'a> {
 
 impl<'a> Meeting<'a> {
     /// A stream that paints some cells and quits.
-    fn new(
-        signals: &'a Signals,
-        is_first: bool,
-        left: &'static [u8],
-        expected: &'static [u8],
-    ) -> Self
+    fn new(signals: &'a Signals, role: Role, left: &'static [u8], expected: &'static [u8]) -> Self
         ensures { (result.failed_reads ≡ 0) × (result.failed_writes ≡ 0) }
     {
         Meeting {
             signals,
-            is_first,
+            role,
             left,
             lines: 0,
             expected,
@@ -77,27 +78,33 @@ impl<'a> Meeting<'a> {
         }
     }
 
-    /// Whether the next line may be read: the first stream's second line waits for the second stream's BYE, and the second stream's first one for the first stream's reply.
+    /// Whether the next byte may be read. The first stream's second line waits for the second stream's BYE, and the second stream's first one for the first stream's
+    /// reply. One of four comes, and waits for the others.
     fn may_read(&self) -> bool {
-        if self.is_first && self.lines == 1 {
-            return is_seen(&self.signals.second_bade);
+        match (self.role, self.lines) {
+            (Role::First, 1) => is_seen(&self.signals.second_bade, 1),
+            (Role::Second, 0) => is_seen(&self.signals.first_replies, 1),
+            (Role::OneOfFour(bit), 0) => {
+                self.signals.come.fetch_or(bit, Ordering::SeqCst);
+                is_seen(&self.signals.come, ALL)
+            }
+            _ => true,
         }
-        if !self.is_first && self.lines == 0 {
-            return is_seen(&self.signals.first_replies);
-        }
-        true
     }
 
     /// Whether the next reply may be written: the first stream's first one waits until the second stream has painted, which it can't where the lock is held over a reply.
     fn may_write(&self) -> bool {
-        if self.is_first && self.replies == 0 {
-            self.signals.first_replies.store(true, Ordering::SeqCst);
-            return is_seen(&self.signals.second_painted);
+        match (self.role, self.replies) {
+            (Role::First, 0) => {
+                self.signals.first_replies.store(1, Ordering::SeqCst);
+                is_seen(&self.signals.second_painted, 1)
+            }
+            (Role::Second, _) => {
+                self.signals.second_painted.store(1, Ordering::SeqCst);
+                true
+            }
+            _ => true,
         }
-        if !self.is_first {
-            self.signals.second_painted.store(true, Ordering::SeqCst);
-        }
-        true
     }
 
     /// Takes the next byte, and counts the line that it ends.
@@ -157,8 +164,8 @@ impl Sink for Meeting<'_> {
             }
         }
         self.replies = self.replies.saturating_add(1);
-        if !self.is_first && self.expected.is_empty() {
-            self.signals.second_bade.store(true, Ordering::SeqCst);
+        if self.role == Role::Second && self.expected.is_empty() {
+            self.signals.second_bade.store(1, Ordering::SeqCst);
         }
         Ok(())
     }
@@ -185,81 +192,69 @@ impl Stream for Meeting<'_> {
     ghost writing = { λ s. refl };
 }
 
-/// The two streams, and how many were given.
+/// What is read, and what is to be written.
+type Talk = (Role, &'static [u8], &'static [u8]);
+
+/// Two streams.
+const TWO: [Talk; 2] = [
+    (Role::First, b"PAINT 0 0 1 1\nQUIT\n", b"OK 1 1\nBYE\n"),
+    (Role::Second, b"PAINT 0 0 2 1\nQUIT\n", b"OK 2 1\nBYE\n"),
+];
+
+/// As many at once as a pool has workers: each waits for all others before its first line. What they are told isn't looked at.
+const FOUR: [Talk; 4] = [
+    (Role::OneOfFour(1), b"PAINT 0 0 1 1\nQUIT\nREVERT\n", b""),
+    (Role::OneOfFour(2), b"PAINT 0 0 1 1\nQUIT\nREVERT\n", b""),
+    (Role::OneOfFour(4), b"PAINT 0 0 1 1\nQUIT\nREVERT\n", b""),
+    (Role::OneOfFour(8), b"PAINT 0 0 1 1\nQUIT\nREVERT\n", b""),
+];
+
+/// Streams that come one after another.
 #[derive(Drop)]
-struct Two<'a> {
+struct Talks<'a> {
     signals: &'a Signals,
-    given: u32,
+    talks: &'static [Talk],
+    given: usize,
 }
 
-impl<'a> Streams for Two<'a> {
+impl<'a> Streams for Talks<'a> {
     type S = Meeting<'a>;
 
     ghost fresh = { λ stream. stream.failed_reads ≡ 0 };
 
     fn next(&mut self) -> Option<Meeting<'a>> {
+        let (role, left, expected) = *self.talks.get(self.given)?;
         self.given = self.given.saturating_add(1);
-        match self.given {
-            1 => Some(Meeting::new(
-                self.signals,
-                true,
-                b"PAINT 0 0 1 1\nQUIT\n",
-                b"OK 1 1\nBYE\n",
-            )),
-            2 => Some(Meeting::new(
-                self.signals,
-                false,
-                b"PAINT 0 0 2 1\nQUIT\n",
-                b"OK 2 1\nBYE\n",
-            )),
-            _ => None,
-        }
+        Some(Meeting::new(self.signals, role, left, expected))
     }
 }
 
 #[test]
 fn connections_meet(rt: HostRuntime) -> Result<(), Fail> {
-    let alloc = rt.alloc();
-    let blank = blank(setting(2, 2), square(alloc)?, alloc)?;
-    serve_two::<Brand, _>(&rt, alloc, blank)
-}
-
-/// Serves both streams with two sessions.
-fn serve_two<Id: StoreName + Send + Sync, R: Wait + Threads + Abort + Sync>(
-    rt: &R,
-    alloc: Global,
-    blank: Blank,
-) -> Result<(), Fail>
-    requires { blank ≡ Id.store }
-{
-    let (store, sessions) = open::<Id>(alloc, blank)?;
-    let signals = Signals {
-        first_replies: AtomicBool::new(false),
-        second_painted: AtomicBool::new(false),
-        second_bade: AtomicBool::new(false),
-        right_bytes: AtomicU64::new(0),
-        wrong_texts: AtomicU64::new(0),
-    };
-    let streams = Two {
-        signals: &signals,
-        given: 0,
-    };
-    let sessions = match pool(rt, alloc, &store, sessions, streams) {
-        Ok(sessions) => sessions,
-        Err(_) => panic!(rt; "no memory for two workers"),
-    };
-    same(
-        rt,
-        signals.wrong_texts.load(Ordering::SeqCst),
-        0,
-        "wrong texts",
-    );
-    same(
-        rt,
-        signals.right_bytes.load(Ordering::SeqCst),
-        22,
-        "right bytes",
-    );
-    same(rt, close(store, sessions), 2, "sessions");
+    for talks in [TWO.as_slice(), FOUR.as_slice()] {
+        let sessions = talks.len() as u32;
+        let blank = blank(&rt, rt.alloc(), setting(2, sessions), SQUARE)?;
+        let signals = Signals {
+            come: AtomicU64::new(0),
+            first_replies: AtomicU64::new(0),
+            second_painted: AtomicU64::new(0),
+            second_bade: AtomicU64::new(0),
+            right_bytes: AtomicU64::new(0),
+            wrong_texts: AtomicU64::new(0),
+        };
+        let streams = Talks {
+            signals: &signals,
+            talks,
+            given: 0,
+        };
+        let (entries, _) = pool_in::<Brand, _, _>(&rt, rt.alloc(), blank, streams)?;
+        same(&rt, entries, talks.len(), "entries");
+        if talks.len() == 2 {
+            let wrong = signals.wrong_texts.load(Ordering::SeqCst);
+            same(&rt, wrong, 0, "wrong texts");
+            let right = signals.right_bytes.load(Ordering::SeqCst);
+            same(&rt, right, 22, "right bytes");
+        }
+    }
     Ok(())
 }

@@ -2,30 +2,22 @@
 
 ghost use Rattle.std.specs.Prelude.{◌≡◌};
 
-use super::{Input, setting, square, stream_of};
+use super::{Input, SQUARE, pool_in, setting, stream_of};
 use crate::compare::same;
-use crate::opened::{blank, open};
-use crate::script::kept;
+use crate::keeping::kept;
+use crate::opened::blank;
 use map_core::Reply;
 use metric::MemoryStream;
-use proto::{Streams, pool};
-use session::Blank;
-use shelf::StoreName;
+use proto::Streams;
 use std::alloc::Global;
 use std::marker::Brand;
-use std::process::Abort;
-use std::sync::Wait;
 use std::test::Fail;
-use std::thread::Threads;
-
-/// What is read, and which call of the reader or of the writer fails.
-type Row = (&'static [u8], Option<u64>, Option<u64>);
 
 /// Streams in memory, which come one after another, and how many were given.
 #[derive(Drop)]
 struct Listed {
     alloc: Global,
-    rows: &'static [Row],
+    rows: &'static [Input<'static>],
     given: usize,
 }
 
@@ -35,13 +27,8 @@ impl Streams for Listed {
     ghost fresh = { λ stream. stream.read.failed ≡ 0 };
 
     fn next(&mut self) -> Option<MemoryStream<'static>> {
-        let (bytes, failing_read, failing_write) = *self.rows.get(self.given)?;
+        let input = *self.rows.get(self.given)?;
         self.given = self.given.saturating_add(1);
-        let input = Input {
-            bytes,
-            failing_read,
-            failing_write,
-        };
         Some(stream_of(self.alloc, input))
     }
 }
@@ -50,14 +37,14 @@ impl Streams for Listed {
 const LETTERS: [u8; 16_385] = [b'A'; 16_385];
 
 /// A stream that pins and whose ninth read fails, and one that publishes and collects: where the first one's pin was left, its version goes.
-const FAILING: [Row; 2] = [
+const FAILING: [Input<'static>; 2] = [
     (b"PIN\nPAINT 0 0 1 1\nPUBLISH\nQUIT\n", Some(9), None),
     (b"PAINT 0 0 2 1\nPUBLISH\nCOLLECT\nQUIT\n", None, None),
 ];
 
 /// Streams that end by a line too long, by too many bytes, by a failed write (whose first command is accepted, and no other one is done) or by QUIT, after which there
 /// are more bytes; each oftener than there are workers, which is one; and a good one.
-const ENDING: [Row; 13] = [
+const ENDING: [Input<'static>; 13] = [
     (&LETTERS, None, None),
     (&LETTERS, None, None),
     (&LETTERS, None, None),
@@ -77,78 +64,26 @@ const ENDING: [Row; 13] = [
     ),
 ];
 
-/// What is served with one worker, how long the log is then, and its last reply.
-#[derive(Clone, Copy)]
-struct Pooled {
-    rows: &'static [Row],
-    entries: usize,
-    last: Reply,
-}
+/// What is served with one worker, and how long the log is then. Its last entry is a collect, at that place.
+const POOLED: [(&[Input<'static>], u32); 2] = [(&FAILING, 3), (&ENDING, 6)];
 
 #[test]
 fn the_next_stream_is_served(rt: HostRuntime) -> Result<(), Fail> {
-    let last = Reply::Collected {
-        place: 3,
-        floor: 1,
-        freed: 1,
-        kept: kept(0, 2),
-    };
-    let pooled = Pooled {
-        rows: &FAILING,
-        entries: 3,
-        last,
-    };
-    serve_pooled(&rt, rt.alloc(), pooled)
-}
-
-#[test]
-fn workers_outlast_their_clients(rt: HostRuntime) -> Result<(), Fail> {
-    let last = Reply::Collected {
-        place: 6,
-        floor: 1,
-        freed: 1,
-        kept: kept(0, 2),
-    };
-    let pooled = Pooled {
-        rows: &ENDING,
-        entries: 6,
-        last,
-    };
-    serve_pooled(&rt, rt.alloc(), pooled)
-}
-
-/// Serves the streams on a store that is opened for it.
-fn serve_pooled<R: Wait + Threads + Abort + Sync>(
-    rt: &R,
-    alloc: Global,
-    pooled: Pooled,
-) -> Result<(), Fail> {
-    let blank = blank(setting(2, 1), square(alloc)?, alloc)?;
-    serve_rows::<Brand, _>(rt, alloc, blank, pooled)
-}
-
-/// Serves them with the sessions of a store that is opened from this.
-fn serve_rows<Id: StoreName + Send + Sync, R: Wait + Threads + Abort + Sync>(
-    rt: &R,
-    alloc: Global,
-    blank: Blank,
-    pooled: Pooled,
-) -> Result<(), Fail>
-    requires { blank ≡ Id.store }
-{
-    let (store, sessions) = open::<Id>(alloc, blank)?;
-    let streams = Listed {
-        alloc,
-        rows: pooled.rows,
-        given: 0,
-    };
-    let sessions = match pool(rt, alloc, &store, sessions, streams) {
-        Ok(sessions) => sessions,
-        Err(_) => panic!(rt; "no memory for the workers"),
-    };
-    let (base, log) = store.close(sessions);
-    same(rt, (base, log.len()), (0, pooled.entries), "entries");
-    let last = log.last().map(|last| last.entry.reply);
-    same(rt, last, Some(pooled.last), "the last reply");
+    for (rows, entries) in POOLED {
+        let blank = blank(&rt, rt.alloc(), setting(2, 1), SQUARE)?;
+        let streams = Listed {
+            alloc: rt.alloc(),
+            rows,
+            given: 0,
+        };
+        let done = pool_in::<Brand, _, _>(&rt, rt.alloc(), blank, streams)?;
+        let collected = Reply::Collected {
+            place: entries,
+            floor: 1,
+            freed: 1,
+            kept: kept([0, 2, 0, 0]),
+        };
+        same(&rt, done, (entries as usize, Some(collected)), entries);
+    }
     Ok(())
 }

@@ -1,221 +1,252 @@
 //! Worked streams: what is read, and what is written.
 
-use super::{Input, drawn, look, serve, setting, square};
-use crate::compare::same;
-use crate::opened::blank;
-use bits::Bitmap;
+use super::{SQUARE, serve, setting};
+use crate::compare::{holds, same};
+use crate::opened::{Spotted, blank};
 use map_core::Setting;
-use metric::Cell;
+use metric::Edge;
 use proto::End;
+use std::alloc::Global;
 use std::test::Fail;
 
-/// A stream: its name, the image of its map (none for a blank one of 64 by 64), what is read, what is written, the end, and how many bytes are left.
-type Worked = (
-    &'static str,
-    Option<&'static [u8]>,
-    &'static [u8],
-    &'static [u8],
-    End,
-    usize,
-);
+/// A map, and its border.
+type Map = (Spotted, Edge);
+
+/// A map of 64 by 64 cells without an obstacle.
+const OPEN: Map = (SQUARE, Edge::Open);
 
 /// A map of 3 by 2 with an obstacle in its first cell.
-const CORNER: &[u8] = b"P1\n3 2\n100\n000\n";
+const CORNER: Map = (([3, 2], 11), Edge::Open);
 
-/// A map of 6 by 4 with an obstacle in the middle.
-const MIDDLE: &[u8] = b"P1\n6 4\n000000\n001000\n000000\n000000\n";
+/// A map of 6 by 4 with an obstacle at `(2, 1)`.
+const MIDDLE: Map = (([6, 4], 186), Edge::Open);
 
-fn worked() -> [Worked; 14] {
-    [
-        (
-            "a pin and its end",
-            None,
+/// A map of 5 by 3 without an obstacle, whose border is a wall.
+const FRAMED: Map = (([5, 3], 0), Edge::Wall);
+
+/// Queries of that map, and its dump, which has the map alone.
+const BLANK: [(&[u8], &[u8]); 16] = [
+    (b"PIN\n", b"OK 0\n"),
+    (b"AT euclid2 0 0\n", b"OK 1 -1 0\n"),
+    (b"AT euclid2 1 0\n", b"OK 1 1 -1\n"),
+    (b"AT euclid2 4 0\n", b"OK 1 4 -1\n"),
+    (b"AT euclid2 0 1\n", b"OK 1 -1 1\n"),
+    (b"AT euclid2 1 1\n", b"OK 4 -1 1\n"),
+    (b"AT euclid2 2 1\n", b"OK 4 2 -1\n"),
+    (b"AT euclid2 4 1\n", b"OK 1 5 1\n"),
+    (b"AT euclid2 2 2\n", b"OK 1 2 3\n"),
+    (b"AT chess 2 1\n", b"OK 2 0 -1\n"),
+    (b"AT city 5 1\n", b"ERR 1 OutOfRange\n"),
+    (b"RECT city 1 1 4 2\n", b"OK 2 1 1 -1 1\n"),
+    (b"PATH chess 2 1 1 1\n", b"OK 2 2 1 0 -1\n"),
+    (b"CLEAROF euclid2 4 2 1\n", b"OK CLEAR\n"),
+    (b"CLEAROF euclid2 5 2 1\n", b"OK 4 2 1 2 -1\n"),
+    (b"DUMP\n", b"OK 25\nP1\n5 3\n00000\n00000\n00000\n"),
+];
+
+/// A pin that is asked before a publish and after it, and one of the version that was published: its obstacle ties with the frame, or is nearer.
+const PUBLISHED: [(&[u8], &[u8]); 12] = [
+    (b"PIN\n", b"OK 0\n"),
+    (b"AT euclid2 2 1\n", b"OK 4 2 -1\n"),
+    (b"PAINT 2 1 3 2\n", b"OK 1 1\n"),
+    (b"PUBLISH\n", b"OK 2 1\n"),
+    (b"AT euclid2 2 1\n", b"OK 4 2 -1\n"),
+    (b"UNPIN\n", b"OK 0\n"),
+    (b"PIN\n", b"OK 1\n"),
+    (b"AT euclid2 2 1\n", b"OK 0 2 1\n"),
+    (b"AT euclid2 1 1\n", b"OK 1 2 1\n"),
+    (b"AT city 2 0\n", b"OK 1 2 -1\n"),
+    (b"AT city 3 1\n", b"OK 1 2 1\n"),
+    (b"AT city 3 0\n", b"OK 1 3 -1\n"),
+];
+
+/// As many letters as the longest line has bytes.
+const LETTERS: [u8; 16_384] = [b'A'; 16_384];
+
+/// A stream: its name, its map, what is read and what is written for it; and the end, how many bytes are left, and how many commands were accepted.
+type Worked = (
+    &'static str,
+    Map,
+    &'static [(&'static [u8], &'static [u8])],
+    (End, usize, u32),
+);
+
+const WORKED: [Worked; 20] = [
+    (
+        "a pin and its end",
+        OPEN,
+        &[(
             b"PIN\nPIN\nAT euclid2 3 4\nUNPIN\nAT city 0 0\nQUIT\nPIN\n",
             b"OK 0\nERR 7 AlreadyPinned\nNONE\nOK 0\nERR 6 NotPinned\nBYE\n",
-            End::Quit,
-            4,
-        ),
-        (
-            "a stamp",
-            None,
+        )],
+        (End::Quit, 4, 0),
+    ),
+    (
+        "a stamp",
+        OPEN,
+        &[(
             b"STAMP 2 1 11\nP1\n2 2\n1001PUBLISH\nPIN\nAT chess 0 0\nQUIT\n",
             b"OK 1 2\nOK 2 1\nOK 1\nOK 2 2 1\nBYE\n",
-            End::Quit,
-            0,
-        ),
-        (
-            "a dump",
-            Some(CORNER),
-            b"PIN\nDUMP\n",
-            b"OK 0\nOK 15\nP1\n3 2\n100\n000\n",
-            End::EndOfInput,
-            0,
-        ),
-        (
-            "every command with a pin",
-            None,
+        )],
+        (End::Quit, 0, 2),
+    ),
+    (
+        "a dump",
+        CORNER,
+        &[(b"PIN\nDUMP\n", b"OK 0\nOK 15\nP1\n3 2\n100\n000\n")],
+        (End::EndOfInput, 0, 0),
+    ),
+    (
+        "every command with a pin",
+        OPEN,
+        &[(
             b"PIN\nPAINT 0 0 1 1\nSTAMP 2 1 11\nP1\n2 2\n1001PUBLISH\nREVERT\nCOLLECT\nRECT euclid2 0 0 1 1\nPATH city 0 0\nCLEAROF city 1 0 0\nQUIT\n",
             b"OK 0\nOK 1 1\nOK 2 2\nOK 3 1\nOK 4\nOK 5 0 0\nNONE\nNONE\nOK CLEAR\nBYE\n",
-            End::Quit,
-            0,
-        ),
-        (
-            "an end within a line",
-            None,
-            b"PIN\nUNP",
-            b"OK 0\n",
-            End::EndOfInput,
-            0,
-        ),
-        (
-            "an end within a stamp",
-            None,
-            b"STAMP 2 1 11\nP1\n2 2\n100",
-            b"",
-            End::EndOfInput,
-            0,
-        ),
-        (
-            "too many bytes",
-            None,
-            b"STAMP 0 0 17100001\nQUIT\n",
-            b"ERR 14 TooMuchData\n",
-            End::TooMuchData,
-            5,
-        ),
-        (
-            "queries on a drawn map",
-            Some(MIDDLE),
+        )],
+        (End::Quit, 0, 5),
+    ),
+    (
+        "an end within a line",
+        OPEN,
+        &[(b"PIN\nUNP", b"OK 0\n")],
+        (End::EndOfInput, 0, 0),
+    ),
+    (
+        "an end within a stamp",
+        OPEN,
+        &[(b"STAMP 2 1 11\nP1\n2 2\n100", b"")],
+        (End::EndOfInput, 0, 0),
+    ),
+    (
+        "an end before the bytes of a stamp",
+        OPEN,
+        &[(b"STAMP 2 1 11\n", b"")],
+        (End::EndOfInput, 0, 0),
+    ),
+    (
+        "an end after the first of them",
+        OPEN,
+        &[(b"STAMP 2 1 11\nP", b"")],
+        (End::EndOfInput, 0, 0),
+    ),
+    (
+        "too many bytes",
+        OPEN,
+        &[(b"STAMP 0 0 17100001\nQUIT\n", b"ERR 14 TooMuchData\n")],
+        (End::TooMuchData, 5, 0),
+    ),
+    (
+        "queries on a drawn map",
+        MIDDLE,
+        &[(
             b"PIN\nPATH city 0 0 5 0 5 3\nPATH city 0 0 1 1\nPATH city\nRECT euclid2 0 2 6 4\nRECT euclid2 0 0 7 4\nCLEAROF city 2 0 0 5 0 5 3\nAT chess 6 0\nQUIT\n",
             b"OK 0\nOK 1 2 0 2 1\nERR 9 Crooked 1\nERR 8 BadPath\nOK 1 2 2 2 1\nERR 1 OutOfRange\nOK 1 2 0 2 1\nERR 1 OutOfRange\nBYE\n",
-            End::Quit,
-            0,
-        ),
-        (
-            "queries without a pin",
-            None,
+        )],
+        (End::Quit, 0, 0),
+    ),
+    (
+        "queries without a pin",
+        OPEN,
+        &[(
             b"PATH city\nAT euclid2 4096 0\nAT euclid 0 0\nUNPIN\nDUMP\nRECT city 0 0 1 1\nCLEAROF city 1\n",
             b"ERR 6 NotPinned\nERR 6 NotPinned\nERR 12 BadArguments\nERR 6 NotPinned\nERR 6 NotPinned\nERR 6 NotPinned\nERR 6 NotPinned\n",
-            End::EndOfInput,
-            0,
-        ),
-        (
-            "stamps that are refused",
-            None,
+        )],
+        (End::EndOfInput, 0, 0),
+    ),
+    (
+        "stamps that are refused",
+        OPEN,
+        &[(
             b"STAMP 0 0 3\nP9\nSTAMP 63 63 11\nP1\n2 2\n1001STAMP 0 0 0\nSTAMP 0 0\nSTAMP 4096 0 7\nP1 1 11REVERT\n",
             b"ERR 15 BadImage BadMagic\nERR 1 OutOfRange\nERR 15 BadImage Truncated\nERR 12 BadArguments\nERR 15 BadImage Truncated\nOK 1\n",
-            End::EndOfInput,
-            0,
-        ),
-        (
-            "lines with a CR",
-            None,
+        )],
+        (End::EndOfInput, 0, 1),
+    ),
+    (
+        "lines with a CR",
+        OPEN,
+        &[(
             b"PIN\r\nUNPIN\r\nPIN\r\r\nQUIT\r\n",
             b"OK 0\nOK 0\nERR 11 UnknownCommand\nBYE\n",
-            End::Quit,
-            0,
-        ),
-        (
-            "too many bytes, and nothing behind them",
-            None,
-            b"STAMP 0 0 17100001\n",
-            b"ERR 14 TooMuchData\n",
-            End::TooMuchData,
-            0,
-        ),
-        (
-            "a pin that later versions don't move",
-            None,
+        )],
+        (End::Quit, 0, 0),
+    ),
+    (
+        "too many bytes, and nothing after them",
+        OPEN,
+        &[(b"STAMP 0 0 17100001\n", b"ERR 14 TooMuchData\n")],
+        (End::TooMuchData, 0, 0),
+    ),
+    (
+        "a pin that later versions don't move",
+        OPEN,
+        &[(
             b"PIN\nPAINT 0 0 1 1\nPUBLISH\nAT city 0 0\nUNPIN\nPIN\nAT city 3 4\n",
             b"OK 0\nOK 1 1\nOK 2 1\nNONE\nOK 0\nOK 1\nOK 7 0 0\n",
-            End::EndOfInput,
-            0,
-        ),
-        (
-            "a pin that a checkpoint doesn't move",
-            None,
+        )],
+        (End::EndOfInput, 0, 2),
+    ),
+    (
+        "a pin that a checkpoint doesn't move",
+        OPEN,
+        &[(
             b"PAINT 0 0 1 1\nPUBLISH\nPIN\nAT city 3 4\nCHECKPOINT\nAT city 3 4\nCHECKPOINT\nQUIT\n",
             b"OK 1 1\nOK 2 1\nOK 1\nOK 7 0 0\nOK 3\nOK 7 0 0\nOK 4\nBYE\n",
-            End::Quit,
-            0,
-        ),
-    ]
+        )],
+        (End::Quit, 0, 4),
+    ),
+    (
+        "the longest line",
+        OPEN,
+        &[
+            (&LETTERS, b""),
+            (b"\nQUIT\n", b"ERR 11 UnknownCommand\nBYE\n"),
+        ],
+        (End::Quit, 0, 0),
+    ),
+    (
+        "a line too long",
+        OPEN,
+        &[(&LETTERS, b""), (b"A\nQUIT\n", b"ERR 13 LineTooLong\n")],
+        (End::LineTooLong, 6, 0),
+    ),
+    (
+        "a blank map in its frame",
+        FRAMED,
+        &BLANK,
+        (End::EndOfInput, 0, 0),
+    ),
+    (
+        "a pin sees the frame before and after a publish",
+        FRAMED,
+        &PUBLISHED,
+        (End::EndOfInput, 0, 2),
+    ),
+];
+
+/// All that is read, and all that is written for it.
+fn joined(alloc: Global, lines: &[(&[u8], &[u8])]) -> Result<(Vec<u8>, Vec<u8>), Fail> {
+    let (mut read, mut written) = (Vec::new(alloc), Vec::new(alloc));
+    for (line, reply) in lines {
+        read.extend_from_slice(line)?;
+        written.extend_from_slice(reply)?;
+    }
+    Ok((read, written))
 }
 
 #[test]
 fn worked_streams(rt: HostRuntime) -> Result<(), Fail> {
-    let alloc = rt.alloc();
-    for (name, image, read, written, end, left) in worked() {
-        let map = match image {
-            Some(image) => drawn(alloc, image)?,
-            None => square(alloc)?,
+    for (name, (map, edge), lines, (end, left, entries)) in WORKED {
+        let (read, written) = joined(rt.alloc(), lines)?;
+        let setting = Setting {
+            edge,
+            ..setting(2, 1)
         };
-        let blank = blank(setting(8, 1), map, alloc)?;
-        let run = serve(&rt, alloc, blank, Input::whole(read))?;
-        look(&rt, name, &run, written, end, left);
+        let blank = blank(&rt, rt.alloc(), setting, map)?;
+        let run = serve(&rt, rt.alloc(), blank, (&read, None, None))?;
+        holds(&rt, run.written == written, ("another text", name));
+        same(&rt, run.end, end, name);
+        same(&rt, (run.left, run.entries), (left, entries), name);
     }
-    Ok(())
-}
-
-#[test]
-fn two_blocks_are_enough(rt: HostRuntime) -> Result<(), Fail> {
-    let alloc = rt.alloc();
-    for (number, entries) in [(1, 2), (3, 5)] {
-        let (name, _, read, written, end, left) = worked()[number];
-        let blank = blank(setting(2, 1), square(alloc)?, alloc)?;
-        let run = serve(&rt, alloc, blank, Input::whole(read))?;
-        look(&rt, name, &run, written, end, left);
-        same(&rt, run.entries, entries, name);
-    }
-    Ok(())
-}
-
-#[test]
-fn a_checkpoint_makes_room(rt: HostRuntime) -> Result<(), Fail> {
-    let alloc = rt.alloc();
-    let narrow = Setting {
-        versions: 2,
-        log: 2,
-        ..setting(2, 1)
-    };
-    let read =
-        b"PAINT 0 0 1 1\nPUBLISH\nCOLLECT\nCHECKPOINT\nCOLLECT\nPAINT 1 0 2 1\nPUBLISH\nCHECKPOINT\nPUBLISH\nCOLLECT\nCHECKPOINT\nQUIT\n";
-    let written =
-        b"OK 1 1\nOK 2 1\nERR 4 LogFull\nOK 3\nOK 4 1 1\nOK 5 1\nERR 4 LogFull\nOK 6\nOK 7 2\nOK 8 2 1\nOK 9\nBYE\n";
-    let blank = blank(narrow, square(alloc)?, alloc)?;
-    let run = serve(&rt, alloc, blank, Input::whole(read))?;
-    look(&rt, "checkpoints", &run, written, End::Quit, 0);
-    same(&rt, run.entries, 9, "entries");
-    Ok(())
-}
-
-#[test]
-fn a_stamp_that_is_cut_off_is_no_command(rt: HostRuntime) -> Result<(), Fail> {
-    let alloc = rt.alloc();
-    let cut: [&[u8]; 3] = [
-        b"STAMP 2 1 11\n",
-        b"STAMP 2 1 11\nP",
-        b"STAMP 2 1 11\nP1\n2 2\n100",
-    ];
-    for read in cut {
-        let blank = blank(setting(2, 1), square(alloc)?, alloc)?;
-        let run = serve(&rt, alloc, blank, Input::whole(read))?;
-        look(&rt, "a stamp cut off", &run, b"", End::EndOfInput, 0);
-        same(&rt, run.entries, 0, "entries");
-    }
-    Ok(())
-}
-
-#[test]
-fn the_largest_map(rt: HostRuntime) -> Result<(), Fail> {
-    let alloc = rt.alloc();
-    let mut map = Bitmap::blank(alloc, 4096, 4096)?;
-    map.set(Cell { x: 0, y: 0 }, true);
-    let blank = blank(setting(16_384, 1), map, alloc)?;
-    let read =
-        b"PIN\nAT euclid2 4095 4095\nAT euclid2 4096 0\nRECT chess 4095 4095 4096 4096\nQUIT\n";
-    let written = b"OK 0\nOK 33538050 0 0\nERR 1 OutOfRange\nOK 4095 4095 4095 0 0\nBYE\n";
-    let run = serve(&rt, alloc, blank, Input::whole(read))?;
-    look(&rt, "the last cell", &run, written, End::Quit, 0);
     Ok(())
 }

@@ -1,6 +1,6 @@
 //! What sessions do in a table of rows, and what they are told.
 
-use map_core::Reply;
+use map_core::{Command, Reply};
 use metric::Refusal;
 
 /// What a session does, with its pin where it has one.
@@ -20,18 +20,12 @@ pub enum Act {
     Unpin,
     /// Asks its pin how far the nearest obstacle of a cell is.
     Near([u16; 2]),
-    /// Asks its pin each query.
-    Ask,
     /// Lays a ticket of the log into the tray.
     Ticket,
     /// Learns the ticket that lies in the tray.
     Learn,
     /// Discards it.
     Discard,
-    /// Counts its accepted commands.
-    Count,
-    /// Looks whose the log's last entry is.
-    LookAtLast,
 }
 
 /// What it is told.
@@ -56,8 +50,6 @@ pub enum Told {
     Near(u32, u32, [i16; 2]),
     /// The version that its pin holds, where there is no obstacle.
     Free(u32),
-    /// How many commands, or which session.
-    Number(u32),
     Nothing,
 }
 
@@ -72,7 +64,7 @@ pub const B: usize = 1;
 pub const C: usize = 2;
 
 /// What a command is answered.
-pub fn answered(answer: Result<Reply, Refusal>) -> Told {
+pub fn answered(answer: Result<Reply, (Command, Refusal)>) -> Told {
     match answer {
         Ok(Reply::Painted { place, changed }) => Told::Painted(place, changed),
         Ok(Reply::Published { place, version }) => Told::Published(place, version),
@@ -86,7 +78,7 @@ pub fn answered(answer: Result<Reply, Refusal>) -> Told {
                 kept: _,
             },
         ) => Told::Collected(place, floor, freed),
-        Err(Refusal::BlocksFull { needed, free }) => Told::Full(needed, free),
-        Err(refusal) => Told::Refused(refusal),
+        Err((_, Refusal::BlocksFull { needed, free })) => Told::Full(needed, free),
+        Err((_, refusal)) => Told::Refused(refusal),
     }
 }

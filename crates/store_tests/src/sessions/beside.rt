@@ -3,9 +3,9 @@
 ghost use Rattle.std.specs.Prelude.{◌≡◌};
 
 use crate::compare::{holds, same};
-use crate::opened::{close, free, hand_back, next, open, pin, rect};
+use crate::opened::{blank, close, hand_back, next, open, pin, rect};
 use map_core::Setting;
-use metric::{Cell, City, Edge, Near};
+use metric::{Cell, City, Edge, Near, Spot};
 use session::{Blank, Session, Store};
 use shelf::{StoreName, Ticket};
 use std::alloc::Global;
@@ -24,9 +24,15 @@ const SETTING: Setting = Setting {
     edge: Edge::Open,
 };
 
+/// The nearest obstacle of the cell that is asked for, once there is one.
+const SEEN: Near = Near {
+    dist: 7,
+    cell: Spot { x: 0, y: 0 },
+};
+
 #[test]
 fn pin_beside_lock(rt: HostRuntime) -> Result<(), Fail> {
-    let blank = free(rt.alloc(), SETTING, [64, 64])?;
+    let blank = blank(&rt, rt.alloc(), SETTING, ([64, 64], 0))?;
     pins_while_the_lock_is_held::<Brand, _>(&rt, rt.alloc(), blank)
 }
 
@@ -63,7 +69,7 @@ fn pins_while_the_lock_is_held<Id: StoreName, R: Wait + Abort>(
     holds(rt, painter.publish(&mut desk).is_ok(), "a publish");
     let (version, near, planner) = ask(rt, alloc, planner);
     same(rt, version, 1, "version 1 is published");
-    same(rt, near.map(|near| near.dist), Some(7), "its obstacle");
+    same(rt, near, Some(SEEN), "its obstacle");
     drop(desk);
     hand_back(rt, &mut sessions, painter);
     hand_back(rt, &mut sessions, planner);
@@ -73,7 +79,7 @@ fn pins_while_the_lock_is_held<Id: StoreName, R: Wait + Abort>(
 
 #[test]
 fn ticket_between_threads(rt: HostRuntime) -> Result<(), Fail> {
-    let blank = free(rt.alloc(), SETTING, [64, 64])?;
+    let blank = blank(&rt, rt.alloc(), SETTING, ([64, 64], 0))?;
     hands_a_ticket_over::<Brand, _>(&rt, rt.alloc(), blank)
 }
 
@@ -106,7 +112,7 @@ fn hands_a_ticket_over<Id: StoreName + Send + Sync, R: Threads + Wait + Abort + 
     planner.learn(ticket);
     let (version, near, planner) = ask(rt, alloc, planner);
     same(rt, version, 1, "what the ticket told");
-    same(rt, near.map(|near| near.dist), Some(7), "its obstacle");
+    same(rt, near, Some(SEEN), "its obstacle");
     hand_back(rt, &mut sessions, painter);
     hand_back(rt, &mut sessions, planner);
     same(rt, close(store, sessions), 2, "entries");

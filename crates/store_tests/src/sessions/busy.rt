@@ -4,9 +4,9 @@
 ghost use Rattle.std.specs.Prelude.{◌≡◌, ◌<◌};
 
 use crate::compare::{holds, same};
-use crate::opened::{close, free, hand_back, next, open, pin, rect};
+use crate::opened::{blank, close, hand_back, next, open, pin, rect};
 use bits::Bitmap;
-use map_core::Setting;
+use map_core::{Command, Setting};
 use metric::{Cell, Chess, Edge, Refusal};
 use session::{Blank, Session, Store};
 use shelf::StoreName;
@@ -42,7 +42,7 @@ fn planners_beside_a_painter(rt: HostRuntime) -> Result<(), Fail> {
         edge: Edge::Open,
     };
     let since = Instant::now(&rt)?;
-    let blank = free(rt.alloc(), setting, [128, 64])?;
+    let blank = blank(&rt, rt.alloc(), setting, ([128, 64], 0))?;
     paints_and_plans::<Brand, _>(&rt, rt.alloc(), blank, since)
 }
 
@@ -65,23 +65,18 @@ fn spot(version: u32) -> Cell
     }
 }
 
-/// The words of a row of a version.
-fn row_of(version: u32, y: u16) -> u64 {
-    let spot = spot(version);
-    if version == 0 || y != spot.y {
-        0
-    } else {
-        1 << spot.x
-    }
-}
-
 /// Whether a bitmap is the one that was published under this number.
 fn is_version(map: &Bitmap, version: u32) -> bool {
     if map.width() != 128 || map.height() != 64 {
         return false;
     }
+    let spot = spot(version);
     for y in 0..64u16 {
-        let word = row_of(version, y);
+        let word = if version == 0 || y != spot.y {
+            0
+        } else {
+            1 << spot.x
+        };
         if map.row_words(y) != [word, word].as_slice() {
             return false;
         }
@@ -89,52 +84,26 @@ fn is_version(map: &Bitmap, version: u32) -> bool {
     true
 }
 
-/// Gives the cells of a rectangle one value. Where blocks are lacking it collects, and tries again.
-fn draw<Id: StoreName, R: Wait + Abort + Clock>(
+/// Has a command accepted. Where blocks or slots are lacking it gives the planners time to unpin, collects, and tries again.
+fn apply<Id: StoreName, R: Wait + Abort + Clock>(
     rt: &R,
     store: &Store<Id>,
     painter: &mut Session<Id>,
-    corners: [u16; 4],
-    black: bool,
+    command: Command,
 ) {
-    let area = rect(rt, corners);
+    let mut command = command;
     for _ in 0..TRIES {
-        let drawn = painter.paint(&mut store.lock(rt), area, black);
-        match drawn {
+        let applied = painter.apply(&mut store.lock(rt), command);
+        match applied {
             Ok(_) => return,
-            Err(Refusal::BlocksFull { .. }) => collect(rt, store, painter),
-            Err(_) => panic!(rt; "a paint was refused"),
+            Err((back, Refusal::BlocksFull { .. } | Refusal::VersionsFull)) => command = back,
+            Err(_) => panic!(rt; "a command was refused"),
         }
+        sleep(rt, Duration::from_micros(100));
+        let collected = painter.collect(&mut store.lock(rt));
+        holds(rt, collected.is_ok(), "a collect was refused");
     }
-    panic!(rt; "no block came back")
-}
-
-/// Gives the planners time to unpin, and lets each version go that no pin holds.
-fn collect<Id: StoreName, R: Wait + Abort + Clock>(
-    rt: &R,
-    store: &Store<Id>,
-    session: &mut Session<Id>,
-) {
-    sleep(rt, Duration::from_micros(100));
-    let collected = session.collect(&mut store.lock(rt));
-    holds(rt, collected.is_ok(), "a collect was refused");
-}
-
-/// Publishes. Where slots are lacking it collects, and tries again.
-fn publish<Id: StoreName, R: Wait + Abort + Clock>(
-    rt: &R,
-    store: &Store<Id>,
-    painter: &mut Session<Id>,
-) {
-    for _ in 0..TRIES {
-        let published = painter.publish(&mut store.lock(rt));
-        match published {
-            Ok(_) => return,
-            Err(Refusal::VersionsFull) => collect(rt, store, painter),
-            Err(_) => panic!(rt; "a publish was refused"),
-        }
-    }
-    panic!(rt; "no slot came free")
+    panic!(rt; "no block came back, and no slot came free")
 }
 
 /// Publishes each version: the spots of the version before are cleared, and its own are painted.
@@ -147,10 +116,15 @@ fn publish_all<Id: StoreName, R: Wait + Abort + Clock>(
     let painter = worker.session.as_mut().expect(rt, "the painter");
     for version in 1..=VERSIONS {
         let Cell { x, y } = spot(version);
-        draw(rt, store, painter, [0, 0, 128, 64], false);
-        draw(rt, store, painter, [x, y, x + 1, y + 1], true);
-        draw(rt, store, painter, [x + 64, y, x + 65, y + 1], true);
-        publish(rt, store, painter);
+        for (corners, black) in [
+            ([0, 0, 128, 64], false),
+            ([x, y, x + 1, y + 1], true),
+            ([x + 64, y, x + 65, y + 1], true),
+        ] {
+            let rect = rect(rt, corners);
+            apply(rt, store, painter, Command::Paint { rect, black });
+        }
+        apply(rt, store, painter, Command::Publish);
         worker.newest = version;
         if is_over(rt, since) {
             return;
@@ -169,12 +143,13 @@ fn compare<Id: StoreName>(
     let shown = is_version(pinned.bitmap(), version);
     holds(rt, shown, ("the bitmap of", version));
     let spot = spot(version);
-    let near = match pinned.at::<Chess>(alloc, Cell { x: 0, y: 0 }) {
-        Ok(near) => near.map(|near| near.dist),
+    let dist = match pinned.at::<Chess>(alloc, Cell { x: 0, y: 0 }) {
+        Ok(Some(near)) => Some(near.dist),
+        Ok(None) => None,
         Err(_) => panic!(rt; "the cell is in the map"),
     };
-    let dist = (version != 0).then_some(u32::from(spot.x.max(spot.y)));
-    same(rt, near, dist, ("an answer of", version));
+    let want = (version != 0).then_some(u32::from(spot.x.max(spot.y)));
+    same(rt, dist, want, ("an answer of", version));
     (version, pinned.unpin())
 }
 

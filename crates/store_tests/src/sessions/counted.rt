@@ -2,10 +2,9 @@
 //! whole map is refused, and tells how many are free.
 
 use crate::sessions::acts::{A, Act, B, Row, Told};
-use crate::sessions::players::{Game, play};
+use crate::sessions::players::Game;
 use map_core::Setting;
 use metric::{Edge, Refusal};
-use std::test::Fail;
 
 /// A map of two tiles with one free block.
 const SPARE: Setting = Setting {
@@ -25,18 +24,6 @@ const FREED: [Row; 5] = [
     (A, Act::Paint([1, 0, 2, 1]), Told::Painted(4, 1)),
 ];
 
-#[test]
-fn blocks_come_back_by_a_collect(rt: HostRuntime) -> Result<(), Fail> {
-    let game = Game {
-        setting: SPARE,
-        size: [128, 64],
-        rows: &FREED,
-        free: &[0, 0, 0, 1, 0],
-        entries: 4,
-    };
-    play(&rt, rt.alloc(), game)
-}
-
 /// Tiles that a command needs are counted, and those that the draft has of its own aren't among them.
 const POSITIONS: [Row; 6] = [
     (A, Act::Paint([0, 0, 128, 1]), Told::Full(2, 1)),
@@ -46,18 +33,6 @@ const POSITIONS: [Row; 6] = [
     (A, Act::Revert, Told::Reverted(3)),
     (A, Act::Paint([64, 0, 65, 1]), Told::Painted(4, 1)),
 ];
-
-#[test]
-fn positions_are_counted(rt: HostRuntime) -> Result<(), Fail> {
-    let game = Game {
-        setting: SPARE,
-        size: [128, 1],
-        rows: &POSITIONS,
-        free: &[1, 0, 0, 0, 1, 0],
-        entries: 4,
-    };
-    play(&rt, rt.alloc(), game)
-}
 
 /// Three versions in two slots.
 const AGAIN: [Row; 9] = [
@@ -71,18 +46,6 @@ const AGAIN: [Row; 9] = [
     (A, Act::Publish, Told::Published(8, 3)),
     (A, Act::Collect, Told::Collected(9, 3, 1)),
 ];
-
-#[test]
-fn slots_and_blocks_are_used_again(rt: HostRuntime) -> Result<(), Fail> {
-    let game = Game {
-        setting: SPARE,
-        size: [128, 64],
-        rows: &AGAIN,
-        free: &[0, 0, 1, 0, 0, 1, 0, 0, 1],
-        entries: 9,
-    };
-    play(&rt, rt.alloc(), game)
-}
 
 /// Of four tiles the first changes before version 1, the next two before version 2, and the third again after it. Another session has version 1 pinned
 /// meanwhile.
@@ -101,9 +64,94 @@ const TAKEN: [Row; 12] = [
     (A, Act::Revert, Told::Reverted(8)),
 ];
 
-#[test]
-fn a_collect_frees_what_its_versions_took(rt: HostRuntime) -> Result<(), Fail> {
-    let game = Game {
+/// A session that has done nothing collects.
+const UNSEEN: [Row; 3] = [
+    (A, Act::Paint([0, 0, 1, 1]), Told::Painted(1, 1)),
+    (A, Act::Publish, Told::Published(2, 1)),
+    (B, Act::Collect, Told::Collected(3, 1, 1)),
+];
+
+/// A map whose only block is version 0's.
+const CLEARED: [Row; 2] = [
+    (A, Act::Clear([0, 0, 64, 64]), Told::Painted(1, 0)),
+    (
+        A,
+        Act::Paint([63, 63, 65, 64]),
+        Told::Refused(Refusal::OutOfRange),
+    ),
+];
+
+/// What a publish after refused commands shows: none of their cells.
+const REFUSED: [Row; 9] = [
+    (A, Act::Paint([0, 0, 1, 1]), Told::Painted(1, 1)),
+    (A, Act::Paint([1, 0, 65, 1]), Told::Full(1, 0)),
+    (
+        A,
+        Act::Clear([0, 0, 129, 1]),
+        Told::Refused(Refusal::OutOfRange),
+    ),
+    (A, Act::Stamp(63, 0), Told::Full(1, 0)),
+    (A, Act::Publish, Told::Published(2, 1)),
+    (A, Act::Publish, Told::Refused(Refusal::VersionsFull)),
+    (A, Act::Pin, Told::Version(1)),
+    (A, Act::Near([127, 0]), Told::Near(1, 16_129, [0, 0])),
+    (A, Act::Unpin, Told::Nothing),
+];
+
+/// A map of four tiles. A tile is counted that a stamp touches, and none that clearing leaves as it was.
+const CORNERS: [Row; 8] = [
+    (A, Act::Paint([0, 0, 70, 66]), Told::Full(4, 2)),
+    (A, Act::Paint([64, 0, 70, 1]), Told::Painted(1, 6)),
+    (
+        A,
+        Act::Paint([0, 0, 71, 1]),
+        Told::Refused(Refusal::OutOfRange),
+    ),
+    (A, Act::Stamp(62, 63), Told::Painted(2, 3)),
+    (A, Act::Stamp(68, 0), Told::Refused(Refusal::OutOfRange)),
+    (A, Act::Stamp(66, 65), Told::Full(1, 0)),
+    (A, Act::Clear([0, 64, 70, 66]), Told::Painted(3, 0)),
+    (A, Act::Revert, Told::Reverted(4)),
+];
+
+/// The smallest map and its only block.
+const SMALLEST: [Row; 3] = [
+    (A, Act::Paint([0, 0, 1, 1]), Told::Full(1, 0)),
+    (A, Act::Clear([0, 0, 1, 1]), Told::Painted(1, 0)),
+    (A, Act::Publish, Told::Published(2, 1)),
+];
+
+/// The games.
+pub const COUNTED: [Game<'static>; 9] = [
+    Game {
+        name: "blocks come back by a collect",
+        setting: SPARE,
+        size: [128, 64],
+        rows: &FREED,
+        free: &[0, 0, 0, 1, 0],
+        left_out: 0,
+        log: (0, 4),
+    },
+    Game {
+        name: "positions are counted",
+        setting: SPARE,
+        size: [128, 1],
+        rows: &POSITIONS,
+        free: &[1, 0, 0, 0, 1, 0],
+        left_out: 0,
+        log: (0, 4),
+    },
+    Game {
+        name: "slots and blocks are used again",
+        setting: SPARE,
+        size: [128, 64],
+        rows: &AGAIN,
+        free: &[0, 0, 1, 0, 0, 1, 0, 0, 1],
+        left_out: 0,
+        log: (0, 9),
+    },
+    Game {
+        name: "a collect frees what its versions took",
         setting: Setting {
             blocks: 7,
             versions: 3,
@@ -112,26 +160,52 @@ fn a_collect_frees_what_its_versions_took(rt: HostRuntime) -> Result<(), Fail> {
         size: [256, 1],
         rows: &TAKEN,
         free: &[2, 2, 2, 0, 0, 0, 0, 1, 0, 0, 2, 3],
-        entries: 8,
-    };
-    play(&rt, rt.alloc(), game)
-}
-
-/// A session that has done nothing collects.
-const UNSEEN: [Row; 3] = [
-    (A, Act::Paint([0, 0, 1, 1]), Told::Painted(1, 1)),
-    (A, Act::Publish, Told::Published(2, 1)),
-    (B, Act::Collect, Told::Collected(3, 1, 1)),
-];
-
-#[test]
-fn a_session_that_has_seen_nothing_collects(rt: HostRuntime) -> Result<(), Fail> {
-    let game = Game {
+        left_out: 0,
+        log: (0, 8),
+    },
+    Game {
+        name: "a session that has seen nothing collects",
         setting: Setting { blocks: 4, ..SPARE },
         size: [192, 64],
         rows: &UNSEEN,
         free: &[0, 0, 1],
-        entries: 3,
-    };
-    play(&rt, rt.alloc(), game)
-}
+        left_out: 0,
+        log: (0, 3),
+    },
+    Game {
+        name: "clearing free cells takes no block",
+        setting: Setting { blocks: 1, ..SPARE },
+        size: [64, 64],
+        rows: &CLEARED,
+        free: &[0, 0],
+        left_out: 0,
+        log: (0, 1),
+    },
+    Game {
+        name: "a refused command leaves the draft",
+        setting: SPARE,
+        size: [128, 1],
+        rows: &REFUSED,
+        free: &[0, 0, 0, 0],
+        left_out: 0,
+        log: (0, 2),
+    },
+    Game {
+        name: "four tiles",
+        setting: Setting { blocks: 6, ..SPARE },
+        size: [70, 66],
+        rows: &CORNERS,
+        free: &[2, 1, 1, 0, 0, 0, 0, 2],
+        left_out: 0,
+        log: (0, 4),
+    },
+    Game {
+        name: "the smallest map",
+        setting: Setting { blocks: 1, ..SPARE },
+        size: [1, 1],
+        rows: &SMALLEST,
+        free: &[0, 0, 0],
+        left_out: 0,
+        log: (0, 2),
+    },
+];

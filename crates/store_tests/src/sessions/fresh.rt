@@ -4,11 +4,10 @@ ghost use Rattle.std.specs.Prelude.{◌≡◌};
 
 use crate::compare::{holds, same};
 use crate::opened::{Spotted, blank, close, hand_back, next, open, pin, rect, spotted};
-use clearance::{along, at, clear_of, least_in};
 use map_core::Setting;
-use metric::{Cell, Chess, City, Edge, Euclid2, Metric};
-use proto::Bordered;
-use session::{Blank, Pinned, Session};
+use metric::{Cell, Edge, MetricKind};
+use proto::{Bordered, Query, Text, answer_of, reply_text};
+use session::{Blank, Pinned};
 use shelf::StoreName;
 use std::alloc::Global;
 use std::marker::Brand;
@@ -27,16 +26,18 @@ pub const SETTING: Setting = Setting {
 /// A map of six tiles, whose pins look at 48 words: fewer than some cells' queries take, and more than others' do.
 const FAR: Spotted = ([130, 70], 300);
 
-/// Maps each of whose cells is asked for: that one, and some of one tile.
-const ALL_CELLS: [Spotted; 4] = [FAR, ([64, 1], 40), ([5, 3], 8), ([5, 3], 0)];
-
-/// Maps from each of whose cells the border is seen as a wall: one of four tiles, and some of one.
-const WALLED: [Spotted; 5] = [
-    ([70, 66], 300),
-    ([64, 1], 40),
-    ([1, 1], 0),
-    ([5, 3], 8),
-    ([5, 3], 0),
+/// Maps each of whose cells is asked for, and the border: maps of six tiles, of four and of one.
+const ALL_CELLS: [(Spotted, Edge); 10] = [
+    (FAR, Edge::Open),
+    (([64, 1], 40), Edge::Open),
+    (([5, 3], 8), Edge::Open),
+    (([5, 3], 0), Edge::Open),
+    (([70, 66], 300), Edge::Wall),
+    (([130, 70], 0), Edge::Wall),
+    (([64, 1], 40), Edge::Wall),
+    (([1, 1], 0), Edge::Wall),
+    (([5, 3], 8), Edge::Wall),
+    (([5, 3], 0), Edge::Wall),
 ];
 
 /// Maps of six tiles and of one, where obstacles are near and far, on which rectangles and paths are asked for.
@@ -75,216 +76,126 @@ const CORNERS: [[u16; 4]; 20] = [
     [7, 1, 121, 2],
 ];
 
-/// Pins, and reads the version.
-pub fn pin_and_read<Id: StoreName>(
-    rt: &impl Abort,
-    alloc: Global,
-    session: Session<Id>,
-) -> Pinned<Id> {
-    let mut pinned = pin(rt, alloc, session);
-    holds(rt, pinned.bitmap_read().is_none(), "a fresh pin");
-    let width = pinned.bitmap().width();
-    let read = pinned.bitmap_read().map(|bitmap| bitmap.width());
-    same(rt, read, Some(width), "a pin that is read");
-    pinned
-}
+const METRICS: [MetricKind; 3] = [MetricKind::Euclid2, MetricKind::City, MetricKind::Chess];
 
-/// Asks a fresh pin, the same one again, and one that was read, for the nearest obstacle of a cell.
-fn compare_cell<M: Metric, Id: StoreName>(
-    rt: &impl Abort,
+/// Queries of each cell of a map of this size.
+pub fn cells(
     alloc: Global,
-    session: Session<Id>,
-    read: &mut Pinned<Id>,
-    map: Bordered<'_>,
-    cell: Cell,
-) -> Session<Id> {
-    let want = at::<M>(alloc, map.bitmap, map.edge, cell);
-    let mut fresh = pin(rt, alloc, session);
-    same(rt, fresh.at::<M>(alloc, cell), want, ("fresh", cell));
-    same(rt, fresh.at::<M>(alloc, cell), want, ("again", cell));
-    same(rt, read.at::<M>(alloc, cell), want, ("read", cell));
-    fresh.unpin()
-}
-
-/// Asks them for the least distance over a rectangle.
-fn compare_rect<M: Metric, Id: StoreName>(
-    rt: &impl Abort,
-    alloc: Global,
-    session: Session<Id>,
-    read: &mut Pinned<Id>,
-    map: Bordered<'_>,
-    corners: [u16; 4],
-) -> Session<Id> {
-    let area = rect(rt, corners);
-    let want = least_in::<M>(alloc, map.bitmap, map.edge, area);
-    let mut fresh = pin(rt, alloc, session);
-    same(rt, fresh.least_in::<M>(alloc, area), want, ("fresh", area));
-    same(rt, fresh.least_in::<M>(alloc, area), want, ("again", area));
-    same(rt, read.least_in::<M>(alloc, area), want, ("read", area));
-    fresh.unpin()
-}
-
-/// The path round a rectangle with these corners.
-fn round([x0, y0, x1, y1]: [u16; 4]) -> [Cell; 5] {
-    let (right, below) = (x1.saturating_sub(1), y1.saturating_sub(1));
-    let first = Cell { x: x0, y: y0 };
-    [
-        first,
-        Cell { x: right, y: y0 },
-        Cell { x: right, y: below },
-        Cell { x: x0, y: below },
-        first,
-    ]
-}
-
-/// Asks them for the least distance along a path.
-fn compare_path<M: Metric, Id: StoreName>(
-    rt: &impl Abort,
-    alloc: Global,
-    session: Session<Id>,
-    read: &mut Pinned<Id>,
-    map: Bordered<'_>,
-    path: &[Cell],
-) -> Session<Id> {
-    let want = along::<M>(alloc, map.bitmap, map.edge, path);
-    let mut fresh = pin(rt, alloc, session);
-    same(rt, fresh.along::<M>(alloc, path), want, ("fresh", path));
-    same(rt, fresh.along::<M>(alloc, path), want, ("again", path));
-    same(rt, read.along::<M>(alloc, path), want, ("read", path));
-    fresh.unpin()
-}
-
-/// Asks them whether a path is so clear.
-fn compare_clear<M: Metric, Id: StoreName>(
-    rt: &impl Abort,
-    alloc: Global,
-    session: Session<Id>,
-    read: &mut Pinned<Id>,
-    map: Bordered<'_>,
-    (path, d): (&[Cell], u32),
-) -> Session<Id> {
-    let want = clear_of::<M>(alloc, map.bitmap, map.edge, path, d);
-    let mut fresh = pin(rt, alloc, session);
-    let answer = fresh.clear_of::<M>(alloc, path, d);
-    same(rt, answer, want, ("fresh", path, d));
-    let answer = fresh.clear_of::<M>(alloc, path, d);
-    same(rt, answer, want, ("again", path, d));
-    let answer = read.clear_of::<M>(alloc, path, d);
-    same(rt, answer, want, ("read", path, d));
-    fresh.unpin()
-}
-
-/// Asks pins for each cell of a map.
-fn compare_cells<M: Metric, Id: StoreName>(
-    rt: &impl Abort,
-    alloc: Global,
-    session: Session<Id>,
-    read: &mut Pinned<Id>,
-    map: Bordered<'_>,
-) -> Session<Id> {
-    let mut session = session;
-    for y in 0..map.bitmap.height() {
-        for x in 0..map.bitmap.width() {
-            session = compare_cell::<M, Id>(rt, alloc, session, read, map, Cell { x, y });
+    metric: MetricKind,
+    [width, height]: [u16; 2],
+) -> Result<Vec<Query>, Fail> {
+    let mut queries = Vec::new(alloc);
+    for y in 0..height {
+        for x in 0..width {
+            let cell = Cell { x, y };
+            queries.push(Query::At { metric, cell })?;
         }
     }
-    session
+    Ok(queries)
 }
 
-/// Asks pins for rectangles and for the paths round them.
-fn compare_areas<M: Metric, Id: StoreName>(
-    rt: &impl Abort,
-    alloc: Global,
-    session: Session<Id>,
-    read: &mut Pinned<Id>,
-    map: Bordered<'_>,
-) -> Session<Id> {
-    let mut session = session;
-    for corners in &CORNERS {
-        session = compare_rect::<M, Id>(rt, alloc, session, read, map, *corners);
-        let path = round(*corners);
-        session = compare_path::<M, Id>(rt, alloc, session, read, map, &path);
+/// Queries of each rectangle and of the path round it.
+fn areas(rt: &impl Abort, alloc: Global, metric: MetricKind) -> Result<Vec<Query>, Fail> {
+    let mut queries = Vec::new(alloc);
+    for corners in CORNERS {
+        let rect = rect(rt, corners);
+        queries.push(Query::Rect { metric, rect })?;
+        let [left, above, x1, y1] = corners;
+        let (right, below) = (x1.saturating_sub(1), y1.saturating_sub(1));
+        let path = [
+            (left, above),
+            (right, above),
+            (right, below),
+            (left, below),
+            (left, above),
+        ]
+        .map(|(x, y)| Cell { x, y });
+        let points = Vec::from_slice(alloc, &path)?;
+        queries.push(Query::Path { metric, points })?;
         for d in [1, 6, 1_000] {
-            session = compare_clear::<M, Id>(rt, alloc, session, read, map, (&path, d));
+            let points = Vec::from_slice(alloc, &path)?;
+            queries.push(Query::ClearOf { metric, d, points })?;
         }
     }
-    session
+    Ok(queries)
 }
 
-/// What pins of a store are asked.
-#[derive(Clone, Copy)]
-enum Part {
-    Cells,
-    Areas,
-}
-
-/// Asks pins of a store by a metric.
-fn compare_by<M: Metric, Id: StoreName>(
+/// Asks a pin, and compares the reply's text.
+pub fn ask<Id: StoreName>(
     rt: &impl Abort,
     alloc: Global,
-    session: Session<Id>,
-    read: &mut Pinned<Id>,
-    map: Bordered<'_>,
-    part: Part,
-) -> Session<Id> {
-    match part {
-        Part::Cells => compare_cells::<M, Id>(rt, alloc, session, read, map),
-        Part::Areas => compare_areas::<M, Id>(rt, alloc, session, read, map),
-    }
+    pinned: &mut Pinned<Id>,
+    query: &Query,
+    want: &[u8],
+) {
+    let Ok(mut text) = Text::new(alloc) else {
+        panic!(rt; "no memory for a text");
+    };
+    reply_text(&answer_of(alloc, pinned, query), &mut text);
+    same(rt, text.as_bytes(), want, query);
 }
 
-/// Asks pins of a store by each metric.
-fn compare_map<Id: StoreName>(
+/// Asks for each query a fresh pin, the same one again, and one that was read.
+fn compare<Id: StoreName>(
     rt: &impl Abort,
     alloc: Global,
     blank: Blank,
     map: Bordered<'_>,
-    part: Part,
+    queries: &[Query],
+    text: &mut Text,
 ) -> Result<(), Fail>
     requires { blank ≡ Id.store }
 {
+    let mut map = map;
     let (store, mut sessions) = open::<Id>(alloc, blank)?;
-    let mut read = pin_and_read(rt, alloc, next(rt, &mut sessions));
-    let session = next(rt, &mut sessions);
-    let session = compare_by::<Euclid2, Id>(rt, alloc, session, &mut read, map, part);
-    let session = compare_by::<City, Id>(rt, alloc, session, &mut read, map, part);
-    let session = compare_by::<Chess, Id>(rt, alloc, session, &mut read, map, part);
+    let mut read = pin(rt, alloc, next(rt, &mut sessions));
+    let _ = read.bitmap();
+    let mut session = next(rt, &mut sessions);
+    for query in queries {
+        reply_text(&answer_of(alloc, &mut map, query), text);
+        let mut fresh = pin(rt, alloc, session);
+        holds(rt, fresh.bitmap_read().is_none(), "a fresh pin");
+        ask(rt, alloc, &mut fresh, query, text.as_bytes());
+        ask(rt, alloc, &mut fresh, query, text.as_bytes());
+        ask(rt, alloc, &mut read, query, text.as_bytes());
+        session = fresh.unpin();
+    }
     hand_back(rt, &mut sessions, session);
     hand_back(rt, &mut sessions, read.unpin());
     same(rt, close(store, sessions), 0, "entries");
     Ok(())
 }
 
-/// Asks pins of a store on each of these maps, whose border is this.
-fn compare_maps(
+/// Asks pins of a store on this map, whose border is this.
+fn compare_on(
     rt: &impl Abort,
     alloc: Global,
-    maps: &[Spotted],
+    map: Spotted,
     edge: Edge,
-    part: Part,
+    queries: &[Query],
 ) -> Result<(), Fail> {
-    for map in maps {
-        let bitmap = spotted(rt, alloc, *map)?;
-        let setting = Setting { edge, ..SETTING };
-        let blank = blank(setting, spotted(rt, alloc, *map)?, alloc)?;
-        let bitmap = &bitmap;
-        compare_map::<Brand>(rt, alloc, blank, Bordered { bitmap, edge }, part)?;
+    let bitmap = spotted(rt, alloc, map)?;
+    let bordered = Bordered {
+        bitmap: &bitmap,
+        edge,
+    };
+    let mut text = Text::new(alloc)?;
+    let blank = blank(rt, alloc, Setting { edge, ..SETTING }, map)?;
+    compare::<Brand>(rt, alloc, blank, bordered, queries, &mut text)
+}
+
+#[test]
+fn fresh_pins_answer(rt: HostRuntime) -> Result<(), Fail> {
+    for metric in METRICS {
+        for (map, edge) in ALL_CELLS {
+            let queries = cells(rt.alloc(), metric, map.0)?;
+            compare_on(&rt, rt.alloc(), map, edge, &queries)?;
+        }
+        let queries = areas(&rt, rt.alloc(), metric)?;
+        for map in AREAS {
+            compare_on(&rt, rt.alloc(), map, Edge::Open, &queries)?;
+            compare_on(&rt, rt.alloc(), map, Edge::Wall, &queries)?;
+        }
     }
     Ok(())
-}
-
-#[test]
-fn fresh_pins_answer_each_cell(rt: HostRuntime) -> Result<(), Fail> {
-    compare_maps(&rt, rt.alloc(), &ALL_CELLS, Edge::Open, Part::Cells)
-}
-
-#[test]
-fn fresh_pins_see_the_wall_from_each_cell(rt: HostRuntime) -> Result<(), Fail> {
-    compare_maps(&rt, rt.alloc(), &WALLED, Edge::Wall, Part::Cells)
-}
-
-#[test]
-fn fresh_pins_answer_rectangles_and_paths(rt: HostRuntime) -> Result<(), Fail> {
-    compare_maps(&rt, rt.alloc(), &AREAS, Edge::Open, Part::Areas)?;
-    compare_maps(&rt, rt.alloc(), &AREAS, Edge::Wall, Part::Areas)
 }

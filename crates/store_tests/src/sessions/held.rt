@@ -1,20 +1,21 @@
-//! A pin that is held while many versions are published.
+//! A pin that is held while many versions are published, until the log is full.
 
-ghost use Rattle.std.specs.Prelude.{◌≡◌, ◌<◌};
+ghost use Rattle.std.specs.Prelude.{◌<◌};
 
-use crate::compare::same;
-use crate::opened::{close, free, open};
 use crate::sessions::acts::{A, Act, B, Row, Told};
-use crate::sessions::players::Players;
+use crate::sessions::players::{Game, play};
 use map_core::Setting;
-use metric::Edge;
-use session::Blank;
-use shelf::StoreName;
-use std::alloc::Global;
-use std::marker::Brand;
-use std::process::Abort;
-use std::sync::Wait;
+use metric::{Edge, Refusal};
 use std::test::Fail;
+
+/// Four slots, as many blocks as version 0, the newest one and the draft take, and the entries of a thousand turns.
+const FEW: Setting = Setting {
+    blocks: 3,
+    versions: 4,
+    sessions: 2,
+    log: 3_000,
+    edge: Edge::Open,
+};
 
 /// A painter's turn of this number, from 0: it changes the first cell, publishes and collects. A pin holds version 0 meanwhile. What comes back is the tile
 /// of the version before, but for version 0's.
@@ -23,57 +24,41 @@ fn turn(number: u32) -> [Row; 3]
 {
     let cell = [0, 0, 1, 1];
     let place = 3 * number + 1;
-    let (act, freed) = match (number % 2, number) {
-        (0, 0) => (Act::Paint(cell), 0),
-        (0, _) => (Act::Paint(cell), 1),
-        _ => (Act::Clear(cell), 1),
+    let act = if number % 2 == 0 {
+        Act::Paint(cell)
+    } else {
+        Act::Clear(cell)
     };
     [
         (B, act, Told::Painted(place, 1)),
         (B, Act::Publish, Told::Published(place + 1, number + 1)),
-        (B, Act::Collect, Told::Collected(place + 2, 0, freed)),
+        (
+            B,
+            Act::Collect,
+            Told::Collected(place + 2, 0, u32::from(number != 0)),
+        ),
     ]
 }
 
-/// Four slots, and as many blocks as version 0, the newest one and the draft take.
-const FEW: Setting = Setting {
-    blocks: 3,
-    versions: 4,
-    sessions: 2,
-    log: 4_000,
-    edge: Edge::Open,
-};
-
 #[test]
 fn a_pin_beside_many(rt: HostRuntime) -> Result<(), Fail> {
-    let blank = free(rt.alloc(), FEW, [64, 64])?;
-    publish_beside::<Brand, _>(&rt, rt.alloc(), blank)
-}
-
-/// A session pins version 0 while another one publishes a thousand versions.
-fn publish_beside<Id: StoreName, R: Wait + Abort>(
-    rt: &R,
-    alloc: Global,
-    blank: Blank,
-) -> Result<(), Fail>
-    requires { blank ≡ Id.store }
-{
-    let (store, sessions) = open::<Id>(alloc, blank)?;
-    let mut players = Players::new(rt, alloc, store, sessions, [64, 64]);
-    players.play(rt, alloc, &[(A, Act::Pin, Told::Version(0))], &[]);
+    let mut rows = Vec::from_slice(rt.alloc(), &[(A, Act::Pin, Told::Version(0))])?;
     for number in 0..1_000 {
-        players.play(rt, alloc, &turn(number), &[]);
+        rows.extend_from_slice(&turn(number))?;
     }
-    players.play(
-        rt,
-        alloc,
-        &[
-            (A, Act::Near([3, 4]), Told::Free(0)),
-            (A, Act::Unpin, Told::Nothing),
-        ],
-        &[],
-    );
-    let (store, sessions) = players.rise(rt, alloc);
-    same(rt, close(store, sessions), 3_000, "entries");
-    Ok(())
+    rows.extend_from_slice(&[
+        (B, Act::Revert, Told::Refused(Refusal::LogFull)),
+        (A, Act::Near([3, 4]), Told::Free(0)),
+        (A, Act::Unpin, Told::Nothing),
+    ])?;
+    let game = Game {
+        name: "a pin next to many",
+        setting: FEW,
+        size: [64, 64],
+        rows: rows.as_slice(),
+        free: &[],
+        left_out: 0,
+        log: (0, 3_000),
+    };
+    play(&rt, rt.alloc(), game)
 }

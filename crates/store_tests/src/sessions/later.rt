@@ -4,11 +4,10 @@ ghost use Rattle.std.specs.Prelude.{◌≡◌};
 
 use crate::compare::{holds, same};
 use crate::opened::{Spotted, blank, close, hand_back, next, open, pin, rect, spotted};
-use crate::sessions::fresh::pin_and_read;
-use bits::Bitmap;
-use clearance::at;
+use crate::sessions::fresh::{ask, cells};
 use map_core::Setting;
-use metric::{Cell, City, Edge, Euclid2};
+use metric::{Cell, City, Edge, Euclid2, MetricKind, Near, Spot};
+use proto::{Bordered, Text, answer_of, reply_text};
 use session::{Blank, Pinned, Session, Store};
 use shelf::StoreName;
 use std::alloc::Global;
@@ -17,10 +16,8 @@ use std::process::Abort;
 use std::sync::Wait;
 use std::test::Fail;
 
-/// A map of six tiles, and the cell of an obstacle.
+/// A map of six tiles, with an obstacle at `(97, 0)`.
 const SPOTTED: Spotted = ([130, 70], 300);
-
-const FILLED: Cell = Cell { x: 97, y: 0 };
 
 /// Four slots, and blocks for the version that is held, the newest one and the draft.
 const SETTING: Setting = Setting {
@@ -30,6 +27,14 @@ const SETTING: Setting = Setting {
     log: 100,
     edge: Edge::Open,
 };
+
+/// An obstacle in the very cell.
+const fn here(x: i16, y: i16) -> Near {
+    Near {
+        dist: 0,
+        cell: Spot { x, y },
+    }
+}
 
 /// Fills the map or clears it, publishes that, and collects.
 fn publish_all<Id: StoreName, R: Wait + Abort>(
@@ -47,49 +52,30 @@ fn publish_all<Id: StoreName, R: Wait + Abort>(
     holds(rt, collected.is_ok(), "a collect");
 }
 
-/// Asks a pin for each cell of its map.
-fn ask_cells<Id: StoreName>(rt: &impl Abort, alloc: Global, pinned: &mut Pinned<Id>, map: &Bitmap) {
-    for y in 0..map.height() {
-        for x in 0..map.width() {
-            let cell = Cell { x, y };
-            let want = at::<Euclid2>(alloc, map, SETTING.edge, cell);
-            same(rt, pinned.at::<Euclid2>(alloc, cell), want, cell);
-        }
-    }
-}
-
-/// A pin is asked before and after eight versions, which go twice round the slots.
+/// A pin is asked before and after eight versions, which go twice round the slots: for one cell, and then for each.
 fn ask_while_others_publish<Id: StoreName, R: Wait + Abort>(
     rt: &R,
     alloc: Global,
-    blank: Blank,
-    map: &Bitmap,
-) -> Result<(), Fail>
-    requires { blank ≡ Id.store }
-{
-    let (store, mut sessions) = open::<Id>(alloc, blank)?;
-    let mut painter = next(rt, &mut sessions);
-    let mut pinned = pin(rt, alloc, next(rt, &mut sessions));
-    let want = at::<City>(alloc, map, SETTING.edge, FILLED);
-    same(rt, pinned.at::<City>(alloc, FILLED), want, "before");
+    store: &Store<Id>,
+    painter: &mut Session<Id>,
+    pinned: &mut Pinned<Id>,
+    map: Bordered<'_>,
+) -> Result<(), Fail> {
+    let mut map = map;
+    let mut text = Text::new(alloc)?;
+    let filled = pinned.at::<City>(alloc, Cell { x: 97, y: 0 });
+    same(rt, filled, Ok(Some(here(97, 0))), "before");
     holds(rt, pinned.bitmap_read().is_none(), "one query");
     for number in 0..8 {
-        publish_all(rt, &store, &mut painter, number % 2 == 0);
+        publish_all(rt, store, painter, number % 2 == 0);
     }
-    ask_cells(rt, alloc, &mut pinned, map);
+    for query in &cells(alloc, MetricKind::Euclid2, SPOTTED.0)? {
+        reply_text(&answer_of(alloc, &mut map, query), &mut text);
+        ask(rt, alloc, pinned, query, text.as_bytes());
+    }
     same(rt, pinned.version(), 0, "the version");
-    hand_back(rt, &mut sessions, painter);
-    hand_back(rt, &mut sessions, pinned.unpin());
-    same(rt, close(store, sessions), 24, "entries");
+    holds(rt, pinned.bitmap_read().is_some(), "each query");
     Ok(())
-}
-
-#[test]
-fn a_fresh_pin_outlives_later_versions(rt: HostRuntime) -> Result<(), Fail> {
-    let alloc = rt.alloc();
-    let map = spotted(&rt, alloc, SPOTTED)?;
-    let blank = blank(SETTING, spotted(&rt, alloc, SPOTTED)?, alloc)?;
-    ask_while_others_publish::<Brand, _>(&rt, alloc, blank, &map)
 }
 
 /// A session's first pin reads its version. Its later pins are of the full map that was published meanwhile, and each is asked once.
@@ -97,32 +83,36 @@ fn pin_again<Id: StoreName, R: Wait + Abort>(
     rt: &R,
     alloc: Global,
     blank: Blank,
-    full: &Bitmap,
+    map: Bordered<'_>,
 ) -> Result<(), Fail>
     requires { blank ≡ Id.store }
 {
     let (store, mut sessions) = open::<Id>(alloc, blank)?;
     let mut painter = next(rt, &mut sessions);
-    let first = pin_and_read(rt, alloc, next(rt, &mut sessions));
+    let mut pinned = pin(rt, alloc, next(rt, &mut sessions));
+    let asked = ask_while_others_publish(rt, alloc, &store, &mut painter, &mut pinned, map);
     publish_all(rt, &store, &mut painter, true);
-    let mut session = first.unpin();
-    for y in 0..full.height() {
-        let cell = Cell { x: 70, y };
-        let mut second = pin(rt, alloc, session);
-        let want = at::<Euclid2>(alloc, full, SETTING.edge, cell);
-        same(rt, second.at::<Euclid2>(alloc, cell), want, cell);
-        session = second.unpin();
+    let mut session = pinned.unpin();
+    for y in 0..70u16 {
+        let mut later = pin(rt, alloc, session);
+        let near = later.at::<Euclid2>(alloc, Cell { x: 70, y });
+        same(rt, near, Ok(Some(here(70, y as i16))), y);
+        session = later.unpin();
     }
     hand_back(rt, &mut sessions, painter);
     hand_back(rt, &mut sessions, session);
-    same(rt, close(store, sessions), 3, "entries");
-    Ok(())
+    same(rt, close(store, sessions), 27, "entries");
+    asked
 }
 
 #[test]
-fn a_second_pin_is_of_its_own_version(rt: HostRuntime) -> Result<(), Fail> {
-    let alloc = rt.alloc();
-    let full = spotted(&rt, alloc, ([130, 70], 1))?;
-    let blank = blank(SETTING, spotted(&rt, alloc, SPOTTED)?, alloc)?;
-    pin_again::<Brand, _>(&rt, alloc, blank, &full)
+fn pins_outlive_later_versions(rt: HostRuntime) -> Result<(), Fail> {
+    let bitmap = spotted(&rt, rt.alloc(), SPOTTED)?;
+    let edge = SETTING.edge;
+    let blank = blank(&rt, rt.alloc(), SETTING, SPOTTED)?;
+    let map = Bordered {
+        bitmap: &bitmap,
+        edge,
+    };
+    pin_again::<Brand, _>(&rt, rt.alloc(), blank, map)
 }

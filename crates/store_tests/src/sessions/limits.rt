@@ -1,15 +1,13 @@
-//! Stores at their limits: a log of a thousand entries, the largest map, and stamps wider than a word.
+//! A store at its limits: the largest map, a path of a thousand points, and stamps wider than a word.
 
 ghost use Rattle.std.specs.Prelude.{◌≡◌};
 
 use crate::compare::same;
-use crate::opened::{close, free, hand_back, next, open, pin, rect};
-use crate::sessions::acts::{A, Act, Told};
-use crate::sessions::players::Players;
+use crate::opened::{blank, close, hand_back, next, open, pin, rect};
 use bits::Bitmap;
 use map_core::{Reply, Setting};
-use metric::{Cell, Chess, City, Edge, Euclid2, Near, Refusal, Spot};
-use session::{Blank, Pinned, Session, Store};
+use metric::{Cell, Chess, City, Edge, Euclid2, Near, Spot};
+use session::{Blank, Pinned};
 use shelf::StoreName;
 use std::alloc::Global;
 use std::marker::Brand;
@@ -17,102 +15,31 @@ use std::process::Abort;
 use std::sync::Wait;
 use std::test::Fail;
 
-#[test]
-fn a_log_of_a_thousand_entries(rt: HostRuntime) -> Result<(), Fail> {
-    let setting = Setting {
-        blocks: 3,
-        versions: 2,
-        sessions: 1,
-        log: 1_000,
-        edge: Edge::Open,
-    };
-    let blank = free(rt.alloc(), setting, [64, 64])?;
-    fills_a_long_log::<Brand, _>(&rt, rt.alloc(), blank)
-}
-
-/// Each entry has its place, and the one after the last is refused.
-fn fills_a_long_log<Id: StoreName, R: Wait + Abort>(
-    rt: &R,
-    alloc: Global,
-    blank: Blank,
-) -> Result<(), Fail>
-    requires { blank ≡ Id.store }
-{
-    let (store, sessions) = open::<Id>(alloc, blank)?;
-    let mut players = Players::new(rt, alloc, store, sessions, [64, 64]);
-    for place in 1..1_001 {
-        same(
-            rt,
-            players.act(rt, alloc, A, Act::Revert),
-            Told::Reverted(place),
-            place,
-        );
-    }
-    let last = players.act(rt, alloc, A, Act::Revert);
-    same(
-        rt,
-        last,
-        Told::Refused(Refusal::LogFull),
-        "the entry after the last",
-    );
-    let made = players.act(rt, alloc, A, Act::Count);
-    same(rt, made, Told::Number(1_000), "made");
-    let (store, sessions) = players.rise(rt, alloc);
-    same(rt, close(store, sessions), 1_000, "entries");
-    Ok(())
-}
+/// A block more than the map has tiles.
+const SETTING: Setting = Setting {
+    blocks: 4_097,
+    versions: 2,
+    sessions: 1,
+    log: 10,
+    edge: Edge::Open,
+};
 
 #[test]
 fn the_largest_map(rt: HostRuntime) -> Result<(), Fail> {
-    let setting = Setting {
-        blocks: 4_097,
-        versions: 2,
-        sessions: 1,
-        log: 10,
-        edge: Edge::Open,
-    };
     let mut stamp = Bitmap::blank(rt.alloc(), 4_096, 4_096)?;
     stamp.set(Cell { x: 0, y: 0 }, true);
     let mut bar = Bitmap::blank(rt.alloc(), 130, 1)?;
     bar.set(Cell { x: 0, y: 0 }, true);
-    let blank = free(rt.alloc(), setting, [4_096, 4_096])?;
+    let blank = blank(&rt, rt.alloc(), SETTING, ([4_096, 4_096], 0))?;
     asks_the_largest_map::<Brand, _>(&rt, rt.alloc(), blank, [stamp, bar])
 }
 
 /// An obstacle at `(0, 0)`, so far away.
-fn near(dist: u32) -> Near {
+const fn near(dist: u32) -> Near {
     Near {
         dist,
         cell: Spot { x: 0, y: 0 },
     }
-}
-
-/// Stamps the whole map, and its upper left corner with a bar wider than a word, and publishes.
-fn stamp_and_publish<Id: StoreName, R: Wait + Abort>(
-    rt: &R,
-    store: &Store<Id>,
-    session: &mut Session<Id>,
-    stamps: [Bitmap; 2],
-) {
-    let [stamp, bar] = stamps;
-    let stamped = session.stamp(&mut store.lock(rt), 0, 0, stamp).ok();
-    let one = Reply::Painted {
-        place: 1,
-        changed: 1,
-    };
-    same(rt, stamped, Some(one), "the whole map");
-    let again = session.stamp(&mut store.lock(rt), 0, 0, bar).ok();
-    let none = Reply::Painted {
-        place: 2,
-        changed: 0,
-    };
-    same(rt, again, Some(none), "its corner");
-    let told = session.publish(&mut store.lock(rt));
-    let first = Reply::Published {
-        place: 3,
-        version: 1,
-    };
-    same(rt, told, Ok(first), "publish");
 }
 
 /// Each query of the last cell finds the obstacle in the first.
@@ -136,7 +63,7 @@ fn ask_the_last_cell<Id: StoreName>(rt: &impl Abort, alloc: Global, pinned: &mut
     same(rt, clear, Ok(None), "far enough");
 }
 
-/// A stamp of the whole map leaves one obstacle, which each query of the last cell finds.
+/// A stamp of the whole map leaves one obstacle, which each query of the last cell finds. A stamp of its upper left corner by a bar wider than a word changes nothing.
 fn asks_the_largest_map<Id: StoreName, R: Wait + Abort>(
     rt: &R,
     alloc: Global,
@@ -147,7 +74,22 @@ fn asks_the_largest_map<Id: StoreName, R: Wait + Abort>(
 {
     let (store, mut sessions) = open::<Id>(alloc, blank)?;
     let mut session = next(rt, &mut sessions);
-    stamp_and_publish(rt, &store, &mut session, stamps);
+    let mut place = 1u32;
+    for stamp in stamps {
+        let stamped = session.stamp(&mut store.lock(rt), 0, 0, stamp).ok();
+        let want = Reply::Painted {
+            place,
+            changed: u32::from(place == 1),
+        };
+        same(rt, stamped, Some(want), place);
+        place = place.saturating_add(1);
+    }
+    let told = session.publish(&mut store.lock(rt));
+    let first = Reply::Published {
+        place: 3,
+        version: 1,
+    };
+    same(rt, told, Ok(first), "publish");
     let mut pinned = pin(rt, alloc, session);
     ask_the_last_cell(rt, alloc, &mut pinned);
     hand_back(rt, &mut sessions, pinned.unpin());

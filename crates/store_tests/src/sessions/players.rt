@@ -3,7 +3,7 @@
 ghost use Rattle.std.specs.Prelude.{◌≡◌};
 
 use crate::compare::same;
-use crate::opened::{close, free, hand_back, open};
+use crate::opened::{blank, hand_back, open};
 use crate::sessions::acts::{A, Act, Row, Told};
 use crate::sessions::seat::Seat;
 use map_core::Setting;
@@ -11,31 +11,40 @@ use session::{Blank, Session, Store};
 use shelf::{StoreName, Ticket};
 use std::alloc::Global;
 use std::marker::Brand;
+use std::mem::ManuallyDrop;
 use std::process::Abort;
 use std::sync::Wait;
 use std::test::Fail;
 
-/// A store, its sessions, the last one first, a tray for a ticket, and the map's size.
-pub struct Players<Id: StoreName> {
+/// Rows for the sessions of a store on a map of this size without an obstacle.
+#[derive(Clone, Copy)]
+pub struct Game<'a> {
+    pub name: &'static str,
+    pub setting: Setting,
+    pub size: [u16; 2],
+    pub rows: &'a [Row],
+    /// How many blocks are free after each row, where that is counted: fewer than the map has tiles.
+    pub free: &'a [u32],
+    /// How many of the sessions aren't given to the close.
+    pub left_out: usize,
+    /// The place of the last checkpoint, and how many entries there are after it.
+    pub log: (u32, usize),
+}
+
+/// A store, its sessions, the last one first, and a tray for a ticket.
+struct Players<Id: StoreName> {
     store: Store<Id>,
-    seats: Vec<Seat<Id>>,
+    seats: Vec<Option<Seat<Id>>>,
     tray: Option<Ticket<Id>>,
-    size: [u16; 2],
 }
 
 impl<Id: StoreName> Players<Id> {
     /// Seats sessions.
-    pub fn new(
-        rt: &impl Abort,
-        alloc: Global,
-        store: Store<Id>,
-        sessions: Vec<Session<Id>>,
-        size: [u16; 2],
-    ) -> Self {
+    fn new(rt: &impl Abort, alloc: Global, store: Store<Id>, sessions: Vec<Session<Id>>) -> Self {
         let mut sessions = sessions;
         let mut seats = Vec::new(alloc);
         'sessions: while let Some(session) = sessions.pop() {
-            match seats.push(Seat::Free(session)) {
+            match seats.push(Some(Seat::Free(session))) {
                 Ok(()) => {}
                 Err(_) => panic!(rt; "no memory for a seat"),
             }
@@ -45,17 +54,15 @@ impl<Id: StoreName> Players<Id> {
             store,
             seats,
             tray: None,
-            size,
         }
     }
 
     /// The store, and the sessions, each of which has let its pin go.
-    pub fn rise(self, rt: &impl Abort, alloc: Global) -> (Store<Id>, Vec<Session<Id>>) {
+    fn rise(self, rt: &impl Abort, alloc: Global) -> (Store<Id>, Vec<Session<Id>>) {
         let Players {
             store,
             mut seats,
             tray,
-            size: _,
         } = self;
         match tray {
             None => {}
@@ -64,7 +71,7 @@ impl<Id: StoreName> Players<Id> {
         let mut sessions = Vec::new(alloc);
         'seats: while let Some(seat) = seats.pop() {
             match seat {
-                Seat::Free(session) => hand_back(rt, &mut sessions, session),
+                Some(Seat::Free(session)) => hand_back(rt, &mut sessions, session),
                 _ => panic!(rt; "a pin was left"),
             }
         }
@@ -72,82 +79,53 @@ impl<Id: StoreName> Players<Id> {
         (store, sessions)
     }
 
-    /// The ticket that lies in the tray.
-    fn ticket(&mut self, rt: &impl Abort) -> Ticket<Id> {
-        self.tray.take().expect(rt, "a ticket")
-    }
-
-    /// Lays a ticket of the log into the tray.
-    fn cut<R: Wait + Abort>(&mut self, rt: &R) -> Told {
-        let ticket = self.store.lock(rt).ticket().expect(rt, "a ticket");
-        match self.tray.replace(ticket) {
-            None => Told::Nothing,
-            Some(_) => panic!(rt; "the tray was full"),
-        }
-    }
-
-    /// Whose the log's last entry is.
-    fn last<R: Wait + Abort>(&self, rt: &R) -> Told {
-        let by = self.store.lock(rt).log().last().map(|last| last.by);
-        Told::Number(by.expect(rt, "an entry"))
-    }
-
     /// Has a session act.
-    pub fn act<R: Wait + Abort>(&mut self, rt: &R, alloc: Global, who: usize, act: Act) -> Told {
+    fn act<R: Wait + Abort>(&mut self, rt: &R, alloc: Global, who: usize, act: Act) -> Told {
         match act {
-            Act::Ticket => self.cut(rt),
-            Act::LookAtLast => self.last(rt),
+            Act::Ticket => {
+                let ticket = self.store.lock(rt).ticket().expect(rt, "a ticket");
+                match self.tray.replace(ticket) {
+                    None => Told::Nothing,
+                    Some(_) => panic!(rt; "the tray was full"),
+                }
+            }
             Act::Discard => {
-                self.ticket(rt).discard();
+                self.tray.take().expect(rt, "a ticket").discard();
                 Told::Nothing
             }
-            Act::Learn => {
-                let ticket = self.ticket(rt);
-                let seat = self.seats.get_mut(who).expect(rt, "a session");
-                seat.learn(rt, ticket)
-            }
             _ => {
-                let seat = self.seats.get_mut(who).expect(rt, "a session");
-                seat.act(rt, alloc, &self.store, act)
+                let place = self.seats.get_mut(who).expect(rt, "a seat");
+                let seat = place.take().expect(rt, "a session");
+                let (seat, told) = seat.act(rt, alloc, &self.store, &mut self.tray, act);
+                match place.replace(seat) {
+                    None => told,
+                    Some(_) => panic!(rt; "two sessions"),
+                }
             }
         }
     }
 
-    /// How many blocks are free, where fewer are than a paint of the whole map needs. It is refused, and changes nothing.
-    fn free_blocks<R: Wait + Abort>(&mut self, rt: &R, alloc: Global) -> Option<u32> {
-        let [width, height] = self.size;
-        match self.act(rt, alloc, A, Act::Paint([0, 0, width, height])) {
-            Told::Full(_, free) => Some(free),
-            _ => None,
-        }
-    }
-
-    /// Has sessions act as the rows say. As many blocks are free after each row as `free` says, as far as it goes.
-    pub fn play<R: Wait + Abort>(&mut self, rt: &R, alloc: Global, rows: &[Row], free: &[u32]) {
-        for (number, (who, act, told)) in rows.iter().enumerate() {
-            same(rt, self.act(rt, alloc, *who, *act), *told, number);
-            if let Some(free) = free.get(number) {
-                same(rt, self.free_blocks(rt, alloc), Some(*free), number);
+    /// Has sessions act as the rows of a game say. A paint of the whole map is refused where fewer blocks are free than it has tiles; it tells how many are, and
+    /// changes nothing.
+    fn play<R: Wait + Abort>(&mut self, rt: &R, alloc: Global, game: &Game<'_>) {
+        let [width, height] = game.size;
+        let all = Act::Paint([0, 0, width, height]);
+        for (number, (who, act, told)) in game.rows.iter().enumerate() {
+            let case = (game.name, number);
+            same(rt, self.act(rt, alloc, *who, *act), *told, case);
+            if let Some(free) = game.free.get(number) {
+                match self.act(rt, alloc, A, all) {
+                    Told::Full(_, found) => same(rt, found, *free, case),
+                    _ => panic!(rt; "blocks enough for all tiles"),
+                }
             }
         }
     }
-}
-
-/// Rows for the sessions of a store on a map of this size without an obstacle.
-#[derive(Clone, Copy)]
-pub struct Game<'a> {
-    pub setting: Setting,
-    pub size: [u16; 2],
-    pub rows: &'a [Row],
-    /// How many blocks are free after each row, where that is counted.
-    pub free: &'a [u32],
-    /// How many entries the log has at the end.
-    pub entries: usize,
 }
 
 /// Plays a game on a store that is opened for it.
 pub fn play<R: Wait + Abort>(rt: &R, alloc: Global, game: Game<'_>) -> Result<(), Fail> {
-    let blank = free(alloc, game.setting, game.size)?;
+    let blank = blank(rt, alloc, game.setting, (game.size, 0))?;
     play_in::<Brand, _>(rt, alloc, blank, game)
 }
 
@@ -161,9 +139,15 @@ fn play_in<Id: StoreName, R: Wait + Abort>(
     requires { blank ≡ Id.store }
 {
     let (store, sessions) = open::<Id>(alloc, blank)?;
-    let mut players = Players::new(rt, alloc, store, sessions, game.size);
-    players.play(rt, alloc, game.rows, game.free);
-    let (store, sessions) = players.rise(rt, alloc);
-    same(rt, close(store, sessions), game.entries, "entries");
+    let mut players = Players::new(rt, alloc, store, sessions);
+    players.play(rt, alloc, &game);
+    let (store, mut sessions) = players.rise(rt, alloc);
+    for _ in 0..game.left_out {
+        if let Some(session) = sessions.pop() {
+            let _left_out = unsafe { ManuallyDrop::new_unchecked(session) };
+        }
+    }
+    let (base, kept) = store.close(sessions);
+    same(rt, (base, kept.len()), game.log, game.name);
     Ok(())
 }

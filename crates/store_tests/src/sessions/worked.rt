@@ -1,12 +1,10 @@
 //! Worked runs of sessions, row by row, with answers from outside.
 
-use crate::compare::{holds, same};
 use crate::sessions::acts::{A, Act, B, C, Row, Told};
+use crate::sessions::counted::COUNTED;
 use crate::sessions::players::{Game, play};
-use bits::Bitmap;
 use map_core::Setting;
-use metric::{Edge, Field, Rect, Refusal};
-use session::Blank;
+use metric::{Edge, Refusal};
 use std::test::Fail;
 
 /// Room for three blocks, two versions, three sessions and ten entries.
@@ -18,8 +16,28 @@ const SMALL: Setting = Setting {
     edge: Edge::Open,
 };
 
+/// Room for a block and a version more, and two sessions.
+const WIDER: Setting = Setting {
+    blocks: 4,
+    versions: 3,
+    sessions: 2,
+    log: 10,
+    edge: Edge::Open,
+};
+
+/// A game on a map of one tile, whose blocks aren't counted, and all of whose sessions are given to the close.
+const GAME: Game<'static> = Game {
+    name: "",
+    setting: SMALL,
+    size: [64, 64],
+    rows: &[],
+    free: &[],
+    left_out: 0,
+    log: (0, 0),
+};
+
 /// One session pins, another publishes and collects, and a third pins what was published.
-const KEPT: [Row; 19] = [
+const KEPT: [Row; 14] = [
     (A, Act::Pin, Told::Version(0)),
     (B, Act::Paint([0, 0, 1, 1]), Told::Painted(1, 1)),
     (B, Act::Publish, Told::Published(2, 1)),
@@ -28,30 +46,13 @@ const KEPT: [Row; 19] = [
     (C, Act::Near([3, 4]), Told::Near(1, 25, [0, 0])),
     (B, Act::Collect, Told::Collected(3, 0, 0)),
     (B, Act::Publish, Told::Refused(Refusal::VersionsFull)),
-    (B, Act::Count, Told::Number(3)),
     (A, Act::Unpin, Told::Nothing),
     (B, Act::Collect, Told::Collected(4, 1, 1)),
     (B, Act::Publish, Told::Published(5, 2)),
-    (B, Act::LookAtLast, Told::Number(1)),
     (C, Act::Near([3, 4]), Told::Near(1, 25, [0, 0])),
     (C, Act::Near([64, 0]), Told::Refused(Refusal::OutOfRange)),
     (C, Act::Unpin, Told::Nothing),
-    (A, Act::Count, Told::Number(0)),
-    (B, Act::Count, Told::Number(5)),
-    (C, Act::Count, Told::Number(0)),
 ];
-
-#[test]
-fn a_pin_keeps_its_version(rt: HostRuntime) -> Result<(), Fail> {
-    let game = Game {
-        setting: SMALL,
-        size: [64, 64],
-        rows: &KEPT,
-        free: &[],
-        entries: 5,
-    };
-    play(&rt, rt.alloc(), game)
-}
 
 /// A pin of version 0 keeps that version alone: a collect drops version 1, which came after it, and gives its block back.
 const ALONE: [Row; 12] = [
@@ -68,21 +69,6 @@ const ALONE: [Row; 12] = [
     (A, Act::Near([3, 4]), Told::Free(0)),
     (A, Act::Unpin, Told::Nothing),
 ];
-
-#[test]
-fn a_pin_keeps_its_version_alone(rt: HostRuntime) -> Result<(), Fail> {
-    let game = Game {
-        setting: Setting {
-            versions: 3,
-            ..SMALL
-        },
-        size: [64, 64],
-        rows: &ALONE,
-        free: &[],
-        entries: 7,
-    };
-    play(&rt, rt.alloc(), game)
-}
 
 /// The log has room for two entries. Each further command is refused for that, but for one outside the map. A ticket tells of both
 /// entries, and a pin sees the version that the second one published, as it was.
@@ -106,25 +92,9 @@ const FULL: [Row; 13] = [
     (B, Act::Unpin, Told::Nothing),
 ];
 
-#[test]
-fn a_full_log_refuses_all(rt: HostRuntime) -> Result<(), Fail> {
-    let game = Game {
-        setting: Setting {
-            sessions: 2,
-            log: 2,
-            ..SMALL
-        },
-        size: [64, 64],
-        rows: &FULL,
-        free: &[],
-        entries: 2,
-    };
-    play(&rt, rt.alloc(), game)
-}
-
 /// The log has room for two entries. A checkpoint drops those that stand there, so the next two are taken, and places go on counting. A pin of before
 /// answers the same after it.
-const DROPPED: [Row; 19] = [
+const DROPPED: [Row; 17] = [
     (A, Act::Paint([0, 0, 1, 1]), Told::Painted(1, 1)),
     (A, Act::Publish, Told::Published(2, 1)),
     (A, Act::Collect, Told::Refused(Refusal::LogFull)),
@@ -142,102 +112,169 @@ const DROPPED: [Row; 19] = [
     (B, Act::Pin, Told::Version(2)),
     (B, Act::Near([3, 4]), Told::Near(2, 20, [1, 0])),
     (B, Act::Unpin, Told::Nothing),
-    (A, Act::Count, Told::Number(7)),
-    (B, Act::Count, Told::Number(1)),
 ];
 
-#[test]
-fn a_checkpoint_makes_room(rt: HostRuntime) -> Result<(), Fail> {
-    let game = Game {
-        setting: Setting {
-            blocks: 2,
-            sessions: 2,
-            log: 2,
-            ..SMALL
-        },
-        size: [64, 64],
-        rows: &DROPPED,
-        free: &[],
-        entries: 8,
-    };
-    play(&rt, rt.alloc(), game)
-}
-
-/// A map whose only block is version 0's.
-const CLEARED: [Row; 2] = [
-    (A, Act::Clear([0, 0, 64, 64]), Told::Painted(1, 0)),
-    (
-        A,
-        Act::Paint([63, 63, 65, 64]),
-        Told::Refused(Refusal::OutOfRange),
-    ),
-];
-
-#[test]
-fn clearing_free_cells_takes_no_block(rt: HostRuntime) -> Result<(), Fail> {
-    holds(
-        &rt,
-        Rect::new(0, 0, 0, 5).is_none(),
-        "a rectangle without a cell",
-    );
-    let game = Game {
-        setting: Setting { blocks: 1, ..SMALL },
-        size: [64, 64],
-        rows: &CLEARED,
-        free: &[0, 0],
-        entries: 1,
-    };
-    play(&rt, rt.alloc(), game)
-}
-
-/// What a publish after refused commands shows: none of their cells.
-const REFUSED: [Row; 9] = [
+/// A session stamps and publishes, pins, and makes each command with its pin, whose version stays.
+const COMMANDS: [Row; 16] = [
+    (A, Act::Stamp(62, 0), Told::Refused(Refusal::OutOfRange)),
     (A, Act::Paint([0, 0, 1, 1]), Told::Painted(1, 1)),
-    (A, Act::Paint([1, 0, 65, 1]), Told::Full(1, 0)),
-    (
-        A,
-        Act::Clear([0, 0, 129, 1]),
-        Told::Refused(Refusal::OutOfRange),
-    ),
-    (A, Act::Stamp(63, 0), Told::Full(1, 0)),
     (A, Act::Publish, Told::Published(2, 1)),
-    (A, Act::Publish, Told::Refused(Refusal::VersionsFull)),
     (A, Act::Pin, Told::Version(1)),
-    (A, Act::Near([127, 0]), Told::Near(1, 16_129, [0, 0])),
+    (A, Act::Near([3, 4]), Told::Near(1, 25, [0, 0])),
+    (A, Act::Stamp(62, 0), Told::Refused(Refusal::OutOfRange)),
+    (A, Act::Stamp(0, 0), Told::Painted(3, 2)),
+    (A, Act::Clear([0, 0, 1, 1]), Told::Painted(4, 1)),
+    (A, Act::Publish, Told::Published(5, 2)),
+    (A, Act::Paint([0, 0, 4, 1]), Told::Painted(6, 2)),
+    (A, Act::Revert, Told::Reverted(7)),
+    (A, Act::Collect, Told::Collected(8, 1, 1)),
+    (A, Act::Near([3, 4]), Told::Near(1, 25, [0, 0])),
+    (A, Act::Unpin, Told::Nothing),
+    (A, Act::Pin, Told::Version(2)),
     (A, Act::Unpin, Told::Nothing),
 ];
 
-#[test]
-fn a_refused_command_leaves_the_draft(rt: HostRuntime) -> Result<(), Fail> {
-    let game = Game {
+/// A pin learns a ticket of a later version, before it has read its bitmap and after that: the version and what is asked stay. The session's next pin
+/// has what the ticket told.
+const LEARNED: [Row; 18] = [
+    (A, Act::Pin, Told::Version(0)),
+    (B, Act::Pin, Told::Version(0)),
+    (B, Act::Near([3, 4]), Told::Free(0)),
+    (A, Act::Paint([0, 0, 1, 1]), Told::Painted(1, 1)),
+    (A, Act::Publish, Told::Published(2, 1)),
+    (A, Act::Ticket, Told::Nothing),
+    (A, Act::Learn, Told::Nothing),
+    (A, Act::Ticket, Told::Nothing),
+    (B, Act::Learn, Told::Nothing),
+    (A, Act::Near([3, 4]), Told::Free(0)),
+    (B, Act::Near([3, 4]), Told::Free(0)),
+    (A, Act::Unpin, Told::Nothing),
+    (B, Act::Unpin, Told::Nothing),
+    (A, Act::Ticket, Told::Nothing),
+    (A, Act::Discard, Told::Nothing),
+    (B, Act::Pin, Told::Version(1)),
+    (B, Act::Near([3, 4]), Told::Near(1, 25, [0, 0])),
+    (B, Act::Unpin, Told::Nothing),
+];
+
+/// Two entries are by the first session, one by the second.
+const WHOLE: [Row; 3] = [
+    (A, Act::Paint([0, 0, 1, 1]), Told::Painted(1, 1)),
+    (B, Act::Publish, Told::Published(2, 1)),
+    (A, Act::Paint([1, 0, 2, 1]), Told::Painted(3, 1)),
+];
+
+/// The second entry is a checkpoint, and an entry follows.
+const CUT: [Row; 3] = [
+    (A, Act::Paint([0, 0, 1, 1]), Told::Painted(1, 1)),
+    (B, Act::Checkpoint, Told::Checkpointed(2)),
+    (A, Act::Paint([1, 0, 2, 1]), Told::Painted(3, 1)),
+];
+
+/// The last entry is a checkpoint.
+const EMPTIED: [Row; 2] = [
+    (A, Act::Paint([0, 0, 1, 1]), Told::Painted(1, 1)),
+    (B, Act::Checkpoint, Told::Checkpointed(2)),
+];
+
+/// The last five are closed without some of their sessions, or with all: what a close gives is the entries of all of them after the last checkpoint.
+const GAMES: [Game<'static>; 11] = [
+    Game {
+        name: "a pin keeps its version",
         setting: SMALL,
-        size: [128, 1],
-        rows: &REFUSED,
-        free: &[0, 0, 0, 0],
-        entries: 2,
-    };
-    play(&rt, rt.alloc(), game)
-}
+        rows: &KEPT,
+        log: (0, 5),
+        ..GAME
+    },
+    Game {
+        name: "a pin keeps its version alone",
+        setting: Setting {
+            versions: 3,
+            ..SMALL
+        },
+        rows: &ALONE,
+        log: (0, 7),
+        ..GAME
+    },
+    Game {
+        name: "a full log refuses all",
+        setting: Setting { log: 2, ..SMALL },
+        rows: &FULL,
+        log: (0, 2),
+        ..GAME
+    },
+    Game {
+        name: "a checkpoint makes room",
+        setting: Setting {
+            blocks: 2,
+            log: 2,
+            ..SMALL
+        },
+        rows: &DROPPED,
+        log: (7, 1),
+        ..GAME
+    },
+    Game {
+        name: "a pin commands and asks",
+        setting: WIDER,
+        rows: &COMMANDS,
+        log: (0, 8),
+        ..GAME
+    },
+    Game {
+        name: "a pin learns a ticket",
+        setting: WIDER,
+        rows: &LEARNED,
+        log: (0, 2),
+        ..GAME
+    },
+    Game {
+        name: "no session is given",
+        setting: WIDER,
+        rows: &WHOLE,
+        left_out: 2,
+        log: (0, 3),
+        ..GAME
+    },
+    Game {
+        name: "one session is given",
+        setting: WIDER,
+        rows: &WHOLE,
+        left_out: 1,
+        log: (0, 3),
+        ..GAME
+    },
+    Game {
+        name: "no session is given after a checkpoint",
+        setting: WIDER,
+        rows: &CUT,
+        left_out: 2,
+        log: (2, 1),
+        ..GAME
+    },
+    Game {
+        name: "each session is given",
+        setting: WIDER,
+        rows: &CUT,
+        log: (2, 1),
+        ..GAME
+    },
+    Game {
+        name: "a checkpoint at the end",
+        setting: WIDER,
+        rows: &EMPTIED,
+        log: (2, 0),
+        ..GAME
+    },
+];
 
 #[test]
-fn a_setting_is_judged_first(rt: HostRuntime) -> Result<(), Fail> {
-    let map = Bitmap::blank(rt.alloc(), 128, 1)?;
-    let setting = Setting {
-        blocks: 1,
-        versions: 1,
-        sessions: 0,
-        log: 0,
-        edge: Edge::Open,
-    };
-    match Blank::of(rt.alloc(), setting, map) {
-        Ok(blank) => {
-            blank.discard();
-            Err(Fail::from("too few blocks were taken"))
-        }
-        Err((map, refusal)) => {
-            same(&rt, (map.width(), map.height()), (128, 1), "the map");
-            same(&rt, refusal, Refusal::BadSetting(Field::Blocks), "why");
-            Ok(())
-        }
+fn games_are_played(rt: HostRuntime) -> Result<(), Fail> {
+    for game in GAMES {
+        play(&rt, rt.alloc(), game)?;
     }
+    for game in COUNTED {
+        play(&rt, rt.alloc(), game)?;
+    }
+    Ok(())
 }

@@ -2,5 +2,5 @@
 use Rattle.store_tests.proofs.served.meeting.connections_meet.Given as goal
 
 -- the store's name is that of what it is opened from
-abbrev pub ghosts-serve_two : goal.ghosts-serve_two
-ghosts-serve_two g a = record { store = a.blank }
+abbrev pub ghosts-pool_in : goal.ghosts-pool_in
+ghosts-pool_in g a = record { store = a.blank }

@@ -1,5 +1,5 @@
 -- The store that is served takes its name from the blank one.
-use Rattle.store_tests.proofs.served.serve_over.Given as goal
+use Rattle.store_tests.proofs.served.serve.Given as goal
 
 -- the store's name is that of what it is opened from
 abbrev pub ghosts-serve_in : goal.ghosts-serve_in
