@@ -1,5 +1,6 @@
 #!/bin/sh
-# Looks for what no contract sees: code that forgets what it should give back, by whatever name it was imported. Tests may, to leave a session out.
+# Looks for what no contract sees: code that forgets what it should give back, by whatever name it was imported (tests may, to leave
+# a session out), and code that says that it is out of memory though no growth was refused.
 set -u
 cd "$(dirname "$0")/.." || exit 1
 found=$(find crates -name out -prune -o -path '*_tests' -prune -o -path '*/src/*.rt' -print | xargs grep -nwE 'ManuallyDrop|forget|leak' | grep -vE '^[^:]*:[0-9]+: *//')
@@ -9,3 +10,4 @@ if [ -n "$found" ]; then
     exit 1
 fi
 echo "no code forgets what it holds"
+exec tools/check_memory.py

@@ -48,15 +48,13 @@ impl Bitmap {
         ensures memory { IfErr result (λ refusal. refusal ≡ Memory) }
     {
         let across = usize::from(width).div_ceil(WORD_BITS);
-        match vec![in alloc; 0u64; across * usize::from(height)] {
-            Ok(words) => Ok(Bitmap {
-                width,
-                height,
-                words,
-                bands: 0,
-            }),
-            Err(_) => Err(Refusal::Memory),
-        }
+        let words = vec![in alloc; 0u64; across * usize::from(height)]?;
+        Ok(Bitmap {
+            width,
+            height,
+            words,
+            bands: 0,
+        })
     }
 
     /// How many columns there are.
@@ -177,15 +175,13 @@ impl Bitmap {
         ensures copy { IfOk result (λ copy. copy ≡ self.now) }
         ensures memory { IfErr result (λ refusal. refusal ≡ Memory) }
     {
-        match Vec::from_slice(alloc, self.words.as_slice()) {
-            Ok(words) => Ok(Bitmap {
-                width: self.width,
-                height: self.height,
-                words,
-                bands: self.bands,
-            }),
-            Err(_) => Err(Refusal::Memory),
-        }
+        let words = Vec::from_slice(alloc, self.words.as_slice())?;
+        Ok(Bitmap {
+            width: self.width,
+            height: self.height,
+            words,
+            bands: self.bands,
+        })
     }
 
     /// Makes this bitmap the same as another one of its size. It takes no memory.

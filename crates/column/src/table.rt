@@ -48,9 +48,7 @@ impl ColumnTable {
         let (width, height) = (bitmap.width(), bitmap.height());
         let (columns, rows) = (width + 2 * edge.shift(), height + 2 * edge.shift());
         let cells = usize::from(rows) * usize::from(columns);
-        let Ok(mut entries) = vec![in alloc; NONE; cells] else {
-            return Err(Refusal::Memory);
-        };
+        let mut entries = vec![in alloc; NONE; cells]?;
         sweep(bitmap, edge, entries.as_mut_slice());
         Ok(ColumnTable {
             width,

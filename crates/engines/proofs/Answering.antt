@@ -4,8 +4,10 @@ use Rattle.std.specs.Borrow.{Bor}
 use Rattle.std.specs.Result.{result_unwrap_or}
 use Rattle.metric.specs.declared.fault.PbmFault.{PbmFault}
 use Rattle.metric.specs.declared.fault.PbmFault.TheVariants as faults
+use Rattle.metric.specs.declared.refusal.Refusal.{Refusal}
+use Rattle.metric.specs.declared.refusal.Refusal.TheVariants as refusals
 use Rattle.metric.specs.declared.stream.WriteFault.{WriteFault}
-use Rattle.metric.specs.Refusal.{image_text}
+use Rattle.metric.specs.Refusal.{image_text, refusal_text}
 use Rattle.metric.specs.Stream.{Appends, AppendsFront, Counts}
 use Rattle.engines.specs.declared.words.arguments.DistOptions.{DistOptions}
 use Rattle.engines.specs.declared.dist.table.Table.{Table}
@@ -92,15 +94,18 @@ reads-header : (bytes : List ℕ) (n : ℕ) (cells : Cells) → Reads bytes n ce
 unfolding image
 reads-header bytes n cells found = let is : image bytes ≡ Ok (cells, found.rest) = reads-image bytes n cells found in first_part (header bytes) _ (cells, found.rest) is
 
--- the line of want of memory is an answer to any bytes that read as an image
-pub map_wants_memory : (options : DistOptions) (cells : Cells) (fault : PbmFault) (status : ℕ) → fault ≡ faults.Memory → status ≡ 1 → IsMapAnswer options cells (image_text fault ++ 10 ∷ []) status
-map_wants_memory options cells fault status none one = λ bytes taken reads. answer_of_fault options bytes fault status (λ real. absurd (real none)) (λ e. reads-header bytes taken cells reads) one
+-- the line that says that there is no memory is an answer to any bytes that read as an image
+pub map_wants_memory : (options : DistOptions) (cells : Cells) (refusal : Refusal) (status : ℕ) → refusal ≡ refusals.Memory → status ≡ 1
+    → IsMapAnswer options cells (refusal_text refusal ++ 10 ∷ []) status
+map_wants_memory options cells refusal status none one = rw none (λ bytes taken reads.
+    answer_of_fault options bytes faults.Memory status (λ real. absurd (real refl)) (λ e. reads-header bytes taken cells reads) one)
 
--- where the line of want of memory is written whole, an answer to any image of the map is
-pub map_wanting_whole : (options : DistOptions) (cells : Cells) (fault : PbmFault) (before after : Option (List ℕ)) (written : Result ℕ WriteFault) → fault ≡ faults.Memory → IfOk written (λ status. status ≡ 1)
-    → OnOk written (Appends before (image_text fault ++ 10 ∷ []) after) → IfOk written (λ status. (text : List ℕ) × IsMapAnswer options cells text status × Appends before text after)
-map_wanting_whole options cells fault before after (Ok status) none one whole = (image_text fault ++ 10 ∷ [], map_wants_memory options cells fault status none one, whole)
-map_wanting_whole options cells fault before after (Err failed) none one whole = tt
+-- where that line is written whole, an answer to any image of the map is
+pub map_wanting_whole : (options : DistOptions) (cells : Cells) (refusal : Refusal) (before after : Option (List ℕ)) (written : Result ℕ WriteFault)
+    → refusal ≡ refusals.Memory → IfOk written (λ status. status ≡ 1) → OnOk written (Appends before (refusal_text refusal ++ 10 ∷ []) after)
+    → IfOk written (λ status. (text : List ℕ) × IsMapAnswer options cells text status × Appends before text after)
+map_wanting_whole options cells refusal before after (Ok status) none one whole = (refusal_text refusal ++ 10 ∷ [], map_wants_memory options cells refusal status none one, whole)
+map_wanting_whole options cells refusal before after (Err failed) none one whole = tt
 
 -- where no query is asked, the lines of the map's table are an answer to an image of it
 pub asked_of_table : (options : DistOptions) (cells : Cells) (table : Table) → options.query ≡ None → IsTableOf options.metric options.edge cells table

@@ -79,7 +79,7 @@ fn write_answer<W: Sink, T: Threads + Sync>(
     match options.query {
         Some(line) => match QueryReply::of(alloc, map, options.edge, line.as_bytes()) {
             Ok(reply) => write_text(writer, reply.text.as_bytes(), reply.status),
-            Err(fault) => write_fault(writer, fault),
+            Err(refusal) => write_refusal(writer, refusal),
         },
         None => match TableWriter::of(
             rt,
@@ -91,7 +91,7 @@ fn write_answer<W: Sink, T: Threads + Sync>(
             options.workers,
         ) {
             Ok(print) => write_rows(rt, writer, print, options.nearest),
-            Err(fault) => write_fault(writer, fault),
+            Err(refusal) => write_refusal(writer, refusal),
         },
     }
 }

@@ -38,7 +38,10 @@ where
 {
     let held = Held::open(rt);
     match words_of(rt) {
-        Ok(words) => run_texts(rt, words.as_slice(), &held),
+        Ok(words) => match run_texts(rt, words.as_slice(), &held) {
+            Ok(status) => status,
+            Err(refusal) => refuse(rt, refusal),
+        },
         Err(fault) => tell_fault(rt, &fault),
     }
 }
@@ -48,8 +51,8 @@ fn words_of<R: Env + AllocGlobal>(rt: &R) -> Result<Vec<String>, Fault<'static>>
     Ok(env::args(rt)?.collect(rt.alloc())?)
 }
 
-/// Runs what these words name, where the streams that it needs are open.
-fn run_texts<R>(rt: &R, words: &[String], held: &Held) -> u8
+/// Runs what these words name, where the streams that it needs are open. Answers the exit status.
+fn run_texts<R>(rt: &R, words: &[String], held: &Held) -> Result<u8, Refusal>
 where
     R: Input
         + Print
@@ -65,15 +68,10 @@ where
     let texts = words
         .iter()
         .map(|word| word.as_str())
-        .collect::<Vec<&str>>(alloc);
-    let (Ok(texts), Ok(mut reader), Ok(mut writer)) = (
-        texts,
-        ReaderSource::new(alloc, rt.reader()),
-        WriterSink::new(alloc, io::writer(rt)),
-    ) else {
-        return refuse(rt);
-    };
-    match options(alloc, texts.as_slice()) {
+        .collect::<Vec<&str>>(alloc)?;
+    let mut reader = ReaderSource::new(alloc, rt.reader())?;
+    let mut writer = WriterSink::new(alloc, io::writer(rt))?;
+    Ok(match options(alloc, texts.as_slice()) {
         Ok(_) if held.lacks_input_or_output() => REFUSED,
         Ok(Options::Serve(options)) => serve(rt, alloc, &options, &mut reader, &mut writer),
         Ok(Options::Ask(options)) => ask(rt, alloc, &options, &mut reader, &mut writer),
@@ -85,22 +83,22 @@ where
             &mut writer,
             &mut ErrorSink::new(rt),
         ),
-    }
+    })
 }
 
 /// Tells why the process's words can't be had.
 fn tell_fault<R: Print + Eprint + AllocGlobal>(rt: &R, fault: &Fault<'_>) -> u8 {
     let alloc = rt.alloc();
-    let Ok(mut writer) = WriterSink::new(alloc, io::writer(rt)) else {
-        return refuse(rt);
-    };
-    tell(alloc, fault, &mut writer, &mut ErrorSink::new(rt))
+    match WriterSink::new(alloc, io::writer(rt)) {
+        Ok(mut writer) => tell(alloc, fault, &mut writer, &mut ErrorSink::new(rt)),
+        Err(refusal) => refuse(rt, refusal),
+    }
 }
 
-/// Tells want of memory where there is none for a stream either.
-fn refuse(rt: &impl Print) -> u8
+/// Tells why a run is refused where there is no memory for a stream.
+fn refuse(rt: &impl Print, refusal: Refusal) -> u8
     ensures { result ≡ 1 }
 {
-    let _ = rt.println(Refusal::Memory);
+    let _ = rt.println(refusal);
     REFUSED
 }

@@ -168,9 +168,12 @@ fn serve_store<Id: StoreName + Send + Sync, R: Clock + Wait + Threads + Sync, W:
     ensures begun { OnErr result (BeginsServed place.port place.connections (W.held writer.old) (W.held writer.new)) }
     ensures counts { Counts (W.failed_writes writer.old) result (W.failed_writes writer.new) }
 {
-    let Ok(mut text) = Text::new(alloc) else {
-        store.close(sessions);
-        return write_refusal(writer, Refusal::Memory);
+    let mut text = match Text::new(alloc) {
+        Ok(text) => text,
+        Err(refused) => {
+            store.close(sessions);
+            return write_refusal(writer, Refusal::from(refused));
+        }
     };
     listening_line(place.port, &mut text);
     if let Err(fault) = write_text(writer, text.as_bytes(), DONE) {

@@ -57,25 +57,17 @@ impl Stack {
         ensures stack { IfOk result (λ stack. stack ≡ width) }
         ensures memory { IfErr result (λ refusal. refusal ≡ Memory) }
     {
-        let Ok(spans) = vec![in alloc; UNUSED; usize::from(width)] else {
-            return Err(Refusal::Memory);
-        };
-        let Ok(parts) = vec![in alloc; 0; usize::from(width) + SPARE] else {
-            return Err(Refusal::Memory);
-        };
-        let Ok(left) = vec![in alloc; 0; usize::from(width)] else {
-            return Err(Refusal::Memory);
-        };
-        match vec![in alloc; 0; usize::from(width)] {
-            Ok(right) => Ok(Stack {
-                spans,
-                parts,
-                left,
-                right,
-                far_rows: 0,
-            }),
-            Err(_) => Err(Refusal::Memory),
-        }
+        let spans = vec![in alloc; UNUSED; usize::from(width)]?;
+        let parts = vec![in alloc; 0; usize::from(width) + SPARE]?;
+        let left = vec![in alloc; 0; usize::from(width)]?;
+        let right = vec![in alloc; 0; usize::from(width)]?;
+        Ok(Stack {
+            spans,
+            parts,
+            left,
+            right,
+            far_rows: 0,
+        })
     }
 }
 

@@ -50,9 +50,7 @@ pub fn rows_with<M: Metric + Sync, G: Gate + Sync, R: Threads + Sync>(
     ensures memory { IfErr result (λ refusal. refusal ≡ Memory) }
 {
     let cells = usize::from(y1 - y0) * usize::from(bitmap.width());
-    let Ok(mut nears) = vec![in alloc; None; cells] else {
-        return Err(Refusal::Memory);
-    };
+    let mut nears = vec![in alloc; None; cells]?;
     let shared = Shared {
         bitmap,
         edge,

@@ -253,8 +253,5 @@ fn no_obstacles(alloc: Global, count: usize) -> Result<Vec<u16>, Refusal>
     ensures count { IfOk result (λ entries. entries.items ≡ replicate count 65535) }
     ensures memory { IfErr result (λ refusal. refusal ≡ Memory) }
 {
-    match vec![in alloc; NONE; count] {
-        Ok(entries) => Ok(entries),
-        Err(_) => Err(Refusal::Memory),
-    }
+    Ok(vec![in alloc; NONE; count]?)
 }

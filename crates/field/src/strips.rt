@@ -43,9 +43,7 @@ pub fn work_strips<M: Metric + Sync, G: Gate + Sync, R: Threads + Sync>(
         ensures rows { IfOk result (λ cells. AreAnswers seen_from None M.distance strips.entry.now.bitmap.now strips.entry.now.edge (strips.entry.now.y0 + rows_before (strips.entry.now.y1 - strips.entry.now.y0) strips.entry.now.height strip) (strips.entry.now.y0 + rows_before (strips.entry.now.y1 - strips.entry.now.y0) strips.entry.now.height (strip + 1)) cells.items) }
         ensures memory { IfErr result (λ refusal. refusal ≡ Memory) }
     { work_strip::<M, G>(alloc, strips, gate, strip as u8) };
-    let Ok(found) = map_indices(rt, alloc, usize::from(count), &work) else {
-        return Err(Refusal::Memory);
-    };
+    let found = map_indices(rt, alloc, usize::from(count), &work)?;
     gather(alloc, found)
 }
 
@@ -88,9 +86,7 @@ fn gather(
     ensures found { IfOk result (λ strips. found.items ≡ map (λ strip. Ok strip) strips.items) }
     ensures memory { IfErr result (λ refusal. refusal ≡ Memory) }
 {
-    let Ok(mut strips) = Vec::with_capacity(alloc, found.len()) else {
-        return Err(Refusal::Memory);
-    };
+    let mut strips = Vec::with_capacity(alloc, found.len())?;
     'strips: for cells in found {
         strips.push_reserved(cells?);
     }

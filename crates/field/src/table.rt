@@ -48,12 +48,8 @@ pub fn answers<M: Metric, A: CellAnswer>(
     let width = usize::from(bitmap.width());
     let mut columns = Columns::of(alloc, bitmap, edge, y0 + edge.shift(), y1 + edge.shift())?;
     let mut stack = Stack::new(alloc, bitmap.width() + 2 * edge.shift())?;
-    let Ok(mut line) = vec![in alloc; A::none(); width] else {
-        return Err(Refusal::Memory);
-    };
-    let Ok(mut answers) = Vec::with_capacity(alloc, usize::from(y1 - y0) * width) else {
-        return Err(Refusal::Memory);
-    };
+    let mut line = vec![in alloc; A::none(); width]?;
+    let mut answers = Vec::with_capacity(alloc, usize::from(y1 - y0) * width)?;
     push_rows::<M, A>(
         bitmap,
         edge,
@@ -103,8 +99,6 @@ fn push_line<A: CellAnswer>(line: &[A], answers: &mut Vec<A>) -> Result<(), Refu
     ensures items { OnOk result (answers.new.items ≡ answers.old.items ++ line.now) }
     ensures memory { IfErr result (λ refusal. refusal ≡ Memory) }
 {
-    match answers.extend_from_slice(line) {
-        Ok(()) => Ok(()),
-        Err(_) => Err(Refusal::Memory),
-    }
+    answers.extend_from_slice(line)?;
+    Ok(())
 }

@@ -1,5 +1,5 @@
 -- The order of keys of obstacles that are cells.
-use Rattle.std.proofs.Common.{◌≡◌, ℕ, ◌<◌, ◌≤◌, ◌⊎◌, inl, inr, ◌∙◌, arith}
+use Rattle.std.proofs.Common.{◌≡◌, ℕ, ◌<◌, ◌⊎◌, inl, inr, ◌∙◌, arith}
 use Rattle.metric.specs.Cellwise.{Key, IsAtMost}
 
 -- an order by a number, and by the rest where numbers are equal, is transitive where the order of the rest is

@@ -2,7 +2,10 @@
 
 ghost use Rattle.std.specs.Prelude.{◌≡◌, Some, codes};
 ghost use Rattle.metric.specs.Fault.{fault_name};
+ghost use Rattle.metric.specs.declared.fault.PbmFault.TheVariants.{Memory};
+ghost use Rattle.metric.specs.declared.refusal.Refusal.{Refusal};
 
+use crate::refusal::Refusal;
 use std::fmt;
 
 /// Why an image was refused: the first fault from its front.
@@ -31,6 +34,15 @@ pub enum PbmFault {
 }
 
 impl PbmFault {
+    /// The fault of an image whose bitmap wasn't made, by why it wasn't.
+    pub fn no_bitmap(refusal: Refusal) -> PbmFault
+        requires { refusal ≡ Refusal.Memory }
+        ensures { result ≡ Memory }
+    {
+        let _ = refusal;
+        PbmFault::Memory
+    }
+
     /// The fault's name, as it is spelled in a refusal.
     pub fn name(self) -> &'static str
         ensures { result.now ≡ fault_name self }

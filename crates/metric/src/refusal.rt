@@ -3,9 +3,13 @@
 ghost use Rattle.std.specs.Prelude.{◌≡◌, Some};
 ghost use Rattle.metric.specs.Refusal.{refusal_text, refusal_title};
 ghost use Rattle.metric.specs.Fault.{field_name};
+ghost use Rattle.metric.specs.declared.refusal.Refusal.TheVariants.{Memory};
+ghost use Rattle.std.specs.IoError.{error_kind};
 
 use crate::fault::PbmFault;
+use std::alloc::{AllocError, AllocFailed};
 use std::fmt;
+use std::io::{self, ErrorKind};
 
 /// A setting of a store, named by a refusal.
 #[derive(Clone, Copy, Debug, PartialEq, Eq)]
@@ -53,6 +57,24 @@ pub enum Refusal {
     PlacesUsed,
 }
 
+/// A growth that was refused. Nothing else makes `Memory`: callers pass it on by `?`.
+impl From<AllocError> for Refusal {
+    ghost from_gives = { λ _ refusal. refusal ≡ Memory };
+
+    fn from(_refused: AllocError) -> Refusal {
+        Refusal::Memory
+    }
+}
+
+/// A growth that was refused, whose value is dropped.
+impl<T: Drop> From<AllocFailed<T>> for Refusal {
+    ghost from_gives = { λ _ refusal. refusal ≡ Memory };
+
+    fn from(_refused: AllocFailed<T>) -> Refusal {
+        Refusal::Memory
+    }
+}
+
 impl Field {
     /// The setting's name, as it is spelled in a refusal.
     pub fn name(self) -> &'static str
@@ -68,6 +90,15 @@ impl Field {
 }
 
 impl Refusal {
+    /// Why std made no buffer: a growth was refused.
+    pub fn of_buffer(fault: &io::Error) -> Refusal
+        requires { error_kind fault.now ≡ ErrorKind.OutOfMemory }
+        ensures { result ≡ Memory }
+    {
+        let _ = fault;
+        Refusal::Memory
+    }
+
     /// `ERR`, the refusal's number and its name.
     ///
     /// An image for which there was no memory is told as want of memory.

@@ -31,7 +31,7 @@ impl<R: Read + Drop> ReaderSource<R> {
     {
         match BufReader::new(alloc, reader) {
             Ok(reader) => Ok(ReaderSource { reader, failed: 0 }),
-            Err(_) => Err(Refusal::Memory),
+            Err(fault) => Err(Refusal::of_buffer(&fault)),
         }
     }
 }
@@ -93,7 +93,7 @@ impl<W: Write + Drop> WriterSink<W> {
                 writer: Some(writer),
                 failed: 0,
             }),
-            Err(_) => Err(Refusal::Memory),
+            Err(fault) => Err(Refusal::of_buffer(&fault)),
         }
     }
 

@@ -31,7 +31,10 @@ fn read_front(alloc: Global, bytes: &[u8]) -> Result<(Bitmap, &[u8]), PbmFault>
     ensures memory { result ≡ Err PbmFault.Memory → IsOk (header bytes.now) }
 {
     let (form, width, height, rest) = read_header(bytes)?;
-    let mut bitmap = Bitmap::blank(alloc, width, height).map_err(|_| PbmFault::Memory)?;
+    let mut bitmap = match Bitmap::blank(alloc, width, height) {
+        Ok(bitmap) => bitmap,
+        Err(refusal) => return Err(PbmFault::no_bitmap(refusal)),
+    };
     let rest = read_raster(form, &mut bitmap, rest)?;
     Ok((bitmap, rest))
 }

@@ -23,9 +23,7 @@ pub fn first_piece(alloc: Global, bitmap: &Bitmap) -> Result<Vec<u8>, Refusal>
     ensures memory { IfErr result (λ refusal. refusal ≡ Memory) }
 {
     let mut piece = Vec::new(alloc);
-    if piece.reserve(PIECE).is_err() {
-        return Err(Refusal::Memory);
-    }
+    piece.reserve(PIECE)?;
     push_front(&mut piece, Form::Plain, bitmap);
     Ok(piece)
 }

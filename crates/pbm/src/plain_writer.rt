@@ -81,9 +81,7 @@ pub fn write_plain(bitmap: &Bitmap, out: &mut Vec<u8>) -> Result<(), Refusal>
 {
     let height = bitmap.height();
     let row = row_length(bitmap.width());
-    if out.reserve(FRONT_ROOM + usize::from(height) * row).is_err() {
-        return Err(Refusal::Memory);
-    }
+    out.reserve(FRONT_ROOM + usize::from(height) * row)?;
     push_front(out, Form::Plain, bitmap);
     push_rows(out, bitmap, 0, height);
     Ok(())

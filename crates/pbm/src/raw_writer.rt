@@ -38,12 +38,7 @@ pub fn write_raw(bitmap: &Bitmap, out: &mut Vec<u8>) -> Result<(), Refusal>
 {
     let height = bitmap.height();
     let across = usize::from(bytes_across(bitmap.width()));
-    if out
-        .reserve(FRONT_ROOM + usize::from(height) * across)
-        .is_err()
-    {
-        return Err(Refusal::Memory);
-    }
+    out.reserve(FRONT_ROOM + usize::from(height) * across)?;
     push_front(out, Form::Raw, bitmap);
     let mut row = [0u8; MOST_ACROSS];
     'rows: for y in 0..height {

@@ -145,8 +145,9 @@ fn take_image<R: Source>(
         Ok(found) => found,
         Err(stop) => return Err(stop),
     };
-    let Ok(mut bitmap) = Bitmap::blank(alloc, width, height) else {
-        return Err(ImageStop::Fault(PbmFault::Memory));
+    let mut bitmap = match Bitmap::blank(alloc, width, height) {
+        Ok(bitmap) => bitmap,
+        Err(refusal) => return Err(ImageStop::Fault(PbmFault::no_bitmap(refusal))),
     };
     match take_raster(window, reader, form, &mut bitmap) {
         Ok(()) => Ok(bitmap),

@@ -4,7 +4,7 @@ ghost use Rattle.std.specs.Prelude.{◌≡◌, ℕ, ◌+◌, ◌*◌, ◌<◌, �
 ghost use Rattle.metric.specs.Stream.{CanFail};
 
 use metric::{PbmFault, Source};
-use std::alloc::Global;
+use std::alloc::{AllocError, Global};
 
 /// How many bytes are read at a time, at most.
 pub const BLOCK: usize = 65_536;
@@ -18,6 +18,17 @@ pub enum ImageStop {
     Memory,
     /// The image has this fault, or there was no memory for its bitmap.
     Fault(PbmFault),
+}
+
+/// A growth that was refused.
+impl From<AllocError> for ImageStop {
+    ghost use Rattle.pbm.specs.declared.window.ImageStop.TheVariants.{Memory};
+
+    ghost from_gives = { λ _ stop. stop ≡ Memory };
+
+    fn from(_refused: AllocError) -> ImageStop {
+        ImageStop::Memory
+    }
 }
 
 /// Drops the first bytes, so many.
@@ -89,9 +100,7 @@ impl Window {
     {
         match reader.next_block(block.as_mut_slice()) {
             Ok(count) => {
-                if self.bytes.extend_from_slice(&block[..count]).is_err() {
-                    return Err(ImageStop::Memory);
-                }
+                self.bytes.extend_from_slice(&block[..count])?;
                 self.ended = count == 0;
                 Ok(())
             }

@@ -69,7 +69,7 @@ dump_body store old answers.Bye body is = is.1
 dump_body store old (answers.Refused refusal) body is = is.1
 
 -- what DUMP is answered and said, with a pin or without one, is an answer to its line
-dump_answered : {A : Type 0} (store : StoreId) (kept : Option (Vec ℕ A)) (end : Option End) (wire wire_after : Wire) (seat : ReaderView) (pin : Option ℕ) → IsDumpSaid store end wire (record { seat = seat; pin = pin }) wire_after
+dump_answered : {A E : Type 0} (store : StoreId) (kept : Result (Vec ℕ A) E) (end : Option End) (wire wire_after : Wire) (seat : ReaderView) (pin : Option ℕ) → IsDumpSaid store end wire (record { seat = seat; pin = pin }) wire_after
     → HasAnswered store (Ok saids.dump) kept end wire (record { seat = seat; pin = pin }) wire_after (record { seat = seat; pin = pin })
 dump_answered store kept end wire wire_after seat None said =
     record {
@@ -89,7 +89,7 @@ dump_answered store kept end wire wire_after seat (Some version) said =
     }
 
 -- where a line says DUMP, and its dump was said, the line was answered
-pub dumped : {A : Type 0} (store : StoreId) (heard : Result LineView Refusal) (kept : Option (Vec ℕ A)) (end : Option End) (wire wire_after : Wire) (old new : CallerValue) → heard ≡ Ok saids.dump → new ≡ old
+pub dumped : {A E : Type 0} (store : StoreId) (heard : Result LineView Refusal) (kept : Result (Vec ℕ A) E) (end : Option End) (wire wire_after : Wire) (old new : CallerValue) → heard ≡ Ok saids.dump → new ≡ old
     → IsDumpSaid store end wire old wire_after → HasAnswered store heard kept end wire old wire_after new
 dumped store heard kept end wire wire_after old new is same said =
     subst (λ (h : Result LineView Refusal). HasAnswered store h kept end wire old wire_after new) (sym is)

@@ -293,7 +293,7 @@ exchanged_by store (Some ends.ReadFailed) w1 w2 w3 x a b is read written = absur
 exchanged_by store (Some ends.Memory) w1 w2 w3 x a b is read written = absurd written
 
 -- a line is served where its counted bytes were read, it was answered, and its answer was said
-pub exchanged : {A : Type 0} (store : StoreId) (end : Option End) (w1 w2 w3 w4 : Wire) (line : List ℕ) (heard : Result LineView Refusal) (count : ℕ) (kept : Option (Vec ℕ A)) (a b : CallerValue)
+pub exchanged : {A E : Type 0} (store : StoreId) (end : Option End) (w1 w2 w3 w4 : Wire) (line : List ℕ) (heard : Result LineView Refusal) (count : ℕ) (kept : Result (Vec ℕ A) E) (a b : CallerValue)
     → IsLine line → HasRead 0 w1 (line ++ 10 ∷ []) w2 → IsHeard (line_said line) heard → count ≡ counts heard → count ≤ 17100000 → HasCounted count kept w2 w3
     → HasAnswered store heard kept end w3 a w4 b → IsServed store end w1 a w4 b
 exchanged store end w1 w2 w3 w4 line heard count kept a b is read hears count_is few counted done =

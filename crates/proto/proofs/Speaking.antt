@@ -66,6 +66,6 @@ plain_body store said bytes old new answers.Bye other answered = refl
 plain_body store said bytes old new (answers.Refused refusal) other answered = refl
 
 -- some bytes are those that were kept, if any were
-pub kept_bytes : {A : Type 0} (kept : Option (Vec ℕ A)) → (bytes : List ℕ) × AreKept kept bytes
-kept_bytes None = ([], tt)
-kept_bytes (Some v) = (v.items, refl)
+pub kept_bytes : {A E : Type 0} (kept : Result (Vec ℕ A) E) → (bytes : List ℕ) × AreKept kept bytes
+kept_bytes (Err refused) = ([], tt)
+kept_bytes (Ok v) = (v.items, refl)

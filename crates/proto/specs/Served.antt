@@ -147,12 +147,12 @@ IsLineStop ends.LineTooLong old bytes new = IsTooLong bytes × HasRead 0 old byt
 IsLineStop end old bytes new = IsLine bytes × IsCutOff end old bytes new
 
 -- the bytes that were counted are kept, where there was memory for them
-abbrev pub AreKept : {A : Type 0} → Option (Vec ℕ A) → List ℕ → Type 0
-AreKept None bytes = Unit {0}
-AreKept (Some kept) bytes = kept.items ≡ bytes
+abbrev pub AreKept : {A E : Type 0} → Result (Vec ℕ A) E → List ℕ → Type 0
+AreKept (Err refused) bytes = Unit {0}
+AreKept (Ok kept) bytes = kept.items ≡ bytes
 
 -- as many bytes were read as are counted, and kept where there was memory for them
-pub record HasCounted {A : Type 0} (count : ℕ) (kept : Option (Vec ℕ A)) (old new : Wire) : Type 0 where
+pub record HasCounted {A E : Type 0} (count : ℕ) (kept : Result (Vec ℕ A) E) (old new : Wire) : Type 0 where
   pub bytes : List ℕ
   pub as_many : length bytes ≡ count
   pub kept_are : AreKept kept bytes
@@ -196,7 +196,7 @@ IsDumpSaid store end wire old wire_after =
     elim old.pin as (λ _. Type 0) [ None ↦ IsSaid end wire (reply_line (answers.Refused refusals.NotPinned)) wire_after | Some version ↦ IsDumped (bitmap_held store old) end wire wire_after ]
 
 -- a line, with the bytes that were kept, was answered, and its answer was said
-pub record HasAnswered {A : Type 0} (store : StoreId) (heard : Result LineView Refusal) (kept : Option (Vec ℕ A)) (end : Option End) (wire : Wire) (old : CallerValue) (wire_after : Wire) (new : CallerValue) : Type 0 where
+pub record HasAnswered {A E : Type 0} (store : StoreId) (heard : Result LineView Refusal) (kept : Result (Vec ℕ A) E) (end : Option End) (wire : Wire) (old : CallerValue) (wire_after : Wire) (new : CallerValue) : Type 0 where
   pub answer : Answer
   pub body : List ℕ
   pub answered : (bytes : List ℕ) → AreKept kept bytes → IsLineAnswer store heard bytes old answer new

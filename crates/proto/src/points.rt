@@ -98,9 +98,7 @@ pub fn read_path(alloc: Global, rest: Option<&[u8]>) -> Result<Vec<Cell>, Refusa
     if count == 0 || count > MOST_POINTS {
         return Err(Refusal::BadPath);
     }
-    let Ok(mut cells) = Vec::with_capacity(alloc, count) else {
-        return Err(Refusal::Memory);
-    };
+    let mut cells = Vec::with_capacity(alloc, count)?;
     push_points(&mut cells, rest);
     Ok(cells)
 }

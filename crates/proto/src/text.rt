@@ -2,11 +2,10 @@
 
 ghost use Rattle.std.specs.Prelude.{◌≡◌, ◌<◌, ◌≤◌, ◌+◌, ◌++◌, [], length, false, IfOk, IfErr};
 ghost use Rattle.std.specs.Fmt.{decimal, digit_glyph, signed_decimal};
-ghost use Rattle.metric.specs.declared.refusal.Refusal.{Refusal};
 ghost use Rattle.proto.specs.Hex.{hex_digits};
 
-use metric::{Refusal, push_decimal};
-use std::alloc::Global;
+use metric::push_decimal;
+use std::alloc::{AllocError, Global};
 use std::marker::Model;
 
 /// A text of at most 128 bytes, the room of which is made at its beginning.
@@ -27,14 +26,11 @@ impl Model for Text {
 
 impl Text {
     /// An empty text, with all of its room.
-    pub fn new(alloc: Global) -> Result<Self, Refusal>
-        ensures empty { IfOk result (λ text. text ≡ []) }
-        ensures refusal { IfErr result (λ refusal. refusal ≡ Refusal.Memory) }
+    pub fn new(alloc: Global) -> Result<Self, AllocError>
+        ensures { IfOk result (λ text. text ≡ []) }
     {
-        match Vec::with_capacity(alloc, 128) {
-            Ok(bytes) => Ok(Text { bytes }),
-            Err(_) => Err(Refusal::Memory),
-        }
+        let bytes = Vec::with_capacity(alloc, 128)?;
+        Ok(Text { bytes })
     }
 
     /// The bytes of the text.

@@ -41,8 +41,9 @@ pub fn pool<Id: StoreName + Send + Sync, R: Wait + Threads + Sync, T: Streams + 
     ensures worked { IfOk result (λ back. AreRelated (HasWorked T.fresh T.S.wire Id.store) sessions.items back.items) }
     ensures refused { IfErr result (λ back. (back.0.items ≡ sessions.items) × (back.1 ≡ Memory)) }
 {
-    let Ok(room) = Vec::with_capacity(alloc, sessions.len()) else {
-        return Err((sessions, Refusal::Memory));
+    let room = match Vec::with_capacity(alloc, sessions.len()) {
+        Ok(room) => room,
+        Err(refused) => return Err((sessions, Refusal::from(refused))),
     };
     let (empty, mut seats) = seat_all(sessions, room);
     let streams = Mutex::new(streams);

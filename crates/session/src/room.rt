@@ -1,9 +1,11 @@
 //! Room for a pin's bitmap, which a session keeps from one pin to the next.
 
-ghost use Rattle.std.specs.Prelude.{◌≡◌, IfSome};
+ghost use Rattle.std.specs.Prelude.{◌≡◌, IfOk, IfErr};
 ghost use Rattle.bits.specs.Cells.{IsSide};
+ghost use Rattle.metric.specs.declared.refusal.Refusal.TheVariants.{Memory};
 
 use bits::Bitmap;
+use metric::Refusal;
 use std::alloc::Global;
 use std::marker::Model;
 
@@ -49,16 +51,18 @@ impl Room {
         }
     }
 
-    /// A bitmap of this size, whatever its cells are: the one that a pin has left, or else a new one. `None` for want of memory.
-    pub fn take(&mut self, alloc: Global) -> Option<Bitmap>
+    /// A bitmap of this size, whatever its cells are: the one that a pin has left, or else a new one.
+    /// Fails only when out of memory.
+    pub fn take(&mut self, alloc: Global) -> Result<Bitmap, Refusal>
         requires width { IsSide self.old.width }
         requires height { IsSide self.old.height }
         ensures room { self.new ≡ self.old }
-        ensures size { IfSome result (λ b. (b.width ≡ self.old.width) × (b.height ≡ self.old.height)) }
+        ensures size { IfOk result (λ b. (b.width ≡ self.old.width) × (b.height ≡ self.old.height)) }
+        ensures memory { IfErr result (λ refusal. refusal ≡ Memory) }
     {
         match self.bitmap.take() {
-            Some(bitmap) => Some(bitmap),
-            None => Bitmap::blank(alloc, self.width, self.height).ok(),
+            Some(bitmap) => Ok(bitmap),
+            None => Bitmap::blank(alloc, self.width, self.height),
         }
     }
 }

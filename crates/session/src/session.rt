@@ -75,8 +75,9 @@ impl<Id: StoreName> Session<Id> {
         ensures refused { IfErr result (λ back. (back.0 ≡ self) × (back.1 ≡ Memory)) }
     {
         let Session { mut seat, mut room } = self;
-        let Some(bitmap) = room.take(alloc) else {
-            return Err((Session { seat, room }, Refusal::Memory));
+        let bitmap = match room.take(alloc) {
+            Ok(bitmap) => bitmap,
+            Err(refusal) => return Err((Session { seat, room }, refusal)),
         };
         let looks = LOOKS * u32::from(bitmap.tiles());
         seat.take();

@@ -32,8 +32,9 @@ impl<Id: StoreName> Store<Id> {
         ensures sessions { IfOk result (λ opened. opened.1.items ≡ all_fresh Id.store) }
         ensures refused { IfErr result (λ back. (back.0 ≡ blank) × (back.1 ≡ Memory)) }
     {
-        let Ok(room) = Vec::with_capacity(alloc, blank.readers.len()) else {
-            return Err((blank, Refusal::Memory));
+        let room = match Vec::with_capacity(alloc, blank.readers.len()) {
+            Ok(room) => room,
+            Err(refused) => return Err((blank, Refusal::from(refused))),
         };
         let Blank { desk, readers, map } = blank;
         let (width, height) = (map.width(), map.height());

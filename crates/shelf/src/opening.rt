@@ -37,9 +37,7 @@ fn deal(
     ensures reader { IfOk result (λ reader. reader ≡ newcomer number (store_at keeper.old.table_id (arc_value words.now).shared.key)) }
     ensures memory { IfErr result (λ refusal. refusal ≡ Memory) }
 {
-    let Ok(own) = Arc::try_clone(words) else {
-        return Err(Refusal::Memory);
-    };
+    let own = Arc::try_clone(words)?;
     let seat = words.shared.split_seat::<Deal>(keeper).into_badge();
     Ok(FreshReader {
         seat,
@@ -68,9 +66,7 @@ fn deal_all(
     ensures memory { IfErr result (λ refusal. refusal ≡ Memory) }
 {
     let readers = plan.setting.sessions;
-    let Ok(mut dealt) = Vec::with_capacity(alloc, readers as usize) else {
-        return Err(Refusal::Memory);
-    };
+    let mut dealt = Vec::with_capacity(alloc, readers as usize)?;
     for number in 0..readers {
         let reader = deal(words, keeper, plan, number)?;
         dealt.push_reserved(reader);
@@ -94,12 +90,8 @@ impl Opening {
             opening: Snapshot::of(map),
         };
         let list = opening_words(alloc, setting, map)?;
-        let Ok((table, mut seat)) = Words::of_words(alloc, list.as_slice(), &basis) else {
-            return Err(Refusal::Memory);
-        };
-        let Ok(words) = Arc::new(alloc, table) else {
-            return Err(Refusal::Memory);
-        };
+        let (table, mut seat) = Words::of_words(alloc, list.as_slice(), &basis)?;
+        let words = Arc::new(alloc, table)?;
         let readers = deal_all(alloc, &words, &mut seat, plan)?;
         Ok(Opening {
             keeper: FreshKeeper { seat, words, plan },

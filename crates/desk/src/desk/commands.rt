@@ -36,8 +36,8 @@ fn admit<'a>(
         Ok(judged) => judged,
         Err(refusal) => return Err(refusal),
     };
-    if command.takes_room() && log.reserve(1).is_err() {
-        return Err(Refusal::Memory);
+    if command.takes_room() {
+        log.reserve(1)?;
     }
     Ok(judged)
 }

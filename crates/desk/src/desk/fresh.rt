@@ -51,9 +51,7 @@ impl FreshDesk {
         ensures desk { IfOk result (λ desk. desk ≡ keeper) }
         ensures memory { IfErr result (λ refusal. refusal ≡ Memory) }
     {
-        let Ok(announced) = vec![in alloc; None; setting.sessions as usize] else {
-            return Err(Refusal::Memory);
-        };
+        let announced = vec![in alloc; None; setting.sessions as usize]?;
         Ok(FreshDesk {
             keeper,
             holding: Holding::of(alloc, setting, map)?,

@@ -1,7 +1,8 @@
 //! The nearest obstacles of one image's cells, found by workers.
 
-ghost use Rattle.std.specs.Prelude.{◌≡◌, ◌+◌, ◌*◌, ◌<◌, ◌≤◌, IfOk, length, slice_range};
+ghost use Rattle.std.specs.Prelude.{◌≡◌, ◌+◌, ◌*◌, ◌<◌, ◌≤◌, IfErr, IfOk, length, slice_range};
 ghost use Rattle.metric.specs.Kind.{distance_of};
+ghost use Rattle.metric.specs.declared.refusal.Refusal.TheVariants.{Memory};
 ghost use Rattle.field.specs.Obstacles.{nears_told};
 ghost use Rattle.field.specs.Rows.{AreNears};
 ghost use Rattle.engines.specs.dist.Measured.{AreDistances};
@@ -39,6 +40,7 @@ impl Table {
         ensures width { IfOk result (λ table. table.width ≡ bitmap.now.width) }
         ensures height { IfOk result (λ table. table.height ≡ bitmap.now.height) }
         ensures rows { IfOk result (λ table. AreNears (distance_of metric) bitmap.now edge 0 bitmap.now.height (nears_of table)) }
+        ensures memory { IfErr result (λ refusal. refusal ≡ Memory) }
     {
         let workers = if is_large(bitmap.width(), bitmap.height()) {
             workers
@@ -132,6 +134,7 @@ fn obstacles_of<T: Threads + Sync>(
     ensures from { IfOk result (λ table. table.y0 ≡ 0) }
     ensures to { IfOk result (λ table. table.y1 ≡ bitmap.now.height) }
     ensures rows { IfOk result (λ table. AreNears (distance_of metric) bitmap.now edge 0 bitmap.now.height (nears_told (distance_of metric) table)) }
+    ensures memory { IfErr result (λ refusal. refusal ≡ Memory) }
 {
     let height = bitmap.height();
     match metric {

@@ -3,6 +3,7 @@
 ghost use Rattle.std.specs.Prelude.{◌≡◌, ◌+◌, ◌*◌, ◌<◌, ◌≤◌, IfErr, IfOk, OnOk, OnErr, length, vec_len};
 ghost use Rattle.std.specs.Thread.{IsSync};
 ghost use Rattle.metric.specs.Stream.{Appends, AppendsFront, Counts, CanFail};
+ghost use Rattle.metric.specs.declared.refusal.Refusal.TheVariants.{Memory};
 ghost use Rattle.engines.specs.dist.Parts.{AreShares, ShareRows, IsShare, HasRows, parts_text};
 ghost use Rattle.engines.specs.dist.Table.{table_text};
 ghost use Rattle.engines.specs.dist.Tabled.{IsTableOf, nears_of};
@@ -12,7 +13,7 @@ use crate::dist::parts::WorkerLines;
 use crate::dist::table::Table;
 use bits::Bitmap;
 use field::Workers;
-use metric::{Edge, MOST_SIDE, MetricKind, PbmFault, Sink, WriteFault};
+use metric::{Edge, MOST_SIDE, MetricKind, Refusal, Sink, WriteFault};
 use std::alloc::Global;
 use std::thread::{Threads, for_each_mut, join_mut};
 
@@ -47,29 +48,20 @@ impl TableWriter {
         edge: Edge,
         nearest: bool,
         workers: u32,
-    ) -> Result<Self, PbmFault>
+    ) -> Result<Self, Refusal>
         ensures table { IfOk result (λ print. IsTableOf metric edge map.now print.table) }
         ensures workers { (1 ≤ workers) × (workers ≤ 16) → IfOk result (λ print. (vec_len print.even ≡ workers) × (vec_len print.odd ≡ workers)) }
-        ensures memory { IfErr result (λ fault. fault ≡ PbmFault.Memory) }
+        ensures memory { IfErr result (λ refusal. refusal ≡ Memory) }
     {
         let workers = workers_of(workers);
-        let Ok(table) = Table::of(rt, alloc, map, edge, metric, workers) else {
-            return Err(PbmFault::Memory);
-        };
+        let table = Table::of(rt, alloc, map, edge, metric, workers)?;
         let rows = table.rows_at_a_time(workers.count, nearest);
-        let (Ok(decimals), Ok(even), Ok(odd)) = (
-            Decimals::new(alloc),
-            WorkerLines::several(alloc, map.width(), rows, workers.count),
-            WorkerLines::several(alloc, map.width(), rows, workers.count),
-        ) else {
-            return Err(PbmFault::Memory);
-        };
         Ok(TableWriter {
             table,
-            decimals,
+            decimals: Decimals::new(alloc)?,
             rows,
-            even,
-            odd,
+            even: WorkerLines::several(alloc, map.width(), rows, workers.count)?,
+            odd: WorkerLines::several(alloc, map.width(), rows, workers.count)?,
         })
     }
 }

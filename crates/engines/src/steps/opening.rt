@@ -97,15 +97,9 @@ impl Opened {
             return Err(Refusal::BadArguments);
         };
         opening.setting.fits_size(opening.width, opening.height)?;
-        let Ok(map) = Bitmap::blank(alloc, opening.width, opening.height) else {
-            return Err(Refusal::Memory);
-        };
-        let Ok(world) = World::open(alloc, opening.setting, &map) else {
-            return Err(Refusal::Memory);
-        };
-        let Ok(text) = Text::new(alloc) else {
-            return Err(Refusal::Memory);
-        };
+        let map = Bitmap::blank(alloc, opening.width, opening.height)?;
+        let world = World::open(alloc, opening.setting, &map)?;
+        let text = Text::new(alloc)?;
         let tiles = map.tiles();
         Ok(Opened { world, tiles, text })
     }

@@ -7,6 +7,7 @@ ghost use Rattle.engines.specs.declared.streams.gather.PartStop.{PartStop};
 ghost use Rattle.engines.specs.declared.streams.gather.PartStop.TheVariants.{Ended, Failed};
 
 use metric::Source;
+use std::alloc::AllocFailed;
 
 /// Why not all was read.
 #[derive(Clone, Copy)]
@@ -17,6 +18,17 @@ pub enum PartStop {
     Failed,
     /// There was no memory for what was read.
     Memory,
+}
+
+/// A growth that was refused.
+impl From<AllocFailed<u8>> for PartStop {
+    ghost use Rattle.engines.specs.declared.streams.gather.PartStop.TheVariants.{Memory};
+
+    ghost from_gives = { λ _ stop. stop ≡ Memory };
+
+    fn from(_refused: AllocFailed<u8>) -> PartStop {
+        PartStop::Memory
+    }
 }
 
 /// Reads a line with its LF after what the buffer holds.
@@ -76,9 +88,7 @@ fn read_byte<R: Source>(reader: &mut R, bytes: &mut Vec<u8>) -> Result<u8, PartS
 {
     match reader.next_byte() {
         Ok(Some(byte)) => {
-            if bytes.push(byte).is_err() {
-                return Err(PartStop::Memory);
-            }
+            bytes.push(byte)?;
             Ok(byte)
         }
         Ok(None) => Err(PartStop::Ended),

@@ -5,7 +5,7 @@ ghost use Rattle.metric.specs.Stream.{AreAll, CanFail};
 ghost use Rattle.engines.specs.declared.streams.input.InputStop.TheVariants.{Failed, Memory};
 
 use metric::Source;
-use std::alloc::Global;
+use std::alloc::{AllocError, Global};
 
 /// How many bytes are read at a time, at most.
 const BLOCK: usize = 65536;
@@ -17,6 +17,15 @@ pub enum InputStop {
     Failed,
     /// There was no memory for what was read.
     Memory,
+}
+
+/// A growth that was refused.
+impl From<AllocError> for InputStop {
+    ghost from_gives = { λ _ stop. stop ≡ Memory };
+
+    fn from(_refused: AllocError) -> InputStop {
+        InputStop::Memory
+    }
 }
 
 /// Reads to the end.
@@ -32,9 +41,7 @@ pub fn read_to_end<R: Source>(alloc: Global, reader: &mut R) -> Result<Vec<u8>, 
         match reader.next_block(block.as_mut_slice()) {
             Ok(0) => return Ok(bytes),
             Ok(count) => {
-                if bytes.extend_from_slice(&block[..count]).is_err() {
-                    return Err(InputStop::Memory);
-                }
+                bytes.extend_from_slice(&block[..count])?;
             }
             Err(_) => return Err(InputStop::Failed),
         }

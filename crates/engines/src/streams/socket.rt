@@ -55,6 +55,14 @@ pub enum NoSocket {
 }
 
 impl NoSocket {
+    /// Why a connection whose buffers weren't made is no stream.
+    fn unbuffered(fault: &io::Error, stream: TcpStream) -> NoSocket {
+        match fault.kind() {
+            ErrorKind::OutOfMemory => NoSocket::Memory(stream),
+            _ => NoSocket::Broken,
+        }
+    }
+
     /// Tells the peer that there is no memory, where that is why, and ends the connection.
     pub fn tell(self) {
         if let NoSocket::Memory(mut stream) = self
@@ -91,8 +99,9 @@ impl Socket {
         if stream.set_nodelay(true).is_err() {
             return Err(NoSocket::Broken);
         }
-        let Ok((mut reader, replies)) = buffers(alloc) else {
-            return Err(NoSocket::Memory(stream));
+        let (mut reader, replies) = match buffers(alloc) {
+            Ok(buffers) => buffers,
+            Err(fault) => return Err(NoSocket::unbuffered(&fault, stream)),
         };
         reader.get_mut().0 = Some(stream);
         Ok(Socket {

@@ -47,16 +47,17 @@ fn write_or_fail<W: Sink>(writer: &mut W, text: &[u8], status: u8) -> u8
     write_text(writer, text, status).unwrap_or(REFUSED)
 }
 
-/// Tells want of memory. Answers the status.
-fn tell_memory<W: Sink>(writer: &mut W) -> u8
-    requires { CanFail (W.failed_writes writer.old) }
+/// Tells that there is no memory. Answers the status.
+fn tell_memory<W: Sink>(writer: &mut W, refusal: Refusal) -> u8
+    requires writer { CanFail (W.failed_writes writer.old) }
+    requires memory { refusal ≡ Refusal.Memory }
     ensures written { W.failed_writes writer.new ≡ W.failed_writes writer.old
         → Appends (W.held writer.old) (refusal_text Refusal.Memory ++ 10 ∷ []) (W.held writer.new) }
     ensures failed { W.failed_writes writer.new ≢ W.failed_writes writer.old → Begins (W.held writer.old) (W.held writer.new) }
     ensures one_failure { W.failed_writes writer.new ≤ W.failed_writes writer.old + 1 }
     ensures status { result ≡ 1 }
 {
-    write_refusal(writer, Refusal::Memory).unwrap_or(REFUSED)
+    write_refusal(writer, refusal).unwrap_or(REFUSED)
 }
 
 /// Tells why words are refused, on `errors`, or what they asked to be told, on the writer. Answers the status.
@@ -77,11 +78,13 @@ pub fn tell<W: Sink, E: Sink>(
     ensures one_failure { W.failed_writes writer.new + E.failed_writes errors.new
         ≤ W.failed_writes writer.old + E.failed_writes errors.old + 1 }
 {
-    if matches!(fault, Fault::Memory) {
-        return tell_memory(writer);
+    match fault {
+        Fault::Memory => return tell_memory(writer, Refusal::Memory),
+        _ => {}
     }
-    let Ok(text) = text_of(alloc, fault) else {
-        return tell_memory(writer);
+    let text = match text_of(alloc, fault) {
+        Ok(text) => text,
+        Err(refused) => return tell_memory(writer, Refusal::from(refused)),
     };
     let status = status_of(fault);
     if status == MISTAKEN {

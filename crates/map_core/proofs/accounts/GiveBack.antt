@@ -1,5 +1,5 @@
 -- The draft's own blocks are given back, position by position.
-use Rattle.std.proofs.Common.{◌≡◌, ℕ, zero, suc, ◌+◌, ◌<◌, ◌≤◌, List, [], ◌∷◌, ◌++◌, ◌-◌, not, length, take, drop, get_or, set, replicate, refl, ap, sym, ◌∙◌, arith}
+use Rattle.std.proofs.Common.{◌≡◌, ℕ, zero, suc, ◌+◌, ◌<◌, ◌≤◌, List, [], ◌∷◌, ◌++◌, not, length, take, drop, get_or, set, replicate, refl, ap, sym, ◌∙◌, arith}
 use Rattle.std.specs.Prelude.{Option, Some, None, filter}
 use Rattle.map_core.specs.declared.blocks.RetiredBlock.{RetiredBlock}
 use Rattle.std.proofs.lemmas.List.{drop_more, length-replicate}

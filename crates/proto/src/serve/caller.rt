@@ -172,6 +172,6 @@ fn pin_session<Id: StoreName>(alloc: Global, session: Session<Id>) -> (Caller<Id
             let version = pinned.version();
             (Caller::holding(pinned), Answer::Version(version))
         }
-        Err((session, _)) => (Caller::new(session), Answer::Refused(Refusal::Memory)),
+        Err((session, refusal)) => (Caller::new(session), Answer::Refused(refusal)),
     }
 }

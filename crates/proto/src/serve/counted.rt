@@ -7,26 +7,26 @@ ghost use Rattle.proto.specs.Wire.{CanGoOn};
 use crate::serve::end::End;
 use crate::serve::wire::take_byte;
 use metric::Stream;
-use std::alloc::Global;
+use std::alloc::{AllocError, Global};
 
-/// Reads so many bytes; `None` where there was no memory to keep them. Otherwise it answers how the stream ends before the last of them.
-pub fn read_counted<S: Stream>(
-    alloc: Global,
-    stream: &mut S,
-    count: u32,
-) -> Result<Option<Vec<u8>>, End>
+/// The bytes that a line counts, or the growth that was refused to keep them.
+pub type Counted = Result<Vec<u8>, AllocError>;
+
+/// Reads so many bytes, and keeps them where there is memory for that. Otherwise it answers how the
+/// stream ends before the last of them.
+pub fn read_counted<S: Stream>(alloc: Global, stream: &mut S, count: u32) -> Result<Counted, End>
     requires { CanGoOn (S.wire stream.old) }
     ensures counted { IfOk result (λ kept. HasCounted count kept (S.wire stream.old) (S.wire stream.new)) }
     ensures cut { IfErr result (λ end. IsCutShort count end (S.wire stream.old) (S.wire stream.new)) }
 {
     match Vec::with_capacity(alloc, count as usize) {
         Ok(room) => keep(stream, room, count),
-        Err(_) => skip(stream, count),
+        Err(refused) => skip(stream, count, refused),
     }
 }
 
 /// Reads so many bytes, for which there is room.
-fn keep<S: Stream>(stream: &mut S, room: Vec<u8>, count: u32) -> Result<Option<Vec<u8>>, End>
+fn keep<S: Stream>(stream: &mut S, room: Vec<u8>, count: u32) -> Result<Counted, End>
     requires stream { CanGoOn (S.wire stream.old) }
     requires room { count ≤ vec_capacity room }
     requires empty { room.items ≡ [] }
@@ -41,11 +41,11 @@ fn keep<S: Stream>(stream: &mut S, room: Vec<u8>, count: u32) -> Result<Option<V
             Err(_) => return Err(End::ReadFailed),
         }
     }
-    Ok(Some(bytes))
+    Ok(Ok(bytes))
 }
 
-/// Reads so many bytes and keeps none.
-fn skip<S: Stream>(stream: &mut S, count: u32) -> Result<Option<Vec<u8>>, End>
+/// Reads so many bytes and keeps none, since a growth was refused.
+fn skip<S: Stream>(stream: &mut S, count: u32, refused: AllocError) -> Result<Counted, End>
     requires { CanGoOn (S.wire stream.old) }
     ensures counted { IfOk result (λ kept. HasCounted count kept (S.wire stream.old) (S.wire stream.new)) }
     ensures cut { IfErr result (λ end. IsCutShort count end (S.wire stream.old) (S.wire stream.new)) }
@@ -57,5 +57,5 @@ fn skip<S: Stream>(stream: &mut S, count: u32) -> Result<Option<Vec<u8>>, End>
             Err(_) => return Err(End::ReadFailed),
         }
     }
-    Ok(None)
+    Ok(Err(refused))
 }

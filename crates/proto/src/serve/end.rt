@@ -1,5 +1,10 @@
 //! How a served stream ends.
 
+ghost use Rattle.std.specs.Prelude.{◌≡◌};
+ghost use Rattle.proto.specs.declared.serve.end.End.TheVariants.{Memory};
+
+use std::alloc::AllocError;
+
 /// Why a stream is served no longer.
 #[derive(Clone, Copy, Debug, PartialEq, Eq)]
 pub enum End {
@@ -17,4 +22,13 @@ pub enum End {
     WriteFailed,
     /// There was no memory for the buffers of a line and of a reply line. Nothing was read then, or written.
     Memory,
+}
+
+/// A growth that was refused.
+impl From<AllocError> for End {
+    ghost from_gives = { λ _ end. end ≡ Memory };
+
+    fn from(_refused: AllocError) -> End {
+        End::Memory
+    }
 }

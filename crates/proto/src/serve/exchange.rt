@@ -8,6 +8,7 @@ ghost use Rattle.proto.specs.Served.{AreKept};
 use crate::answer::Answer;
 use crate::line::Line;
 use crate::serve::caller::Caller;
+use crate::serve::counted::Counted;
 use map_core::Command;
 use metric::{PbmFault, Refusal};
 use pbm::read_image;
@@ -45,7 +46,7 @@ pub fn answer_line<Id: StoreName, R: Wait>(
     store: &Store<Id>,
     caller: Caller<Id>,
     asked: Result<Line, Refusal>,
-    kept: Option<Vec<u8>>,
+    kept: Counted,
 ) -> (Caller<Id>, Answer)
     requires quit { line_seen_in asked ≢ Ok saids.quit }
     requires dump { line_seen_in asked ≢ Ok saids.dump }
@@ -90,12 +91,13 @@ fn stamp<Id: StoreName, R: Wait>(
     caller: Caller<Id>,
     x: u16,
     y: u16,
-    kept: Option<Vec<u8>>,
+    kept: Counted,
 ) -> (Caller<Id>, Answer)
     ensures { (bytes : List ℕ) → AreKept kept bytes → IsStampAnswer Id.store x y bytes caller result.1 result.0 }
 {
-    let Some(bytes) = kept else {
-        return (caller, Answer::Refused(Refusal::Memory));
+    let bytes = match kept {
+        Ok(bytes) => bytes,
+        Err(refused) => return (caller, Answer::Refused(Refusal::from(refused))),
     };
     let mut caller = caller;
     match read_image(alloc, bytes.as_slice()) {

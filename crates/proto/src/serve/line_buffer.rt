@@ -1,15 +1,14 @@
 //! The buffer of a line, which is read a byte at a time.
 
 ghost use Rattle.std.specs.Prelude.{◌≡◌, ◌∷◌, ◌++◌, [], IfOk, IfErr, OnOk};
-ghost use Rattle.metric.specs.declared.refusal.Refusal.TheVariants.{Memory};
 ghost use Rattle.proto.specs.Exchanges.{IsLine};
 ghost use Rattle.proto.specs.Served.{IsLineStop};
 ghost use Rattle.proto.specs.Wire.{CanGoOn, HasRead};
 
 use crate::serve::end::End;
 use crate::serve::wire::take_byte;
-use metric::{Refusal, Stream};
-use std::alloc::Global;
+use metric::Stream;
+use std::alloc::{AllocError, Global};
 use std::marker::Model;
 
 /// The most bytes that are looked at for the LF of a line, which has one fewer at most before it.
@@ -33,14 +32,11 @@ impl Model for LineBuffer {
 
 impl LineBuffer {
     /// An empty line, with all of its room. Refused for want of memory alone.
-    pub fn new(alloc: Global) -> Result<Self, Refusal>
-        ensures empty { IfOk result (λ line. line ≡ []) }
-        ensures refusal { IfErr result (λ refusal. refusal ≡ Memory) }
+    pub fn new(alloc: Global) -> Result<Self, AllocError>
+        ensures { IfOk result (λ line. line ≡ []) }
     {
-        match Vec::with_capacity(alloc, MOST_BYTES as usize) {
-            Ok(bytes) => Ok(LineBuffer { bytes }),
-            Err(_) => Err(Refusal::Memory),
-        }
+        let bytes = Vec::with_capacity(alloc, MOST_BYTES as usize)?;
+        Ok(LineBuffer { bytes })
     }
 
     /// The bytes of the line.

@@ -10,7 +10,7 @@ ghost use Rattle.proto.specs.Wire.{CanGoOn, HasRead};
 use crate::answer::Answer;
 use crate::line::{Line, parse_line};
 use crate::serve::caller::Caller;
-use crate::serve::counted::read_counted;
+use crate::serve::counted::{Counted, read_counted};
 use crate::serve::dump::end_of;
 use crate::serve::end::End;
 use crate::serve::exchange::{answer_line, says_dump, says_quit};
@@ -91,7 +91,7 @@ fn serve_whole<Id: StoreName, R: Wait, S: Stream>(
     store: &Store<Id>,
     caller: Caller<Id>,
     asked: Result<Line, Refusal>,
-    kept: Option<Vec<u8>>,
+    kept: Counted,
     stream: &mut S,
     text: &mut Text,
 ) -> (Caller<Id>, Option<End>)
@@ -114,7 +114,7 @@ fn serve_short<Id: StoreName, R: Wait, S: Stream>(
     store: &Store<Id>,
     caller: Caller<Id>,
     asked: Result<Line, Refusal>,
-    kept: Option<Vec<u8>>,
+    kept: Counted,
     stream: &mut S,
     text: &mut Text,
 ) -> (Caller<Id>, Option<End>)

@@ -1,7 +1,7 @@
 -- A write that failed leaves a beginning of the answer: a reply's text, a table's lines or the line of a fault.
 use Rattle.std.proofs.Common.{◌∷◌, ◌++◌, [], refl}
 use Rattle.std.proofs.lemmas.Result.{on_err_weaker}
-use Rattle.metric.specs.Refusal.{image_text}
+use Rattle.metric.specs.Refusal.{refusal_text}
 use Rattle.engines.specs.dist.Table.{table_text}
 use Rattle.engines.specs.dist.Tabled.{nears_of}
 use Rattle.engines.proofs.Answering.{asked_of_reply, asked_of_table, map_wants_memory, map_wanting_whole}
@@ -16,9 +16,9 @@ returns-in-Ok-clause-front g c =
 
 pub returns-in-Err-clause-front : goal.returns-in-Err-clause-front
 returns-in-Err-clause-front g c =
-    on_err_weaker c.write_fault.result
-    (λ front. (image_text c.in-Err.fault ++ 10 ∷ [], 1, map_wants_memory c.args.options.now c.args.map.now c.in-Err.fault 1 c.in-Err.ensures.memory refl, front))
-    c.write_fault.ensures.front
+    on_err_weaker c.write_refusal.result
+    (λ front. (refusal_text c.in-Err.refusal ++ 10 ∷ [], 1, map_wants_memory c.args.options.now c.args.map.now c.in-Err.refusal 1 c.in-Err.ensures.memory refl, front))
+    c.write_refusal.ensures.front
 
 pub returns-in-Ok-of-clause-front : goal.returns-in-Ok-of-clause-front
 returns-in-Ok-of-clause-front g c =
@@ -29,13 +29,13 @@ returns-in-Ok-of-clause-front g c =
 
 pub returns-in-Err-of-clause-front : goal.returns-in-Err-of-clause-front
 returns-in-Err-of-clause-front g c =
-    on_err_weaker c.write_fault-in-Err-of.result
-    (λ front. (image_text c.in-Err-of.fault ++ 10 ∷ [], 1, map_wants_memory c.args.options.now c.args.map.now c.in-Err-of.fault 1 c.in-Err-of.ensures.memory refl, front))
-    c.write_fault-in-Err-of.ensures.front
+    on_err_weaker c.write_refusal-in-Err-of.result
+    (λ front. (refusal_text c.in-Err-of.refusal ++ 10 ∷ [], 1, map_wants_memory c.args.options.now c.args.map.now c.in-Err-of.refusal 1 c.in-Err-of.ensures.memory refl, front))
+    c.write_refusal-in-Err-of.ensures.front
 
 pub returns-in-Err-clause-whole : goal.returns-in-Err-clause-whole
-returns-in-Err-clause-whole g c = map_wanting_whole c.args.options.now c.args.map.now c.in-Err.fault _ _ c.write_fault.result c.in-Err.ensures.memory c.write_fault.ensures.status c.write_fault.ensures.whole
+returns-in-Err-clause-whole g c = map_wanting_whole c.args.options.now c.args.map.now c.in-Err.refusal _ _ c.write_refusal.result c.in-Err.ensures.memory c.write_refusal.ensures.status c.write_refusal.ensures.whole
 
 pub returns-in-Err-of-clause-whole : goal.returns-in-Err-of-clause-whole
 returns-in-Err-of-clause-whole g c =
-    map_wanting_whole c.args.options.now c.args.map.now c.in-Err-of.fault _ _ c.write_fault-in-Err-of.result c.in-Err-of.ensures.memory c.write_fault-in-Err-of.ensures.status c.write_fault-in-Err-of.ensures.whole
+    map_wanting_whole c.args.options.now c.args.map.now c.in-Err-of.refusal _ _ c.write_refusal-in-Err-of.result c.in-Err-of.ensures.memory c.write_refusal-in-Err-of.ensures.status c.write_refusal-in-Err-of.ensures.whole

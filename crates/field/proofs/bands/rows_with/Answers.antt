@@ -10,7 +10,7 @@ work_bands-requires-clause-room g c κs within =
 
 pub returns-clause-rows : goal.returns-clause-rows
 returns-clause-rows g c =
-    let whole : length c.work_bands.new.nears ≡ c.in-Ok.nears.len = search rules in
-    rw (written_over c.in-Ok.nears.len c.work_bands.new.nears c.in-Ok.nears.items whole)
+    let whole : length c.work_bands.new.nears ≡ c.in_ok-nears.nears.len = search rules in
+    rw (written_over c.in_ok-nears.nears.len c.work_bands.new.nears c.in_ok-nears.nears.items whole)
     (AreNears-all g.M.Metric.distance c.args.bitmap.now c.args.edge c.args.y0 c.args.y1 c.args.workers.count c.work_bands.new.nears c.args.workers.few.some c.requires.order
     c.in_ok-work_bands.ensures.rows)

@@ -10,11 +10,11 @@ pub returns-clause-each : goal.returns-clause-each
 returns-clause-each g c =
     let strips = c.args.strips.now in
     let first : ℕ → ℕ = λ k. strips.y0 + rows_before (strips.y1 - strips.y0) strips.height k in
-    IfOk-weaker c.gather.result (λ cells. c.in-Ok.found.items ≡ map Ok cells.items) (λ cells. AreStripAnswers g.M.Metric.distance strips.bitmap.now strips.edge strips.y0 strips.y1 strips.height (map (λ strip. strip.items) cells.items))
+    IfOk-weaker c.gather.result (λ cells. c.in_ok-found.found.items ≡ map Ok cells.items) (λ cells. AreStripAnswers g.M.Metric.distance strips.bitmap.now strips.edge strips.y0 strips.y1 strips.height (map (λ strip. strip.items) cells.items))
     (λ cells same. record {
-      each = strips_told (λ strip. strip.items) (λ k strip. AreAnswers seen_from None g.M.Metric.distance strips.bitmap.now strips.edge (first k) (first (k + 1)) strip) c.in-Ok.found.items cells.items same
+      each = strips_told (λ strip. strip.items) (λ k strip. AreAnswers seen_from None g.M.Metric.distance strips.bitmap.now strips.edge (first k) (first (k + 1)) strip) c.in_ok-found.found.items cells.items same
           (λ k other below.
-          let called = (c.in-Ok.ensures.each k other (omega (arith, below, c.in-Ok.ensures.len, c.from.ensures, c.in-Ok.found.ok))).1 in
+          let called = (c.in_ok-found.ensures.each k other (omega (arith, below, c.in_ok-found.ensures.len, c.from.ensures, c.in_ok-found.found.ok))).1 in
           called.met.0);
     })
     c.gather.ensures.found

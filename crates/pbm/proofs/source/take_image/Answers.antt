@@ -23,5 +23,6 @@ returns-in-Err-take_raster-clause-fault g c =
     (λ fault met. image-not _ _ _ _ c.in-Ok.found.0 c.in-Ok.found.1 c.in-Ok.found.2 c.in-Ok-blank.bitmap fault c.in-Ok-blank.ensures.blank c.in-Ok.ensures.header met)
     c.in-Err-take_raster.ensures.fault
 
-pub returns-in_default-clause-fault : goal.returns-in_default-clause-fault
-returns-in_default-clause-fault g c = image-memory _ _ _ _ c.in-Ok.found.0 c.in-Ok.found.1 c.in-Ok.found.2 c.in-Ok.ensures.header
+pub returns-in-Err-blank-clause-fault : goal.returns-in-Err-blank-clause-fault
+returns-in-Err-blank-clause-fault g c =
+    rw c.no_bitmap.ensures (image-memory _ _ _ _ c.in-Ok.found.0 c.in-Ok.found.1 c.in-Ok.found.2 c.in-Ok.ensures.header)

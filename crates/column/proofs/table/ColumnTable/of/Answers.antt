@@ -13,9 +13,9 @@ invariant_of-result c =
     let size = framed_size c.args.edge c.args.bitmap.now in
     let columns : c.width-width.result + 2 * c.shift.result ≡ map.width = rw size.0 (rw (c.width-width.ensures.width, c.shift.ensures) refl) in
     let rows : c.height-height.result + 2 * c.shift-2.result ≡ map.height = rw size.1 (rw (c.height-height.ensures.height, c.shift-2.ensures) refl) in
-    let many = c.in-Ok.ensures.len in
-    let written : c.in-Ok.entries.len ≡ length c.sweep.new.entries = rw (c.sweep.ensures.as_many, ← columns, ← rows, ← c.from.ensures, ← c.from-2.ensures) many in
-    rw (take_at c.sweep.new.entries (drop (length c.sweep.new.entries) c.in-Ok.entries.items) c.in-Ok.entries.len (sym written))
+    let many = c.in_ok-entries.ensures.len in
+    let written : c.in_ok-entries.entries.len ≡ length c.sweep.new.entries = rw (c.sweep.ensures.as_many, ← columns, ← rows, ← c.from.ensures, ← c.from-2.ensures) many in
+    rw (take_at c.sweep.new.entries (drop (length c.sweep.new.entries) c.in_ok-entries.entries.items) c.in_ok-entries.entries.len (sym written))
     (IsTabled-swept c.args.bitmap.now c.width-width.result c.height-height.result c.args.edge c.sweep.new.entries c.width-width.ensures.bitmap c.width-width.ensures.width c.height-height.ensures.height c.sweep.ensures)
 
 pub returns-clause-table : goal.returns-clause-table
@@ -24,8 +24,8 @@ returns-clause-table c =
     let size = framed_size c.args.edge c.args.bitmap.now in
     let columns : c.width-width.result + 2 * c.shift.result ≡ map.width = rw size.0 (rw (c.width-width.ensures.width, c.shift.ensures) refl) in
     let rows : c.height-height.result + 2 * c.shift-2.result ≡ map.height = rw size.1 (rw (c.height-height.ensures.height, c.shift-2.ensures) refl) in
-    let many = c.in-Ok.ensures.len in
-    let written : c.in-Ok.entries.len ≡ length c.sweep.new.entries = rw (c.sweep.ensures.as_many, ← columns, ← rows, ← c.from.ensures, ← c.from-2.ensures) many in
-    rw (take_at c.sweep.new.entries (drop (length c.sweep.new.entries) c.in-Ok.entries.items) c.in-Ok.entries.len (sym written))
+    let many = c.in_ok-entries.ensures.len in
+    let written : c.in_ok-entries.entries.len ≡ length c.sweep.new.entries = rw (c.sweep.ensures.as_many, ← columns, ← rows, ← c.from.ensures, ← c.from-2.ensures) many in
+    rw (take_at c.sweep.new.entries (drop (length c.sweep.new.entries) c.in_ok-entries.entries.items) c.in_ok-entries.entries.len (sym written))
     (ap (λ (cells : Cells). bordered cells c.args.edge)
     (cells_tabled-swept c.args.bitmap.now c.width-width.result c.height-height.result c.args.edge c.sweep.new.entries c.width-width.ensures.bitmap c.width-width.ensures.width c.height-height.ensures.height c.sweep.ensures))

@@ -1,8 +1,11 @@
 -- Want of memory comes after the other refusals.
 use Rattle.std.proofs.Common.{refl, sym, ◌∙◌}
+use Rattle.std.proofs.lemmas.Result.{err_from_is_err_and}
 use mathlib.Core.Logic.{inr}
 use Rattle.desk.proofs.HoldDraw.{judged_none}
 use Rattle.desk.proofs.desk.commands.admit.Goals as goal
 
-pub returns-then-is_err-clause-refused : goal.returns-then-is_err-clause-refused
-returns-then-is_err-clause-refused c = inr (judged_none _ _ _ c.in-Ok.ensures.judged, refl, sym c.takes_room.ensures ∙ c.if-takes_room.true)
+pub returns-in_err-reserve-clause-refused : goal.returns-in_err-reserve-clause-refused
+returns-in_err-reserve-clause-refused c =
+    let p = err_from_is_err_and c.from_residual.result c.from_residual.ensures.1 in
+    rw (p.1, p.2) (inr (judged_none _ _ _ c.in-Ok.ensures.judged, refl, sym c.takes_room.ensures ∙ c.if-takes_room.true))

@@ -3,5 +3,5 @@ use Rattle.std.proofs.Common.{[], ◌∷◌}
 use Rattle.engines.proofs.Gathering.{Takes-byte}
 use Rattle.engines.proofs.streams.gather.read_byte.Goals as goal
 
-pub returns-then-is_err-clause-taken : goal.returns-then-is_err-clause-taken
-returns-then-is_err-clause-taken g c = (c.in-Ok-Some.byte ∷ [], Takes-byte _ _ _ (rw c.in-Ok-Some.field-0-is at c.in-Ok-Some.ensures.byte))
+pub returns-in_err-push-in-Ok-Some-clause-taken : goal.returns-in_err-push-in-Ok-Some-clause-taken
+returns-in_err-push-in-Ok-Some-clause-taken g c = (c.in-Ok-Some.byte ∷ [], Takes-byte _ _ _ (rw c.in-Ok-Some.field-0-is at c.in-Ok-Some.ensures.byte))

@@ -12,7 +12,7 @@ confirm-requires g c =
 pub invariant_of-result-2 : goal.invariant_of-result-2
 invariant_of-result-2 g c =
     let session = c.self.invariant in
-    let size = c.in-Some.ensures.size in
-    pin_made g.Id.StoreName.store c.self.inside.seat c.take-2.new.self c.announce.new.self c.take-now.new.self c.confirm.new.self c.take-now.result.version c.take-now.result.slot c.in-Some.bitmap session.ready session.quiet session.free
+    let size = c.in-Ok.ensures.size in
+    pin_made g.Id.StoreName.store c.self.inside.seat c.take-2.new.self c.announce.new.self c.take-now.new.self c.confirm.new.self c.take-now.result.version c.take-now.result.slot c.in-Ok.bitmap session.ready session.quiet session.free
     c.take-2.ensures.seat c.announce.ensures c.take-now.ensures.seat c.take-now.ensures.version c.confirm.ensures c.take-now.ensures.slot c.take-now.ensures.slots c.take-now.ensures.legal
     (size.0 ∙ session.width_is) (size.1 ∙ session.height_is)

@@ -15,8 +15,8 @@ of_words-requires c =
 pub deal_all-requires-clause-of : goal.deal_all-requires-clause-of
 deal_all-requires-clause-of c =
     let z : Base = record { setting = c.args.setting; opening = c.args.map.now } in
-    let made = c.in-Ok.ensures in
-    let shared = c.in-Ok-new.ensures.ok in
+    let made = c.in_ok-table.ensures in
+    let shared = c.in_ok-words.ensures.ok in
     let told = ap base_of (ap (λ t. t.shared.key) shared ∙ made.5) ∙ ap (λ b. record { setting = c.args.setting; opening = b }) c.of.ensures in
     is_of_new _ _ _ _ z _ (ap (λ t. t.shared.table_id) shared ∙ sym made.2) told (ap (λ t. t.shared.table_id.words) shared ∙ (made.0 ∙ ap length c.as_slice.ensures.value))
     (c.in_ok-list.ensures {u = tt}).words
@@ -26,8 +26,8 @@ deal_all-requires-clause-of c =
 pub invariant_of-result : goal.invariant_of-result
 invariant_of-result c =
     let z : Base = record { setting = c.args.setting; opening = c.args.map.now } in
-    let made = c.in-Ok.ensures in
-    let shared = c.in-Ok-new.ensures.ok in
+    let made = c.in_ok-table.ensures in
+    let shared = c.in_ok-words.ensures.ok in
     let dealt = c.in_ok-readers.ensures {u = tt} in
     let told = ap base_of (ap (λ t. t.shared.key) shared ∙ made.5) ∙ ap (λ b. record { setting = c.args.setting; opening = b }) c.of.ensures in (
       is_of_new _ _ _ _ z _ (ap (λ t. t.shared.table_id) shared ∙ (sym made.2 ∙ sym dealt.table)) told (ap (λ t. t.shared.table_id.words) shared ∙ (made.0 ∙ ap length c.as_slice.ensures.value))
