@@ -111,6 +111,21 @@ fn images_are_read(rt: HostRuntime) {
     }
 }
 
+/// Images of 10 and of 25 bytes, none of whose fronts is an image.
+const WHOLE: [&[u8]; 2] = [b"P4\n10 1\n\x80\x7f", b"P1\n# made by hand\n3 1\n101"];
+
+#[test]
+fn fronts_are_truncated(rt: HostRuntime) {
+    for image in WHOLE {
+        for count in 0..image.len() {
+            let fault = read_image(rt.alloc(), &image[..count]).err();
+            same(&rt, fault, Some(PbmFault::Truncated), (image, count));
+        }
+        let read = read_image(rt.alloc(), image);
+        holds(&rt, read.is_ok(), (image, "the whole image"));
+    }
+}
+
 #[test]
 fn faults_are_told(rt: HostRuntime) {
     for (number, (bytes, want)) in FAULTS.iter().enumerate() {

@@ -1,8 +1,8 @@
 //! The worked rows through `dist`, and writes that fail.
 
-use crate::compare::same;
+use crate::compare::{holds, same};
 use engines::{DistOptions, dist_run};
-use metric::{Edge, MemorySink, MemorySource, MetricKind, Sink};
+use metric::{Edge, MemorySink, MemorySource, MetricKind, Sink, Source};
 use std::process::Abort;
 use std::thread::Threads;
 
@@ -42,16 +42,13 @@ static ANSWERS: [(&[u8], &str, u8); 18] = [
 ];
 
 /// Images with flags, and what is written for them.
-static CHOSEN: [(&[u8], MetricKind, bool, &str); 7] = [
+static CHOSEN: [(&[u8], MetricKind, bool, &str); 9] = [
     (ROOM, MetricKind::Euclid2, false, "0 1 4\n1 2 5\n"),
     (ROOM, MetricKind::City, false, "0 1 2\n1 2 3\n"),
     (ROOM, MetricKind::Chess, false, "0 1 2\n1 1 2\n"),
-    (
-        b"P1\n3 2\n000\n000\n",
-        MetricKind::City,
-        true,
-        "- - -\n- - -\n",
-    ),
+    (BLANK, MetricKind::City, false, "- - -\n- - -\n"),
+    (BLANK, MetricKind::Chess, false, "- - -\n- - -\n"),
+    (BLANK, MetricKind::City, true, "- - -\n- - -\n"),
     (
         b"P1\n5 1\n10001",
         MetricKind::City,
@@ -161,6 +158,9 @@ const FIELD: &[u8] = b"P1\n5 3\n000000000000000";
 /// The worked map of six columns and four rows.
 const POST: &[u8] = b"P1\n6 4\n000000\n001000\n000000\n000000\n";
 
+/// A map of the same size without an obstacle.
+const BLANK: &[u8] = b"P1\n3 2\n000\n000\n";
+
 /// The worked map of three columns and two rows.
 const ROOM: &[u8] = b"P1\n3 2\n100\n000\n";
 
@@ -237,6 +237,22 @@ fn queries_see_the_wall(rt: HostRuntime) {
             ..DEFAULT
         };
         answers(&rt, &options, FIELD, want, 0);
+    }
+}
+
+#[test]
+fn a_failed_read_writes_nothing(rt: HostRuntime) {
+    for call in 1..=3 {
+        let mut reader = MemorySource::new(ROOM).failing_at(call);
+        let mut writer = MemorySink::new(rt.alloc());
+        let status = dist_run(&rt, rt.alloc(), &DEFAULT, &mut reader, &mut writer);
+        let failed = u8::from(reader.failed_reads() == 1);
+        same(&rt, status, failed, ("at call", call));
+        holds(
+            &rt,
+            writer.bytes().is_empty() == (failed == 1),
+            ("at call", call),
+        );
     }
 }
 

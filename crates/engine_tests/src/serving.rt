@@ -13,6 +13,7 @@ use std::process::Abort;
 use std::sync::Wait;
 use std::test::Fail;
 use std::thread::Threads;
+use std::time::Clock;
 use std::{io, thread};
 
 /// The worked map of three columns and two rows.
@@ -75,59 +76,62 @@ fn told(alloc: Global, port: u16, end: &str) -> Result<String, Fail> {
     Ok(format!(in alloc; "LISTENING {port}\n{end}")?)
 }
 
+/// What a planner is told of the published map, by what its border is.
+const ASKED: [(Edge, &[u8]); 2] = [
+    (Edge::Open, b"OK 1\nOK 2 1 0\nBYE\n"),
+    (Edge::Wall, b"OK 1\nOK 1 2 2\nBYE\n"),
+];
+
 #[test]
 fn two_clients_are_served(rt: HostRuntime) -> Result<(), Fail> {
-    let alloc = rt.alloc();
+    for (edge, told) in ASKED {
+        painter_and_planner(&rt, rt.alloc(), edge, told)?;
+    }
+    Ok(())
+}
+
+/// Serves a painter and then a planner, and compares what each of the three writes.
+fn painter_and_planner<R>(rt: &R, alloc: Global, edge: Edge, asked: &[u8]) -> Result<(), Fail>
+where
+    R: Net<Listener = TcpListener, Stream = TcpStream> + Clock + Wait + Threads + Abort + Sync,
+{
     let map = room(alloc)?;
-    let place = listen(&rt, 2)?;
+    let place = listen(rt, 2)?;
     let port = place.port();
     let options = ServeOptions {
-        edge: Edge::Wall,
+        edge,
         ..two_workers(2)
     };
     let (sender, receiver): (Sender<u8>, Receiver<u8>) = bounded(alloc, 1)?;
-    let (served, asked) = thread::join(
-        &rt,
+    let (served, clients) = thread::join(
+        rt,
         || {
             let mut writer = MemorySink::new(alloc);
-            let status = serve_run(&rt, alloc, place, map, &options, &mut writer);
+            let status = serve_run(rt, alloc, place, map, &options, &mut writer);
             (writer, status)
         },
         || {
             thread::join(
-                &rt,
+                rt,
                 || {
-                    let first = ask_at(&rt, alloc, port, b"PAINT 1 0 2 1\nPUBLISH\nQUIT\n");
-                    let _ = sender.send(&rt, 1);
+                    let first = ask_at(rt, alloc, port, b"PAINT 1 0 2 1\nPUBLISH\nQUIT\n");
+                    let _ = sender.send(rt, 1);
                     first
                 },
                 || {
-                    let _ = receiver.recv(&rt);
-                    ask_at(&rt, alloc, port, b"PIN\nAT city 2 1\nQUIT\n")
+                    let _ = receiver.recv(rt);
+                    ask_at(rt, alloc, port, b"PIN\nAT city 2 1\nQUIT\n")
                 },
             )
         },
     );
-    let (first, second) = asked;
-    same(
-        &rt,
-        first.0.bytes(),
-        b"OK 1 1\nOK 2 1\nBYE\n".as_slice(),
-        "bytes",
-    );
-    same(
-        &rt,
-        second.0.bytes(),
-        b"OK 1\nOK 1 2 2\nBYE\n".as_slice(),
-        "bytes",
-    );
-    same(
-        &rt,
-        served.0.bytes(),
-        told(alloc, port, "SERVED 2 2\n")?.as_bytes(),
-        "bytes",
-    );
-    assert!(rt; first.1 == 0 && second.1 == 0 && served.1 == 0);
+    let (painter, planner) = clients;
+    let painted: &[u8] = b"OK 1 1\nOK 2 1\nBYE\n";
+    same(rt, painter.0.bytes(), painted, "the painter");
+    same(rt, planner.0.bytes(), asked, "the planner");
+    let counts = told(alloc, port, "SERVED 2 2\n")?;
+    same(rt, served.0.bytes(), counts.as_bytes(), "the server");
+    same(rt, (painter.1, planner.1, served.1), (0, 0, 0), "statuses");
     Ok(())
 }
 

@@ -1,8 +1,8 @@
 //! Worked texts through the engine, lines of other forms, and writes that fail.
 
-use crate::compare::same;
+use crate::compare::{holds, same};
 use engines::steps_run;
-use metric::{MemorySink, MemorySource, Sink};
+use metric::{MemorySink, MemorySource, Sink, Source};
 use std::alloc::Global;
 use std::process::Abort;
 use std::test::Fail;
@@ -222,6 +222,22 @@ const SHORT: &str = "OPEN 64 64 3 2 1 10\nL 0\nA 0";
 #[test]
 fn what_no_line_feed_ends_is_no_line(rt: HostRuntime) {
     answers(&rt, SHORT, "OPENED 1\nNOW 0 0\n", 0);
+}
+
+#[test]
+fn a_failed_read_writes_nothing(rt: HostRuntime) {
+    for call in 1..=3 {
+        let mut reader = MemorySource::new(SHORT.as_bytes()).failing_at(call);
+        let mut writer = MemorySink::new(rt.alloc());
+        let status = steps_run(rt.alloc(), &mut reader, &mut writer);
+        let failed = u8::from(reader.failed_reads() == 1);
+        same(&rt, status, failed, ("at call", call));
+        holds(
+            &rt,
+            writer.bytes().is_empty() == (failed == 1),
+            ("at call", call),
+        );
+    }
 }
 
 #[test]

@@ -111,7 +111,7 @@ const UNKNOWN: [&[u8]; 13] = [
 ];
 
 /// Lines with arguments of the wrong number or form.
-const BAD_ARGUMENTS: [&[u8]; 63] = [
+const BAD_ARGUMENTS: [&[u8]; 64] = [
     b"AT",
     b"AT ",
     b"AT  city 0 0",
@@ -166,6 +166,7 @@ const BAD_ARGUMENTS: [&[u8]; 63] = [
     b"PAINT 0 0 4097 1",
     b"PAINT 0 0 1 70000",
     b"PAINT 0  0 1 1",
+    b"PAINT 0 0  1 1",
     b"PAINT 0 0 1 1 ",
     b"CLEAR city 0 0 1 1",
     b"CLEAR 0 0 1 -1",

@@ -63,9 +63,21 @@ fn blocks_are_taken_and_given_without_memory(rt: HostRuntime) -> Result<(), Fail
     let one = take(&rt, &mut arena, 1);
     give(&rt, &mut arena, zero);
     let zero = take(&rt, &mut arena, 0);
+    let two = take(&rt, &mut arena, 2);
+    match arena.take() {
+        None => {}
+        Some(_) => panic!(rt; "a fourth block"),
+    }
     give(&rt, &mut arena, one);
     give(&rt, &mut arena, zero);
+    give(&rt, &mut arena, two);
     holds(&rt, arena.free_len() == 3, "all are back");
+    let two = take(&rt, &mut arena, 2);
+    let zero = take(&rt, &mut arena, 0);
+    let one = take(&rt, &mut arena, 1);
+    give(&rt, &mut arena, one);
+    give(&rt, &mut arena, zero);
+    give(&rt, &mut arena, two);
     arena.end();
     Ok(())
 }

@@ -71,7 +71,7 @@ type Worked = (
     (End, usize, u32),
 );
 
-const WORKED: [Worked; 20] = [
+const WORKED: [Worked; 26] = [
     (
         "a pin and its end",
         OPEN,
@@ -202,6 +202,48 @@ const WORKED: [Worked; 20] = [
             (&LETTERS, b""),
             (b"\nQUIT\n", b"ERR 11 UnknownCommand\nBYE\n"),
         ],
+        (End::Quit, 0, 0),
+    ),
+    (
+        "a blank before the word",
+        OPEN,
+        &[(b" PIN\nQUIT\n", b"ERR 11 UnknownCommand\nBYE\n")],
+        (End::Quit, 0, 0),
+    ),
+    (
+        "small letters",
+        OPEN,
+        &[(b"paint 0 0 1 1\nQUIT\n", b"ERR 11 UnknownCommand\nBYE\n")],
+        (End::Quit, 0, 0),
+    ),
+    (
+        "an argument too many",
+        OPEN,
+        &[(b"PIN 1\nQUIT\n", b"ERR 12 BadArguments\nBYE\n")],
+        (End::Quit, 0, 0),
+    ),
+    (
+        "two blanks",
+        OPEN,
+        &[(b"PAINT 0 0  1 1\nQUIT\n", b"ERR 12 BadArguments\nBYE\n")],
+        (End::Quit, 0, 0),
+    ),
+    (
+        "eleven digits",
+        OPEN,
+        &[(
+            b"PAINT 00000000000 0 1 1\nQUIT\n",
+            b"ERR 12 BadArguments\nBYE\n",
+        )],
+        (End::Quit, 0, 0),
+    ),
+    (
+        "a number of over 32 bits",
+        OPEN,
+        &[(
+            b"PAINT 4294967296 0 1 1\nQUIT\n",
+            b"ERR 12 BadArguments\nBYE\n",
+        )],
         (End::Quit, 0, 0),
     ),
     (

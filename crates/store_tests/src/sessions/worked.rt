@@ -114,6 +114,47 @@ const DROPPED: [Row; 17] = [
     (B, Act::Unpin, Told::Nothing),
 ];
 
+/// One block is free. A paint finds none until a collect gives one back.
+const FREED: [Row; 5] = [
+    (A, Act::Paint([0, 0, 1, 1]), Told::Painted(1, 1)),
+    (A, Act::Publish, Told::Published(2, 1)),
+    (A, Act::Paint([1, 0, 2, 1]), Told::Full(1, 0)),
+    (A, Act::Collect, Told::Collected(3, 1, 1)),
+    (A, Act::Paint([1, 0, 2, 1]), Told::Painted(4, 1)),
+];
+
+/// The log has room for two entries. A paint that finds it full leaves the draft: what is published
+/// after a checkpoint has none of its cells.
+const LEFT: [Row; 14] = [
+    (A, Act::Paint([0, 0, 1, 1]), Told::Painted(1, 1)),
+    (A, Act::Publish, Told::Published(2, 1)),
+    (A, Act::Ticket, Told::Nothing),
+    (A, Act::Paint([1, 0, 2, 1]), Told::Refused(Refusal::LogFull)),
+    (B, Act::Learn, Told::Nothing),
+    (B, Act::Pin, Told::Version(1)),
+    (B, Act::Unpin, Told::Nothing),
+    (A, Act::Checkpoint, Told::Checkpointed(3)),
+    (A, Act::Collect, Told::Collected(4, 1, 1)),
+    (A, Act::Publish, Told::Published(5, 2)),
+    (B, Act::Pin, Told::Version(2)),
+    (B, Act::Near([1, 0]), Told::Near(2, 1, [0, 0])),
+    (B, Act::Near([3, 4]), Told::Near(2, 25, [0, 0])),
+    (B, Act::Unpin, Told::Nothing),
+];
+
+/// Two checkpoints of a log with room for two entries.
+const CHECKED: [Row; 9] = [
+    (A, Act::Paint([0, 0, 1, 1]), Told::Painted(1, 1)),
+    (A, Act::Publish, Told::Published(2, 1)),
+    (A, Act::Collect, Told::Refused(Refusal::LogFull)),
+    (A, Act::Checkpoint, Told::Checkpointed(3)),
+    (A, Act::Collect, Told::Collected(4, 1, 1)),
+    (A, Act::Paint([1, 0, 2, 1]), Told::Painted(5, 1)),
+    (A, Act::Publish, Told::Refused(Refusal::LogFull)),
+    (A, Act::Checkpoint, Told::Checkpointed(6)),
+    (A, Act::Publish, Told::Published(7, 2)),
+];
+
 /// A session stamps and publishes, pins, and makes each command with its pin, whose version stays.
 const COMMANDS: [Row; 16] = [
     (A, Act::Stamp(62, 0), Told::Refused(Refusal::OutOfRange)),
@@ -178,7 +219,7 @@ const EMPTIED: [Row; 2] = [
 ];
 
 /// The last five are closed without some of their sessions, or with all: what a close gives is the entries of all of them after the last checkpoint.
-const GAMES: [Game<'static>; 11] = [
+const GAMES: [Game<'static>; 14] = [
     Game {
         name: "a pin keeps its version",
         setting: SMALL,
@@ -212,6 +253,35 @@ const GAMES: [Game<'static>; 11] = [
         },
         rows: &DROPPED,
         log: (7, 1),
+        ..GAME
+    },
+    Game {
+        name: "a collect gives a block back",
+        setting: Setting { blocks: 2, ..SMALL },
+        rows: &FREED,
+        log: (0, 4),
+        ..GAME
+    },
+    Game {
+        name: "a full log leaves the draft",
+        setting: Setting {
+            sessions: 2,
+            log: 2,
+            ..SMALL
+        },
+        rows: &LEFT,
+        log: (3, 2),
+        ..GAME
+    },
+    Game {
+        name: "two checkpoints",
+        setting: Setting {
+            blocks: 2,
+            log: 2,
+            ..SMALL
+        },
+        rows: &CHECKED,
+        log: (6, 1),
         ..GAME
     },
     Game {
