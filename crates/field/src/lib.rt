@@ -3,6 +3,7 @@
 
 mod bands;
 mod columns;
+mod filling;
 mod obstacle_cell;
 mod obstacle_table;
 mod strips;
@@ -10,6 +11,7 @@ mod table;
 mod workers;
 
 pub use bands::rows_with;
+pub use filling::fill;
 pub use obstacle_table::ObstacleTable;
 pub use table::rows;
 pub use workers::Workers;

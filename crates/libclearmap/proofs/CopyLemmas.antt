@@ -1,0 +1,93 @@
+-- A bitmap once some of its rows are copied.
+use Rattle.std.proofs.Common.{◌≡◌, ℕ, ◌+◌, ◌*◌, ◌/◌, ◌%◌, ◌<◌, ◌≤◌, ◌==◌, nat_lt, if◌then◌else◌, Bool, true, false, cond, List, length, get_or, set, sym, ap, ◌∙◌, arith}
+use Rattle.std.specs.Int.{bit_at}
+use Rattle.std.proofs.Math.Nat.{mul-le-mul_right}
+use Rattle.std.proofs.lemmas.Bool.{cases_eq}
+use Rattle.std.proofs.lemmas.Bool.Decides.{nat_tests}
+use Rattle.std.proofs.lemmas.List.{get_or-set_same, get_or-set_other}
+use mathlib.Core.Logic.{inl, inr}
+use Rattle.bits.specs.Cells.{Cells, has, cells_where, IsBitmap}
+use Rattle.bits.specs.Stored.{cells_stored, is_stored}
+use Rattle.bits.specs.Words.{words_across}
+use Rattle.bits.specs.TileWords.{is_bit}
+use Rattle.bits.specs.Writes.{with_row}
+use Rattle.bits.proofs.CellsLemmas.{cells_where-same, cells_where-has, has-cells_where}
+use Rattle.clearance.specs.Rows.{words_of_row}
+use Rattle.clearance.proofs.RowWords.{IsRowOf-words}
+
+-- the map with its rows from one on blank
+abbrev pub rows_front : Cells → ℕ → Cells
+rows_front cells y = cells_where cells.width cells.height (λ a b. if nat_lt b y then has cells a b else false)
+
+-- before the first row is copied, the bitmap is blank
+pub rows_front-none : (cells : Cells) → cells_where cells.width cells.height (λ x y. false) ≡ rows_front cells 0
+rows_front-none cells = cells_where-same cells.width cells.height (λ x y. false) _ (λ a b ha hb. blank b (has cells a b))
+  where
+    blank : (b : ℕ) (value : Bool) → false ≡ (if nat_lt b 0 then value else false)
+    blank b value = grind (arith, nat_tests)
+
+-- after the last row, it is the map
+pub rows_front-all : (cells : Cells) → IsBitmap cells → rows_front cells cells.height ≡ cells
+rows_front-all cells bitmap = cells_where-same cells.width cells.height _ (has cells) (λ a b ha hb. whole b cells.height (has cells a b) hb) ∙ sym (cells_where-has cells bitmap)
+  where
+    whole : (b height : ℕ) (value : Bool) → b < height → (if nat_lt b height then value else false) ≡ value
+    whole b height value below = grind (arith, nat_tests)
+
+-- a bit tells what the cell is
+bit_tells : (bit : ℕ) (value : Bool) → bit ≡ cond value 1 0 → (bit == 1) ≡ value
+bit_tells bit true is = grind (arith, nat_tests)
+bit_tells bit false is = grind (arith, nat_tests)
+
+-- a cell of the row in hand, or of another
+row_more : (b y : ℕ) (here value old : Bool) → (b ≡ y → here ≡ value) → old ≡ (if nat_lt b y then value else false)
+    → (if b == y then here else old) ≡ (if nat_lt b (y + 1) then value else false)
+row_more b y here value old is was = grind (arith, nat_tests)
+
+-- a row more is copied
+pub rows_front-more : (cells : Cells) (y : ℕ) (words : List ℕ) → ((k : ℕ) → k < words_across cells.width → get_or words k 0 ≡ get_or (words_of_row cells y) k 0)
+    → with_row (rows_front cells y) y words ≡ rows_front cells (y + 1)
+rows_front-more cells y words read =
+    cells_where-same cells.width cells.height _ _ (λ a b ha hb.
+    row_more b y (is_bit (get_or words (a / 64) 0) (a % 64)) (has cells a b) (has (rows_front cells y) a b)
+    (λ here. ap (λ (w : ℕ). is_bit w (a % 64)) (read (a / 64) (omega arith))
+    ∙ (bit_tells (bit_at (get_or (words_of_row cells y) (a / 64) 0) (a % 64)) (has cells a y)
+    ((IsRowOf-words cells y).bits (a / 64) (a % 64) (omega arith) (omega arith) ∙ ap (λ (x : ℕ). cond (has cells x y) 1 0) (let whole : 64 * (a / 64) + a % 64 ≡ a = omega arith in whole))
+    ∙ ap (has cells a) (sym here)))
+    (has-cells_where cells.width cells.height (λ c d. if nat_lt d y then has cells c d else false) a b ha hb))
+
+-- a word more of a row is read
+pub words_more : (row words : List ℕ) (index word : ℕ) → index < length row → word ≡ get_or words index 0 → ((k : ℕ) → k < index → get_or row k 0 ≡ get_or words k 0)
+    → (k : ℕ) → k < index + 1 → get_or (set row index word) k 0 ≡ get_or words k 0
+words_more row words index word within is before k below = elim (cases_eq k index) [
+  | inl same ↦ ap (λ (n : ℕ). get_or (set row index word) n 0) same ∙ (get_or-set_same row index word 0 within ∙ (is ∙ ap (λ (n : ℕ). get_or words n 0) (sym same)))
+  | inr apart ↦ get_or-set_other row index k word 0 apart ∙ before k (omega (arith, apart, below))
+]
+
+-- a row is written by those words alone that it needs
+pub with_row-same : (cells : Cells) (y : ℕ) (words others : List ℕ) → ((k : ℕ) → k < words_across cells.width → get_or words k 0 ≡ get_or others k 0)
+    → with_row cells y words ≡ with_row cells y others
+with_row-same cells y words others same =
+    cells_where-same cells.width cells.height _ _ (λ a b ha hb. ap (λ (w : ℕ). if b == y then is_bit w (a % 64) else has cells a b) (same (a / 64) (omega arith)))
+
+-- the same where the words stand from a place on
+pub words_more_from : (start : ℕ) (all words : List ℕ) (index word : ℕ) → start + index < length all → word ≡ get_or words index 0 → ((k : ℕ) → k < index → get_or all (start + k) 0 ≡ get_or words k 0)
+    → (k : ℕ) → k < index + 1 → get_or (set all (start + index) word) (start + k) 0 ≡ get_or words k 0
+words_more_from start all words index word within is before k below = elim (cases_eq k index) [
+  | inl same ↦ ap (λ (n : ℕ). get_or (set all (start + index) word) (start + n) 0) same ∙ (get_or-set_same all (start + index) word 0 within ∙ (is ∙ ap (λ (n : ℕ). get_or words n 0) (sym same)))
+  | inr apart ↦ get_or-set_other all (start + index) (start + k) word 0 (λ same. apart (omega (arith, same))) ∙ before k (omega (arith, apart, below))
+]
+
+-- the words of all rows, one row after another, are the map
+pub cells_stored-packed : (cells : Cells) (words : List ℕ) → IsBitmap cells
+    → ((y k : ℕ) → y < cells.height → k < words_across cells.width → get_or words (y * words_across cells.width + k) 0 ≡ get_or (words_of_row cells y) k 0)
+    → cells_stored cells.width cells.height words ≡ cells
+cells_stored-packed cells words bitmap packed =
+    cells_where-same cells.width cells.height (is_stored (words_across cells.width) words) (has cells) (λ x y hx hy.
+    ap (λ (w : ℕ). bit_at w (x % 64) == 1) (packed y (x / 64) hy (omega arith))
+    ∙ bit_tells (bit_at (get_or (words_of_row cells y) (x / 64) 0) (x % 64)) (has cells x y)
+    ((IsRowOf-words cells y).bits (x / 64) (x % 64) (omega arith) (omega arith) ∙ ap (λ (a : ℕ). cond (has cells a y) 1 0) (let whole : 64 * (x / 64) + x % 64 ≡ x = omega arith in whole)))
+    ∙ sym (cells_where-has cells bitmap)
+
+-- a place in a row above lies before the row
+pub place_above : (b y width x : ℕ) → b < y → x < width → b * width + x < y * width
+place_above b y width x above column = let rows : (b + 1) * width ≤ y * width = mul-le-mul_right width (omega arith) in omega (arith, rows)
