@@ -15,7 +15,11 @@ use envelope::{CellAnswer, Stack, row_from};
 use metric::{Edge, Metric, Refusal};
 use std::alloc::Global;
 
-/// Fills this room with what is kept of the nearest obstacles of the cells of rows `y0` to `y1 - 1`, row by row, each row from the left. Refused for want of memory alone.
+/// Fills this room with what is kept of the nearest obstacles of the cells of rows `y0` to `y1 -
+/// 1`,
+/// row by row, each row from the left.
+///
+/// Refused for want of memory alone, before anything is written.
 pub fn fill<M: Metric, A: CellAnswer>(
     alloc: Global,
     bitmap: &Bitmap,
@@ -25,8 +29,10 @@ pub fn fill<M: Metric, A: CellAnswer>(
     answers: &mut [A],
 ) -> Result<(), Refusal>
     requires room { HasRoom bitmap.now y0 y1 answers.old }
-    ensures rows { OnOk result (AreAnswers A.told A.nothing M.distance bitmap.now edge y0 y1 answers.new) }
+    ensures rows { OnOk result (AreAnswers A.told A.nothing M.distance bitmap.now edge y0 y1
+        answers.new) }
     ensures memory { IfErr result (λ refusal. refusal ≡ Memory) }
+    ensures kept { IfErr result (λ _. answers.new ≡ answers.old) }
 {
     let before = edge.shift();
     let width = bitmap.width() + 2 * before;
@@ -75,8 +81,10 @@ fn fill_row_at<M: Metric, A: CellAnswer>(
     requires row { y + shift edge < columns.old.to }
     requires room { start + bitmap.now.width ≤ length answers.old }
     requires stack { bitmap.now.width + 2 * shift edge ≤ stack.old }
-    ensures row { (x : ℕ) → x < bitmap.now.width → IsNear M.distance (IsBlocked bitmap.now edge) x y (A.told M.distance x y (slice_index_or answers.new (start + x) A.nothing)) }
-    ensures others { (k : ℕ) → (k < start) ⊎ (start + bitmap.now.width ≤ k) → slice_index_or answers.new k A.nothing ≡ slice_index_or answers.old k A.nothing }
+    ensures row { (x : ℕ) → x < bitmap.now.width → IsNear M.distance (IsBlocked bitmap.now edge) x
+        y (A.told M.distance x y (slice_index_or answers.new (start + x) A.nothing)) }
+    ensures others { (k : ℕ) → (k < start) ⊎ (start + bitmap.now.width ≤ k) → slice_index_or
+        answers.new k A.nothing ≡ slice_index_or answers.old k A.nothing }
     ensures columns { IsNextRow bitmap.now edge columns.new (y + 1 + shift edge) }
     ensures to { columns.new.to ≡ columns.old.to }
     ensures stack { stack.new ≡ stack.old }

@@ -1,2 +1,2 @@
-pub mod PixelLemmas
 pub mod CopyLemmas
+pub mod LayoutLemmas

@@ -1,4 +1,5 @@
-pub mod Calls
-pub mod Found
+pub mod Distances
 pub mod Kept
-pub mod Pixels
+pub mod Layouts
+pub mod Settings
+pub mod Statuses

@@ -1,15 +1,20 @@
 //! What C sees of a cell's nearest obstacle.
 
 ghost use Rattle.std.specs.Prelude.{◌≡◌, negsuc, ◌≤ℤ◌, IfSome};
-ghost use Rattle.libclearmap.specs.Found.{found_kept};
-ghost use Rattle.libclearmap.specs.Kept.{near_kept};
+ghost use Rattle.libclearmap.specs.Kept.{found_kept, near_kept};
 
 use envelope::CellAnswer;
 use metric::{Cell, Near, Spot};
 
-/// The nearest obstacle of a cell: how far away it is, in the unit of the metric, and its column and row. In the frame round a map either may be -1, or the number of columns or rows.
-///
-/// Where there is no obstacle, the distance is 4294967295 and the column and the row are -2.
+/// The distance where there is no obstacle. No obstacle is so far away.
+pub const NO_OBSTACLE: u32 = u32::MAX;
+
+/// The column and the row where there is no obstacle. No obstacle has them.
+pub const NOWHERE: i16 = -2;
+
+/// The nearest obstacle of a cell: how far away it is, in the unit of the metric, and its column
+/// and
+/// its row. In the frame round a map either may be -1, or the number of columns or rows.
 #[repr(C)]
 #[derive(Clone, Copy, Debug)]
 pub struct ClearmapNear {
@@ -29,9 +34,9 @@ impl CellAnswer for ClearmapNear {
     #[inline(always)]
     fn none() -> Self {
         ClearmapNear {
-            dist: u32::MAX,
-            x: -2,
-            y: -2,
+            dist: NO_OBSTACLE,
+            x: NOWHERE,
+            y: NOWHERE,
         }
     }
 
@@ -59,15 +64,12 @@ pub fn kept_of(near: Option<Near>) -> ClearmapNear
                 cell: Spot { x, y },
             },
         ) => ClearmapNear { dist, x, y },
-        None => ClearmapNear {
-            dist: u32::MAX,
-            x: -2,
-            y: -2,
-        },
+        None => ClearmapNear::none(),
     }
 }
 
-/// A cell of a path with its nearest obstacle. Where there is none, its distance is 4294967295 and its column and row are -2.
+/// A cell of a rectangle or a path with its nearest obstacle. Where there is none, the cell is (0,
+/// 0).
 #[repr(C)]
 #[derive(Clone, Copy, Debug)]
 pub struct ClearmapFound {
