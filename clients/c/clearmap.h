@@ -28,8 +28,9 @@
  * process that has threads.
  *
  * Memory. CLEARMAP_MEMORY is for the calls `distances` and `nearest` alone: they ask malloc for a
- * copy of the map in bits, an eighth of a byte a cell, and for up to 300 bytes a column, and free
- * both before they return. All other calls ask for none. The stack holds some 2 KB.
+ * copy of the map in bits, an eighth of a byte a cell, and for 160 to 300 bytes a column and some
+ * 700 more, and free all before they return. The other calls ask for none. The stack grows by 6 KB
+ * at most.
  *
  * x86-64 wants SSE 4.2 (x86-64-v2): nothing checks it.
  */

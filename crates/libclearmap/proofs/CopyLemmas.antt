@@ -12,6 +12,7 @@ use Rattle.bits.specs.Stored.{cells_stored, is_stored}
 use Rattle.bits.specs.Words.{words_across}
 use Rattle.bits.specs.TileWords.{is_bit}
 use Rattle.bits.specs.Writes.{with_row}
+use Rattle.bits.proofs.StoredLemmas.{test_of_bit}
 use Rattle.bits.proofs.CellsLemmas.{cells_where-same, cells_where-has, has-cells_where}
 use Rattle.clearance.specs.Rows.{words_of_row}
 use Rattle.clearance.proofs.RowWords.{IsRowOf-words}
@@ -21,13 +22,6 @@ use Rattle.libclearmap.specs.Layouts.{is_in_band}
 abbrev pub rows_front : Cells → ℕ → Cells
 rows_front cells y = cells_where cells.width cells.height (λ a b. if nat_lt b y then has cells a b else false)
 
--- before the first row is copied, the bitmap is blank
-pub rows_front-none : (cells : Cells) → cells_where cells.width cells.height (λ x y. false) ≡ rows_front cells 0
-rows_front-none cells = cells_where-same cells.width cells.height (λ x y. false) _ (λ a b ha hb. blank b (has cells a b))
-  where
-    blank : (b : ℕ) (value : Bool) → false ≡ (if nat_lt b 0 then value else false)
-    blank b value = grind (arith, nat_tests)
-
 -- after the last row, it is the map
 pub rows_front-all : (cells : Cells) → IsBitmap cells → rows_front cells cells.height ≡ cells
 rows_front-all cells bitmap = cells_where-same cells.width cells.height _ (has cells) (λ a b ha hb. whole b cells.height (has cells a b) hb) ∙ sym (cells_where-has cells bitmap)
@@ -35,18 +29,13 @@ rows_front-all cells bitmap = cells_where-same cells.width cells.height _ (has c
     whole : (b height : ℕ) (value : Bool) → b < height → (if nat_lt b height then value else false) ≡ value
     whole b height value below = grind (arith, nat_tests)
 
--- a bit tells what the cell is
-bit_tells : (bit : ℕ) (value : Bool) → bit ≡ cond value 1 0 → (bit == 1) ≡ value
-bit_tells bit true is = grind (arith, nat_tests)
-bit_tells bit false is = grind (arith, nat_tests)
-
 -- the bit of a cell in the words of its row tells what the cell is
-pub row_bit : (cells : Cells) (x y : ℕ) → x < cells.width → is_bit (get_or (words_of_row cells y) (x / 64) 0) (x % 64) ≡ has cells x y
+row_bit : (cells : Cells) (x y : ℕ) → x < cells.width → is_bit (get_or (words_of_row cells y) (x / 64) 0) (x % 64) ≡ has cells x y
 row_bit cells x y inside =
-    bit_tells (bit_at (get_or (words_of_row cells y) (x / 64) 0) (x % 64)) (has cells x y)
+    test_of_bit (bit_at (get_or (words_of_row cells y) (x / 64) 0) (x % 64)) (has cells x y)
     ((IsRowOf-words cells y).bits (x / 64) (x % 64) (omega arith) (omega arith) ∙ ap (λ (a : ℕ). cond (has cells a y) 1 0) (let whole : 64 * (x / 64) + x % 64 ≡ x = omega arith in whole))
 
--- a cell of the row in hand, or of another
+-- a cell of the map, once the row in hand is copied, is what it was or what it becomes
 row_more : (b y : ℕ) (here value old : Bool) → (b ≡ y → here ≡ value) → old ≡ (if nat_lt b y then value else false)
     → (if b == y then here else old) ≡ (if nat_lt b (y + 1) then value else false)
 row_more b y here value old is was = grind (arith, nat_tests)
@@ -82,7 +71,7 @@ items_more start all value index item within is before k below = elim (cases_eq 
   | inr apart ↦ get_or-set_other all (start + index) (start + k) item 0 (λ same. apart (omega (arith, same))) ∙ before k (omega (arith, apart, below))
 ]
 
--- so it does where the word and the bit are known
+-- the bit of a cell tells what the cell is, where its word and its place are given
 pub row_bit_at : (cells : Cells) (x y index i : ℕ) → x < cells.width → i < 64 → x ≡ 64 * index + i → is_bit (get_or (words_of_row cells y) index 0) i ≡ has cells x y
 row_bit_at cells x y index i inside few is =
     let word : index ≡ x / 64 = omega arith in

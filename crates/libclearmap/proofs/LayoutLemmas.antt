@@ -49,7 +49,7 @@ word_in_bytes map bytes part y k within row count read =
     (λ i above bit. has-cells_where_right map.width map.height (is_dark map bytes) (64 * k + i) y (omega arith))
     ∙ sym (word_in_row cells y k within)
 
--- one bit more
+-- a word with one bit more tells one answer more
 pub word_where-more : (test : ℕ → Bool) (n word : ℕ) → word ≡ word_where test n → word + cond (test n) 1 0 * 2 ^ n ≡ word_where test (n + 1)
 unfolding word_where
 word_where-more test n word is = let next : n + 1 ≡ suc n = omega arith in rw (next, is) (omega arith)

@@ -1,2 +1,2 @@
-pub mod CopyLemmas
-pub mod LayoutLemmas
+mod CopyLemmas
+mod LayoutLemmas
