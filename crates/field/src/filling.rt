@@ -6,6 +6,7 @@ ghost use Rattle.bits.specs.Cells.{IsBitmap};
 ghost use Rattle.bits.specs.Edges.{IsBlocked};
 ghost use Rattle.metric.specs.Nearest.{IsNear};
 ghost use Rattle.metric.specs.declared.refusal.Refusal.TheVariants.{Memory};
+ghost use Rattle.envelope.specs.Rows.{AreRowAnswers};
 ghost use Rattle.field.specs.Bands.{AreAnswers, HasRoom};
 ghost use Rattle.field.specs.Columns.{IsNextRow};
 
@@ -15,9 +16,8 @@ use envelope::{CellAnswer, Stack, row_from};
 use metric::{Edge, Metric, Refusal};
 use std::alloc::Global;
 
-/// Fills this room with what is kept of the nearest obstacles of the cells of rows `y0` to `y1 -
-/// 1`,
-/// row by row, each row from the left.
+/// Fills this room with what is kept of the nearest obstacles of the cells of rows `y0` to
+/// `y1 - 1`, row by row, each row from the left.
 ///
 /// Refused for want of memory alone, before anything is written.
 pub fn fill<M: Metric, A: CellAnswer>(
@@ -90,8 +90,31 @@ fn fill_row_at<M: Metric, A: CellAnswer>(
     ensures stack { stack.new ≡ stack.old }
 {
     let width = usize::from(bitmap.width());
+    let line = &mut answers[start..start + width];
+    next_line::<M, A>(bitmap, edge, y, columns, stack, line);
+}
+
+/// Fills a line with what is kept of the nearest obstacles of row `y`, which comes next.
+pub fn next_line<M: Metric, A: CellAnswer>(
+    bitmap: &Bitmap,
+    edge: Edge,
+    y: u16,
+    columns: &mut Columns,
+    stack: &mut Stack,
+    line: &mut [A],
+)
+    requires bitmap { IsBitmap bitmap.now }
+    requires columns { IsNextRow bitmap.now edge columns.old (y + shift edge) }
+    requires row { y + shift edge < columns.old.to }
+    requires line { length line.old ≡ bitmap.now.width }
+    requires stack { bitmap.now.width + 2 * shift edge ≤ stack.old }
+    ensures line { AreRowAnswers A.told A.nothing M.distance bitmap.now edge y bitmap.now.width
+        line.new }
+    ensures columns { IsNextRow bitmap.now edge columns.new (y + 1 + shift edge) }
+    ensures to { columns.new.to ≡ columns.old.to }
+    ensures stack { stack.new ≡ stack.old }
+{
     let framed = y + edge.shift();
     columns.look(bitmap, edge, framed);
-    let line = &mut answers[start..start + width];
     row_from::<M, A>(&columns.entries, framed, edge, stack, line);
 }

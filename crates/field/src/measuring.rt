@@ -1,5 +1,4 @@
-//! How far away the nearest obstacles of all cells of some rows are, written to the caller's own
-//! room.
+//! The distances of all cells of some rows, written to the caller's own room.
 
 ghost use Rattle.std.specs.Prelude.{◌≡◌, ◌<◌, ◌≤◌, ◌+◌, ◌*◌, ◌⊎◌, ℕ, IfErr, OnOk, length, slice_index};
 ghost use Rattle.metric.specs.Edge.{shift};
@@ -11,10 +10,11 @@ ghost use Rattle.field.specs.Columns.{IsNextRow};
 ghost use Rattle.field.specs.Distances.{AreMeasuredRows, IsFarAway};
 
 use crate::columns::Columns;
+use crate::filling::next_line;
 use crate::obstacle_cell::ObstacleCell;
 use crate::obstacle_table::measure_line;
 use bits::Bitmap;
-use envelope::{CellAnswer, Stack, row_from};
+use envelope::{CellAnswer, Stack};
 use metric::{Edge, Metric, Refusal};
 use std::alloc::Global;
 
@@ -108,8 +108,6 @@ fn measure_row_at<M: Metric>(
     ensures stack { stack.new ≡ stack.old }
 {
     let width = usize::from(bitmap.width());
-    let framed = y + edge.shift();
-    columns.look(bitmap, edge, framed);
-    row_from::<M, ObstacleCell>(&columns.entries, framed, edge, stack, line);
+    next_line::<M, ObstacleCell>(bitmap, edge, y, columns, stack, line);
     measure_line::<M>(y, line, &mut distances[start..start + width]);
 }

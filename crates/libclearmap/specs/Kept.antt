@@ -1,4 +1,5 @@
--- What C sees of a cell's nearest obstacle, or of its distance alone: this project's own rule. Where there is no obstacle, the distance is the largest number of 32 bits.
+-- What C sees of a cell's nearest obstacle, or of its distance alone: this project's own rule.
+-- Where there is no obstacle, the distance is the largest number of 32 bits.
 use Rattle.std.specs.Prelude.{ℕ, ◌==◌, ◌&&◌, negsuc, int_lt, Option, Some, None, option_map, if◌then◌else◌}
 use Rattle.metric.specs.declared.cell.Cell.{Cell}
 use Rattle.metric.specs.declared.near.Near.{Near}
@@ -9,9 +10,11 @@ use Rattle.libclearmap.specs.declared.near.ClearmapFound.{ClearmapFound}
 abbrev pub kept_nothing : ClearmapNear
 kept_nothing = record { dist = 4294967295; x = negsuc 1; y = negsuc 1 }
 
--- the nearest obstacle that is kept, or none: then the distance says so, and the column is no spot's
+-- the nearest obstacle that is kept, or none: then the distance says so, and the column is no
+-- spot's
 abbrev pub near_kept : ClearmapNear → Option Near
-near_kept kept = if int_lt kept.x (negsuc 0) && kept.dist == 4294967295 then None else Some (record { dist = kept.dist; cell = record { x = kept.x; y = kept.y } })
+near_kept kept = if int_lt kept.x (negsuc 0) && kept.dist == 4294967295 then None else Some
+    (record { dist = kept.dist; cell = record { x = kept.x; y = kept.y } })
 
 -- the cell that was found and its nearest obstacle, or none
 abbrev pub found_kept : ClearmapFound → Option (Cell × Near)

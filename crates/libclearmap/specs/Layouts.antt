@@ -1,4 +1,5 @@
--- How a map lies in the caller's memory: this project's own rule. Its rows stand one after another from the top, from one to the next so many bytes or words.
+-- How a map lies in the caller's memory: this project's own rule. Its rows stand one after another
+-- from the top, from one to the next so many bytes or words.
 use Rattle.std.specs.Prelude.{ℕ, ◌+◌, ◌-◌, ◌*◌, ◌/◌, ◌^◌, ◌≤◌, ◌<◌, ◌==◌, ◌&&◌, nat_le, Bool, List, slice_index}
 use Rattle.std.specs.Int.{bit_at}
 use Rattle.bits.specs.Cells.{Cells, IsSide, cells_where}
@@ -22,7 +23,8 @@ cells_of_bytes map bytes = cells_where map.width map.height (is_dark map bytes)
 abbrev pub is_in_band : ℕ → ℕ → Bool
 is_in_band bands y = bit_at bands (y / 64) == 1
 
--- whether the cell (x, y) of a map in bits is an obstacle: its bit is 1, and its row's band may have one
+-- whether the cell (x, y) of a map in bits is an obstacle: its bit is 1, and its row's band may
+-- have one
 abbrev pub is_marked : ClearmapBits → List ℕ → ℕ → ℕ → Bool
 is_marked map words x y = is_in_band map.bands y && is_stored map.stride words x y
 
@@ -30,7 +32,8 @@ is_marked map words x y = is_in_band map.bands y && is_stored map.stride words x
 abbrev pub cells_of_bits : ClearmapBits → List ℕ → Cells
 cells_of_bits map words = cells_where map.width map.height (is_marked map words)
 
--- a map of this size, whose rows have so many items each and stand so many apart, lies in so many items
+-- a map of this size, whose rows have so many items each and stand so many apart, lies in so many
+-- items
 pub record IsShape (width height across stride count : ℕ) : Type 0 where
   pub width_is : IsSide width
   pub height_is : IsSide height

@@ -1,5 +1,6 @@
--- What is wrong with a call, as a number: this project's own rule. Where several things are, it is the first of them, in the order of their numbers.
-use Rattle.std.specs.Prelude.{◌≡◌, ℕ, zero, suc, ◌+◌, ◌-◌, ◌*◌, ◌^◌, ◌&&◌, ◌⊎◌, nat_le, nat_lt, Bool, List, length, Option, Some, None, if◌then◌else◌}
+-- What is wrong with a call, as a number: this project's own rule. Where several things are, it is
+-- the first of them, in the order of their numbers.
+use Rattle.std.specs.Prelude.{◌≡◌, ℕ, zero, suc, ◌+◌, ◌-◌, ◌*◌, ◌^◌, ◌&&◌, ◌||◌, ◌⊎◌, nat_le, nat_lt, not, Bool, List, length, Option, Some, None, if◌then◌else◌}
 use Rattle.metric.specs.declared.cell.Cell.{Cell}
 use Rattle.metric.specs.declared.refusal.Refusal.{Refusal}
 use Rattle.metric.specs.declared.refusal.Refusal.TheVariants.{BadPath, OutOfRange}
@@ -21,7 +22,10 @@ is_side count = nat_le 1 count && nat_le count 4096
 -- 1, a side is out of its limits; 2, the stride is; 3, the memory ends before the map does
 abbrev pub shape_status : ℕ → ℕ → ℕ → ℕ → ℕ → ℕ
 shape_status width height across stride count =
-    if is_side width && is_side height then (if nat_le across stride && nat_lt stride (2 ^ 32) then (if nat_le ((height - 1) * stride + across) count then 0 else 3) else 2) else 1
+    if not (is_side width && is_side height) then 1
+    else if nat_lt stride across || nat_le (2 ^ 32) stride then 2
+    else if nat_lt count ((height - 1) * stride + across) then 3
+    else 0
 
 -- what is wrong with a map in bytes
 abbrev pub bytes_status : ClearmapBytes → List ℕ → ℕ
@@ -29,7 +33,8 @@ bytes_status map bytes = shape_status map.width map.height map.width map.stride 
 
 -- what is wrong with a map in bits
 abbrev pub bits_status : ClearmapBits → List ℕ → ℕ
-bits_status map words = shape_status map.width map.height (words_across map.width) map.stride (length words)
+bits_status map words = shape_status map.width map.height (words_across map.width) map.stride
+    (length words)
 
 -- 4, there is no such metric; 5, there is no such edge
 abbrev pub setting_status : ℕ → ℕ → ℕ
@@ -41,7 +46,8 @@ cell_status cells x y = if nat_lt x cells.width && nat_lt y cells.height then 0 
 
 -- 7, the rectangle has no cell, or isn't wholly in the map
 abbrev pub rect_status : Cells → ℕ → ℕ → ℕ → ℕ → ℕ
-rect_status cells x0 y0 x1 y1 = if (nat_lt x0 x1 && nat_le x1 cells.width) && (nat_lt y0 y1 && nat_le y1 cells.height) then 0 else 7
+rect_status cells x0 y0 x1 y1 = if (nat_lt x0 x1 && nat_le x1 cells.width)
+    && (nat_lt y0 y1 && nat_le y1 cells.height) then 0 else 7
 
 -- 6, a path has too few or too many points; 7, a point isn't in the map; 8, a point is crooked
 abbrev pub refusal_status : Refusal → ℕ
@@ -66,10 +72,12 @@ rows_status cells y0 y1 = if nat_le y0 y1 && nat_le y1 cells.height then 0 else 
 abbrev pub room_status : ℕ → ℕ → ℕ
 room_status needed count = if nat_le needed count then 0 else 9
 
--- a call that takes memory has the status that it should have; or it is one that should be done, and 10 says that there was no memory
+-- a call that takes memory has the status that it should have; or it is one that should be done,
+-- and 10 says that there was no memory
 abbrev pub IsStatus : ℕ → ℕ → Type 0
 IsStatus expected status = (status ≡ expected) ⊎ ((expected ≡ 0) × (status ≡ 10))
 
 -- what is wrong with a call for all cells of some rows, with room for so many answers
 abbrev pub table_status : Cells → ℕ → ℕ → ℕ → ℕ → ℕ → ℕ
-table_status cells metric edge y0 y1 count = first_wrong (setting_status metric edge) (first_wrong (rows_status cells y0 y1) (room_status ((y1 - y0) * cells.width) count))
+table_status cells metric edge y0 y1 count = first_wrong (setting_status metric edge)
+    (first_wrong (rows_status cells y0 y1) (room_status ((y1 - y0) * cells.width) count))

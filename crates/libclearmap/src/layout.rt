@@ -32,7 +32,6 @@ pub struct ClearmapBits {
     /// below 2^32.
     pub stride: usize,
     /// Which bands of 64 rows may have an obstacle: where bit k is 0, the rows 64 k to 64 k + 63
-    /// are
-    /// taken to be blank, whatever their words say. `u64::MAX` where nothing is known.
+    /// are taken to be blank, whatever their words say. `u64::MAX` where nothing is known.
     pub bands: u64,
 }

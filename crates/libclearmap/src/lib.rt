@@ -1,8 +1,10 @@
-//! The distance transform and the queries for C, over the caller's own memory: no state is kept
-//! between calls.
+//! The distance transform and the queries for C, over the caller's own memory.
 //!
-//! Each call answers a status, which is 0 where it is done; a call that isn't done has written
-//! nothing.
+//! No state is kept between calls, and any thread may make any call. Metric 0 is the square of the
+//! straight distance, 1 is steps to the four neighbours, 2 is steps to the eight; edge 0 is open, 1
+//! is a wall. Distances are in the unit of the metric. A call answers the first status that fits, 0
+//! where it is done (`status.rt`), and has written nothing where it isn't. Calls for all cells of
+//! rows ask for memory, the others for none.
 #![tactic(auto)]
 
 mod bit_map;

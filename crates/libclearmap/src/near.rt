@@ -13,8 +13,7 @@ pub const NO_OBSTACLE: u32 = u32::MAX;
 pub const NOWHERE: i16 = -2;
 
 /// The nearest obstacle of a cell: how far away it is, in the unit of the metric, and its column
-/// and
-/// its row. In the frame round a map either may be -1, or the number of columns or rows.
+/// and row. In the frame round a map either may be -1, or the number of columns or rows.
 #[repr(C)]
 #[derive(Clone, Copy, Debug)]
 pub struct ClearmapNear {
@@ -68,8 +67,8 @@ pub fn kept_of(near: Option<Near>) -> ClearmapNear
     }
 }
 
-/// A cell of a rectangle or a path with its nearest obstacle. Where there is none, the cell is (0,
-/// 0).
+/// A cell of a rectangle or a path with its nearest obstacle. Where there is none, the cell tells
+/// nothing.
 #[repr(C)]
 #[derive(Clone, Copy, Debug)]
 pub struct ClearmapFound {

@@ -1,5 +1,4 @@
-//! The statuses of calls, in the order in which a call is looked at: its status is the first that
-//! fits.
+//! The statuses of calls, in the order in which calls are looked at: the first that fits is told.
 
 ghost use Rattle.std.specs.Prelude.{◌≡◌, ◌≤◌};
 ghost use Rattle.libclearmap.specs.Layouts.{IsShape};

@@ -10,7 +10,8 @@ pub returns : goal.returns
 returns c k within =
     let is = λ (x : ℕ). nat_le c.args.byte x in
     let xs = c.args.block in
-    let lanes = tops_compared w8 nat_le (replicate 64 c.args.byte) xs ∙ zip2_splat_left nat_le c.args.byte 64 xs c.fits-block.0 in
+    let lanes = tops_compared w8 nat_le (replicate 64 c.args.byte) xs
+    ∙ zip2_splat_left nat_le c.args.byte 64 xs c.fits-block.0 in
     let few : length (map is xs) ≤ 64 = omega (arith, length-map xs is, c.fits-block.0) in
     ap (λ (ms : List Bool). bit_at (mask_l ms % 2 ^ 64) k) lanes
     ∙ (ap (λ (n : ℕ). bit_at n k) (mask_l-mod (map is xs) 64 few)

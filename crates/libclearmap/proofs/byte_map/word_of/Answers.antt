@@ -12,16 +12,20 @@ bytes-init c = sym (word_where-none _)
 pub overflow_add-word : goal.overflow_add-word
 overflow_add-word c =
     rw (one_shl c.bytes.i 64 (omega arith))
-    (let fits = word_where-fits (λ i. is_obstacle_byte c.args.low c.args.high (get_or c.args.bytes.now i 0)) c.bytes.i c.bytes.word (omega arith) c.bytes.invariant in omega (arith, fits))
+    (let fits = word_where-fits (λ i. is_obstacle_byte c.args.low c.args.high
+    (get_or c.args.bytes.now i 0)) c.bytes.i c.bytes.word (omega arith) c.bytes.invariant in
+    omega (arith, fits))
 
 pub bytes-preserved : goal.bytes-preserved
 bytes-preserved c =
-    let more = word_where-more (λ i. is_obstacle_byte c.args.low c.args.high (get_or c.args.bytes.now i 0)) c.bytes.i c.bytes.word c.bytes.invariant in
+    let more = word_where-more (λ i. is_obstacle_byte c.args.low c.args.high
+    (get_or c.args.bytes.now i 0)) c.bytes.i c.bytes.word c.bytes.invariant in
     elim c.if-is_obstacle.branch [
       | then-is_obstacle w ↦
           let flag = sym c.is_obstacle.ensures ∙ w.if-is_obstacle.true in
           let next = rw flag at more in
-          let here : c.bytes.word + 2 ^ c.bytes.i ≡ c.bytes.word + 1 * 2 ^ c.bytes.i = omega arith in
+          let here : c.bytes.word + 2 ^ c.bytes.i
+          ≡ c.bytes.word + 1 * 2 ^ c.bytes.i = omega arith in
           rw (w.word-is, one_shl c.bytes.i 64 (omega arith)) (here ∙ next)
       | else-is_obstacle w ↦
           let flag = sym c.is_obstacle.ensures ∙ w.if-is_obstacle.false in

@@ -7,5 +7,6 @@ abbrev pub invariant-words : goal.invariant-words
 invariant-words g l = record {
   rows : l.rows ≡ l.fn.rows;
   long : length l.row ≡ 64;
-  read : (k : ℕ) → k < l.index → get_or l.row k 0 ≡ get_or (words_of_row (g.R.Rows.cells l.fn.rows) l.y) k 0;
+  read : (k : ℕ) → k < l.index → get_or l.row k 0
+      ≡ get_or (words_of_row (g.R.Rows.cells l.fn.rows) l.y) k 0;
 }

@@ -10,7 +10,11 @@ abbrev pub invariant-rows : goal.invariant-rows
 invariant-rows g l = record {
   rows : l.rows ≡ l.fn.rows;
   long : length l.words ≡ length l.fn.words;
-  packed : (y k : ℕ) → y < l.y → k < words_across (g.R.Rows.cells l.fn.rows).width → get_or l.words (y * words_across (g.R.Rows.cells l.fn.rows).width + k) 0 ≡ get_or (words_of_row (g.R.Rows.cells l.fn.rows) y) k 0;
-  banded : (x y : ℕ) → y < l.y → IsObstacle (g.R.Rows.cells l.fn.rows) x y → bit_at l.bands (y / 64) ≡ 1;
-  rest : (k : ℕ) → (g.R.Rows.cells l.fn.rows).height * words_across (g.R.Rows.cells l.fn.rows).width ≤ k → get_or l.words k 0 ≡ get_or l.fn.words k 0;
+  packed : (y k : ℕ) → y < l.y → k < words_across (g.R.Rows.cells l.fn.rows).width
+      → get_or l.words (y * words_across (g.R.Rows.cells l.fn.rows).width + k) 0
+      ≡ get_or (words_of_row (g.R.Rows.cells l.fn.rows) y) k 0;
+  banded : (x y : ℕ) → y < l.y → IsObstacle (g.R.Rows.cells l.fn.rows) x y → bit_at l.bands (y / 64)
+      ≡ 1;
+  rest : (k : ℕ) → (g.R.Rows.cells l.fn.rows).height * words_across (g.R.Rows.cells l.fn.rows).width
+      ≤ k → get_or l.words k 0 ≡ get_or l.fn.words k 0;
 }

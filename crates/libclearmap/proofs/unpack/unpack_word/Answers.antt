@@ -9,11 +9,19 @@ pub bits-preserved : goal.bits-preserved
 bits-preserved c =
     let long = c.bits.invariant.long in
     let room = c.requires.room in
-    let value : ℕ → ℕ = λ k. if is_bit c.args.word k then c.args.shades.obstacle else c.args.shades.free in
-    let apart : (k : ℕ) → (k < c.args.start) ⊎ (c.args.start + c.args.count ≤ k) → k ≡ c.args.start + c.bits.i → ⊥ =
-    λ k out same. elim out [ inl before ↦ omega (arith, before, same) | inr after ↦ omega (arith, after, same, c.bits-test.true) ] in
+    let value : ℕ → ℕ = λ k. if is_bit c.args.word k then c.args.shades.obstacle else
+    c.args.shades.free in
+    let apart : (k : ℕ) → (k < c.args.start) ⊎ (c.args.start + c.args.count ≤ k) → k
+    ≡ c.args.start + c.bits.i → ⊥ =
+    λ k out same. elim out [
+      | inl before ↦ omega (arith, before, same)
+      | inr after ↦ omega
+          (arith, after, same, c.bits-test.true)
+    ] in
     record {
       long = length-set c.bits.bytes (c.args.start + c.bits.i) c.shade.result ∙ long;
-      cells = items_more c.args.start c.bits.bytes value c.bits.i c.shade.result (omega (arith, long, room, c.bits-test.true)) c.shade.ensures c.bits.invariant.cells;
-      others = λ k out. get_or-set_other c.bits.bytes (c.args.start + c.bits.i) k c.shade.result 0 (apart k out) ∙ c.bits.invariant.others k out;
+      cells = items_more c.args.start c.bits.bytes value c.bits.i c.shade.result
+          (omega (arith, long, room, c.bits-test.true)) c.shade.ensures c.bits.invariant.cells;
+      others = λ k out. get_or-set_other c.bits.bytes (c.args.start + c.bits.i) k c.shade.result 0
+          (apart k out) ∙ c.bits.invariant.others k out;
     }

@@ -8,5 +8,6 @@ use Rattle.libclearmap.proofs.byte_map.ByteMapRows.is_blank.Given as goal
 abbrev pub invariant-words : goal.invariant-words
 invariant-words l = record {
   map : l.self ≡ l.fn.self;
-  blank : (k : ℕ) → k < l.index → slice_index (words_of_row (cells_of_bytes l.fn.self.map l.fn.self.bytes.now) l.y) k ≡ 0;
+  blank : (k : ℕ) → k < l.index → slice_index
+      (words_of_row (cells_of_bytes l.fn.self.map l.fn.self.bytes.now) l.y) k ≡ 0;
 }
