@@ -1,6 +1,6 @@
 # Installs what is built. `make install` proves and builds first where it has to; the program needs the C library alone.
 #   make install PREFIX=/usr/local DESTDIR=
-#   make lib                      (the library for C: crates/libclearmap/out/libclearmap.a and .so.0)
+#   make lib                      (the library for C, in crates/libclearmap/out/)
 #   make install-lib PREFIX=/usr/local DESTDIR=
 #   make deb                      (a package for Debian, in the folder packages/)
 PREFIX = /usr/local
@@ -17,7 +17,8 @@ view = asking.py picture.py site_of_map.py watched.py page/ask.js page/index.htm
 library = crates/libclearmap/out
 archive = $(library)/liblibclearmap.a
 lib_crates = metric bits column envelope field clearance libclearmap
-lib_sources = $(shell find $(lib_crates:%=crates/%) -name out -prune -o '(' -name '*.rt' -o -name '*.antt' ')' -print)
+lib_sources = $(shell find $(lib_crates:%=crates/%) -name out -prune -o -name '*.rt' -print \
+    -o -name '*.antt' -print)
 CFLAGS = -O2
 lib_cflags = -std=c11 -fPIC $(CFLAGS)
 lib_links = -Wl,-soname,libclearmap.so.0 -Wl,--version-script=clients/c/clearmap.map -Wl,-z,defs
@@ -87,7 +88,8 @@ install-lib: lib
 	$(INSTALL) -d '$(to)/share/pkgconfig' '$(to)/share/clearmap/cmake'
 	$(filled) packaging/libclearmap.pc.in > '$(to)/share/pkgconfig/libclearmap.pc'
 	$(INSTALL) -m 644 packaging/clearmapConfig.cmake '$(to)/share/clearmap/cmake/clearmapConfig.cmake'
-	$(filled) packaging/clearmapConfigVersion.cmake.in > '$(to)/share/clearmap/cmake/clearmapConfigVersion.cmake'
+	$(filled) packaging/clearmapConfigVersion.cmake.in \
+	    > '$(to)/share/clearmap/cmake/clearmapConfigVersion.cmake'
 
 uninstall-lib:
 	rm -f '$(to)/include/clearmap.h' '$(libdir)/libclearmap.a' '$(libdir)/libclearmap.so.0' \

@@ -25,7 +25,7 @@ NUMBERS = {
 
 
 def c_type(rust):
-    """The C type of a number or a struct: `ClearmapNear` is `clearmap_near`, `Cell` too has the prefix."""
+    """The C type of a number or a struct: `ClearmapNear` and `Near` are `clearmap_near`."""
     if rust in NUMBERS:
         return NUMBERS[rust]
     words = re.findall(r"[A-Z][a-z0-9]*", rust.removeprefix("Clearmap"))
@@ -52,7 +52,10 @@ def c_arguments(arguments):
 def exported(text):
     """The exports of the sources: for each name its arguments and its result, as C has them."""
     pattern = r'#\[unsafe\(no_mangle\)\]\npub extern "C" fn (\w+)\((.*?)\n\) -> (\w+)'
-    return {name: (c_arguments(given), c_type(result)) for name, given, result in re.findall(pattern, text, re.S)}
+    return {
+        name: (c_arguments(given), c_type(result))
+        for name, given, result in re.findall(pattern, text, re.S)
+    }
 
 
 def declared(header):
@@ -65,9 +68,13 @@ def declared(header):
 
 
 def rust_structs(text):
-    found = re.findall(r"#\[repr\(C\)\]\n(?:#\[[^\n]*\]\n)*pub struct (\w+) \{(.*?)\n\}", text, re.S)
+    found = re.findall(
+        r"#\[repr\(C\)\]\n(?:#\[[^\n]*\]\n)*pub struct (\w+) \{(.*?)\n\}", text, re.S
+    )
     return {
-        c_type(name): [f"{c_type(rust)} {field}" for field, rust in re.findall(r"pub (\w+): (\w+)", fields)]
+        c_type(name): [
+            f"{c_type(rust)} {field}" for field, rust in re.findall(r"pub (\w+): (\w+)", fields)
+        ]
         for name, fields in found
     }
 
@@ -89,7 +96,9 @@ def rust_constants(status, near, setting):
         told[name.upper()] = number
     # The last of each kind is numbered by the check of a setting: one more than the one before it.
     told["CHESS"], told["WALL"] = str(int(told["CITY"]) + 1), str(int(told["OPEN"]) + 1)
-    told["NO_OBSTACLE"] = {"u32::MAX": "UINT32_MAX"}[re.search(r"NO_OBSTACLE: u32 = (\S+);", near)[1]]
+    told["NO_OBSTACLE"] = {"u32::MAX": "UINT32_MAX"}[
+        re.search(r"NO_OBSTACLE: u32 = (\S+);", near)[1]
+    ]
     told["NOWHERE"] = "(" + re.search(r"NOWHERE: i16 = (\S+);", near)[1] + ")"
     return told
 
@@ -101,8 +110,14 @@ def c_constants(header):
 
 
 def c_version(header):
-    parts = [re.search(rf"#define CLEARMAP_VERSION_{part} (\d+)", header)[1] for part in ("MAJOR", "MINOR", "PATCH")]
-    return {"version": re.search(r'#define CLEARMAP_VERSION "(.*)"', header)[1], "parts": ".".join(parts)}
+    parts = [
+        re.search(rf"#define CLEARMAP_VERSION_{part} (\d+)", header)[1]
+        for part in ("MAJOR", "MINOR", "PATCH")
+    ]
+    return {
+        "version": re.search(r'#define CLEARMAP_VERSION "(.*)"', header)[1],
+        "parts": ".".join(parts),
+    }
 
 
 def main():
@@ -110,12 +125,17 @@ def main():
     texts = {path.stem: path.read_text() for path in sorted(SOURCES.glob("*.rt"))}
     sources = "\n".join([*texts.values(), CELL.read_text()])
     sources = re.sub(r"^\s*///.*\n", "", sources, flags=re.M)
-    version = re.search(r'^version = "(.*)"', (TOP / "clients/python/pyproject.toml").read_text(), re.M)[1]
+    version = re.search(
+        r'^version = "(.*)"', (TOP / "clients/python/pyproject.toml").read_text(), re.M
+    )[1]
     calls = {name: call for name, call in declared(header).items() if call[1] == "uint32_t"}
     pairs = {
         "call": (exported(sources), calls),
         "struct": (rust_structs(sources), c_structs(header)),
-        "constant": (rust_constants(texts["status"], texts["near"], texts["setting"]), c_constants(header)),
+        "constant": (
+            rust_constants(texts["status"], texts["near"], texts["setting"]),
+            c_constants(header),
+        ),
         "version": ({"version": version, "parts": version}, c_version(header)),
     }
     wrong = 0
@@ -123,8 +143,12 @@ def main():
         for name in sorted(source.keys() | told.keys()):
             if source.get(name) != told.get(name):
                 wrong += 1
-                print(f"{kind} {name}: the source has {source.get(name)}, the header {told.get(name)}")
-    counts = ", ".join(f"{len(source)} {kind}s" for kind, (source, _) in pairs.items() if kind != "version")
+                print(
+                    f"{kind} {name}: the source has {source.get(name)}, the header {told.get(name)}"
+                )
+    counts = ", ".join(
+        f"{len(source)} {kind}s" for kind, (source, _) in pairs.items() if kind != "version"
+    )
     print(f"clearmap.h: {counts}, {wrong} wrong")
     return 1 if wrong else 0
 

@@ -31,23 +31,26 @@ try() { # try WHAT COMMAND ..: says how it ended, and what it wrote where it fai
 
 try 'header' tools/check_header.py
 wants gcc 'the library' && wants make 'the library' || exit "$failed"
-try 'make lib' make lib
-[ -e "$library/libclearmap.a" ] && [ -e "$library/libclearmap.so.0" ] || exit 1
+timeout 1100 make -s lib > "$scratch/log" 2>&1 || { tail -n 30 "$scratch/log"; exit 1; }
+
 
 flags="-std=c11 -Wall -Wextra -Wshadow -Wconversion -Wpedantic -Werror -g -Iclients/c"
 test="clients/c/test_clearmap.c"
 
 # The shared library shows the calls of the header, has its own name, and needs the C library alone.
 nm -D --defined-only "$library/libclearmap.so.0" | sed 's/.* //' | sort > "$scratch/shown"
-grep -oE '\*?clearmap_[a-z_]+\(' clients/c/clearmap.h | grep -oE 'clearmap_[a-z_]+' | sort -u > "$scratch/told"
+grep -oE '\*?clearmap_[a-z_]+\(' clients/c/clearmap.h | grep -oE 'clearmap_[a-z_]+' | sort -u \
+    > "$scratch/told"
 try 'shown names' diff "$scratch/told" "$scratch/shown"
 readelf -d "$library/libclearmap.so.0" > "$scratch/dynamic"
-grep -q 'SONAME.*\[libclearmap.so.0\]' "$scratch/dynamic" || { failed=1; echo 'the soname is another one'; }
+grep -q 'SONAME.*\[libclearmap.so.0\]' "$scratch/dynamic" \
+    || { failed=1; echo 'the soname is another one'; }
 [ "$(grep -c NEEDED "$scratch/dynamic")" = "$(grep -c 'NEEDED.*\[libc.so' "$scratch/dynamic")" ] \
     || { failed=1; echo 'it needs more than the C library'; }
 
 # The tests, with the static library; each request for memory can be refused there.
-if gcc $flags -O2 $test "$library/libclearmap.a" -Wl,--wrap=malloc -lpthread -o "$scratch/test"; then
+if gcc $flags -O2 $test "$library/libclearmap.a" -Wl,--wrap=malloc -lpthread \
+    -o "$scratch/test"; then
     try 'test' "$scratch/test" "${MAPS:-40}"
     wants valgrind 'valgrind' \
         && try 'valgrind' valgrind -q --error-exitcode=9 --leak-check=full "$scratch/test" 5

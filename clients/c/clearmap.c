@@ -1,4 +1,4 @@
-/* What of libclearmap is written in C: its heap over malloc, its version, the texts of its statuses. */
+/* What of libclearmap is written in C: its heap over malloc, its version, the status texts. */
 #include "clearmap.h"
 
 #include <stdbool.h>

@@ -9,13 +9,14 @@
  *
  *     clearmap_bytes map = {.width = 640, .height = 480, .stride = 640, .low = 100, .high = 100};
  *     clearmap_near near;
- *     if (clearmap_bytes_at(cells, sizeof cells, &map, CLEARMAP_EUCLID2, CLEARMAP_OPEN, x, y, &near)
- *             == CLEARMAP_DONE && near.dist != CLEARMAP_NO_OBSTACLE)
+ *     uint32_t status = clearmap_bytes_at(cells, sizeof cells, &map, CLEARMAP_EUCLID2,
+ *                                         CLEARMAP_OPEN, x, y, &near);
+ *     if (status == CLEARMAP_DONE && near.dist != CLEARMAP_NO_OBSTACLE)
  *         metres = sqrt(near.dist) * metres_per_cell;
  *
- * Status. Each call returns CLEARMAP_DONE (0), or what is wrong with it. A call that is not done has
- * written nothing. Where several things are wrong, the status is the first of them, in the order of
- * their numbers.
+ * Status. Each call returns CLEARMAP_DONE (0), or what is wrong with it. A call that is not done
+ * has written nothing. Where several things are wrong, the status is the first of them, in the order
+ * of their numbers.
  *
  * Threads. The library keeps nothing between calls and starts no thread. Any thread may make any
  * call at any time, also while others read the same map. What a call writes, and a map that some
@@ -24,8 +25,8 @@
  *
  * What the caller owes, and nothing checks: no pointer is null, also where its length is 0; each
  * length is true; pointers are aligned as their types are; what a call writes does not overlap what
- * it reads. A call that takes memory is not made from a signal handler, nor in the forked child of a
- * process that has threads.
+ * it reads. A call that takes memory is not made from a signal handler, nor in the forked child of
+ * a process that has threads.
  *
  * Memory. CLEARMAP_MEMORY is for the calls `distances` and `nearest` alone: they ask malloc for a
  * copy of the map in bits, an eighth of a byte a cell, and for 160 to 300 bytes a column and some
@@ -109,7 +110,7 @@ typedef struct clearmap_near {
     int16_t x, y;
 } clearmap_near;
 
-/* A cell and its nearest obstacle. Where none was found, near is as above, and the cell is no answer. */
+/* A cell and its nearest obstacle. Where near says that there is none, the cell tells nothing. */
 typedef struct clearmap_found {
     clearmap_cell cell;
     clearmap_near near;
@@ -135,8 +136,8 @@ typedef struct clearmap_bytes {
  *
  * Bit k of bands says that the rows 64 k to 64 k + 63 may have an obstacle: where it is 0 they are
  * taken to be blank, WHATEVER THEIR WORDS SAY. So a query walks over no blank band. clearmap_pack
- * sets bands; whoever then sets a bit in row y sets bit y / 64 of bands too. UINT64_MAX is right for
- * each map.
+ * sets bands; whoever then sets a bit in row y sets bit y / 64 of bands too. UINT64_MAX is right
+ * for each map.
  */
 typedef struct clearmap_bits {
     uint32_t width;  /* columns, 1 to 4096 */
@@ -146,8 +147,8 @@ typedef struct clearmap_bits {
 } clearmap_bits;
 
 /*
- * Writes a map in bytes to words, its rows one after another without a gap, and to *bits how it lies
- * there. words_length is (width + 63) / 64 * height or more; what is over stays as it is.
+ * Writes a map in bytes to words, its rows one after another without a gap, and to *bits how it
+ * lies there. words_length is (width + 63) / 64 * height or more; what is over stays as it is.
  * Status: SIZE, STRIDE, LENGTH, ROOM.
  */
 uint32_t clearmap_pack(const uint8_t *bytes, size_t bytes_length, const clearmap_bytes *map,
@@ -216,9 +217,9 @@ uint32_t clearmap_bits_rect(const uint64_t *words, size_t words_length, const cl
                             uint32_t y1, clearmap_found *found);
 
 /*
- * Writes the first cell of the least distance along a path, and its nearest obstacle; none where the
- * map has no obstacle. A path is 1 to 1000 points, each in the row or the column of the point before
- * it; its cells are the first point, and then those after each point up to the next.
+ * Writes the first cell of the least distance along a path, and its nearest obstacle; none where
+ * the map has no obstacle. A path is 1 to 1000 points, each in the row or the column of the point
+ * before it; its cells are the first point, and then those after each point up to the next.
  * Status: SIZE, STRIDE, LENGTH, METRIC, EDGE, POINTS, OUTSIDE, CROOKED.
  */
 uint32_t clearmap_bytes_path(const uint8_t *bytes, size_t bytes_length, const clearmap_bytes *map,

@@ -4,7 +4,7 @@
  *
  *     test_clearmap [MAPS]      how many random maps; 40 if it is left out
  *
- * Linked with -Wl,--wrap=malloc. Its last line has counts; its status is 1 where something is wrong.
+ * Linked with -Wl,--wrap=malloc. Its last line has counts; its status is 1 where one is wrong.
  */
 #define _POSIX_C_SOURCE 200112L
 #include "clearmap.h"
@@ -153,7 +153,7 @@ static int stays(clearmap_found found) {
 
 /* ---- Answers --------------------------------------------------------------------------------- */
 
-/* All cells of some rows, from bytes and from bits, against the search; the item after them stays. */
+/* All cells of some rows, from bytes and from bits, against the table; the item after them stays. */
 static void try_rows(const struct map *m, uint32_t metric, uint32_t edge, clearmap_near *table) {
     uint32_t width = m->in_bytes.width, height = m->in_bytes.height;
     size_t all = (size_t)width * height;
@@ -238,7 +238,8 @@ static void try_path(const struct map *m, uint32_t metric, uint32_t edge,
     uint16_t x = (uint16_t)draw(width), y = (uint16_t)draw(height);
     uint16_t x1 = (uint16_t)draw(width), y1 = (uint16_t)draw(height);
     clearmap_cell path[3] = {{x, y}, {x1, y}, {x1, y1}};
-    const clearmap_found none = {{0, 0}, {CLEARMAP_NO_OBSTACLE, CLEARMAP_NOWHERE, CLEARMAP_NOWHERE}};
+    const clearmap_found none = {{0, 0},
+                                 {CLEARMAP_NO_OBSTACLE, CLEARMAP_NOWHERE, CLEARMAP_NOWHERE}};
     clearmap_found least = none, below = none, found;
     for (;;) {
         clearmap_near near = table[y * width + x];
@@ -327,7 +328,7 @@ static const struct given right = {3, 2, 0, 0, 1, 0, 3, 2, 0, 0, 3, 6, {{0, 0}, 
 
 enum { AT = 1, RECT = 2, PATH = 4, ROWS = 8, QUERIES = AT | RECT | PATH, ALL = QUERIES | ROWS };
 
-/* Makes the calls of some kinds over bytes and over bits; each has this status, and writes nothing. */
+/* Makes calls of some kinds over bytes and over bits; each has this status, and writes nothing. */
 static void refuse(struct given g, int kinds, uint32_t status) {
     clearmap_near near = untouched, nears[6] = {{7, 7, 7}};
     clearmap_found found = untouched_found;

@@ -84,8 +84,7 @@ word_where-fits test n word few is =
     let two : 2 ^ (n + 1) ≡ 2 ^ n + 2 ^ n = rw (next, pow-suc 2 n) (omega arith) in
     omega (arith, is, small, powers, two)
 
--- items of a row that begin so many after its first one, and end with it at most, lie among those
--- of the map
+-- a part of a row lies among the items of the map
 pub part_within : (width height across stride total y left count : ℕ)
     → IsShape width height across stride total → y < height → left + count ≤ across
     → y * stride + left + count ≤ total
