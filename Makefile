@@ -1,5 +1,7 @@
 # Installs what is built. `make install` proves and builds first where it has to; the program needs the C library alone.
 #   make install PREFIX=/usr/local DESTDIR=
+#   make lib                      (the library for C, in crates/libclearmap/out/)
+#   make install-lib PREFIX=/usr/local DESTDIR=
 #   make deb                      (a package for Debian, in the folder packages/)
 PREFIX = /usr/local
 DESTDIR =
@@ -11,7 +13,18 @@ filled = sed 's|@PREFIX@|$(PREFIX)|; s|@VERSION@|$(version)|'
 pages = clearmap.1 clearmap-backup.1 clearmap-ros.1 clearmap-ros-node.1 clearmap-view.1
 view = asking.py picture.py site_of_map.py watched.py page/ask.js page/index.html page/map.js page/view.css page/view.js
 
-.PHONY: all install uninstall deb
+# The library: what is proved comes from rt, and clients/c/clearmap.c goes with it.
+library = crates/libclearmap/out
+archive = $(library)/liblibclearmap.a
+lib_crates = metric bits column envelope field clearance libclearmap
+lib_sources = $(shell find $(lib_crates:%=crates/%) -name out -prune -o -name '*.rt' -print \
+    -o -name '*.antt' -print)
+CFLAGS = -O2
+lib_cflags = -std=c11 -fPIC $(CFLAGS)
+lib_links = -Wl,-soname,libclearmap.so.0 -Wl,--version-script=clients/c/clearmap.map -Wl,-z,defs
+libdir = $(to)/lib
+
+.PHONY: all install uninstall deb lib install-lib uninstall-lib
 
 all:
 	./clearmap --version
@@ -49,3 +62,35 @@ uninstall:
 
 deb: all
 	tools/make_deb.sh packages
+
+lib: $(library)/libclearmap.a $(library)/libclearmap.so.0
+
+$(archive): $(lib_sources)
+	cd crates/libclearmap && rt lib
+	touch $@
+
+$(library)/clearmap.o: clients/c/clearmap.c clients/c/clearmap.h $(archive)
+	$(CC) $(lib_cflags) -c -o $@ clients/c/clearmap.c
+
+$(library)/libclearmap.a: $(archive) $(library)/clearmap.o
+	cp $(archive) $@
+	$(AR) rs $@ $(library)/clearmap.o
+
+$(library)/libclearmap.so.0: $(archive) $(library)/clearmap.o clients/c/clearmap.map
+	$(CC) -shared $(lib_links) -o $@ $(library)/clearmap.o \
+	    -Wl,--whole-archive $(archive) -Wl,--no-whole-archive
+
+install-lib: lib
+	$(INSTALL) -D -m 644 clients/c/clearmap.h '$(to)/include/clearmap.h'
+	$(INSTALL) -D -m 644 $(library)/libclearmap.a '$(libdir)/libclearmap.a'
+	$(INSTALL) -m 644 $(library)/libclearmap.so.0 '$(libdir)/libclearmap.so.0'
+	ln -sf libclearmap.so.0 '$(libdir)/libclearmap.so'
+	$(INSTALL) -d '$(to)/share/pkgconfig' '$(to)/share/clearmap/cmake'
+	$(filled) packaging/libclearmap.pc.in > '$(to)/share/pkgconfig/libclearmap.pc'
+	$(INSTALL) -m 644 packaging/clearmapConfig.cmake '$(to)/share/clearmap/cmake/clearmapConfig.cmake'
+	$(filled) packaging/clearmapConfigVersion.cmake.in \
+	    > '$(to)/share/clearmap/cmake/clearmapConfigVersion.cmake'
+
+uninstall-lib:
+	rm -f '$(to)/include/clearmap.h' '$(libdir)/libclearmap.a' '$(libdir)/libclearmap.so.0' \
+	    '$(libdir)/libclearmap.so' '$(to)/share/pkgconfig/libclearmap.pc'

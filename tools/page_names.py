@@ -10,7 +10,7 @@ import subprocess
 
 TOP = pathlib.Path(__file__).resolve().parent.parent
 FOLDERS = ("crates", "docs", "tools", "examples", "clients", "man", "packaging", "specs", "proofs", "src", "must-fail", "more-edits")
-SOURCE = r"\.(rt|antt|edit|py|sh|rs|in|hpp|cpp|html|js|bash)$|^(Makefile|clearmap|crates\.txt)$"
+SOURCE = r"\.(rt|antt|edit|py|sh|rs|in|c|h|hpp|cpp|html|js|bash)$|^(Makefile|clearmap|crates\.txt)$"
 CODE = r"^crates/\w+/src/.*\.rt$"
 STATEMENTS = r"^crates/\w+/(specs|proofs)/.*\.antt$"
 # Items, and the variants of enums.

@@ -12,6 +12,7 @@ mod tile_bits;
 mod word;
 mod write;
 
+pub use band::marked;
 pub use bitmap::Bitmap;
 pub use laws::{
     nearest_is_least, one_nearest, tiles_count_all_changes, tiles_fill_their_part,

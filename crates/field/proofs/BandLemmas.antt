@@ -14,21 +14,31 @@ use Rattle.field.specs.Bands.{AreAnswers, AreFilled, HasRoom, row_behind}
 use Rattle.field.specs.Rows.{AreNears}
 use Rattle.column.proofs.Sweeping.{place_above}
 
+-- what holds of each item as far as row y holds of each one row further once that row's are written
+pub rows_more : {T : Type 0} (Is : ℕ → ℕ → T → Type 0) (nothing : T) (width from y : ℕ) (before after : List T) → from ≤ y
+    → ((x b : ℕ) → x < width → from ≤ b → b < y → Is x b (slice_index_or before ((b - from) * width + x) nothing))
+    → ((x : ℕ) → x < width → Is x y (slice_index_or after ((y - from) * width + x) nothing))
+    → ((k : ℕ) → (k < (y - from) * width) ⊎ ((y - from) * width + width ≤ k) → slice_index_or after k nothing ≡ slice_index_or before k nothing)
+    → (x b : ℕ) → x < width → from ≤ b → b < y + 1 → Is x b (slice_index_or after ((b - from) * width + x) nothing)
+rows_more Is nothing width from y before after ordered filled here others x b column low high = elim (cases_lt b y) [
+  | inl above ↦
+      let place : (b - from) * width + x < (y - from) * width = place_above (b - from) (y - from) width x (omega arith) column in
+      rw (others ((b - from) * width + x) (inl place)) (filled x b column low above)
+  | inr below ↦
+      let same : b ≡ y = omega arith in
+      rw same (here x column)
+]
+
 -- answers that are filled as far as row y are filled one row further once that row's are written
 pub AreFilled-more : {T : Type 0} (told : Reading T) (nothing : T) (distance : ℕ → ℕ → ℕ) (cells : Cells) (edge : Edge) (from y : ℕ) (before after : List T) → from ≤ y
     → AreFilled told nothing distance cells edge from y before
     → ((x : ℕ) → x < cells.width → IsNear distance (IsBlocked cells edge) x y (told distance x y (slice_index_or after ((y - from) * cells.width + x) nothing)))
     → ((k : ℕ) → (k < (y - from) * cells.width) ⊎ ((y - from) * cells.width + cells.width ≤ k) → slice_index_or after k nothing ≡ slice_index_or before k nothing)
     → AreFilled told nothing distance cells edge from (y + 1) after
-AreFilled-more told nothing distance cells edge from y before after ordered filled here others = record {
-  each = λ x b column low high. elim (cases_lt b y) [
-    | inl above ↦
-        let place : (b - from) * cells.width + x < (y - from) * cells.width = place_above (b - from) (y - from) cells.width x (omega arith) column in
-        rw (others ((b - from) * cells.width + x) (inl place)) (filled.each x b column low above)
-    | inr below ↦
-        let same : b ≡ y = omega arith in
-        rw same (here x column)
-  ];
+AreFilled-more {T} told nothing distance cells edge from y before after ordered filled here others = record {
+  each =
+      let Is : ℕ → ℕ → T → Type 0 = λ x b answer. IsNear distance (IsBlocked cells edge) x b (told distance x b answer) in
+      rows_more Is nothing cells.width from y before after ordered filled.each here others;
 }
 
 -- the answers of a band's rows and those of the rows after them, put together, are the answers of all these rows
@@ -124,3 +134,8 @@ pub get_or-put : {T : Type 0} (all line rest : List T) (start x : ℕ) (other : 
 get_or-put all line rest start x other within inside =
     let front = length-take-le start all within in
     rw front at (get_or-append-add (take start all) (line ++ rest) x other ∙ get_or_append_left line rest other x inside)
+
+-- what follows from a fact of a success holds of it
+pub on_ok : {T E P Q : Type 0} (result : Result T E) → (P → Q) → OnOk result P → OnOk result Q
+on_ok (Ok value) next fact = next fact
+on_ok (Err error) next fact = fact

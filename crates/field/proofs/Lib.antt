@@ -1,4 +1,4 @@
-mod BandLemmas
+pub mod BandLemmas
 mod ObstacleLemmas
 mod RowLemmas
 mod StripLemmas

@@ -1,20 +1,14 @@
 //! The nearest obstacles of all cells of some rows, worked in bands by threads.
 
-ghost use Rattle.std.specs.Prelude.{◌≡◌, ◌<◌, ◌≤◌, ◌+◌, ◌-◌, ◌*◌, ◌⊎◌, ℕ, IfErr, IfOk, None, OnOk, length, slice_index_or};
+ghost use Rattle.std.specs.Prelude.{◌≡◌, ◌<◌, ◌≤◌, ◌+◌, ◌-◌, ◌*◌, IfErr, IfOk, None, OnOk, length};
 ghost use Rattle.std.specs.Thread.{IsSync};
-ghost use Rattle.metric.specs.Edge.{shift};
-ghost use Rattle.bits.specs.Cells.{IsBitmap};
-ghost use Rattle.bits.specs.Edges.{IsBlocked};
-ghost use Rattle.metric.specs.Nearest.{IsNear};
 ghost use Rattle.metric.specs.declared.refusal.Refusal.TheVariants.{Memory};
 ghost use Rattle.field.specs.Bands.{AreBands, HasRoom, row_behind};
-ghost use Rattle.field.specs.Columns.{IsNextRow};
 ghost use Rattle.field.specs.Rows.{AreNears};
 
-use crate::columns::Columns;
+use crate::filling::fill;
 use crate::workers::Workers;
 use bits::Bitmap;
-use envelope::{Stack, row_from};
 use metric::{Edge, Gate, Metric, Near, Refusal};
 use std::alloc::Global;
 use std::thread::{Threads, join_mut};
@@ -143,63 +137,5 @@ fn work_band<M: Metric, G: Gate>(
 {
     gate.enter(band);
     let (from, to) = shared.workers.band_rows(shared.y0, shared.y1, band);
-    let (bitmap, edge) = (shared.bitmap, shared.edge);
-    let before = edge.shift();
-    let width = bitmap.width() + 2 * before;
-    let mut columns = Columns::of(alloc, bitmap, edge, from + before, to + before)?;
-    let mut stack = Stack::new(alloc, width)?;
-    fill_rows::<M>(bitmap, edge, from, to, &mut columns, &mut stack, nears);
-    Ok(())
-}
-
-/// Fills the rows `from` to `to - 1`, those of the columns. The stack has room for a row.
-fn fill_rows<M: Metric>(
-    bitmap: &Bitmap,
-    edge: Edge,
-    from: u16,
-    to: u16,
-    columns: &mut Columns,
-    stack: &mut Stack,
-    nears: &mut [Option<Near>],
-)
-    requires bitmap { IsBitmap bitmap.now }
-    requires room { HasRoom bitmap.now from to nears.old }
-    requires columns { IsNextRow bitmap.now edge columns.old (from + shift edge) }
-    requires to { columns.old.to ≡ to + shift edge }
-    requires stack { bitmap.now.width + 2 * shift edge ≤ stack.old }
-    ensures { AreNears M.distance bitmap.now edge from to nears.new }
-{
-    let width = usize::from(bitmap.width());
-    'rows: for y in from..to {
-        let start = usize::from(y - from) * width;
-        fill_row_at::<M>(bitmap, edge, y, start, columns, stack, nears);
-    }
-}
-
-/// Fills row `y`, which comes next, and whose first cell lies at `start`.
-fn fill_row_at<M: Metric>(
-    bitmap: &Bitmap,
-    edge: Edge,
-    y: u16,
-    start: usize,
-    columns: &mut Columns,
-    stack: &mut Stack,
-    nears: &mut [Option<Near>],
-)
-    requires bitmap { IsBitmap bitmap.now }
-    requires columns { IsNextRow bitmap.now edge columns.old (y + shift edge) }
-    requires row { y + shift edge < columns.old.to }
-    requires room { start + bitmap.now.width ≤ length nears.old }
-    requires stack { bitmap.now.width + 2 * shift edge ≤ stack.old }
-    ensures row { (x : ℕ) → x < bitmap.now.width → IsNear M.distance (IsBlocked bitmap.now edge) x y (slice_index_or nears.new (start + x) None) }
-    ensures others { (k : ℕ) → (k < start) ⊎ (start + bitmap.now.width ≤ k) → slice_index_or nears.new k None ≡ slice_index_or nears.old k None }
-    ensures columns { IsNextRow bitmap.now edge columns.new (y + 1 + shift edge) }
-    ensures to { columns.new.to ≡ columns.old.to }
-    ensures stack { stack.new ≡ stack.old }
-{
-    let width = usize::from(bitmap.width());
-    let framed = y + edge.shift();
-    columns.look(bitmap, edge, framed);
-    let line = &mut nears[start..start + width];
-    row_from::<M, Option<Near>>(&columns.entries, framed, edge, stack, line);
+    fill::<M, Option<Near>>(alloc, shared.bitmap, shared.edge, from, to, nears)
 }

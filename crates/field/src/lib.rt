@@ -3,6 +3,8 @@
 
 mod bands;
 mod columns;
+mod filling;
+mod measuring;
 mod obstacle_cell;
 mod obstacle_table;
 mod strips;
@@ -10,6 +12,8 @@ mod table;
 mod workers;
 
 pub use bands::rows_with;
+pub use filling::fill;
+pub use measuring::measure;
 pub use obstacle_table::ObstacleTable;
 pub use table::rows;
 pub use workers::Workers;

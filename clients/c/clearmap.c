@@ -1,0 +1,46 @@
+/* What of libclearmap is written in C: its heap over malloc, its version, the status texts. */
+#include "clearmap.h"
+
+#include <stdbool.h>
+#include <stdlib.h>
+
+/* What the proved part asks for: whether there is room, and where. */
+struct tried {
+    bool ok;
+    void *place;
+};
+
+static char nothing;
+
+/* malloc aligns to 16, and the library asks for no more. */
+struct tried rattle_alloc(size_t size, size_t align) {
+    void *place = malloc(size ? size : align);
+    return (struct tried){place != NULL, place ? place : &nothing};
+}
+
+struct tried rattle_realloc(void *old, size_t kept, size_t size, size_t align) {
+    (void)kept;
+    void *place = realloc(old, size ? size : align);
+    return (struct tried){place != NULL, place ? place : &nothing};
+}
+
+void rattle_dealloc(void *place) { free(place); }
+
+const char *clearmap_version(void) { return CLEARMAP_VERSION; }
+
+const char *clearmap_status_text(uint32_t status) {
+    switch (status) {
+    case CLEARMAP_DONE: return "done";
+    case CLEARMAP_SIZE: return "a side of the map is 0, or over 4096";
+    case CLEARMAP_STRIDE: return "the stride is less than a row, or 2^32 or more";
+    case CLEARMAP_LENGTH: return "the map's memory ends before its last row does";
+    case CLEARMAP_METRIC: return "there is no metric of this number";
+    case CLEARMAP_EDGE: return "there is no edge of this number";
+    case CLEARMAP_POINTS: return "a path has no point, or over 1000";
+    case CLEARMAP_OUTSIDE: return "a cell, row, rectangle or point is not in the map, or is empty";
+    case CLEARMAP_CROOKED: return "a point of a path is not in the row or column of the one before";
+    case CLEARMAP_ROOM: return "there is too little room for the answers";
+    case CLEARMAP_MEMORY: return "malloc had no memory for the call";
+    default: return "there is no status of this number";
+    }
+}

@@ -1,0 +1,81 @@
+//! The calls that turn a map in bytes into one in bits, and back.
+
+ghost use Rattle.std.specs.Prelude.{◌≡◌, ◌≢◌, ℕ, ◌<◌, ◌≤◌, ◌+◌, ◌*◌, length, slice_index, if◌then◌else◌};
+ghost use Rattle.bits.specs.Cells.{has};
+ghost use Rattle.bits.specs.Words.{words_across};
+ghost use Rattle.libclearmap.specs.Layouts.{cells_of_bits, cells_of_bytes};
+ghost use Rattle.libclearmap.specs.Statuses.{bits_status, bytes_status, first_wrong, room_status};
+
+use crate::bit_map::BitMap;
+use crate::byte_map::ByteMap;
+use crate::copy::pack_rows;
+use crate::layout::{ClearmapBits, ClearmapBytes};
+use crate::status::{DONE, room_status};
+use crate::unpack::{Shades, unpack_rows};
+
+/// Writes a map in bytes to words, one row after another, and how it lies there to `bits`.
+#[unsafe(no_mangle)]
+pub extern "C" fn clearmap_pack(
+    bytes: &[u8],
+    map: &ClearmapBytes,
+    words: &mut [u64],
+    bits: &mut ClearmapBits,
+) -> u32
+    ensures packed { result ≡ DONE → cells_of_bits bits.new words.new ≡ cells_of_bytes map.now
+        bytes.now }
+    ensures right { result ≡ DONE → bits_status bits.new words.new ≡ DONE }
+    ensures rest { (k : ℕ) → map.now.height * words_across map.now.width ≤ k → slice_index
+        words.new k ≡ slice_index words.old k }
+    ensures status { result ≡ first_wrong (bytes_status map.now bytes.now)
+        (room_status (map.now.height * words_across map.now.width) (length words.old)) }
+    ensures refused { result ≢ DONE → words.new ≡ words.old }
+    ensures kept { result ≢ DONE → bits.new ≡ bits.old }
+{
+    let mut rows = match ByteMap::of(bytes, map) {
+        Ok(rows) => rows,
+        Err(status) => return status,
+    };
+    let (width, height) = (map.width, map.height);
+    let stride = (width as usize).div_ceil(64);
+    let status = room_status(height as usize * stride, words.len());
+    if status != DONE {
+        return status;
+    }
+    let bands = pack_rows::<ByteMap<'_>>(&mut rows, words);
+    *bits = ClearmapBits {
+        width,
+        height,
+        stride,
+        bands,
+    };
+    DONE
+}
+
+/// Writes a map in bits to bytes, one for each cell, one row after another.
+#[unsafe(no_mangle)]
+pub extern "C" fn clearmap_unpack(
+    words: &[u64],
+    map: &ClearmapBits,
+    free: u8,
+    obstacle: u8,
+    bytes: &mut [u8],
+) -> u32
+    ensures cells { (x y : ℕ) → result ≡ DONE → x < map.now.width → y < map.now.height
+        → slice_index bytes.new (y * map.now.width + x) ≡ (if has (cells_of_bits map.now words.now) x y then obstacle else free) }
+    ensures rest { (k : ℕ) → map.now.height * map.now.width ≤ k → slice_index bytes.new k
+        ≡ slice_index bytes.old k }
+    ensures status { result ≡ first_wrong (bits_status map.now words.now)
+        (room_status (map.now.height * map.now.width) (length bytes.old)) }
+    ensures refused { result ≢ DONE → bytes.new ≡ bytes.old }
+{
+    let mut rows = match BitMap::of(words, map) {
+        Ok(rows) => rows,
+        Err(status) => return status,
+    };
+    let status = room_status(map.height as usize * map.width as usize, bytes.len());
+    if status != DONE {
+        return status;
+    }
+    unpack_rows::<BitMap<'_>>(&mut rows, Shades { free, obstacle }, bytes);
+    DONE
+}

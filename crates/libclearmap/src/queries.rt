@@ -1,0 +1,157 @@
+//! The queries of cells, rectangles and paths, over a map whose words are asked for one by one.
+//! None takes memory.
+
+ghost use Rattle.std.specs.Prelude.{◌≡◌, ◌≢◌, ◌<◌, IfSome, IsSome, ◌↔◌};
+ghost use Rattle.metric.specs.Nearest.{IsNear};
+ghost use Rattle.bits.specs.Edges.{IsBlocked};
+ghost use Rattle.clearance.specs.Answers.{IsClearOf, IsLeastOf, cells_of_rect};
+ghost use Rattle.clearance.specs.Paths.{cells_of_path};
+ghost use Rattle.libclearmap.specs.Kept.{found_kept, near_kept};
+ghost use Rattle.libclearmap.specs.Settings.{distance_numbered, edge_numbered};
+ghost use Rattle.libclearmap.specs.Statuses.{cell_status, first_wrong, path_status, rect_status, setting_status};
+
+use crate::near::{ClearmapFound, ClearmapNear, found_of, kept_of};
+use crate::setting::{along_by, at_by, clear_by, edge_of, kind_of, least_by};
+use crate::status::{DONE, OUTSIDE, refusal_status, setting_status};
+use clearance::Rows;
+use metric::{Cell, Rect};
+use std::alloc::Global;
+
+/// Writes the nearest obstacle of the cell in column `x` and row `y`.
+pub fn at_in<R: Rows>(
+    alloc: Global,
+    rows: &mut R,
+    metric: u32,
+    edge: u32,
+    x: u32,
+    y: u32,
+    near: &mut ClearmapNear,
+) -> u32
+    ensures near { result ≡ DONE → IsNear (distance_numbered metric)
+        (IsBlocked (R.cells rows.old) (edge_numbered edge)) x y (near_kept near.new) }
+    ensures status { result ≡ first_wrong (setting_status metric edge)
+        (cell_status (R.cells rows.old) x y) }
+    ensures refused { result ≢ DONE → near.new ≡ near.old }
+{
+    let status = setting_status(metric, edge);
+    if status != DONE {
+        return status;
+    }
+    let (width, height) = (u32::from(rows.width()), u32::from(rows.height()));
+    if width <= x || height <= y {
+        return OUTSIDE;
+    }
+    let cell = Cell {
+        x: x as u16,
+        y: y as u16,
+    };
+    match at_by::<R>(alloc, kind_of(metric), rows, edge_of(edge), cell) {
+        Ok(found) => {
+            *near = kept_of(found);
+            DONE
+        }
+        Err(refusal) => refusal_status(refusal),
+    }
+}
+
+/// Writes the first cell of the least distance in a rectangle, with its nearest obstacle.
+pub fn rect_in<R: Rows>(
+    alloc: Global,
+    rows: &mut R,
+    metric: u32,
+    edge: u32,
+    x0: u32,
+    y0: u32,
+    x1: u32,
+    y1: u32,
+    found: &mut ClearmapFound,
+) -> u32
+    ensures least { result ≡ DONE → IsLeastOf (distance_numbered metric)
+        (IsBlocked (R.cells rows.old) (edge_numbered edge)) (cells_of_rect x0 y0 x1 y1)
+        (found_kept found.new) }
+    ensures status { result ≡ first_wrong (setting_status metric edge)
+        (rect_status (R.cells rows.old) x0 y0 x1 y1) }
+    ensures refused { result ≢ DONE → found.new ≡ found.old }
+{
+    let status = setting_status(metric, edge);
+    if status != DONE {
+        return status;
+    }
+    let (width, height) = (u32::from(rows.width()), u32::from(rows.height()));
+    if x1 <= x0 || width < x1 || y1 <= y0 || height < y1 {
+        return OUTSIDE;
+    }
+    let rect = Rect {
+        x0: x0 as u16,
+        y0: y0 as u16,
+        x1: x1 as u16,
+        y1: y1 as u16,
+    };
+    match least_by::<R>(alloc, kind_of(metric), rows, edge_of(edge), rect) {
+        Ok(least) => {
+            *found = found_of(least);
+            DONE
+        }
+        Err(refusal) => refusal_status(refusal),
+    }
+}
+
+/// Writes the first cell of the least distance along a path, with its nearest obstacle.
+pub fn path_in<R: Rows>(
+    alloc: Global,
+    rows: &mut R,
+    metric: u32,
+    edge: u32,
+    points: &[Cell],
+    found: &mut ClearmapFound,
+) -> u32
+    ensures least { result ≡ DONE → IsLeastOf (distance_numbered metric)
+        (IsBlocked (R.cells rows.old) (edge_numbered edge)) (cells_of_path points.now)
+        (found_kept found.new) }
+    ensures status { result ≡ first_wrong (setting_status metric edge)
+        (path_status (R.cells rows.old) points.now) }
+    ensures refused { result ≢ DONE → found.new ≡ found.old }
+{
+    let status = setting_status(metric, edge);
+    if status != DONE {
+        return status;
+    }
+    match along_by::<R>(alloc, kind_of(metric), rows, edge_of(edge), points) {
+        Ok(least) => {
+            *found = found_of(least);
+            DONE
+        }
+        Err(refusal) => refusal_status(refusal),
+    }
+}
+
+/// Writes the first cell along a path that is nearer than `d` to an obstacle, with its nearest
+/// obstacle.
+pub fn clear_in<R: Rows>(
+    alloc: Global,
+    rows: &mut R,
+    metric: u32,
+    edge: u32,
+    points: &[Cell],
+    d: u32,
+    found: &mut ClearmapFound,
+) -> u32
+    ensures clear { result ≡ DONE → IsClearOf (distance_numbered metric)
+        (IsBlocked (R.cells rows.old) (edge_numbered edge)) (cells_of_path points.now) d
+        (found_kept found.new) }
+    ensures status { result ≡ first_wrong (setting_status metric edge)
+        (path_status (R.cells rows.old) points.now) }
+    ensures refused { result ≢ DONE → found.new ≡ found.old }
+{
+    let status = setting_status(metric, edge);
+    if status != DONE {
+        return status;
+    }
+    match clear_by::<R>(alloc, kind_of(metric), rows, edge_of(edge), points, d) {
+        Ok(first) => {
+            *found = found_of(first);
+            DONE
+        }
+        Err(refusal) => refusal_status(refusal),
+    }
+}

@@ -1,0 +1,128 @@
+//! The calls over a map in bytes.
+
+ghost use Rattle.std.specs.Prelude.{◌≡◌, ◌≢◌};
+ghost use Rattle.metric.specs.Nearest.{IsNear};
+ghost use Rattle.bits.specs.Edges.{IsBlocked};
+ghost use Rattle.clearance.specs.Answers.{IsClearOf, IsLeastOf, cells_of_rect};
+ghost use Rattle.clearance.specs.Paths.{cells_of_path};
+ghost use Rattle.libclearmap.specs.Kept.{found_kept, near_kept};
+ghost use Rattle.libclearmap.specs.Layouts.{cells_of_bytes};
+ghost use Rattle.libclearmap.specs.Settings.{distance_numbered, edge_numbered};
+ghost use Rattle.libclearmap.specs.Statuses.{bytes_status, cell_status, first_wrong, path_status, rect_status, setting_status};
+
+use crate::byte_map::ByteMap;
+use crate::layout::ClearmapBytes;
+use crate::near::{ClearmapFound, ClearmapNear};
+use crate::queries::{at_in, clear_in, path_in, rect_in};
+use crate::status::DONE;
+use metric::Cell;
+use std::alloc::Global;
+
+/// Writes the nearest obstacle of the cell in column `x` and row `y`.
+#[unsafe(no_mangle)]
+pub extern "C" fn clearmap_bytes_at(
+    alloc: Global,
+    bytes: &[u8],
+    map: &ClearmapBytes,
+    metric: u32,
+    edge: u32,
+    x: u32,
+    y: u32,
+    near: &mut ClearmapNear,
+) -> u32
+    ensures near { result ≡ DONE → IsNear (distance_numbered metric)
+        (IsBlocked (cells_of_bytes map.now bytes.now) (edge_numbered edge)) x y
+        (near_kept near.new) }
+    ensures status { result ≡ first_wrong (bytes_status map.now bytes.now)
+        (first_wrong (setting_status metric edge) (cell_status (cells_of_bytes map.now bytes.now) x
+        y)) }
+    ensures refused { result ≢ DONE → near.new ≡ near.old }
+{
+    match ByteMap::of(bytes, map) {
+        Ok(mut rows) => at_in::<ByteMap<'_>>(alloc, &mut rows, metric, edge, x, y, near),
+        Err(status) => status,
+    }
+}
+
+/// Writes the first cell of the least distance in the columns `x0` to `x1 - 1` and the rows `y0` to
+/// `y1 - 1`, row by row from the top and each row from the left, with its nearest obstacle.
+#[unsafe(no_mangle)]
+pub extern "C" fn clearmap_bytes_rect(
+    alloc: Global,
+    bytes: &[u8],
+    map: &ClearmapBytes,
+    metric: u32,
+    edge: u32,
+    x0: u32,
+    y0: u32,
+    x1: u32,
+    y1: u32,
+    found: &mut ClearmapFound,
+) -> u32
+    ensures least { result ≡ DONE → IsLeastOf (distance_numbered metric)
+        (IsBlocked (cells_of_bytes map.now bytes.now) (edge_numbered edge))
+        (cells_of_rect x0 y0 x1 y1) (found_kept found.new) }
+    ensures status { result ≡ first_wrong (bytes_status map.now bytes.now)
+        (first_wrong (setting_status metric edge) (rect_status (cells_of_bytes map.now bytes.now)
+        x0 y0 x1 y1)) }
+    ensures refused { result ≢ DONE → found.new ≡ found.old }
+{
+    match ByteMap::of(bytes, map) {
+        Ok(mut rows) => {
+            rect_in::<ByteMap<'_>>(alloc, &mut rows, metric, edge, x0, y0, x1, y1, found)
+        }
+        Err(status) => status,
+    }
+}
+
+/// Writes the first cell of the least distance along a path, with its nearest obstacle.
+#[unsafe(no_mangle)]
+pub extern "C" fn clearmap_bytes_path(
+    alloc: Global,
+    bytes: &[u8],
+    map: &ClearmapBytes,
+    metric: u32,
+    edge: u32,
+    points: &[Cell],
+    found: &mut ClearmapFound,
+) -> u32
+    ensures least { result ≡ DONE → IsLeastOf (distance_numbered metric)
+        (IsBlocked (cells_of_bytes map.now bytes.now) (edge_numbered edge))
+        (cells_of_path points.now) (found_kept found.new) }
+    ensures status { result ≡ first_wrong (bytes_status map.now bytes.now)
+        (first_wrong (setting_status metric edge) (path_status (cells_of_bytes map.now bytes.now)
+        points.now)) }
+    ensures refused { result ≢ DONE → found.new ≡ found.old }
+{
+    match ByteMap::of(bytes, map) {
+        Ok(mut rows) => path_in::<ByteMap<'_>>(alloc, &mut rows, metric, edge, points, found),
+        Err(status) => status,
+    }
+}
+
+/// Writes the first cell along a path that is nearer than `d` to an obstacle, with its nearest
+/// obstacle; none where the path is clear.
+#[unsafe(no_mangle)]
+pub extern "C" fn clearmap_bytes_clear_of(
+    alloc: Global,
+    bytes: &[u8],
+    map: &ClearmapBytes,
+    metric: u32,
+    edge: u32,
+    points: &[Cell],
+    d: u32,
+    found: &mut ClearmapFound,
+) -> u32
+    ensures clear { result ≡ DONE → IsClearOf (distance_numbered metric)
+        (IsBlocked (cells_of_bytes map.now bytes.now) (edge_numbered edge))
+        (cells_of_path points.now) d (found_kept found.new) }
+    ensures status { result ≡ first_wrong (bytes_status map.now bytes.now)
+        (first_wrong (setting_status metric edge) (path_status (cells_of_bytes map.now bytes.now)
+        points.now)) }
+    ensures refused { result ≢ DONE → found.new ≡ found.old }
+{
+    match ByteMap::of(bytes, map) {
+        Ok(mut rows) => clear_in::<ByteMap<'_>>(alloc, &mut rows, metric, edge, points, d, found),
+        Err(status) => status,
+    }
+}

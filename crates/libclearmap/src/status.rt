@@ -1,0 +1,94 @@
+//! The statuses of calls, in the order in which calls are looked at: the first that fits is told.
+
+ghost use Rattle.std.specs.Prelude.{◌≡◌, ◌≤◌};
+ghost use Rattle.libclearmap.specs.Layouts.{IsShape};
+ghost use Rattle.libclearmap.specs.Statuses.{refusal_status, room_status, setting_status, shape_status};
+
+use metric::{MOST_SIDE, Refusal};
+
+/// The call is done.
+pub const DONE: u32 = 0;
+
+/// A side of the map is 0, or over 4096.
+pub const SIZE: u32 = 1;
+
+/// The stride is less than a row, or 2^32 or more.
+pub const STRIDE: u32 = 2;
+
+/// The map's memory ends before its last row does.
+pub const LENGTH: u32 = 3;
+
+/// There is no metric of this number.
+pub const METRIC: u32 = 4;
+
+/// There is no edge of this number.
+pub const EDGE: u32 = 5;
+
+/// A path has no point, or over 1000.
+pub const POINTS: u32 = 6;
+
+/// A cell, a row, a rectangle or a point isn't in the map; or rows end before they begin; or a
+/// rectangle has no cell.
+pub const OUTSIDE: u32 = 7;
+
+/// A point of a path is neither in the row nor in the column of the point before it.
+pub const CROOKED: u32 = 8;
+
+/// There is too little room for the answers.
+pub const ROOM: u32 = 9;
+
+/// The C library had no memory for the call.
+pub const MEMORY: u32 = 10;
+
+/// The largest stride.
+const MOST_STRIDE: usize = 0xffff_ffff;
+
+/// The status of a map whose rows have `across` items each, `stride` apart, in `count` items.
+pub fn shape_status(width: u32, height: u32, across: usize, stride: usize, count: usize) -> u32
+    ensures status { result ≡ shape_status width height across stride count }
+    ensures shape { result ≡ DONE → IsShape width height across stride count }
+{
+    let most = u32::from(MOST_SIDE);
+    if width < 1 || most < width || height < 1 || most < height {
+        return SIZE;
+    }
+    if stride < across || MOST_STRIDE < stride {
+        return STRIDE;
+    }
+    if count < (height as usize - 1) * stride + across {
+        return LENGTH;
+    }
+    DONE
+}
+
+/// The status of the numbers of a metric and an edge.
+pub fn setting_status(metric: u32, edge: u32) -> u32
+    ensures { result ≡ setting_status metric edge }
+{
+    if metric > 2 {
+        METRIC
+    } else if edge > 1 {
+        EDGE
+    } else {
+        DONE
+    }
+}
+
+/// The status of room for so many answers where so many are needed.
+pub fn room_status(needed: usize, count: usize) -> u32
+    ensures status { result ≡ room_status needed count }
+    ensures room { result ≡ DONE → needed ≤ count }
+{
+    if count < needed { ROOM } else { DONE }
+}
+
+/// The status of a path that is refused for this.
+pub fn refusal_status(refusal: Refusal) -> u32
+    ensures { result ≡ refusal_status refusal }
+{
+    match refusal {
+        Refusal::BadPath => POINTS,
+        Refusal::OutOfRange => OUTSIDE,
+        _ => CROOKED,
+    }
+}

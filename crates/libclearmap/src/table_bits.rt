@@ -1,0 +1,76 @@
+//! The calls for all cells of some rows of a map in bits.
+
+ghost use Rattle.std.specs.Prelude.{◌≡◌, ◌≢◌, ℕ, ◌-◌, ◌*◌, ◌≤◌, length, slice_index, slice_index_or, take};
+ghost use Rattle.field.specs.Bands.{AreAnswers};
+ghost use Rattle.libclearmap.specs.Distances.{AreDistances};
+ghost use Rattle.libclearmap.specs.Kept.{kept_nothing, near_kept};
+ghost use Rattle.libclearmap.specs.Layouts.{cells_of_bits};
+ghost use Rattle.libclearmap.specs.Settings.{distance_numbered, edge_numbered};
+ghost use Rattle.libclearmap.specs.Statuses.{IsStatus, bits_status, first_wrong, table_status};
+
+use crate::bit_map::BitMap;
+use crate::layout::ClearmapBits;
+use crate::near::ClearmapNear;
+use crate::status::DONE;
+use crate::tables::{distances_in, nearest_in};
+use std::alloc::Global;
+
+/// Writes the distances of the cells of rows `y0` to `y1 - 1`, row by row, each row from the left;
+/// `u32::MAX` where there is no obstacle.
+#[unsafe(no_mangle)]
+pub extern "C" fn clearmap_bits_distances(
+    alloc: Global,
+    words: &[u64],
+    map: &ClearmapBits,
+    metric: u32,
+    edge: u32,
+    y0: u32,
+    y1: u32,
+    distances: &mut [u32],
+) -> u32
+    ensures rows { result ≡ DONE → AreDistances (distance_numbered metric)
+        (cells_of_bits map.now words.now) (edge_numbered edge) y0 y1
+        (take ((y1 - y0) * map.now.width) distances.new) }
+    ensures rest { (k : ℕ) → (y1 - y0) * map.now.width ≤ k → slice_index distances.new k
+        ≡ slice_index distances.old k }
+    ensures status { IsStatus (first_wrong (bits_status map.now words.now)
+        (table_status (cells_of_bits map.now words.now) metric edge y0 y1 (length distances.old)))
+        result }
+    ensures refused { result ≢ DONE → distances.new ≡ distances.old }
+{
+    match BitMap::of(words, map) {
+        Ok(mut rows) => distances_in::<BitMap<'_>>(
+            alloc, &mut rows, metric, edge, y0, y1, distances,
+        ),
+        Err(status) => status,
+    }
+}
+
+/// Writes the nearest obstacles of the cells of rows `y0` to `y1 - 1`, row by row, each row from
+/// the left.
+#[unsafe(no_mangle)]
+pub extern "C" fn clearmap_bits_nearest(
+    alloc: Global,
+    words: &[u64],
+    map: &ClearmapBits,
+    metric: u32,
+    edge: u32,
+    y0: u32,
+    y1: u32,
+    nears: &mut [ClearmapNear],
+) -> u32
+    ensures rows { result ≡ DONE → AreAnswers (λ distance x y kept. near_kept kept) kept_nothing
+        (distance_numbered metric) (cells_of_bits map.now words.now) (edge_numbered edge) y0 y1
+        (take ((y1 - y0) * map.now.width) nears.new) }
+    ensures rest { (k : ℕ) → (y1 - y0) * map.now.width ≤ k → slice_index_or nears.new k
+        kept_nothing ≡ slice_index_or nears.old k kept_nothing }
+    ensures status { IsStatus (first_wrong (bits_status map.now words.now)
+        (table_status (cells_of_bits map.now words.now) metric edge y0 y1 (length nears.old)))
+        result }
+    ensures refused { result ≢ DONE → nears.new ≡ nears.old }
+{
+    match BitMap::of(words, map) {
+        Ok(mut rows) => nearest_in::<BitMap<'_>>(alloc, &mut rows, metric, edge, y0, y1, nears),
+        Err(status) => status,
+    }
+}
