@@ -39,9 +39,7 @@ pub fn measure<M: Metric>(
     let width = bitmap.width() + 2 * before;
     let mut columns = Columns::of(alloc, bitmap, edge, y0 + before, y1 + before)?;
     let mut stack = Stack::new(alloc, width)?;
-    let Ok(mut line) = vec![in alloc; ObstacleCell::none(); usize::from(bitmap.width())] else {
-        return Err(Refusal::Memory);
-    };
+    let mut line = vec![in alloc; ObstacleCell::none(); usize::from(bitmap.width())]?;
     measure_rows::<M>(
         bitmap,
         edge,
