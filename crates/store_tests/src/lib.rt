@@ -10,6 +10,8 @@ mod keeping;
 #[cfg(test)]
 mod lines;
 #[cfg(test)]
+mod one_run;
+#[cfg(test)]
 mod opened;
 #[cfg(test)]
 mod places;

@@ -1,6 +1,7 @@
 //! Served streams, what no clause says: that memory is found, and worked streams with answers from outside.
 
 ghost use Rattle.std.specs.Prelude.{◌≡◌};
+ghost use Rattle.proto.specs.Wire.{CanGoOn};
 
 mod asked;
 mod failing;
@@ -12,7 +13,7 @@ mod worked;
 use crate::compare::same;
 use crate::opened::{Spotted, hand_back, next, open};
 use map_core::{Reply, Setting};
-use metric::{Edge, MemorySink, MemorySource, MemoryStream};
+use metric::{Edge, MemorySink, MemorySource, MemoryStream, Stream};
 use proto::{End, Streams, pool, serve_stream};
 use session::Blank;
 use shelf::StoreName;
@@ -67,16 +68,17 @@ fn stream_of<'a>(alloc: Global, input: Input<'a>) -> MemoryStream<'a>
     MemoryStream::new(source, sink)
 }
 
-/// Serves a stream in memory with the session of a store that is opened for it, and looks that the pin was left: by a collect after a publish the newest version alone
-/// is kept, and nobody else made an entry. Answers what came of it.
-fn serve_in<Id: StoreName, R: Wait + Abort>(
+/// Serves a stream with the session of a store that is opened for it, and looks that the pin was
+/// left: by a collect after a publish the newest version alone is kept, and nobody else made an
+/// entry. Answers what came of it.
+fn serve_in<Id: StoreName, R: Wait + Abort, S: Stream>(
     rt: &R,
     alloc: Global,
     blank: Blank,
-    stream: &mut MemoryStream<'_>,
+    stream: &mut S,
 ) -> Result<(End, u32), Fail>
     requires blank { blank ≡ Id.store }
-    requires stream { (stream.old.read.failed ≡ 0) × (stream.old.written.failed ≡ 0) }
+    requires stream { CanGoOn (S.wire stream.old) }
 {
     let (store, mut sessions) = open::<Id>(alloc, blank)?;
     let session = next(rt, &mut sessions);
@@ -105,7 +107,7 @@ fn serve<R: Wait + Abort>(
     input: Input<'_>,
 ) -> Result<Run, Fail> {
     let mut stream = stream_of(alloc, input);
-    let (end, entries) = serve_in::<Brand, _>(rt, alloc, blank, &mut stream)?;
+    let (end, entries) = serve_in::<Brand, _, _>(rt, alloc, blank, &mut stream)?;
     Ok(Run {
         end,
         written: Vec::from_slice(alloc, stream.bytes())?,

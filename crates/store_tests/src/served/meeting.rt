@@ -15,11 +15,14 @@ use std::thread;
 /// How often a stream looks whether the others have come so far.
 const MOST_TURNS: u32 = 50_000_000;
 
-/// What the streams tell one another, and the test: which of four have come, a bit for each; what the two have begun, or 0; and what was written.
+/// What the streams tell one another, and the test: which of four have come, a bit for each; what
+/// the two have begun or done, or 0; and what was written.
 #[derive(Drop)]
 struct Signals {
     come: AtomicU64,
     first_replies: AtomicU64,
+    first_replied: AtomicU64,
+    first_waits: AtomicU64,
     second_painted: AtomicU64,
     second_bade: AtomicU64,
     right_bytes: AtomicU64,
@@ -40,11 +43,14 @@ fn is_seen(signal: &AtomicU64, least: u64) -> bool {
 /// All of four have come.
 const ALL: u64 = 0b1111;
 
-/// Which stream one is: the first of two, the second, or the one of four that has this bit.
+/// Which stream one is: the first or the second of two that meet at the first one's reply, or once
+/// it was taken; or the one of four that has this bit.
 #[derive(Clone, Copy, PartialEq)]
 enum Role {
     First,
     Second,
+    FirstReplied,
+    SecondAfter,
     OneOfFour(u64),
 }
 
@@ -78,11 +84,20 @@ impl<'a> Meeting<'a> {
         }
     }
 
-    /// Whether the next byte may be read. The first stream's second line waits for the second stream's BYE, and the second stream's first one for the first stream's
-    /// reply. One of four comes, and waits for the others.
+    /// Whether the next byte may be read. The first stream's second line waits for the second
+    /// stream's BYE. The second stream's first one waits for the first stream's reply: until it is
+    /// to be written, or until it was taken and the first stream's wait has begun. One of four comes,
+    /// and waits for the others.
     fn may_read(&self) -> bool {
         match (self.role, self.lines) {
             (Role::First, 1) => is_seen(&self.signals.second_bade, 1),
+            (Role::FirstReplied, 1) => {
+                self.signals.first_waits.store(1, Ordering::SeqCst);
+                is_seen(&self.signals.second_bade, 1)
+            }
+            (Role::SecondAfter, 0) => {
+                is_seen(&self.signals.first_replied, 1) && is_seen(&self.signals.first_waits, 1)
+            }
             (Role::Second, 0) => is_seen(&self.signals.first_replies, 1),
             (Role::OneOfFour(bit), 0) => {
                 self.signals.come.fetch_or(bit, Ordering::SeqCst);
@@ -104,6 +119,17 @@ impl<'a> Meeting<'a> {
                 true
             }
             _ => true,
+        }
+    }
+
+    /// Tells that a reply was taken: the first one of the first stream, and the second stream's BYE.
+    fn tell_taken(&self) {
+        match self.role {
+            Role::FirstReplied => self.signals.first_replied.store(1, Ordering::SeqCst),
+            Role::Second | Role::SecondAfter if self.expected.is_empty() => {
+                self.signals.second_bade.store(1, Ordering::SeqCst);
+            }
+            _ => {}
         }
     }
 
@@ -164,9 +190,7 @@ impl Sink for Meeting<'_> {
             }
         }
         self.replies = self.replies.saturating_add(1);
-        if self.role == Role::Second && self.expected.is_empty() {
-            self.signals.second_bade.store(1, Ordering::SeqCst);
-        }
+        self.tell_taken();
         Ok(())
     }
 
@@ -201,6 +225,20 @@ const TWO: [Talk; 2] = [
     (Role::Second, b"PAINT 0 0 2 1\nQUIT\n", b"OK 2 1\nBYE\n"),
 ];
 
+/// Two streams, the second of which begins once the first one's reply was taken.
+const TAKEN: [Talk; 2] = [
+    (
+        Role::FirstReplied,
+        b"PAINT 0 0 1 1\nQUIT\n",
+        b"OK 1 1\nBYE\n",
+    ),
+    (
+        Role::SecondAfter,
+        b"PAINT 0 0 2 1\nQUIT\n",
+        b"OK 2 1\nBYE\n",
+    ),
+];
+
 /// As many at once as a pool has workers: each waits for all others before its first line. What they are told isn't looked at.
 const FOUR: [Talk; 4] = [
     (Role::OneOfFour(1), b"PAINT 0 0 1 1\nQUIT\nREVERT\n", b""),
@@ -231,12 +269,14 @@ impl<'a> Streams for Talks<'a> {
 
 #[test]
 fn connections_meet(rt: HostRuntime) -> Result<(), Fail> {
-    for talks in [TWO.as_slice(), FOUR.as_slice()] {
+    for talks in [TWO.as_slice(), TAKEN.as_slice(), FOUR.as_slice()] {
         let sessions = talks.len() as u32;
         let blank = blank(&rt, rt.alloc(), setting(2, sessions), SQUARE)?;
         let signals = Signals {
             come: AtomicU64::new(0),
             first_replies: AtomicU64::new(0),
+            first_replied: AtomicU64::new(0),
+            first_waits: AtomicU64::new(0),
             second_painted: AtomicU64::new(0),
             second_bade: AtomicU64::new(0),
             right_bytes: AtomicU64::new(0),
