@@ -154,7 +154,7 @@ static int stays(clearmap_found found) {
 
 /* ---- Answers --------------------------------------------------------------------------------- */
 
-/* All cells of some rows, from bytes and from bits, against the table; the item after them stays. */
+/* All cells of some rows, from bytes and bits, against the table; the item after them stays. */
 static void try_rows(const struct map *m, uint32_t metric, uint32_t edge, clearmap_near *table) {
     uint32_t width = m->in_bytes.width, height = m->in_bytes.height;
     size_t all = (size_t)width * height;
