@@ -15,8 +15,8 @@
  *         metres = sqrt(near.dist) * metres_per_cell;
  *
  * Status. Each call returns CLEARMAP_DONE (0), or what is wrong with it. A call that is not done
- * has written nothing. Where several things are wrong, the status is the first of them, in the order
- * of their numbers.
+ * has written nothing. Where several things are wrong, the status is the first of them, in the
+ * order of their numbers.
  *
  * Threads. The library keeps nothing between calls and starts no thread. Any thread may make any
  * call at any time, also while others read the same map. What a call writes, and a map that some

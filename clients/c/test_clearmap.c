@@ -2,7 +2,8 @@
  * Tests of libclearmap from C: each status of each call, answers against a search of all obstacles,
  * what is left as it was, each request for memory refused in turn, threads on bands of one map.
  *
- *     test_clearmap [MAPS]      how many random maps; 40 if it is left out
+ *     test_clearmap [MAPS]      how many random maps, 40 if it is left out; with over 5 also the
+ *                               largest map
  *
  * Linked with -Wl,--wrap=malloc. Its last line has counts; its status is 1 where one is wrong.
  */
@@ -153,7 +154,7 @@ static int stays(clearmap_found found) {
 
 /* ---- Answers --------------------------------------------------------------------------------- */
 
-/* All cells of some rows, from bytes and from bits, against the table; the item after them stays. */
+/* All cells of some rows, from bytes and bits, against the table; the item after them stays. */
 static void try_rows(const struct map *m, uint32_t metric, uint32_t edge, clearmap_near *table) {
     uint32_t width = m->in_bytes.width, height = m->in_bytes.height;
     size_t all = (size_t)width * height;
@@ -542,12 +543,46 @@ static void try_threads(void) {
     drop(&m);
 }
 
+/* The largest map, with one obstacle in its last cell. */
+static void try_largest(void) {
+    const uint32_t side = 4096, last = side - 1;
+    const uint32_t far[] = {2 * last * last, 2 * last, last};
+    size_t all = (size_t)side * side;
+    struct map m = {.in_bytes = {side, side, side, 1, 255}, .length = all};
+    m.bytes = room(all);
+    memset(m.bytes, 0, all);
+    m.bytes[all - 1] = 9;
+    m.words_length = all / 64;
+    m.words = room(8 * m.words_length);
+    CHECK(!clearmap_pack(m.bytes, all, &m.in_bytes, m.words, m.words_length, &m.in_bits));
+    CHECK(m.in_bits.bands == 1ull << 63);
+    uint32_t *distances = room(4 * all);
+    clearmap_near near;
+    clearmap_found found;
+    for (uint32_t metric = 0; metric < 3; metric++) {
+        CHECK(!clearmap_bits_distances(m.words, m.words_length, &m.in_bits, metric, 0, 0, side,
+                                       distances, all));
+        CHECK(distances[0] == far[metric] && distances[all - 1] == 0);
+        CHECK(!clearmap_bits_at(m.words, m.words_length, &m.in_bits, metric, 0, 0, 0, &near));
+        CHECK(same(near, (clearmap_near){far[metric], (int16_t)last, (int16_t)last}));
+        CHECK(!clearmap_bytes_at(m.bytes, all, &m.in_bytes, metric, 1, 0, 0, &near));
+        CHECK(same(near, (clearmap_near){1, -1, 0}));
+        CHECK(!clearmap_bits_rect(m.words, m.words_length, &m.in_bits, metric, 0, 0, 0, side, side,
+                                  &found));
+        CHECK(found.cell.x == last && found.cell.y == last && found.near.dist == 0);
+    }
+    free(distances);
+    drop(&m);
+}
+
 int main(int argc, char **argv) {
+    int maps = argc > 1 ? atoi(argv[1]) : 40;
     try_statuses();
     try_pack_statuses();
     long refused = try_memory();
     try_threads();
-    try_maps(argc > 1 ? atoi(argv[1]) : 40);
+    try_maps(maps);
+    if (maps > 5) try_largest();
     printf("test_clearmap: %ld checks, %ld requests refused, %ld wrong\n", tried, refused, wrong);
     return wrong != 0;
 }
