@@ -12,6 +12,7 @@ import clearmap
 import clearmap_ros as ros
 import picture
 from asking import Asking, BadRequest
+from draft import Draft
 from watched import Watched, in_words
 
 PAGE = pathlib.Path(__file__).resolve().parent / "page"
@@ -45,7 +46,8 @@ class Site:
         self.port, self.program, self.frame, self.read_only = port, program, frame, read_only
         self.hosts = {f"{name}:{own}" for name in ("127.0.0.1", "localhost")}
         self.token = "" if read_only else secrets.token_urlsafe(24)
-        self.watched = Watched(port)
+        self.draft = Draft()
+        self.watched = Watched(port, self.draft.lost)
         self.shown: List[Shown] = []  # the newest, and the one before it
         self.pinned = (0, 0)
         self.serial = 0
@@ -63,7 +65,7 @@ class Site:
 
     def state(self) -> Dict[str, object]:
         """What each page is told when it changes."""
-        told: Dict[str, object] = {"fault": self.fault, "readOnly": self.read_only, "port": self.port}
+        told: Dict[str, object] = {"fault": self.fault, "readOnly": self.read_only, "port": self.port, "draft": self.draft.state()}
         if self.shown:
             shown = self.shown[0]
             frame = self.frame_of(shown)
@@ -85,7 +87,7 @@ class Site:
         if self.listeners == 0:
             return await asyncio.to_thread(self.watched.rest)
         try:
-            pinned = await asyncio.to_thread(self.watched.renew)
+            pinned = await asyncio.to_thread(self.watched.renew, self.draft.saw)
             if pinned != self.pinned or not self.shown:
                 image, edge = await asyncio.to_thread(self.watched_map)
                 self.serial += 1
