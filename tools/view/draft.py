@@ -2,7 +2,7 @@
 changed from here, and what the places of the log tell. Each accepted command of any client takes a
 place, so one that isn't the next after our own is a sign of others."""
 import threading
-from typing import Dict, List, NamedTuple, Sequence, Tuple
+from typing import Dict, List, NamedTuple, Optional, Sequence, Tuple
 
 QUESTION = "The draft may hold changes of others, which this page can't show. Publish all of it?"
 
@@ -30,6 +30,8 @@ class Draft:
     def _forget(self) -> None:
         self._drawn: List[Drawn] = []
         self._last, self._alone, self._overtaken = 0, False, False
+        self._sent: Dict[int, List[Drawn]] = {}
+        self._found = ""
 
     def _take(self, place: int) -> None:
         """Takes a place of our own."""
@@ -60,7 +62,21 @@ class Draft:
         one at the earliest."""
         with self._lock:
             self._version, self._last = version, self._last + 1
+            self._sent, self._found = {version: self._drawn}, ""
             self._drawn, self._alone, self._overtaken = [], True, False
+
+    def sent(self, version: int) -> Optional[List[Tuple[Sequence[int], bool]]]:
+        """The rectangles from here of the version that was published from here last."""
+        with self._lock:
+            drawn = self._sent.get(version)
+        return None if drawn is None else [(it.rect, it.command == "paint") for it in drawn]
+
+    def found(self, version: int, cells: int) -> None:
+        """So many cells of a version that was published from here were changed by others."""
+        with self._lock:
+            if cells and version in self._sent:
+                count = "1 cell" if cells == 1 else f"{cells} cells"
+                self._found = f" Version {version} was published with {count} that others changed."
 
     def saw(self, version: int) -> None:
         """A version is the newest. One that others published may have our changes in it."""
@@ -85,7 +101,7 @@ class Draft:
     def state(self) -> Dict[str, object]:
         """What each page is told."""
         with self._lock:
-            drawn, overtaken = list(self._drawn), self._overtaken
+            drawn, overtaken, found = list(self._drawn), self._overtaken, self._found
         said = "Nothing changed from here."
         if drawn:
             first, last = drawn[0].place, drawn[-1].place
@@ -95,7 +111,7 @@ class Draft:
                 said += f" (places {first} to {last} of the log)."
             if overtaken:
                 said += " Another client has published since: they may be in its version."
-        said += " Changes of others may be in the draft, which no request shows."
+        said += found + " Changes of others may be in the draft, which no request shows."
         return {
             "drawn": [{"command": it.command, "rect": it.rect, "place": it.place} for it in drawn],
             "said": said,

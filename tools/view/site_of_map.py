@@ -90,6 +90,7 @@ class Site:
             pinned = await asyncio.to_thread(self.watched.renew, self.draft.saw)
             if pinned != self.pinned or not self.shown:
                 image, edge = await asyncio.to_thread(self.watched_map)
+                await asyncio.to_thread(self.compare, pinned[1], image)
                 self.serial += 1
                 self.shown = [Shown(self.serial, pinned[1], image, edge), *self.shown[:1]]
                 self.pinned = pinned
@@ -100,6 +101,13 @@ class Site:
             said = f"The server at port {self.port} can't be asked: {fault}. It is tried again."
             if said != self.fault:
                 await self.tell(said)
+
+    def compare(self, version: int, image: bytes) -> None:
+        """Looks for changes of others in a version that was published from here: it was shown as the one before it, with what was drawn."""
+        drawn = self.draft.sent(version)
+        if drawn is None or not self.shown or self.shown[0].version + 1 != version or picture.size_of(self.shown[0].image) != picture.size_of(image):
+            return
+        self.draft.found(version, picture.differing(self.shown[0].image, drawn, image))
 
     def watched_map(self) -> Tuple[bytes, str]:
         """The pinned version, and whether its border is open or a wall, as it shows where its neighbours are free."""

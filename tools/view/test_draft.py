@@ -69,10 +69,7 @@ class DraftRequests(Viewing):
         viewed, state = self.view()
         self.assertEqual(
             (state["draft"]["drawn"], state["draft"]["said"]),
-            (
-                [],
-                "Nothing changed from here. " + OTHERS,
-            ),
+            ([], "Nothing changed from here. " + OTHERS),
         )
         self.give(viewed, "paint", rect=[0, 0, 2, 1])
         self.assertIn(
@@ -119,6 +116,24 @@ class DraftRequests(Viewing):
             self.assertIn("asks", self.give(viewed, "publish"))
             self.give(viewed, "revert")
             self.assertNotIn("asks", self.give(viewed, "publish"))
+
+    def test_what_others_changed_at_last(self):
+        """What came after the last place of this page is found in the version."""
+        viewed, _ = self.view()
+        self.give(viewed, "paint", rect=[0, 0, 2, 1])
+        with clearmap.Client(self.served.port) as other:
+            other.paint(1, 0, 3, 1)
+            other.clear(2, 1, 3, 2)
+            self.give(viewed, "publish")
+            state = next(it for it in viewed.events() if it.get("version") == 1)
+            self.assertIn(
+                "Version 1 was published with 2 cells that others changed.", state["draft"]["said"]
+            )
+            self.give(viewed, "paint", rect=[4, 0, 6, 1])
+            self.give(viewed, "clear", rect=[5, 0, 6, 1])
+            self.give(viewed, "publish", sure=True)
+            state = next(it for it in viewed.events() if it.get("version") == 2)
+            self.assertEqual(state["draft"]["said"], "Nothing changed from here. " + OTHERS)
 
     def test_a_draft_that_another_publishes(self):
         viewed, _ = self.view()
