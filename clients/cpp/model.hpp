@@ -1,5 +1,5 @@
-// A model of the map that the tests of clearmap.hpp ask about: 64 by 48 cells with one obstacle, and
-// questions drawn at random, each with its answer.
+// A model of the map that the tests of clearmap.hpp ask about: 64 by 48 cells with one obstacle,
+// and questions drawn at random, each with its answer.
 #ifndef CLEARMAP_MODEL_HPP
 #define CLEARMAP_MODEL_HPP
 

@@ -155,7 +155,8 @@ class Asking:
         name = str(body.get("command"))
         if name == "publish" and self.site.draft.asks and body.get("sure") is not True:
             return web.json_response({"asks": QUESTION})
-        call = self.drawing(name, body.get("rect")) if name in ("paint", "clear") else self.commands().get(name)
+        draws = name in ("paint", "clear")
+        call = self.drawing(name, body.get("rect")) if draws else self.commands().get(name)
         if call is None:
             raise BadRequest("no such command")
         try:
@@ -169,14 +170,17 @@ class Asking:
 
     def drawing(self, name: str, rect: object) -> Callable[[clearmap.Client], str]:
         """A paint or a clear of a rectangle."""
-        if not isinstance(rect, list) or len(rect) != 4 or not all(isinstance(side, int) and not isinstance(side, bool) for side in rect):
+        sides = rect if isinstance(rect, list) else []
+        if len(sides) != 4 or any(type(side) is not int for side in sides):
             raise BadRequest("a rectangle is four whole numbers")
-        draw = clearmap.Client.paint if name == "paint" else clearmap.Client.clear
+        paints = name == "paint"
+        draw = clearmap.Client.paint if paints else clearmap.Client.clear
 
         def call(client: clearmap.Client) -> str:
-            done = draw(client, *rect)
-            self.site.draft.drew(name, rect, done.place)
-            return f"{done.changed} cells of the draft {'painted' if name == 'paint' else 'cleared'}, place {done.place} of the log."
+            done = draw(client, *sides)
+            self.site.draft.drew(name, sides, done.place)
+            changed = f"{done.changed} cells of the draft {'painted' if paints else 'cleared'}"
+            return f"{changed}, place {done.place} of the log."
 
         return call
 
@@ -197,7 +201,8 @@ class Asking:
         def collect(client: clearmap.Client) -> str:
             done = client.collect()
             draft.passed(done.place)
-            return f"Collected: {done.floor} is the least version that is kept, and {done.freed} blocks came back."
+            kept = f"{done.floor} is the least version that is kept"
+            return f"Collected: {kept}, and {done.freed} blocks came back."
 
         def checkpoint(client: clearmap.Client) -> str:
             place = client.checkpoint()

@@ -117,8 +117,8 @@ def bits_of(image: bytes) -> "numpy.ndarray[object, object]":
 
 
 def differing(before: bytes, drawn: Iterable[Tuple[Sequence[int], bool]], after: bytes) -> int:
-    """In how many cells an image differs from the one before it with these rectangles drawn in turn,
-    each of obstacles or of free cells."""
+    """In how many cells an image differs from the one before it with these rectangles drawn in
+    turn, each of obstacles or of free cells."""
     cells = bits_of(before).copy()
     for (x0, y0, x1, y1), obstacle in drawn:
         cells[y0:y1, x0:x1] = obstacle

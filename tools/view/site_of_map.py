@@ -65,7 +65,8 @@ class Site:
 
     def state(self) -> Dict[str, object]:
         """What each page is told when it changes."""
-        told: Dict[str, object] = {"fault": self.fault, "readOnly": self.read_only, "port": self.port, "draft": self.draft.state()}
+        told: Dict[str, object] = {"fault": self.fault, "readOnly": self.read_only, "port": self.port}
+        told["draft"] = self.draft.state()
         if self.shown:
             shown = self.shown[0]
             frame = self.frame_of(shown)
@@ -103,11 +104,14 @@ class Site:
                 await self.tell(said)
 
     def compare(self, version: int, image: bytes) -> None:
-        """Looks for changes of others in a version that was published from here: it was shown as the one before it, with what was drawn."""
+        """Looks for changes of others in a version that was published from here: the page showed it
+        as the one before it, with what was drawn."""
         drawn = self.draft.sent(version)
-        if drawn is None or not self.shown or self.shown[0].version + 1 != version or picture.size_of(self.shown[0].image) != picture.size_of(image):
+        if drawn is None or not self.shown or self.shown[0].version + 1 != version:
             return
-        self.draft.found(version, picture.differing(self.shown[0].image, drawn, image))
+        before = self.shown[0].image
+        if picture.size_of(before) == picture.size_of(image):
+            self.draft.found(version, picture.differing(before, drawn, image))
 
     def watched_map(self) -> Tuple[bytes, str]:
         """The pinned version, and whether its border is open or a wall, as it shows where its neighbours are free."""

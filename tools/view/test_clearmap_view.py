@@ -17,7 +17,8 @@ import time
 import unittest
 import zlib
 
-from testing import HERE, PATIENCE, POST, YAML, ActionChains, By, InBrowser, Select, Viewed, Viewing, webdriver
+from testing import HERE, PATIENCE, POST, YAML, ActionChains, By, InBrowser
+from testing import Select, Viewed, Viewing, webdriver
 
 import clearmap
 import numpy

@@ -1,4 +1,4 @@
-"""What the tests of clearmap-view share: a page's server, its answers, and the page in headless Chromium."""
+"""What the tests of clearmap-view share: a page's server, its answers, and headless Chromium."""
 import http.client
 import json
 import pathlib
@@ -9,7 +9,12 @@ import sys
 import unittest
 
 HERE = pathlib.Path(__file__).resolve().parent
-sys.path[:0] = [str(HERE), str(HERE.parent), str(HERE.parent.parent / "clients/python"), str(HERE.parent / "ros")]
+sys.path[:0] = [
+    str(HERE),
+    str(HERE.parent),
+    str(HERE.parent.parent / "clients/python"),
+    str(HERE.parent / "ros"),
+]
 
 from served import Served
 
@@ -32,7 +37,15 @@ class Viewed:
     """A clearmap-view of a port, with a page's port that the system picks."""
 
     def __init__(self, port, *words):
-        words = [sys.executable, str(HERE / "clearmap_view.py"), "--port", str(port), "--web", "0", *words]
+        words = [
+            sys.executable,
+            str(HERE / "clearmap_view.py"),
+            "--port",
+            str(port),
+            "--web",
+            "0",
+            *words,
+        ]
         self.process = subprocess.Popen(words, stdout=subprocess.PIPE, text=True)
         self.url = self.process.stdout.readline().split()[1]
         self.port = int(self.url.rsplit(":", 1)[1].strip("/"))
@@ -40,7 +53,12 @@ class Viewed:
     def ask(self, method, path, body=None, **headers):
         """The status and the body of a request's answer."""
         connection = http.client.HTTPConnection("127.0.0.1", self.port, timeout=PATIENCE)
-        connection.request(method, path, body=body, headers={name.replace("_", "-"): value for name, value in headers.items()})
+        connection.request(
+            method,
+            path,
+            body=body,
+            headers={name.replace("_", "-"): value for name, value in headers.items()},
+        )
         answer = connection.getresponse()
         text = answer.read()
         connection.close()
@@ -81,7 +99,9 @@ class Viewing(unittest.TestCase):
         while "version" not in state:
             state = next(states)
         self.states = states
-        self.token = re.search(rb'name="token" content="([^"]*)"', viewed.ask("GET", "/")[1])[1].decode()
+        self.token = re.search(rb'name="token" content="([^"]*)"', viewed.ask("GET", "/")[1])[
+            1
+        ].decode()
         return viewed, state
 
 
@@ -92,7 +112,12 @@ def browser():
         return None
     options = webdriver.ChromeOptions()
     options.binary_location = binary
-    for word in ("--headless=new", "--no-sandbox", "--disable-dev-shm-usage", "--window-size=1100,760"):
+    for word in (
+        "--headless=new",
+        "--no-sandbox",
+        "--disable-dev-shm-usage",
+        "--window-size=1100,760",
+    ):
         options.add_argument(word)
     options.set_capability("goog:loggingPrefs", {"browser": "ALL"})
     return webdriver.Chrome(service=Service(driver), options=options)
@@ -105,7 +130,10 @@ class InBrowser(unittest.TestCase):
     def setUpClass(cls):
         cls.driver = browser()
         if cls.driver is None:
-            print("the page isn't tried: install chromium, chromium-driver and python3-selenium", file=sys.stderr)
+            print(
+                "the page isn't tried: install chromium, chromium-driver and python3-selenium",
+                file=sys.stderr,
+            )
             raise unittest.SkipTest("no browser")
         cls.addClassCleanup(cls.driver.quit)
 
@@ -125,7 +153,9 @@ class InBrowser(unittest.TestCase):
 
     def middle(self, x, y):
         """Where the middle of a cell is on the canvas."""
-        return self.driver.execute_script("return window.clearmapView.pixel(arguments[0] + 0.5, arguments[1] + 0.5)", x, y)
+        return self.driver.execute_script(
+            "return window.clearmapView.pixel(arguments[0] + 0.5, arguments[1] + 0.5)", x, y
+        )
 
     def colour(self, x, y):
         """The picture's colour at a cell, which is waited for to be drawn."""
@@ -134,7 +164,8 @@ class InBrowser(unittest.TestCase):
             const [px, py] = window.clearmapView.pixel(x + 0.5, y + 0.5).map((at) => Math.round(at * devicePixelRatio));
             const context = document.getElementById("picture").getContext("2d");
             requestAnimationFrame(() => setTimeout(() => done(Array.from(context.getImageData(px, py, 1, 1).data)), 0));""",
-            x, y,
+            x,
+            y,
         )
 
     def to(self, x, y, actions=None):
@@ -143,7 +174,9 @@ class InBrowser(unittest.TestCase):
         px, py = self.middle(x, y)
         size = marks.size
         actions = actions or ActionChains(self.driver, duration=20)
-        return actions.move_to_element_with_offset(marks, round(px - size["width"] / 2), round(py - size["height"] / 2))
+        return actions.move_to_element_with_offset(
+            marks, round(px - size["width"] / 2), round(py - size["height"] / 2)
+        )
 
     def mode(self, name):
         self.driver.find_element(By.CSS_SELECTOR, f"input[value={name}]").click()
@@ -152,5 +185,9 @@ class InBrowser(unittest.TestCase):
         self.driver.find_element(By.CSS_SELECTOR, f"[data-command={command}]").click()
 
     def tearDown(self):
-        faults = [entry["message"] for entry in self.driver.get_log("browser") if entry["source"] in ("javascript", "security")]
+        faults = [
+            entry["message"]
+            for entry in self.driver.get_log("browser")
+            if entry["source"] in ("javascript", "security")
+        ]
         self.assertEqual(faults, [])

@@ -27,7 +27,10 @@ def in_words(refusal: clearmap.Refused) -> str:
 
 
 class Watched:
-    """The connection and its pin. Whatever fails drops both, and the next call connects again. `lost` is told where the server may have ended."""
+    """The connection and its pin. Whatever fails drops both, and the next call connects again.
+
+    `lost` is told where the server may have ended.
+    """
 
     def __init__(self, port: int, lost: Callable[[], None]) -> None:
         self._port, self._lost, self._lock = port, lost, threading.Lock()
@@ -50,7 +53,10 @@ class Watched:
                 raise
 
     def renew(self, saw: Callable[[int], None]) -> Tuple[int, int]:
-        """Pins the newest version: which connection it is, counted from 1, and the version, which `saw` is told before another call goes on."""
+        """Pins the newest version: which connection it is, counted from 1, and the version.
+
+        `saw` is told the version before another call goes on.
+        """
         with self._connected() as client:
             if self._pinned is not None:
                 self._pinned.unpin()

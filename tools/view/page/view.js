@@ -150,12 +150,12 @@ async function askWay() {
   redraw();
 }
 
-/** Gives a command. What the page's server asks before it does so is asked of whoever looks on, once. */
+/** Gives a command. What the page's server asks before it does so, the page asks once. */
 async function doChange(command, rect) {
   try {
     let told = await change(command, rect);
-    if (told.asks) told = confirm(told.asks) ? await change(command, rect, true) : { said: "Nothing was published." };
-    say(told.said);
+    if (told.asks && confirm(told.asks)) told = await change(command, rect, true);
+    say(told.said ?? "Nothing was published.");
   } catch (fault) {
     say(fault.message, true);
   }
