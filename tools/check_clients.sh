@@ -1,7 +1,8 @@
 #!/bin/bash
 # Runs the tests of tools/ros and of the clients against the built program; CLEARMAP names another one. Loopback alone, and nothing is left.
 # Each test file and each server has a time limit. Wants python3; for the client in C++ a compiler, as Debian's g++, and for the node of ROS a master. What isn't installed is left out with a word.
-# With the argument `long` the client in C++ has 10,000 calls interrupted and 100,000 made by eight threads.
+# With the argument `long` the client in C++ has 10,000 calls interrupted, 10,000 made under signals
+# and 100,000 by eight threads: ten minutes next to other work.
 set -u
 long=${1:-}
 cd "$(dirname "$0")/.." || exit 1
@@ -60,43 +61,69 @@ printf 'P1\n6 4\n000000\n001000\n000000\n000000\n' > "$scratch/post"
 
 # The tests of the header, built with these flags: each run has servers of its own.
 build() { # build NAME FLAG ..
-    "$compiler" -std=c++17 -Wall -Wextra -Werror -pthread "${@:2}" -o "$scratch/clearmap_$1" clients/cpp/test_clearmap.cpp &&
-        "$compiler" -std=c++17 -Wall -Wextra -Werror -pthread "${@:2}" -o "$scratch/in_step_$1" clients/cpp/test_in_step.cpp
+    for test in clearmap in_step; do
+        "$compiler" -std=c++17 -Wall -Wextra -Werror -pthread "${@:2}" -o "$scratch/${test}_$1" \
+            "clients/cpp/test_$test.cpp" || return 1
+    done
 }
 run() { # run NAME
-    serve post && local post=$port && serve post --edge wall && local walled=$port &&
-        serve post --blocks 2 --versions 2 --log 3 && timeout 300 "$scratch/clearmap_$1" "$post" "$port" "$walled" &&
-        serve wide --log 1048576 && local wide=$port &&
-        serve wide --workers 1 && timeout 900 "$scratch/in_step_$1" "$wide" "$port" $long
+    local post walled wide
+    serve post && post=$port && serve post --edge wall && walled=$port &&
+        serve post --blocks 2 --versions 2 --log 3 &&
+        timeout 300 "$scratch/clearmap_$1" "$post" "$port" "$walled" &&
+        serve wide --log 1048576 && wide=$port && serve wide --workers 1 &&
+        timeout 900 "$scratch/in_step_$1" "$wide" "$port" $long
 }
 
 # What can't be a call doesn't compile, and what is next to it does.
 compiles() { # compiles STATEMENT
-    printf '#include "clearmap.hpp"\nvoid call(clearmap::Client& client, clearmap::Pinned& map, double& cells) { %s; (void)client, (void)map, (void)cells; }\n' "$1" |
-        "$compiler" -std=c++17 -fsyntax-only -I clients/cpp -x c++ - 2> "$scratch/log"
+    {
+        echo '#include "clearmap.hpp"'
+        echo 'void call(clearmap::Client& client, clearmap::Pinned& map, double& cells) {'
+        echo "$1; (void)client, (void)map, (void)cells; }"
+    } | LC_ALL=C "$compiler" -std=c++17 -fsyntax-only -I clients/cpp -x c++ - 2> "$scratch/log"
 }
-refused() { # refused STATEMENT WORDS
-    compiles "$1" && echo "this compiles: $1" && return 1
-    grep -q "$2" "$scratch/log" || { cat "$scratch/log"; return 1; }
+refused() { # refused WORDS STATEMENT
+    if compiles "$2"; then
+        echo "this compiles: $2"
+    elif ! grep -q "$1" "$scratch/log"; then
+        cat "$scratch/log"
+    else
+        return 0
+    fi
+    failed=1
 }
 check_forms() {
-    compiles 'client.stamp({0, 0}, std::vector<unsigned char>(9)), map.clear_of(2, {{0, 0}}), map.is_valid(0, 1, cells)' || { cat "$scratch/log"; return 1; }
-    refused 'client.stamp({0, 0}, std::vector<std::uint16_t>(9))' 'an image is bytes' &&
-        refused 'client.stamp({0, 0}, std::vector<bool>(9))' 'no matching function' &&
-        refused 'map.clear_of(2.5, {{0, 0}})' 'deleted' && refused 'map.is_valid(0.5, 1, cells)' 'deleted' &&
-        refused 'clearmap::Pinned other(map)' 'deleted'
+    compiles 'client.stamp({0, 0}, std::vector<unsigned char>(9)), client.paint(0, 0, 1L, 1u)' &&
+        compiles 'map.clear_of(2, {{0, 0}}), map.is_valid(0, 1, cells), map.rect(0, 0, 1, 1)' ||
+        { failed=1; cat "$scratch/log"; }
+    refused 'an image is bytes' 'client.stamp({0, 0}, std::vector<std::uint16_t>(9))'
+    refused 'no matching' 'client.stamp({0, 0}, std::vector<bool>(9))'
+    refused deleted 'map.clear_of(2.5, {{0, 0}})'
+    refused deleted 'map.is_valid(0.5, 1, cells)'
+    refused deleted 'map.rect(0, 0.5, 1, 1)'
+    refused deleted 'clearmap::Queries().rect(0.5, 0, 1, 1)'
+    refused deleted 'client.paint(0, 0, 1, 1.5)'
+    refused deleted 'client.clear(0, 0, 1.5f, 1)'
+    refused deleted 'clearmap::Pinned other(map)'
+}
+
+# Whether programs that are built with these flags run.
+runs() { # runs FLAG ..
+    echo 'int main() {}' | "$compiler" "$@" -x c++ -o "$scratch/none" - 2> /dev/null &&
+        "$scratch/none" > /dev/null 2>&1
 }
 
 if compiler=$(command -v "${CXX:-g++}"); then
-    check_forms || failed=1
+    check_forms
     for kind in plain address,undefined thread; do
         flags="-O0 -g1 -fsanitize=$kind -fno-sanitize-recover=all"
         [ "$kind" != plain ] || flags=-O1
-        if ! echo 'int main() {}' | "$compiler" $flags -x c++ -o "$scratch/none" - 2> /dev/null || ! "$scratch/none" > /dev/null 2>&1; then
+        if runs $flags; then
+            build "$kind" $flags && run "$kind" || failed=1
+        else
             echo "clients/cpp with the sanitizers $kind left out: ${CXX:-g++} has none"
-            continue
         fi
-        build "$kind" $flags && run "$kind" || failed=1
     done
 else
     echo "clients/cpp left out: there is no ${CXX:-g++}"

@@ -679,8 +679,9 @@ private:
     std::unique_lock<std::mutex> turn_;
 };
 
-template <class Number>
-using IfReal = std::enable_if_t<std::is_floating_point<Number>::value>;
+/// For the calls that no float may reach: it would lose its fraction on the way without a word.
+template <class... Numbers>
+using IfReal = std::enable_if_t<(std::is_floating_point<Numbers>::value || ...)>;
 
 }  // namespace detail
 
@@ -695,6 +696,8 @@ public:
     Queries& rect(int x0, int y0, int x1, int y1, Metric m = Metric::euclid2) {
         return add(Kind::tightest, {}, "RECT", m, detail::points({{x0, y0}, {x1, y1}}));
     }
+    template <class A, class B, class C, class D, class = detail::IfReal<A, B, C, D>>
+    Queries& rect(A x0, B y0, C x1, D y1, Metric m = Metric::euclid2) = delete;
     Queries& path(const Path& p, Metric m = Metric::euclid2) {
         return add(Kind::tightest, {}, "PATH", m, detail::points(p));
     }
@@ -774,6 +777,8 @@ public:
     std::optional<Tightest> rect(int x0, int y0, int x1, int y1, Metric m = Metric::euclid2) {
         return one(Queries().rect(x0, y0, x1, y1, m));
     }
+    template <class A, class B, class C, class D, class = detail::IfReal<A, B, C, D>>
+    std::optional<Tightest> rect(A x0, B y0, C x1, D y1, Metric m = Metric::euclid2) = delete;
 
     /// The first cell along a path that has the least distance.
     std::optional<Tightest> path(const Path& p, Metric m = Metric::euclid2) {
@@ -819,9 +824,7 @@ public:
         return clearance > 0;
     }
     /// A cell is two whole numbers: Frame::cell gives that of a point in metres.
-    template <class X, class Y,
-              class = std::enable_if_t<std::is_floating_point<X>::value ||
-                                       std::is_floating_point<Y>::value>>
+    template <class X, class Y, class = detail::IfReal<X, Y>>
     bool is_valid(X x, Y y, double& clearance) = delete;
 
     /// For each cell its straight distance to the nearest obstacle, in cells: 0 for an obstacle
@@ -941,11 +944,15 @@ public:
     Change paint(int x0, int y0, int x1, int y1) {
         return draw("PAINT" + detail::points({{x0, y0}, {x1, y1}}));
     }
+    template <class A, class B, class C, class D, class = detail::IfReal<A, B, C, D>>
+    Change paint(A x0, B y0, C x1, D y1) = delete;
 
     /// Makes them free.
     Change clear(int x0, int y0, int x1, int y1) {
         return draw("CLEAR" + detail::points({{x0, y0}, {x1, y1}}));
     }
+    template <class A, class B, class C, class D, class = detail::IfReal<A, B, C, D>>
+    Change clear(A x0, B y0, C x1, D y1) = delete;
 
     /// Gives the cells from (x, y) on the values of a PBM image, plain or raw, of at most
     /// 17,100,000 bytes; black is an obstacle. Throws std::invalid_argument for a larger image or
