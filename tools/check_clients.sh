@@ -108,21 +108,37 @@ check_forms() {
     refused deleted 'clearmap::Pinned other(map)'
 }
 
-# Whether programs that are built with these flags run.
+# Whether programs with an operator new of their own can be built with these flags, and run.
 runs() { # runs FLAG ..
-    echo 'int main() {}' | "$compiler" "$@" -x c++ -o "$scratch/none" - 2> /dev/null &&
-        "$scratch/none" > /dev/null 2>&1
+    {
+        echo '#include <cstdlib>'
+        echo '#include <new>'
+        echo 'void* operator new(std::size_t size) { return std::malloc(size); }'
+        echo 'void operator delete(void* data) noexcept { std::free(data); }'
+        echo 'int main() {}'
+    } | "$compiler" "$@" -x c++ -o "$scratch/none" - 2> /dev/null && "$scratch/none" 2> /dev/null
+}
+
+# The example refuses another map than its frame's.
+check_example() {
+    serve wide || return 1
+    "$compiler" -std=c++17 -I clients/cpp -o "$scratch/plan" examples/plan.cpp || return 1
+    echo '0 0' | "$scratch/plan" "$port" 64 48 0.05 -1 -0.5 > "$scratch/log" 2>&1 || return 1
+    echo '0 0' | "$scratch/plan" "$port" 40 20 0.05 -1 -0.5 > "$scratch/log" 2>&1 && return 1
+    [ "$(cat "$scratch/log")" = \
+        'the served map has 64 by 48 cells, where 40 by 20 are expected' ]
 }
 
 if compiler=$(command -v "${CXX:-g++}"); then
     check_forms
+    check_example || { failed=1; echo 'examples/plan.cpp:'; cat "$scratch/log"; }
     for kind in plain address,undefined thread; do
         flags="-O0 -g1 -fsanitize=$kind -fno-sanitize-recover=all"
         [ "$kind" != plain ] || flags=-O1
         if runs $flags; then
             build "$kind" $flags && run "$kind" || failed=1
         else
-            echo "clients/cpp with the sanitizers $kind left out: ${CXX:-g++} has none"
+            echo "clients/cpp with the sanitizers $kind left out: ${CXX:-g++} has none for the tests"
         fi
     done
 else
