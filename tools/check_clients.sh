@@ -71,7 +71,7 @@ run() { # run NAME
     serve post && post=$port && serve post --edge wall && walled=$port &&
         serve post --blocks 2 --versions 2 --log 3 &&
         timeout 300 "$scratch/clearmap_$1" "$post" "$port" "$walled" &&
-        serve wide --log 1048576 && wide=$port && serve wide --workers 1 &&
+        serve wide --log 20 && wide=$port && serve wide --workers 1 &&
         timeout 900 "$scratch/in_step_$1" "$wide" "$port" $long
 }
 

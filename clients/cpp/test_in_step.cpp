@@ -4,8 +4,8 @@
 //
 //     test_in_step PORT BUSY [long]
 //
-// PORT is a server of a map of 64 by 48 cells whose only obstacle is column 5 of row 7. BUSY
-// serves it by one worker. With `long` 10,000 calls are interrupted, and eight threads make
+// PORT is a server of a map of 64 by 48 cells whose only obstacle is column 5 of row 7, with a
+// short log. BUSY serves it by one worker. With `long` 10,000 calls are interrupted, and eight threads make
 // 100,000.
 #include "model.hpp"
 
@@ -39,12 +39,15 @@ static bool starved(long allocations, Call call) {
     return false;
 }
 
+/// For the clients that draw: the server's log is full again and again.
+static const Options painting = {size, std::chrono::seconds(10), FullLog::checkpointed, false};
+
 // ---- many threads
 
 /// Threads ask one pin and draw by its client. Each draws a row of its own, so it knows how many
 /// cells change.
 static void side_by_side(std::uint16_t port, int threads, int calls) {
-    Client client(port, {size});
+    Client client(port, painting);
     Pinned map = client.pin();
     std::mutex mutex;
     std::vector<std::uint32_t> places;
@@ -82,7 +85,7 @@ struct Planner {
     std::optional<Pinned> map;
     void connect() {
         map.reset();
-        client.emplace(port, Options{size});
+        client.emplace(port, painting);
         map.emplace(client->pin());
     }
 };
@@ -201,10 +204,10 @@ static void signals(std::uint16_t port, int calls) {
 /// Signals that come faster than the time-out don't make a wait endless.
 static void signals_and_silence() {
     Fake silent({"OK 0\n"}, false);
-    Client client(silent.port, std::chrono::milliseconds(150));
+    Client client(silent.port, std::chrono::milliseconds(1500));
     Pinned map = client.pin();
     Alarms alarms(20000);
-    CHECK(throws<TimedOut>([&] { map.at({0, 0}); }, "no reply within 150 ms"));
+    CHECK(throws<TimedOut>([&] { map.at({0, 0}); }, "no reply within 1500 ms"));
 }
 
 // ---- lost and busy servers
@@ -215,7 +218,8 @@ static void unasked() {
     Client client(server.port);
     try {
         CHECK(client.paint(3, 0, 4, 1).changed == 3);
-        std::this_thread::sleep_for(std::chrono::milliseconds(50));
+        await([&] { return server.added.load(); });
+        let_arrive();
         CHECK(
             throws<ConnectionLost>([&] { client.paint(4, 0, 5, 1); }, "what nobody asked: OK 7 7"));
     } catch (const WrongAnswer&) {  // both replies came at once
@@ -243,6 +247,7 @@ static void lost() {
           throws<ConnectionLost>([&] { kept.unpin(); }));
     CHECK(anew.at({2, 1})->distance == 8193);
     server.cut();  // between two calls: the next one connects anew, and is sent once
+    let_arrive();
     CHECK(again.paint(5, 0, 6, 1).changed == 5 && server.connections == 4 &&
           server.drawn().size() == 4);
     again.close();
@@ -268,11 +273,10 @@ static void busy(std::uint16_t port) {
     Client waiting(full.port, std::chrono::milliseconds(200));
     CHECK(throws<TimedOut>([&] { waiting.revert(); }, text));
     CHECK(throws<std::invalid_argument>([&] { Client(full.port, std::chrono::milliseconds(-1)); }));
-    Telling server;
-    Client slow(server.port, std::chrono::milliseconds(200));
-    CHECK(slow.revert() == 0);
-    server.pause = 400000;
-    CHECK(throws<TimedOut>([&] { slow.revert(); }, "no reply within 200 ms"));
+    Fake once({"OK 7\n"}, false);
+    Client slow(once.port, std::chrono::seconds(2));
+    CHECK(slow.revert() == 7);
+    CHECK(throws<TimedOut>([&] { slow.revert(); }, "no reply within 2 s") && closed(slow));
 }
 
 // ---- another map
@@ -317,6 +321,7 @@ static void another_map_later() {
         CHECK(client.paint(1, 0, 2, 1).changed == 1);
         server.width = 6;
         server.cut();
+        let_arrive();
         CHECK(throws<WrongMap>([&] { client.paint(2, 0, 3, 1); }, "has 6 by 48 cells") &&
               throws<WrongMap>([&] { client.pin(); }));
         server.width = 64;
@@ -358,7 +363,7 @@ static void moved() {
 
 /// A child neither uses its parent's connection nor ends it.
 static void forked(std::uint16_t port) {
-    auto client = std::make_unique<Client>(port);
+    auto client = std::make_unique<Client>(port, painting);
     auto map = std::make_unique<Pinned>(client->pin());
     std::fflush(stdout);
     pid_t child = ::fork();
@@ -384,7 +389,7 @@ static void forked(std::uint16_t port) {
 
 static void stamps(std::uint16_t port) {
     const std::string plain = "P1\n3 1\n111", raw("P4\n3 1\n\xe0", 8);
-    Client client(port, {size});
+    Client client(port, painting);
     auto stamped = [&](const auto& image) {
         client.revert();
         return client.stamp({20, 20}, image).changed == 3;

@@ -66,6 +66,16 @@ inline bool refused(int number, const std::string& name, std::vector<std::uint32
     return false;
 }
 
+/// Waits for what another thread does, up to 20 seconds.
+template <class Holds>
+void await(Holds holds) {
+    for (int i = 0; i < 2000 && !holds(); ++i)
+        std::this_thread::sleep_for(std::chrono::milliseconds(10));
+}
+
+/// Time for what was sent to arrive, on a busy machine too.
+inline void let_arrive() { std::this_thread::sleep_for(std::chrono::milliseconds(200)); }
+
 /// Leaves the signals to the other threads: those of a server mustn't be interrupted.
 inline void without_signals() {
     sigset_t all;
@@ -163,6 +173,7 @@ public:
     std::atomic<int> pause{0};       ///< Microseconds before each reply, and within it.
     std::atomic<bool> loses{false};  ///< A line that draws is taken, and the connection ends.
     std::atomic<bool> adds{false};   ///< A line that draws has one reply too many, a bit later.
+    std::atomic<bool> added{false};   ///< That reply was sent.
     std::atomic<int> connections{0};
     std::atomic<int> width, height;
 
@@ -182,7 +193,7 @@ private:
                     ::shutdown(stream, SHUT_RDWR);
                     return;
                 }
-                if (adds && draws(line)) say(stream, "OK 7 7\n");
+                if (adds && draws(line)) added = say(stream, "OK 7 7\n");
             }
         }
     }
