@@ -106,6 +106,7 @@ check_forms() {
     refused deleted 'client.paint(0, 0, 1, 1.5)'
     refused deleted 'client.clear(0, 0, 1.5f, 1)'
     refused deleted 'clearmap::Pinned other(map)'
+    refused deleted 'clearmap::Client other(client)'
 }
 
 # Whether programs with an operator new of their own can be built with these flags, and run.

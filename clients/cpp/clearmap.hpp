@@ -19,8 +19,8 @@
 // After fork() the connection stays the parent's: in the child each call throws ConnectionLost.
 //
 // Errors. Each call that asks the server may throw ConnectionLost, TimedOut, WrongAnswer, Refused
-// and std::bad_alloc. Whatever ends a call early, the connection is in step after it or closed: no
-// later call gets a reply that belongs to this one.
+// and std::bad_alloc, and WrongMap where it connects anew. Whatever ends a call early, the
+// connection is in step after it or closed: no later call gets a reply that belongs to this one.
 #ifndef CLEARMAP_HPP
 #define CLEARMAP_HPP
 
@@ -709,9 +709,6 @@ public:
     template <class Real, class = detail::IfReal<Real>>
     Queries& clear_of(Real distance, const Path& p, Metric m = Metric::euclid2) = delete;
 
-    /// How many there are.
-    std::size_t size() const { return queries_.size(); }
-
 private:
     friend class Pinned;
     enum class Kind { at, tightest, clear };
@@ -765,7 +762,9 @@ public:
     /// Leaves the pin; nothing is asked of it any more.
     void unpin() { detail::Turn(wire_, pin_)->unpin(); }
 
-    /// The nearest obstacle of a cell. Nothing where the map has none.
+    /// The nearest obstacle of a cell. Nothing where the map has none. As each query it is refused
+    /// as
+    /// OutOfRange outside the map, and as BadArguments below 0.
     std::optional<Near> at(Cell c, Metric m = Metric::euclid2) {
         auto found = one(Queries().at(c, m));
         if (!found) return std::nullopt;
@@ -780,7 +779,11 @@ public:
     template <class A, class B, class C, class D, class = detail::IfReal<A, B, C, D>>
     std::optional<Tightest> rect(A x0, B y0, C x1, D y1, Metric m = Metric::euclid2) = delete;
 
-    /// The first cell along a path that has the least distance.
+    /// The first cell along a path that has the least distance. Refused as BadPath where it hasn't
+    /// 1
+    /// to 1000 points, and as Crooked with the index of a point that is neither in the row nor in
+    /// the
+    /// column of the one before; std::invalid_argument where its line has over 16384 bytes.
     std::optional<Tightest> path(const Path& p, Metric m = Metric::euclid2) {
         return one(Queries().path(p, m));
     }
@@ -920,6 +923,8 @@ private:
 /// from throws ConnectionLost. At its end the connection goes to its pin, and ends with that.
 class Client {
 public:
+    Client(Client&&) noexcept = default;
+    Client& operator=(Client&&) noexcept = default;
     /// Throws WrongMap where the map has another size than is expected, and std::invalid_argument
     /// for an expected size that no map has, or a time-out below 0.
     explicit Client(std::uint16_t port, const Options& options = {})
@@ -940,14 +945,17 @@ public:
     /// The map's size: what was expected, or what is found by two writes at the first call.
     Size size() { return detail::Turn(wire_)->size(); }
 
-    /// Makes columns x0 up to x1 - 1 of rows y0 up to y1 - 1 of the draft obstacles.
+    /// Makes columns x0 up to x1 - 1 of rows y0 up to y1 - 1 of the draft obstacles. Refused as
+    /// BadArguments where that is no cell or a number is below 0 or over 4096, as OutOfRange, and
+    /// as
+    /// each command may be: LogFull, PlacesUsed, BlocksFull and Memory.
     Change paint(int x0, int y0, int x1, int y1) {
         return draw("PAINT" + detail::points({{x0, y0}, {x1, y1}}));
     }
     template <class A, class B, class C, class D, class = detail::IfReal<A, B, C, D>>
     Change paint(A x0, B y0, C x1, D y1) = delete;
 
-    /// Makes them free.
+    /// Makes these cells free; refused as a paint is.
     Change clear(int x0, int y0, int x1, int y1) {
         return draw("CLEAR" + detail::points({{x0, y0}, {x1, y1}}));
     }
@@ -978,7 +986,7 @@ public:
         return stamp(corner, image, length - (image[length - 1] == '\0'));
     }
 
-    /// Appends the draft as the next version, and answers its number.
+    /// Appends the draft as the next version, and answers its number. Refused as VersionsFull too.
     std::uint32_t publish() { return change("PUBLISH", 2)[1]; }
 
     /// Makes the draft the newest version again, and answers the place in the log.
@@ -994,7 +1002,8 @@ public:
     /// answers its own place. Places go on counting, and no bitmap and no version changes.
     std::uint32_t checkpoint() { return sent(*detail::Turn(wire_), "CHECKPOINT", 1)[0]; }
 
-    /// Pins the newest version. One at a time on a connection.
+    /// Pins the newest version. One at a time on a connection: a second is refused as
+    /// AlreadyPinned.
     Pinned pin() { return Pinned(wire_, detail::Turn(wire_)->pin(0)); }
 
 private:
