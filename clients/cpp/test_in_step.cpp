@@ -5,8 +5,8 @@
 //     test_in_step PORT BUSY [long]
 //
 // PORT is a server of a map of 64 by 48 cells whose only obstacle is column 5 of row 7, with a
-// short log. BUSY serves it by one worker. With `long` 10,000 calls are interrupted, 10,000 are made
-// under signals, and eight threads make 100,000.
+// short log. BUSY serves it by one worker. With `long` 10,000 calls are interrupted, 10,000 are
+// made under signals, and eight threads make 100,000.
 #include "model.hpp"
 
 #include <sys/time.h>
