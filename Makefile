@@ -11,7 +11,7 @@ program = crates/clearmap/out/clearmap
 version = $(shell sed -n 's/^version = "\(.*\)"/\1/p' clients/python/pyproject.toml)
 filled = sed 's|@PREFIX@|$(PREFIX)|; s|@VERSION@|$(version)|'
 pages = clearmap.1 clearmap-backup.1 clearmap-ros.1 clearmap-ros-node.1 clearmap-view.1
-view = asking.py picture.py site_of_map.py watched.py page/ask.js page/index.html page/map.js page/view.css page/view.js
+view = asking.py draft.py picture.py site_of_map.py watched.py page/ask.js page/index.html page/map.js page/view.css page/view.js
 
 # The library: what is proved comes from rt, and clients/c/clearmap.c goes with it.
 library = crates/libclearmap/out

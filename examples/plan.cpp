@@ -1,5 +1,6 @@
-// How far a plan in metres keeps from the obstacles of a served map: plan PORT WIDTH HEIGHT RESOLUTION ORIGIN_X ORIGIN_Y, with a point X Y on each
-// line of standard input. Build: g++ -std=c++17 -I clients/cpp -o plan examples/plan.cpp
+// How far a plan in metres keeps from the obstacles of a served map of this size:
+// plan PORT WIDTH HEIGHT RESOLUTION ORIGIN_X ORIGIN_Y, with a point X Y on each line of standard
+// input. Build: g++ -std=c++17 -I clients/cpp -o plan examples/plan.cpp
 #include <clearmap.hpp>
 #include <iostream>
 
@@ -9,7 +10,7 @@ int main(int count, char** words) {
     std::vector<clearmap::Point> plan;
     for (clearmap::Point point; std::cin >> point.x >> point.y;) plan.push_back(point);
     try {
-        clearmap::Client client(static_cast<std::uint16_t>(std::stoi(words[1])));
+        clearmap::Client client(static_cast<std::uint16_t>(std::stoi(words[1])), {frame.size()});
         clearmap::Pinned map = client.pin();
         auto path = frame.staircase(plan);
         if (!path) throw clearmap::Error("the plan has no point, or one outside the map");
@@ -17,7 +18,7 @@ int main(int count, char** words) {
         double cells;
         bool valid = map.is_valid(path->front().x, path->front().y, cells);
         std::cout << "the start is " << (valid ? "free" : "an obstacle") << ", " << frame.metres(cells) << " m from the nearest\n";
-    } catch (const clearmap::Error& fault) {
+    } catch (const std::exception& fault) {
         std::cerr << fault.what() << '\n';
         return 1;
     }

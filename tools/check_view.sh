@@ -22,9 +22,10 @@ fi
 log=$(mktemp)
 trap 'rm -f "$log"' EXIT
 trap 'exit 1' INT TERM
-"$python" tools/view/test_clearmap_view.py > "$log" 2>&1
-status=$?
-[ "$status" = 0 ] || cat "$log"
-sed -n "s/^[.]*\(the page isn't tried.*\|a publish by another.*\|the first picture of.*\)/  \1/p" "$log"
-echo "tools/view/test_clearmap_view.py: $(sed -n 's/^Ran \([0-9]* tests\).*/\1/p' "$log"), $(tail -n 1 "$log")"
-exit "$status"
+failed=0
+for test in tools/view/test_clearmap_view.py tools/view/test_draft.py; do
+    timeout 600 "$python" "$test" > "$log" 2>&1 || { failed=1; cat "$log"; }
+    sed -n "s/^[.]*\(the page isn't tried.*\|a publish by another.*\|the first picture of.*\)/  \1/p" "$log"
+    echo "$test: $(sed -n 's/^Ran \([0-9]* tests\).*/\1/p' "$log"), $(tail -n 1 "$log")"
+done
+[ "$failed" = 0 ]

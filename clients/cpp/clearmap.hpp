@@ -1,47 +1,73 @@
-// A client of `clearmap serve` for planners. One header: C++17 and POSIX sockets. The server is proved; this file is not. It is tested
-// against the built server and against one that answers wrongly (test_clearmap.cpp).
+// A client of `clearmap serve` for planners. One header: C++17 and POSIX sockets. The server is
+// proved; this file is not. It is tested against the built server and against servers that answer
+// wrongly, late or not at all (test_clearmap.cpp, test_in_step.cpp).
 //
-//     clearmap::Client client(7400);
-//     clearmap::Pinned map = client.pin();                        // left at its end
+//     clearmap::Client client(7400, {clearmap::Size{40, 20}});  // another map is refused
+//     clearmap::Pinned map = client.pin();                       // left at its end
 //     double cells;
-//     if (map.is_valid(3, 4, cells)) ..                           // as OMPL's isValid(state, dist)
+//     if (map.is_valid(3, 4, cells)) ..                          // as OMPL's isValid(state, dist)
 //     double tightest = map.clearance({{0, 0}, {30, 0}, {30, 9}});
 //
-// Columns x and rows y count from 0 at the upper left. A distance is in cells: euclid2 is the square of the straight one, city and chess count
-// steps. A client is one connection for one thread: give each planner's thread its own. The server listens on the loopback interface alone.
+// Columns x and rows y count from 0 at the upper left. A distance is in cells: euclid2 is the
+// square of the straight one, city and chess count steps. The server listens on the loopback
+// interface alone.
+//
+// Threads. Any threads may use one client and its pins: calls take turns on the connection, each
+// from its request to its last reply, so each gets its own answers. Planners that mustn't wait
+// for one another want a client each. Only one thread may move, assign to or destroy an object, and
+// only while no other uses it. Make no call from a signal handler, and leave none by longjmp.
+// After fork() the connection stays the parent's: in the child each call throws ConnectionLost.
+//
+// Errors. Each call that asks the server may throw ConnectionLost, TimedOut, WrongAnswer, Refused
+// and std::bad_alloc, and WrongMap where it connects anew. Whatever ends a call early, the
+// connection is in step after it or closed: no later call gets a reply that belongs to this one.
 #ifndef CLEARMAP_HPP
 #define CLEARMAP_HPP
 
 #include <arpa/inet.h>
 #include <netinet/in.h>
 #include <netinet/tcp.h>
+#include <poll.h>
 #include <sys/socket.h>
-#include <sys/time.h>
 #include <unistd.h>
 
 #include <algorithm>
+#include <atomic>
 #include <cerrno>
 #include <chrono>
 #include <cmath>
 #include <cstdint>
-#include <cstring>
+#include <iterator>
 #include <limits>
 #include <map>
+#include <memory>
+#include <mutex>
 #include <optional>
 #include <stdexcept>
 #include <string>
+#include <system_error>
+#include <type_traits>
 #include <utility>
 #include <vector>
 
 namespace clearmap {
 
+// ---- what is asked and answered
+
 /// How a distance is measured.
 enum class Metric { euclid2, city, chess };
 
-/// A column and a row, from 0 at the upper left. An obstacle on the frame of a map whose border is a wall lies at -1, or one cell after the last.
+/// A column and a row, from 0 at the upper left. An obstacle on the frame of a map whose border
+/// is a wall lies at -1, or one cell after the last.
 struct Cell {
     int x, y;
     friend bool operator==(Cell a, Cell b) { return a.x == b.x && a.y == b.y; }
+};
+
+/// The columns and rows of a map, each from 1 to 4096.
+struct Size {
+    int width, height;
+    friend bool operator==(Size a, Size b) { return a.width == b.width && a.height == b.height; }
 };
 
 /// 1 to 1000 points, each in the row or the column of the one before.
@@ -69,10 +95,27 @@ struct Collected {
     std::uint32_t place, floor, freed;
 };
 
-/// What a client does where a command of its own is answered LogFull: it throws that, or it sends a checkpoint and then the command once more. **A
-/// checkpoint drops the entries of the log, those of other painters too**; no bitmap and no version changes by it. Where others have filled the log
+/// What a client does where a command of its own is answered LogFull: it throws that, or it sends a
+/// checkpoint and then the command once more. **A checkpoint drops the entries of the log, those of
+/// other painters too**; no bitmap and no version changes by it. Where others have filled the log
 /// again by then, LogFull is thrown.
 enum class FullLog { thrown, checkpointed };
+
+/// How a client connects, and what it does later.
+struct Options {
+    /// The size that the map must have: for another one WrongMap is thrown, before anything else is
+    /// asked. Where it isn't given, nobody looks.
+    std::optional<Size> expected = std::nullopt;
+    /// For the connection and for each wait for bytes, whatever signals come; 0 waits for ever.
+    std::chrono::milliseconds timeout = std::chrono::seconds(10);
+    FullLog full_log = FullLog::thrown;
+    /// A call of the client that finds the connection closed connects anew first, to a map of the
+    /// same size. A call whose reply was lost isn't made again. A pin of the earlier connection
+    /// stays lost. The server may be another one: then versions and places count from their start.
+    bool reconnect = false;
+};
+
+// ---- what goes wrong
 
 /// Whatever went wrong.
 struct Error : std::runtime_error {
@@ -94,39 +137,73 @@ struct WrongAnswer : Error {
     using Error::Error;
 };
 
-/// The numbers of refusals, as the protocol has them.
-enum Refusal {
-    OutOfRange = 1, BlocksFull, VersionsFull, LogFull, Memory, NotPinned, AlreadyPinned, BadPath, Crooked,
-    UnknownCommand = 11, BadArguments, LineTooLong, TooMuchData, BadImage, PlacesUsed = 17
+/// The served map has another size than was expected; the connection is closed.
+struct WrongMap : Error {
+    Size served, expected;
+    WrongMap(Size served, Size expected)
+        : Error("the served map has " + text(served) + " cells, where " + text(expected) +
+                " are expected"),
+          served(served),
+          expected(expected) {}
+
+private:
+    static std::string text(Size size) {
+        return std::to_string(size.width) + " by " + std::to_string(size.height);
+    }
 };
 
-/// A line that the server refused. Nothing has changed, and the connection goes on; after LineTooLong and TooMuchData it ends.
+/// The numbers of refusals, as the protocol has them.
+enum Refusal {
+    OutOfRange = 1, BlocksFull, VersionsFull, LogFull, Memory, NotPinned, AlreadyPinned, BadPath,
+    Crooked, UnknownCommand = 11, BadArguments, LineTooLong, TooMuchData, BadImage, PlacesUsed = 17
+};
+
+/// A line that the server refused. Nothing has changed, and the connection goes on; after
+/// LineTooLong and TooMuchData it ends.
 struct Refused : Error {
     int number;                          ///< One of Refusal.
     std::string name;                    ///< Its name, as "Crooked".
-    std::vector<std::uint32_t> numbers;  ///< BlocksFull: needed and free; Crooked: the index of the point.
+    std::vector<std::uint32_t> numbers;  ///< BlocksFull: needed, free; Crooked: the point's index.
     std::string fault;                   ///< BadImage: the fault's name.
-    Refused(int number, std::string name, std::vector<std::uint32_t> numbers, std::string fault, const std::string& reply)
-        : Error(reply), number(number), name(std::move(name)), numbers(std::move(numbers)), fault(std::move(fault)) {}
+    Refused(int number, std::string name, std::vector<std::uint32_t> numbers, std::string fault,
+            const std::string& reply)
+        : Error(reply),
+          number(number),
+          name(std::move(name)),
+          numbers(std::move(numbers)),
+          fault(std::move(fault)) {}
 };
 
 namespace detail {
 
+// ---- lines and replies as texts
+
+constexpr std::size_t longest_line = 16384, longest_reply = 128, largest_image = 17100000;
+constexpr int largest_side = 4096;
+
 inline const char* name(Metric metric) {
-    return metric == Metric::euclid2 ? "euclid2" : metric == Metric::city ? "city" : "chess";
+    switch (metric) {
+        case Metric::euclid2: return "euclid2";
+        case Metric::city: return "city";
+        case Metric::chess: return "chess";
+    }
+    throw std::invalid_argument("no such metric");
 }
 
 inline std::vector<std::string> words(const std::string& text) {
     std::vector<std::string> found(1);
     for (char c : text)
-        if (c == ' ') found.emplace_back();
-        else found.back() += c;
+        if (c == ' ')
+            found.emplace_back();
+        else
+            found.back() += c;
     return found;
 }
 
 /// A number of 1 to 10 digits that fits in 32 bits.
 inline std::optional<std::uint32_t> number(const std::string& word) {
-    if (word.empty() || word.size() > 10 || !std::all_of(word.begin(), word.end(), [](char c) { return '0' <= c && c <= '9'; }))
+    auto digit = [](char c) { return '0' <= c && c <= '9'; };
+    if (word.empty() || word.size() > 10 || !std::all_of(word.begin(), word.end(), digit))
         return std::nullopt;
     unsigned long long value = std::stoull(word);
     if (value > 4294967295u) return std::nullopt;
@@ -137,7 +214,8 @@ inline std::optional<std::uint32_t> number(const std::string& word) {
 inline std::optional<int> coordinate(const std::string& word) {
     bool negative = !word.empty() && word[0] == '-';
     auto value = number(word.substr(negative));
-    if (!value || *value > static_cast<std::uint32_t>(std::numeric_limits<int>::max())) return std::nullopt;
+    if (!value || *value > static_cast<std::uint32_t>(std::numeric_limits<int>::max()))
+        return std::nullopt;
     int size = static_cast<int>(*value);
     return negative ? -size : size;
 }
@@ -148,79 +226,156 @@ inline std::string points(const Path& path) {
     return text;
 }
 
+/// A line as it may be sent: the server ends the connection at a longer one.
+inline std::string checked(std::string line) {
+    if (line.size() > longest_line) throw std::invalid_argument("a line of over 16384 bytes");
+    return line;
+}
+
 /// The name of a refusal, and how many numbers stand after it.
 inline std::optional<std::pair<std::string, std::size_t>> refusal(std::uint32_t number) {
     static const std::map<std::uint32_t, std::pair<std::string, std::size_t>> known = {
-        {OutOfRange, {"OutOfRange", 0}},     {BlocksFull, {"BlocksFull", 2}},       {VersionsFull, {"VersionsFull", 0}},
-        {LogFull, {"LogFull", 0}},           {Memory, {"Memory", 0}},               {NotPinned, {"NotPinned", 0}},
-        {AlreadyPinned, {"AlreadyPinned", 0}}, {BadPath, {"BadPath", 0}},           {Crooked, {"Crooked", 1}},
-        {UnknownCommand, {"UnknownCommand", 0}}, {BadArguments, {"BadArguments", 0}}, {LineTooLong, {"LineTooLong", 0}},
-        {TooMuchData, {"TooMuchData", 0}},   {BadImage, {"BadImage", 0}},           {PlacesUsed, {"PlacesUsed", 0}},
+        {OutOfRange, {"OutOfRange", 0}},       {BlocksFull, {"BlocksFull", 2}},
+        {VersionsFull, {"VersionsFull", 0}},   {LogFull, {"LogFull", 0}},
+        {Memory, {"Memory", 0}},               {NotPinned, {"NotPinned", 0}},
+        {AlreadyPinned, {"AlreadyPinned", 0}}, {BadPath, {"BadPath", 0}},
+        {Crooked, {"Crooked", 1}},             {UnknownCommand, {"UnknownCommand", 0}},
+        {BadArguments, {"BadArguments", 0}},   {LineTooLong, {"LineTooLong", 0}},
+        {TooMuchData, {"TooMuchData", 0}},     {BadImage, {"BadImage", 0}},
+        {PlacesUsed, {"PlacesUsed", 0}},
     };
     auto at = known.find(number);
     if (at == known.end()) return std::nullopt;
     return at->second;
 }
 
-/// One connection, its lines and their replies.
+/// A reply line: its words, or the refusal that it is.
+struct Reply {
+    std::vector<std::string> words;
+    std::optional<Refused> refused;
+};
+
+// ---- the connection
+
+/// One connection, its lines and their replies. All of it but `turn` and `owned` is for the thread
+/// that has the turn.
 class Wire {
 public:
-    Wire(std::uint16_t port, std::chrono::milliseconds timeout) : socket_(::socket(AF_INET, SOCK_STREAM, 0)) {
-        if (socket_ < 0) throw ConnectionLost("no socket can be had");
-        timeval wait{};
-        wait.tv_sec = static_cast<time_t>(timeout.count() / 1000);
-        wait.tv_usec = static_cast<suseconds_t>(timeout.count() % 1000 * 1000);
-        int one = 1;
-        ::setsockopt(socket_, SOL_SOCKET, SO_RCVTIMEO, &wait, sizeof wait);
-        ::setsockopt(socket_, SOL_SOCKET, SO_SNDTIMEO, &wait, sizeof wait);
-        ::setsockopt(socket_, IPPROTO_TCP, TCP_NODELAY, &one, sizeof one);
-        sockaddr_in address{};
-        address.sin_family = AF_INET;
-        address.sin_port = htons(port);
-        address.sin_addr.s_addr = htonl(INADDR_LOOPBACK);
-        if (::connect(socket_, reinterpret_cast<sockaddr*>(&address), sizeof address) != 0) {
-            drop();
-            throw ConnectionLost("no server at port " + std::to_string(port));
-        }
+    Wire(std::uint16_t port, const Options& options)
+        : port_(port), options_(options), timeout_(options.timeout), owner_(::getpid()) {
+        constexpr std::chrono::milliseconds longest =
+            std::chrono::hours(480);  // `poll` can count it
+        if (timeout_.count() < 0) throw std::invalid_argument("a time-out is 0 or more");
+        if (options.expected &&
+            !(in_range(options.expected->width) && in_range(options.expected->height)))
+            throw std::invalid_argument("a map has 1 to 4096 columns and rows");
+        timeout_ = std::min(timeout_, longest);
+        open();
     }
     Wire(const Wire&) = delete;
     Wire& operator=(const Wire&) = delete;
     ~Wire() { close(); }
 
-    bool open() const { return socket_ >= 0; }
+    std::mutex turn;
 
+    /// Whether this is the process that connected, and no child of it.
+    bool owned() const noexcept { return owner_ == ::getpid(); }
+
+    bool full_log_is_checkpointed() const { return options_.full_log == FullLog::checkpointed; }
+
+    /// Ends the connection for good.
     void close() noexcept {
-        if (!open()) return;
-        ::send(socket_, "QUIT\n", 5, MSG_NOSIGNAL);
+        if (socket_ >= 0 && owned() && !busy_)
+            ::send(socket_, "QUIT\n", 5, MSG_NOSIGNAL | MSG_DONTWAIT);
+        finished_ = true;
         drop();
     }
 
-    void send(const std::string& data) {
-        for (std::size_t sent = 0; sent < data.size();) {
-            ssize_t n = open() ? ::send(socket_, data.data() + sent, data.size() - sent, MSG_NOSIGNAL) : -1;
-            if (n < 0 && open() && errno == EINTR) continue;
-            if (n < 0) lost();
-            sent += static_cast<std::size_t>(n);
+    /// Closes the connection at once. A child lets go of its copy alone.
+    void drop() noexcept {
+        if (socket_ >= 0) {
+            if (owned()) ::shutdown(socket_, SHUT_RDWR);
+            ::close(socket_);
+        }
+        socket_ = -1;
+        owed_ = 0;
+        pinned_ = 0;
+        busy_ = answered_ = false;
+        buffer_.clear();
+    }
+
+    // -- the start and the end of a call
+
+    /// Makes sure that the connection is there and that no byte of an earlier call is on it.
+    void ready() {
+        if (is_open()) return;
+        if (finished_ || !options_.reconnect) throw ConnectionLost("the connection is closed");
+        open();
+    }
+
+    /// The same for what is asked of a pin, which no new connection has.
+    void ready_for(std::uint64_t pin) {
+        if (!is_open() || pin < first_pin_)
+            throw ConnectionLost("the connection is closed, and the pin with it");
+        if (pin != pinned_) throw ConnectionLost("the pin was left");
+    }
+
+    /// The last byte of the last reply was taken.
+    void done() {
+        if (owed_ != 0 || !buffer_.empty()) wrong(buffer_.substr(0, longest_reply));
+        busy_ = false;
+    }
+
+    /// Whether a call has begun that isn't done.
+    bool busy() const { return busy_; }
+
+    // -- sending and receiving
+
+    /// Sends lines that are answered by so many replies.
+    void send(const std::string& lines, std::size_t replies) {
+        busy_ = true;
+        owed_ += replies;
+        send_bytes(lines.data(), lines.size());
+    }
+
+    /// Sends bytes that belong to the line before them.
+    void send_bytes(const char* data, std::size_t size) {
+        while (size > 0) {
+            auto deadline = next_deadline();
+            ssize_t n;
+            while ((n = ::send(socket_, data, size, MSG_NOSIGNAL | MSG_DONTWAIT)) < 0)
+                await(POLLOUT, deadline);
+            data += n;
+            size -= static_cast<std::size_t>(n);
         }
     }
 
-    /// Sends a line, and gives the words of its reply.
-    std::vector<std::string> call(const std::string& line) {
-        if (line.size() > 16384) throw std::invalid_argument("a line of over 16384 bytes");
-        send(line + '\n');
-        return reply();
-    }
-
-    /// The words of the next reply. A refusal is thrown.
-    std::vector<std::string> reply() {
+    /// The next reply.
+    Reply reply() {
         std::size_t end;
-        while ((end = buffer_.find('\n')) == std::string::npos && buffer_.size() < longest_reply) more();
+        while ((end = buffer_.find('\n')) == std::string::npos && buffer_.size() < longest_reply)
+            more();
         if (end >= longest_reply) wrong(buffer_.substr(0, longest_reply));
         std::string line = buffer_.substr(0, end);
         buffer_.erase(0, end + 1);
-        std::vector<std::string> said = words(line);
-        if (said[0] == "ERR") refuse(said, line);
+        if (owed_ == 0) wrong(line);
+        --owed_;
+        answered_ = true;
+        Reply said{words(line), std::nullopt};
+        if (said.words[0] == "ERR") said.refused = refused(said.words, line);
         return said;
+    }
+
+    /// The numbers of the next reply, the last one that is owed: OK and so many. A refusal is
+    /// thrown, and ends the call. Where a line that counts bytes is refused for its form, the
+    /// server reads these bytes as lines: the connection is closed.
+    std::vector<std::uint32_t> numbers(std::size_t count, bool counts_bytes = false) {
+        Reply said = reply();
+        if (!said.refused) return numbers(said.words, count);
+        done();
+        int number = said.refused->number;
+        if (counts_bytes && (number == BadArguments || number == UnknownCommand)) drop();
+        throw *said.refused;
     }
 
     /// The numbers of a reply, which is OK and so many.
@@ -241,8 +396,16 @@ public:
         return {*x, *y};
     }
 
+    /// A cell of the map that a reply names.
+    Cell cell(std::uint32_t x, std::uint32_t y) {
+        if (x >= std::uint32_t{largest_side} || y >= std::uint32_t{largest_side})
+            wrong("a cell that no map has");
+        return {static_cast<int>(x), static_cast<int>(y)};
+    }
+
+    /// The bytes that a reply has counted.
     std::string bytes(std::size_t count) {
-        if (count > largest_dump) wrong("a map of " + std::to_string(count) + " bytes");
+        if (count > largest_image) wrong("a map of " + std::to_string(count) + " bytes");
         while (buffer_.size() < count) more();
         std::string data = buffer_.substr(0, count);
         buffer_.erase(0, count);
@@ -254,61 +417,297 @@ public:
         throw WrongAnswer("no reply to what was asked: " + what);
     }
 
+    // -- pins and the map's size
+
+    /// Pins the newest version under this number, 0 for a new one: the pin's number, and the
+    /// version.
+    std::pair<std::uint64_t, std::uint32_t> pin(std::uint64_t pin) {
+        send("PIN\n", 1);
+        std::uint32_t version = numbers(1)[0];
+        pinned_ = pin == 0 ? ++pins_ : pin;
+        done();
+        return {pinned_, version};
+    }
+
+    /// Leaves the pin: whatever is answered, nothing is asked of it any more.
+    void unpin() {
+        pinned_ = 0;
+        send("UNPIN\n", 1);
+        numbers(1);
+        done();
+    }
+
+    /// The map's size, which is found once.
+    Size size() {
+        if (!options_.expected) options_.expected = measured();
+        return *options_.expected;
+    }
+
 private:
-    static constexpr std::size_t longest_reply = 128, largest_dump = 17100000;
+    using Clock = std::chrono::steady_clock;
 
-    void drop() noexcept {
-        if (open()) ::close(socket_);
-        socket_ = -1;
+    static bool in_range(int side) { return 1 <= side && side <= largest_side; }
+
+    /// Connects, and looks at the map.
+    void open() {
+        connect();
+        try {
+            check_map();
+        } catch (...) {
+            drop();
+            throw;
+        }
     }
 
-    [[noreturn]] void lost() {
-        bool late = open() && (errno == EAGAIN || errno == EWOULDBLOCK);
+    void connect() {
+        socket_ = ::socket(AF_INET, SOCK_STREAM | SOCK_CLOEXEC | SOCK_NONBLOCK, 0);
+        if (socket_ < 0)
+            throw ConnectionLost("no socket can be had: " + std::generic_category().message(errno));
+        first_pin_ = pins_ + 1;
+        int one = 1;
+        ::setsockopt(socket_, IPPROTO_TCP, TCP_NODELAY, &one, sizeof one);
+        sockaddr_in address{};
+        address.sin_family = AF_INET;
+        address.sin_port = htons(port_);
+        address.sin_addr.s_addr = htonl(INADDR_LOOPBACK);
+        int fault = 0;
+        if (::connect(socket_, reinterpret_cast<sockaddr*>(&address), sizeof address) != 0)
+            fault = errno;
+        if (fault == EINPROGRESS || fault == EINTR) {
+            socklen_t size = sizeof fault;
+            if (!wait(POLLOUT, next_deadline()))
+                late("no connection at port " + std::to_string(port_));
+            if (::getsockopt(socket_, SOL_SOCKET, SO_ERROR, &fault, &size) != 0) fault = errno;
+        }
+        if (fault == 0) return;
         drop();
-        if (late) throw TimedOut("the server didn't answer in time");
-        throw ConnectionLost("the connection is closed");
+        throw ConnectionLost("no server at port " + std::to_string(port_) + ": " +
+                             std::generic_category().message(fault));
     }
 
+    /// Compares the map's size with the one that is expected. A connection that is made anew
+    /// wants the size of the first one.
+    void check_map() {
+        if (!options_.expected) {
+            if (options_.reconnect) size();
+            return;
+        }
+        Size wanted = *options_.expected;
+        auto on =
+            on_map({{wanted.width - 1, wanted.height - 1}, {wanted.width, 0}, {0, wanted.height}});
+        if (on != std::vector<bool>{true, false, false}) throw WrongMap(measured(), wanted);
+    }
+
+    /// The map's size, by two writes of 64 cells an axis: in steps of 64, and then one by one.
+    Size measured() {
+        Size found{0, 0};
+        for (int step : {64, 1}) {
+            std::vector<Cell> cells;
+            for (int k = 1; k <= 64; ++k) {
+                cells.push_back({found.width + k * step - 1, 0});
+                cells.push_back({0, found.height + k * step - 1});
+            }
+            std::vector<bool> on = on_map(cells);
+            for (std::size_t i = 0; i < on.size(); ++i)
+                if (on[i]) (i % 2 == 0 ? found.width : found.height) += step;
+        }
+        if (!in_range(found.width) || !in_range(found.height)) wrong("a map of no size");
+        return found;
+    }
+
+    /// Which of these cells lie on the map, by one write. Where there is no pin it has its own.
+    std::vector<bool> on_map(const std::vector<Cell>& cells) {
+        bool pins = pinned_ == 0;
+        std::string lines = pins ? "PIN\n" : "";
+        for (Cell cell : cells) lines += "AT chess" + points({cell}) + '\n';
+        if (pins) lines += "UNPIN\n";
+        std::vector<Reply> said;
+        send(lines, cells.size() + (pins ? 2 : 0));
+        while (owed_ > 0) said.push_back(reply());
+        done();
+        if (pins) {
+            for (const Reply& pin : {said.front(), said.back()}) {
+                if (pin.refused) throw *pin.refused;
+                numbers(pin.words, 1);
+            }
+            said.erase(said.begin());
+            said.pop_back();
+        }
+        std::vector<bool> on;
+        for (Reply& near : said) on.push_back(is_answered(near));
+        return on;
+    }
+
+    /// Whether a cell was answered, and not refused as outside the map.
+    bool is_answered(Reply& near) {
+        if (near.refused && near.refused->number != OutOfRange) throw *near.refused;
+        if (near.refused) return false;
+        if (near.words == std::vector<std::string>{"NONE"}) return true;
+        obstacle(near.words);
+        numbers(near.words, 1);
+        return true;
+    }
+
+    /// Whether the connection is open. One that isn't in step is closed: bytes that are left or
+    /// that nobody asked for would be read as the next answer.
+    bool is_open() {
+        if (socket_ < 0) return false;
+        if (busy_ || owed_ != 0 || !buffer_.empty()) {
+            drop();
+            throw ConnectionLost(
+                "an earlier call was left before its reply was read: the connection is closed");
+        }
+        char unasked[longest_reply];
+        ssize_t n = ::recv(socket_, unasked, sizeof unasked, MSG_PEEK | MSG_DONTWAIT);
+        if (n < 0 && (errno == EAGAIN || errno == EWOULDBLOCK || errno == EINTR)) return true;
+        drop();
+        if (n <= 0) return false;
+        std::string said(unasked, static_cast<std::size_t>(n));
+        throw ConnectionLost("the server ended the connection with what nobody asked: " +
+                             said.substr(0, said.find('\n')));
+    }
+
+    Clock::time_point next_deadline() const { return Clock::now() + timeout_; }
+
+    /// Waits until the socket is ready or the time is over. Signals don't prolong it.
+    bool wait(short events, Clock::time_point deadline) {
+        for (;;) {
+            auto left =
+                std::chrono::ceil<std::chrono::milliseconds>(deadline - Clock::now()).count();
+            pollfd one{socket_, events, 0};
+            int ready = ::poll(
+                &one, 1,
+                timeout_.count() == 0 ? -1 : static_cast<int>(std::max<decltype(left)>(left, 0)));
+            if (ready >= 0) return ready > 0;
+            if (errno != EINTR) lost();
+        }
+    }
+
+    /// Waits after a call that failed, where it can be made again.
+    void await(short events, Clock::time_point deadline) {
+        if (errno != EAGAIN && errno != EWOULDBLOCK && errno != EINTR) lost();
+        if (wait(events, deadline)) return;
+        late(answered_ ? "no reply" : "connected, but no worker has answered");
+    }
+
+    /// Receives what has come; waits until something has.
     void more() {
         char data[65536];
-        ssize_t n = open() ? ::recv(socket_, data, sizeof data, 0) : -1;
-        if (n < 0 && open() && errno == EINTR) return;
-        if (n == 0) drop();
-        if (n <= 0) lost();
+        auto deadline = next_deadline();
+        ssize_t n;
+        while ((n = ::recv(socket_, data, sizeof data, MSG_DONTWAIT)) < 0) await(POLLIN, deadline);
+        if (n == 0) lost();
         buffer_.append(data, static_cast<std::size_t>(n));
     }
 
-    [[noreturn]] void refuse(const std::vector<std::string>& said, const std::string& line) {
+    [[noreturn]] void lost() {
+        drop();
+        throw ConnectionLost("the connection is closed");
+    }
+
+    [[noreturn]] void late(const std::string& what) {
+        auto time = timeout_.count();
+        std::string within =
+            time % 1000 == 0 ? std::to_string(time / 1000) + " s" : std::to_string(time) + " ms";
+        bool answered = answered_;
+        drop();
+        throw TimedOut(what + " within " + within +
+                       (answered ? "" : ": are all workers of the server taken?"));
+    }
+
+    Refused refused(const std::vector<std::string>& said, const std::string& line) {
         std::uint32_t code = said.size() < 3 ? 0 : number(said[1]).value_or(0);
         auto known = refusal(code);
         bool image = code == BadImage;
         std::vector<std::uint32_t> found;
         for (std::size_t i = 3; i < said.size(); ++i)
             if (auto n = number(said[i])) found.push_back(*n);
-        if (!known || said[2] != known->first || found.size() != known->second || said.size() != 3 + known->second + image) wrong(line);
+        bool as_known = known && said[2] == known->first && found.size() == known->second;
+        if (!as_known || said.size() != 3 + known->second + image) wrong(line);
+        Refused refused(static_cast<int>(code), said[2], found, image ? said[3] : "", line);
         if (code == LineTooLong || code == TooMuchData) drop();
-        throw Refused(static_cast<int>(code), said[2], found, image ? said[3] : "", line);
+        return refused;
     }
 
-    int socket_;
-    std::string buffer_;
+    std::uint16_t port_;
+    Options options_;  // `expected` is the size that was found, once it was
+    std::chrono::milliseconds timeout_;
+    pid_t owner_;
+    int socket_ = -1;
+    std::string buffer_;           // what has come and wasn't taken
+    std::size_t owed_ = 0;         // replies to what was sent
+    bool busy_ = false;            // a call has begun
+    bool answered_ = false;        // on this connection
+    bool finished_ = false;        // by `close`
+    std::uint64_t pins_ = 0;       // that were made, on all connections
+    std::uint64_t first_pin_ = 1;  // that this connection can have made
+    std::uint64_t pinned_ = 0;     // the pin that is held, or 0
 };
 
-inline Cell cell(std::uint32_t x, std::uint32_t y) { return {static_cast<int>(x), static_cast<int>(y)}; }
+/// A turn on a connection for one call: its request and its replies, or several. Where it ends
+/// before the call is done, by whichever exception, the connection is closed.
+class Turn {
+public:
+    explicit Turn(const std::shared_ptr<Wire>& wire) : wire_(own(wire)), turn_(wire_.turn) {
+        wire_.ready();
+    }
+    Turn(const std::shared_ptr<Wire>& wire, std::uint64_t pin)
+        : wire_(own(wire)), turn_(wire_.turn) {
+        wire_.ready_for(pin);
+    }
+    Turn(const Turn&) = delete;
+    Turn& operator=(const Turn&) = delete;
+    ~Turn() {
+        if (wire_.busy()) wire_.drop();
+    }
+
+    Wire* operator->() const { return &wire_; }
+    Wire& operator*() const { return wire_; }
+
+private:
+    /// The connection, where this process may use it. A child mustn't wait for a turn that a
+    /// thread of its parent has.
+    static Wire& own(const std::shared_ptr<Wire>& wire) {
+        if (!wire) throw ConnectionLost("it was moved, and has no connection");
+        if (!wire->owned())
+            throw ConnectionLost(
+                "the connection belongs to the parent process: make a client after fork()");
+        return *wire;
+    }
+
+    Wire& wire_;
+    std::unique_lock<std::mutex> turn_;
+};
+
+/// For the calls that no float may reach: it would lose its fraction on the way without a word.
+template <class... Numbers>
+using IfReal = std::enable_if_t<(std::is_floating_point<Numbers>::value || ...)>;
 
 }  // namespace detail
+
+// ---- queries
 
 /// Queries for Pinned::ask, which sends them together.
 class Queries {
 public:
-    Queries& at(Cell c, Metric m = Metric::euclid2) { return add(Kind::at, c, std::string("AT ") + detail::name(m) + detail::points({c})); }
+    Queries& at(Cell c, Metric m = Metric::euclid2) {
+        return add(Kind::at, c, "AT", m, detail::points({c}));
+    }
     Queries& rect(int x0, int y0, int x1, int y1, Metric m = Metric::euclid2) {
-        return add(Kind::tightest, {}, std::string("RECT ") + detail::name(m) + detail::points({{x0, y0}, {x1, y1}}));
+        return add(Kind::tightest, {}, "RECT", m, detail::points({{x0, y0}, {x1, y1}}));
     }
-    Queries& path(const Path& p, Metric m = Metric::euclid2) { return add(Kind::tightest, {}, std::string("PATH ") + detail::name(m) + detail::points(p)); }
+    template <class A, class B, class C, class D, class = detail::IfReal<A, B, C, D>>
+    Queries& rect(A x0, B y0, C x1, D y1, Metric m = Metric::euclid2) = delete;
+    Queries& path(const Path& p, Metric m = Metric::euclid2) {
+        return add(Kind::tightest, {}, "PATH", m, detail::points(p));
+    }
     Queries& clear_of(std::uint32_t distance, const Path& p, Metric m = Metric::euclid2) {
-        return add(Kind::clear, {}, std::string("CLEAROF ") + detail::name(m) + ' ' + std::to_string(distance) + detail::points(p));
+        return add(Kind::clear, {}, "CLEAROF", m,
+                   ' ' + std::to_string(distance) + detail::points(p));
     }
+    /// A distance is a whole number: round a fraction up, or ask Frame::clear_distance.
+    template <class Real, class = detail::IfReal<Real>>
+    Queries& clear_of(Real distance, const Path& p, Metric m = Metric::euclid2) = delete;
 
 private:
     friend class Pinned;
@@ -318,9 +717,11 @@ private:
         Cell asked;
         std::string line;
     };
-    Queries& add(Kind kind, Cell asked, std::string line) {
-        if (line.size() > 16384) throw std::invalid_argument("a line of over 16384 bytes");
-        queries_.push_back({kind, asked, std::move(line)});
+    Queries& add(Kind kind, Cell asked, const char* command, Metric m,
+                 const std::string& arguments) {
+        queries_.push_back(
+            {kind, asked,
+             detail::checked(std::string(command) + ' ' + detail::name(m) + arguments)});
         return *this;
     }
     std::vector<Query> queries_;
@@ -332,17 +733,26 @@ struct Answer {
     std::optional<Refused> refused;
 };
 
-/// A pin of one version, which stays as it is whatever is published. It is left at its end; its client must live as long.
+/// A pin of one version, which stays as it is whatever is published. It is left at its end. It
+/// keeps its connection, also where its client is gone. Any threads may ask it; where one of them
+/// renews it, an answer is of the version before or of the one after. What is asked of a pin that
+/// was left, or whose connection is closed, throws ConnectionLost and isn't sent.
 class Pinned {
 public:
-    Pinned(Pinned&& other) noexcept : wire_(std::exchange(other.wire_, nullptr)), version_(other.version_) {}
-    Pinned(const Pinned&) = delete;
-    Pinned& operator=(const Pinned&) = delete;
-    Pinned& operator=(Pinned&&) = delete;
+    Pinned(Pinned&& other) noexcept
+        : wire_(std::move(other.wire_)), pin_(other.pin_), version_(other.version()) {}
+    /// Leaves its own pin, and takes the other's.
+    Pinned& operator=(Pinned&& other) noexcept {
+        Pinned taken(std::move(other));
+        std::swap(wire_, taken.wire_);
+        std::swap(pin_, taken.pin_);
+        version_ = taken.version_.exchange(version_);
+        return *this;
+    }
     ~Pinned() {
         try {
-            if (wire_ && wire_->open()) unpin();
-        } catch (const std::exception&) {  // the connection is closed then, and the pin with it
+            if (wire_) unpin();
+        } catch (const std::exception&) {  // it was left before, or its connection is closed
         }
     }
 
@@ -350,107 +760,135 @@ public:
     std::uint32_t version() const { return version_; }
 
     /// Leaves the pin; nothing is asked of it any more.
-    void unpin() {
-        detail::Wire& wire = this->wire();
-        wire_ = nullptr;
-        wire.numbers(wire.call("UNPIN"), 1);
-    }
+    void unpin() { detail::Turn(wire_, pin_)->unpin(); }
 
-    /// The nearest obstacle of a cell. Nothing where the map has none.
+    /// The nearest obstacle of a cell. Nothing where the map has none. As each query it is refused
+    /// as
+    /// OutOfRange outside the map, and as BadArguments below 0.
     std::optional<Near> at(Cell c, Metric m = Metric::euclid2) {
         auto found = one(Queries().at(c, m));
         if (!found) return std::nullopt;
         return Near{found->distance, found->obstacle};
     }
 
-    /// The first cell by rows, of columns x0 up to x1 - 1 and rows y0 up to y1 - 1, that has the least distance.
-    std::optional<Tightest> rect(int x0, int y0, int x1, int y1, Metric m = Metric::euclid2) { return one(Queries().rect(x0, y0, x1, y1, m)); }
+    /// The first cell by rows, of columns x0 up to x1 - 1 and rows y0 up to y1 - 1, that has the
+    /// least distance.
+    std::optional<Tightest> rect(int x0, int y0, int x1, int y1, Metric m = Metric::euclid2) {
+        return one(Queries().rect(x0, y0, x1, y1, m));
+    }
+    template <class A, class B, class C, class D, class = detail::IfReal<A, B, C, D>>
+    std::optional<Tightest> rect(A x0, B y0, C x1, D y1, Metric m = Metric::euclid2) = delete;
 
-    /// The first cell along a path that has the least distance.
-    std::optional<Tightest> path(const Path& p, Metric m = Metric::euclid2) { return one(Queries().path(p, m)); }
+    /// The first cell along a path that has the least distance. Refused as BadPath where it hasn't
+    /// 1
+    /// to 1000 points, and as Crooked with the index of a point that is neither in the row nor in
+    /// the
+    /// column of the one before; std::invalid_argument where its line has over 16384 bytes.
+    std::optional<Tightest> path(const Path& p, Metric m = Metric::euclid2) {
+        return one(Queries().path(p, m));
+    }
 
-    /// Nothing where each cell of the path has this distance at least, and else the first that hasn't. With euclid2 it is a square.
-    std::optional<Tightest> clear_of(std::uint32_t distance, const Path& p, Metric m = Metric::euclid2) { return one(Queries().clear_of(distance, p, m)); }
+    /// Nothing where each cell of the path has this distance at least, and else the first that
+    /// hasn't. With euclid2 it is a square.
+    std::optional<Tightest> clear_of(std::uint32_t distance, const Path& p,
+                                     Metric m = Metric::euclid2) {
+        return one(Queries().clear_of(distance, p, m));
+    }
+    /// A distance is a whole number: round a fraction up, or ask Frame::clear_distance.
+    template <class Real, class = detail::IfReal<Real>>
+    std::optional<Tightest> clear_of(Real distance, const Path& p,
+                                     Metric m = Metric::euclid2) = delete;
 
-    /// The straight distance of a path's tightest cell to its nearest obstacle, in cells from middle to middle; infinite where the map has none.
-    /// The path may have any number of points: one of over 1000 is asked in pieces, which share their ends.
+    /// The straight distance of a path's tightest cell to its nearest obstacle, in cells from
+    /// middle to middle; infinite where the map has none. The path may have any number of points:
+    /// one of over 1000 is asked in pieces, which share their ends.
     double clearance(const Path& p) {
         constexpr std::size_t longest = 1000;
         Queries queries;
         std::size_t start = 0;
         do {
-            std::size_t end = std::min(start + longest, p.size());
-            queries.path(Path(p.begin() + static_cast<std::ptrdiff_t>(start), p.begin() + static_cast<std::ptrdiff_t>(end)));
+            auto from = p.begin() + static_cast<std::ptrdiff_t>(start);
+            queries.path(Path(
+                from, from + static_cast<std::ptrdiff_t>(std::min(longest, p.size() - start))));
             start += longest - 1;
         } while (start + 1 < p.size());
         double least = std::numeric_limits<double>::infinity();
         for (const Answer& answer : ask(queries)) {
             if (answer.refused) throw *answer.refused;
-            if (answer.found) least = std::min(least, std::sqrt(static_cast<double>(answer.found->distance)));
+            least = std::min(least, straight(answer));
         }
         return least;
     }
 
-    /// Whether a cell is on the map and no obstacle, and its straight distance to the nearest obstacle in cells: exact but for the root's rounding.
+    /// Whether a cell is on the map and no obstacle, and its straight distance to the nearest
+    /// obstacle in cells: exact but for the root's rounding.
     bool is_valid(int x, int y, double& clearance) {
-        clearance = 0;
-        if (x < 0 || y < 0) return false;
-        try {
-            clearance = this->clearance({{x, y}});
-        } catch (const Refused& refused) {
-            if (refused.number != OutOfRange) throw;
-            return false;
-        }
+        clearance = clearances({{x, y}})[0];
         return clearance > 0;
     }
+    /// A cell is two whole numbers: Frame::cell gives that of a point in metres.
+    template <class X, class Y, class = detail::IfReal<X, Y>>
+    bool is_valid(X x, Y y, double& clearance) = delete;
 
-    /// For each cell its straight distance to the nearest obstacle, in cells: 0 for an obstacle and for a cell that isn't on the map, infinite where the map
-    /// has none. Cells are sent 64 in one write.
+    /// For each cell its straight distance to the nearest obstacle, in cells: 0 for an obstacle
+    /// and for a cell that isn't on the map, infinite where the map has none. Cells are sent 64
+    /// in one write.
     std::vector<double> clearances(const std::vector<Cell>& cells) {
         Queries queries;
-        for (Cell c : cells) queries.at(c.x < 0 || c.y < 0 ? Cell{4096, 4096} : c);
+        const Cell outside{detail::largest_side, detail::largest_side};
+        for (Cell c : cells) queries.at(c.x < 0 || c.y < 0 ? outside : c);
         std::vector<double> found;
         for (const Answer& answer : ask(queries)) {
             if (answer.refused && answer.refused->number != OutOfRange) throw *answer.refused;
-            double distance = answer.found ? std::sqrt(static_cast<double>(answer.found->distance)) : std::numeric_limits<double>::infinity();
-            found.push_back(answer.refused ? 0 : distance);
+            found.push_back(answer.refused ? 0 : straight(answer));
         }
         return found;
     }
 
-    /// Moves the pin to the newest version, and answers its number. Nothing else tells of a publish.
+    /// Moves the pin to the newest version, and answers its number. Nothing else tells of a
+    /// publish.
     std::uint32_t renew() {
-        detail::Wire& wire = this->wire();
-        unpin();
-        version_ = wire.numbers(wire.call("PIN"), 1)[0];
-        wire_ = &wire;
-        return version_;
+        detail::Turn turn(wire_, pin_);
+        turn->unpin();
+        return version_ = turn->pin(pin_).second;
     }
 
     /// The version as a plain PBM image.
-    std::string dump() { return wire().bytes(wire().numbers(wire().call("DUMP"), 1)[0]); }
+    std::string dump() {
+        detail::Turn turn(wire_, pin_);
+        turn->send("DUMP\n", 1);
+        std::string image = turn->bytes(turn->numbers(1)[0]);
+        turn->done();
+        return image;
+    }
 
-    /// The answers to many queries, which are sent without waiting in between. A refused one has its refusal in its place.
+    /// The answers to many queries, all by one version; 64 are sent at a time without waiting in
+    /// between. A refused one has its refusal in its place.
     std::vector<Answer> ask(const Queries& queries) {
         constexpr std::size_t batch = 64;
+        const std::vector<Queries::Query>& all = queries.queries_;
         std::vector<Answer> answers;
-        for (std::size_t start = 0; start < queries.queries_.size(); start += batch) {
-            std::size_t end = std::min(start + batch, queries.queries_.size());
+        detail::Turn turn(wire_, pin_);
+        for (std::size_t start = 0; start < all.size(); start += batch) {
+            std::size_t end = std::min(start + batch, all.size());
             std::string lines;
-            for (std::size_t i = start; i < end; ++i) lines += queries.queries_[i].line + '\n';
-            wire().send(lines);
-            for (std::size_t i = start; i < end; ++i) answers.push_back(take(queries.queries_[i]));
+            for (std::size_t i = start; i < end; ++i) lines += all[i].line + '\n';
+            turn->send(lines, end - start);
+            for (std::size_t i = start; i < end; ++i) answers.push_back(read(*turn, all[i]));
         }
+        turn->done();
         return answers;
     }
 
 private:
     friend class Client;
-    Pinned(detail::Wire* wire, std::uint32_t version) : wire_(wire), version_(version) {}
+    Pinned(const std::shared_ptr<detail::Wire>& wire,
+           std::pair<std::uint64_t, std::uint32_t> pinned) noexcept
+        : wire_(wire), pin_(pinned.first), version_(pinned.second) {}
 
-    detail::Wire& wire() {
-        if (!wire_) throw ConnectionLost("the pin was left");
-        return *wire_;
+    static double straight(const Answer& answer) {
+        return answer.found ? std::sqrt(static_cast<double>(answer.found->distance))
+                            : std::numeric_limits<double>::infinity();
     }
 
     std::optional<Tightest> one(const Queries& query) {
@@ -459,117 +897,184 @@ private:
         return answer.found;
     }
 
-    Answer take(const Queries::Query& query) {
-        try {
-            return {read(query, wire().reply()), std::nullopt};
-        } catch (const Refused& refused) {
-            return {std::nullopt, refused};
-        }
-    }
-
-    std::optional<Tightest> read(const Queries::Query& query, std::vector<std::string> said) {
+    /// The next reply, which answers this query.
+    static Answer read(detail::Wire& wire, const Queries::Query& query) {
+        detail::Reply said = wire.reply();
+        if (said.refused) return {std::nullopt, std::move(said.refused)};
         bool clear = query.kind == Queries::Kind::clear;
-        if (said == std::vector<std::string>{"NONE"} && !clear) return std::nullopt;
-        if (said == std::vector<std::string>{"OK", "CLEAR"} && clear) return std::nullopt;
-        Cell obstacle = wire().obstacle(said);
-        if (query.kind == Queries::Kind::at) return Tightest{wire().numbers(said, 1)[0], query.asked, obstacle};
-        auto n = wire().numbers(said, 3);
-        return Tightest{n[0], detail::cell(n[1], n[2]), obstacle};
+        const std::vector<std::string> none =
+            clear ? std::vector<std::string>{"OK", "CLEAR"} : std::vector<std::string>{"NONE"};
+        if (said.words == none) return {};
+        Cell obstacle = wire.obstacle(said.words);
+        if (query.kind == Queries::Kind::at)
+            return {Tightest{wire.numbers(said.words, 1)[0], query.asked, obstacle}, std::nullopt};
+        auto n = wire.numbers(said.words, 3);
+        return {Tightest{n[0], wire.cell(n[1], n[2]), obstacle}, std::nullopt};
     }
 
-    detail::Wire* wire_;
-    std::uint32_t version_;
+    std::shared_ptr<detail::Wire> wire_;
+    std::uint64_t pin_;  // the number that the connection knows it by
+    std::atomic<std::uint32_t> version_;
 };
 
-/// A connection to a server on this machine. The time-out is for each wait for bytes; 0 waits for ever.
+// ---- the client
+
+/// A connection to a server on this machine. It can be moved; what is asked of one that was moved
+/// from throws ConnectionLost. At its end the connection goes to its pin, and ends with that.
 class Client {
 public:
-    explicit Client(std::uint16_t port, std::chrono::milliseconds timeout = std::chrono::seconds(10), FullLog full_log = FullLog::thrown)
-        : wire_(port, timeout), full_log_(full_log) {}
+    Client(Client&&) noexcept = default;
+    Client& operator=(Client&&) noexcept = default;
+    /// Throws WrongMap where the map has another size than is expected, and std::invalid_argument
+    /// for an expected size that no map has, or a time-out below 0.
+    explicit Client(std::uint16_t port, const Options& options = {})
+        : wire_(std::make_shared<detail::Wire>(port, options)) {}
+    Client(std::uint16_t port, std::chrono::milliseconds timeout,
+           FullLog full_log = FullLog::thrown)
+        : Client(port, Options{std::nullopt, timeout, full_log, false}) {}
 
-    /// Ends the connection; what was accepted stays accepted, and a pin is left.
-    void close() { wire_.close(); }
-
-    /// Makes columns x0 up to x1 - 1 of rows y0 up to y1 - 1 of the draft obstacles.
-    Change paint(int x0, int y0, int x1, int y1) { return draw("PAINT" + detail::points({{x0, y0}, {x1, y1}}) + '\n'); }
-
-    /// Makes them free.
-    Change clear(int x0, int y0, int x1, int y1) { return draw("CLEAR" + detail::points({{x0, y0}, {x1, y1}}) + '\n'); }
-
-    /// Gives the cells from (x, y) on the values of a PBM image, plain or raw; black is an obstacle.
-    Change stamp(Cell corner, const std::string& image) {
-        if (corner.x < 0 || corner.y < 0 || image.size() > 17100000) throw std::invalid_argument("no such cell, or an image of over 17100000 bytes");
-        return draw("STAMP" + detail::points({corner}) + ' ' + std::to_string(image.size()) + '\n' + image);
+    /// Ends the connection, once the call of another thread is done; what was accepted stays
+    /// accepted, and a pin is left. It may be called again, and isn't undone by
+    /// `Options::reconnect`.
+    void close() {
+        if (!wire_ || !wire_->owned()) return;
+        std::lock_guard<std::mutex> turn(wire_->turn);
+        wire_->close();
     }
 
-    /// Appends the draft as the next version, and answers its number.
-    std::uint32_t publish() { return change("PUBLISH\n", 2)[1]; }
+    /// The map's size: what was expected, or what is found by two writes at the first call.
+    Size size() { return detail::Turn(wire_)->size(); }
+
+    /// Makes columns x0 up to x1 - 1 of rows y0 up to y1 - 1 of the draft obstacles. Refused as
+    /// BadArguments where that is no cell or a number is below 0 or over 4096, as OutOfRange, and
+    /// as
+    /// each command may be: LogFull, PlacesUsed, BlocksFull and Memory.
+    Change paint(int x0, int y0, int x1, int y1) {
+        return draw("PAINT" + detail::points({{x0, y0}, {x1, y1}}));
+    }
+    template <class A, class B, class C, class D, class = detail::IfReal<A, B, C, D>>
+    Change paint(A x0, B y0, C x1, D y1) = delete;
+
+    /// Makes these cells free; refused as a paint is.
+    Change clear(int x0, int y0, int x1, int y1) {
+        return draw("CLEAR" + detail::points({{x0, y0}, {x1, y1}}));
+    }
+    template <class A, class B, class C, class D, class = detail::IfReal<A, B, C, D>>
+    Change clear(A x0, B y0, C x1, D y1) = delete;
+
+    /// Gives the cells from (x, y) on the values of a PBM image, plain or raw, of at most
+    /// 17,100,000 bytes; black is an obstacle. Throws std::invalid_argument for a larger image or
+    /// a cell below 0.
+    Change stamp(Cell corner, const void* image, std::size_t bytes) {
+        if (corner.x < 0 || corner.y < 0) throw std::invalid_argument("a cell below 0");
+        if (bytes > detail::largest_image)
+            throw std::invalid_argument("an image of over 17100000 bytes");
+        return draw("STAMP" + detail::points({corner}) + ' ' + std::to_string(bytes),
+                    static_cast<const char*>(image), bytes);
+    }
+
+    /// The same of a string, a vector, an array or a span whose elements are bytes.
+    template <class Bytes, class Element = decltype(*std::data(std::declval<const Bytes&>()))>
+    Change stamp(Cell corner, const Bytes& image) {
+        static_assert(sizeof(Element) == 1, "an image is bytes: its elements have the size 1");
+        return stamp(corner, std::data(image), std::size(image));
+    }
+
+    /// The same of a literal, without the zero that ends it.
+    template <std::size_t length>
+    Change stamp(Cell corner, const char (&image)[length]) {
+        return stamp(corner, image, length - (image[length - 1] == '\0'));
+    }
+
+    /// Appends the draft as the next version, and answers its number. Refused as VersionsFull too.
+    std::uint32_t publish() { return change("PUBLISH", 2)[1]; }
 
     /// Makes the draft the newest version again, and answers the place in the log.
-    std::uint32_t revert() { return change("REVERT\n", 1)[0]; }
+    std::uint32_t revert() { return change("REVERT", 1)[0]; }
 
     /// Gives back what no kept version uses: the newest is kept, and each that a pin holds.
     Collected collect() {
-        auto n = change("COLLECT\n", 3);
+        auto n = change("COLLECT", 3);
         return {n[0], n[1], n[2]};
     }
 
-    /// Drops the entries of the log that the server keeps, so that a full log goes on, and answers its own place. Places go on counting, and no bitmap
-    /// and no version changes.
-    std::uint32_t checkpoint() { return wire_.numbers(wire_.call("CHECKPOINT"), 1)[0]; }
+    /// Drops the entries of the log that the server keeps, so that a full log goes on, and
+    /// answers its own place. Places go on counting, and no bitmap and no version changes.
+    std::uint32_t checkpoint() { return sent(*detail::Turn(wire_), "CHECKPOINT", 1)[0]; }
 
-    /// Pins the newest version. One at a time on a connection.
-    Pinned pin() { return Pinned(&wire_, wire_.numbers(wire_.call("PIN"), 1)[0]); }
+    /// Pins the newest version. One at a time on a connection: a second is refused as
+    /// AlreadyPinned.
+    Pinned pin() { return Pinned(wire_, detail::Turn(wire_)->pin(0)); }
 
 private:
-    /// The numbers of the reply to a command's line and bytes.
-    std::vector<std::uint32_t> change(const std::string& request, std::size_t count) {
-        try {
-            wire_.send(request);
-            return wire_.numbers(wire_.reply(), count);
-        } catch (const Refused& refused) {
-            if (refused.number != LogFull || full_log_ == FullLog::thrown) throw;
-        }
-        checkpoint();
-        wire_.send(request);
-        return wire_.numbers(wire_.reply(), count);
+    /// The numbers of the reply to a command's line, and the bytes that it counts.
+    static std::vector<std::uint32_t> sent(detail::Wire& wire, const std::string& line,
+                                           std::size_t count, const char* data = nullptr,
+                                           std::size_t size = 0) {
+        wire.send(line + '\n', 1);
+        wire.send_bytes(data, size);
+        auto numbers = wire.numbers(count, size > 0);
+        wire.done();
+        return numbers;
     }
 
-    Change draw(const std::string& request) {
-        auto n = change(request, 2);
+    /// The same, with a checkpoint in between where the log is full and the client was told so.
+    std::vector<std::uint32_t> change(const std::string& line, std::size_t count,
+                                      const char* data = nullptr, std::size_t size = 0) {
+        detail::Turn turn(wire_);
+        try {
+            return sent(*turn, line, count, data, size);
+        } catch (const Refused& refused) {
+            if (refused.number != LogFull || !turn->full_log_is_checkpointed()) throw;
+        }
+        sent(*turn, "CHECKPOINT", 1);
+        return sent(*turn, line, count, data, size);
+    }
+
+    Change draw(const std::string& line, const char* data = nullptr, std::size_t size = 0) {
+        auto n = change(line, 2, data, size);
         return {n[0], n[1]};
     }
 
-    detail::Wire wire_;
-    FullLog full_log_;
+    std::shared_ptr<detail::Wire> wire_;
 };
+
+// ---- metres and cells
 
 /// A point in metres, y upwards.
 struct Point {
     double x, y;
 };
 
-/// Where a map lies in the world, as a ROS `map.yaml` says: metres a cell, and the lower left corner in metres, y upwards.
+/// Where a map lies in the world, as a ROS `map.yaml` says: metres a cell, and the lower left
+/// corner in metres, y upwards.
 struct Frame {
     int width, height;
     double resolution, origin_x, origin_y;
 
-    /// The cell of a point in metres; nothing outside the map. A point within a billionth of a cell of an edge counts as on it.
+    /// The size that a client of the map can be told to expect.
+    Size size() const { return {width, height}; }
+
+    /// The cell of a point in metres; nothing outside the map. A point within a billionth of a
+    /// cell of an edge counts as on it.
     std::optional<Cell> cell(double x, double y) const {
         double u = std::floor(across(x)), t = std::floor(up(y));
         if (!(0 <= u && u < width && 0 <= t && t < height)) return std::nullopt;
         return Cell{static_cast<int>(u), height - 1 - static_cast<int>(t)};
     }
 
-    /// The path through the cells that a plan's segments cross; through a corner it goes by one of the cells next to it. Nothing where the plan
-    /// has no point, or one outside the map. The middle of each cell of it is less than one cell from the plan.
+    /// The path through the cells that a plan's segments cross; through a corner it goes by one
+    /// of the cells next to it. Nothing where the plan has no point, or one outside the map. The
+    /// middle of each cell of it is less than one cell from the plan.
     std::optional<Path> staircase(const std::vector<Point>& plan) const {
         Path path;
         for (std::size_t i = 0; i < plan.size(); ++i) {
             auto here = cell(plan[i].x, plan[i].y);
             if (!here) return std::nullopt;
-            if (i == 0) path.push_back(*here);
-            else cross(plan[i - 1], plan[i], path);
+            if (i == 0)
+                path.push_back(*here);
+            else
+                cross(plan[i - 1], plan[i], path);
         }
         if (path.empty()) return std::nullopt;
         return corners(path);
@@ -578,15 +1083,20 @@ struct Frame {
     /// A length in cells, as `clearance` answers it, in metres.
     double metres(double cells) const { return cells * resolution; }
 
-    /// The `d` of `clear_of` by euclid2 for a round robot of this radius in metres, which may be anywhere in its cell: so much that it touches no obstacle's cell.
+    /// The `d` of `clear_of` by euclid2 for a round robot of this radius in metres, which may be
+    /// anywhere in its cell: so much that it touches no obstacle's cell.
     std::uint32_t clear_distance(double radius) const {
         double cells = radius / resolution;
-        if (!(cells >= 0 && cells < 10000)) throw std::invalid_argument("a radius is 0 or more, and not larger than any map");
-        return static_cast<std::uint32_t>(std::ceil(2 + (cells + 2 * std::sqrt(2.0)) * cells * (1 + 1e-12)));  // the square of cells and a diagonal
+        if (!(cells >= 0 && cells < 10000))
+            throw std::invalid_argument("a radius is 0 or more, and not larger than any map");
+        return static_cast<std::uint32_t>(
+            std::ceil(2 + (cells + 2 * std::sqrt(2.0)) * cells *
+                              (1 + 1e-12)));  // the square of cells and a diagonal
     }
 
 private:
-    /// A number of cells, where it is that of an edge but for rounding: decimals such as 0.05 have no double.
+    /// A number of cells, where it is that of an edge but for rounding: decimals such as 0.05
+    /// have no double.
     static double snapped(double cells) {
         double edge = std::round(cells);
         return std::abs(cells - edge) < 1e-9 ? edge : cells;
@@ -596,7 +1106,8 @@ private:
     double across(double x) const { return snapped((x - origin_x) / resolution); }
     double up(double y) const { return snapped((y - origin_y) / resolution); }
 
-    /// A crossing of an edge: how far along the segment it is, in whole trillionths so that rounding parts no two at one corner, and the step.
+    /// A crossing of an edge: how far along the segment it is, in whole trillionths so that
+    /// rounding parts no two at one corner, and the step.
     struct Crossing {
         double along;
         int dx, dy;
@@ -606,7 +1117,8 @@ private:
     static void edges(double from, double to, int dx, int dy, std::vector<Crossing>& found) {
         double first = std::floor(from), last = std::floor(to), step = last > first ? 1 : -1;
         for (double at = first; at != last; at += step)
-            found.push_back({std::round(((step > 0 ? at + 1 : at) - from) / (to - from) * 1e12), step > 0 ? dx : -dx, step > 0 ? dy : -dy});
+            found.push_back({std::round(((step > 0 ? at + 1 : at) - from) / (to - from) * 1e12),
+                             step > 0 ? dx : -dx, step > 0 ? dy : -dy});
     }
 
     /// Adds the cells that a segment enters after its first.
@@ -614,15 +1126,19 @@ private:
         std::vector<Crossing> found;
         edges(across(start.x), across(end.x), 1, 0, found);
         edges(up(start.y), up(end.y), 0, -1, found);
-        std::stable_sort(found.begin(), found.end(), [](const Crossing& a, const Crossing& b) { return a.along < b.along; });
-        for (const Crossing& crossing : found) path.push_back({path.back().x + crossing.dx, path.back().y + crossing.dy});
+        std::stable_sort(found.begin(), found.end(),
+                         [](const Crossing& a, const Crossing& b) { return a.along < b.along; });
+        for (const Crossing& crossing : found)
+            path.push_back({path.back().x + crossing.dx, path.back().y + crossing.dy});
     }
 
     /// A path of neighbouring cells by its ends and the cells where it turns.
     static Path corners(const Path& cells) {
         Path kept = {cells.front()};
         for (std::size_t i = 1; i + 1 < cells.size(); ++i)
-            if (cells[i].x - cells[i - 1].x != cells[i + 1].x - cells[i].x || cells[i].y - cells[i - 1].y != cells[i + 1].y - cells[i].y) kept.push_back(cells[i]);
+            if (cells[i].x - cells[i - 1].x != cells[i + 1].x - cells[i].x ||
+                cells[i].y - cells[i - 1].y != cells[i + 1].y - cells[i].y)
+                kept.push_back(cells[i]);
         if (cells.size() > 1) kept.push_back(cells.back());
         return kept;
     }

@@ -1,97 +1,7 @@
 // Tests of clearmap.hpp: test_clearmap POST SMALL WALLED, the ports of three servers of the map with one obstacle at column 2 of row 1 of 6 by 4; the
 // second has two blocks, two versions and a log of three, and the border of the third is a wall. Servers that answer wrongly, late or not at all are
 // threads of this program.
-#include "clearmap.hpp"
-
-#include <cstdio>
-#include <cstdlib>
-#include <functional>
-#include <future>
-#include <thread>
-
-using namespace clearmap;
-
-static int tried = 0;
-
-#define CHECK(what)                                                             \
-    do {                                                                        \
-        ++tried;                                                                \
-        if (!(what)) {                                                          \
-            std::printf("test_clearmap.cpp:%d: not so: %s\n", __LINE__, #what); \
-            std::exit(1);                                                       \
-        }                                                                       \
-    } while (0)
-
-/// Whether a call throws just this kind.
-template <class Kind, class Call>
-static bool throws(Call call) {
-    try {
-        call();
-    } catch (const Kind&) {
-        return true;
-    } catch (const std::exception& other) {
-        std::printf("thrown: %s\n", other.what());
-    }
-    return false;
-}
-
-/// Whether a connection was closed on this side, so that nothing is sent and waited for any more.
-static bool closed(Client& client) {
-    try {
-        client.publish();
-    } catch (const TimedOut&) {
-        return false;
-    } catch (const ConnectionLost& lost) {
-        return std::string(lost.what()) == "the connection is closed";
-    }
-    return false;
-}
-
-/// Whether a call is refused with this number, name and numbers.
-static bool refused(int number, const std::string& name, std::vector<std::uint32_t> numbers, const std::function<void()>& call) {
-    try {
-        call();
-    } catch (const Refused& refusal) {
-        return refusal.number == number && refusal.name == name && refusal.numbers == numbers;
-    }
-    return false;
-}
-
-/// A server of one connection: it answers each line with the next of these texts, and then waits for the test's end or closes.
-class Fake {
-public:
-    Fake(std::vector<std::string> answers, bool closes) : listener_(::socket(AF_INET, SOCK_STREAM, 0)) {
-        sockaddr_in address{};
-        socklen_t size = sizeof address;
-        address.sin_family = AF_INET;
-        address.sin_addr.s_addr = htonl(INADDR_LOOPBACK);
-        if (::bind(listener_, reinterpret_cast<sockaddr*>(&address), size) || ::listen(listener_, 1)) std::exit(1);
-        ::getsockname(listener_, reinterpret_cast<sockaddr*>(&address), &size);
-        port = ntohs(address.sin_port);
-        thread_ = std::thread([this, answers, closes] {
-            int stream = ::accept(listener_, nullptr, nullptr);
-            for (const std::string& answer : answers) {
-                char byte = 0;
-                while (::recv(stream, &byte, 1, 0) == 1 && byte != '\n') {
-                }
-                ::send(stream, answer.data(), answer.size(), MSG_NOSIGNAL);
-            }
-            if (!closes) done_.get_future().wait_for(std::chrono::seconds(20));
-            ::close(stream);
-        });
-    }
-    ~Fake() {
-        done_.set_value();
-        thread_.join();
-        ::close(listener_);
-    }
-    std::uint16_t port = 0;
-
-private:
-    int listener_;
-    std::promise<void> done_;
-    std::thread thread_;
-};
+#include "testing.hpp"
 
 static const Path corner = {{0, 0}, {5, 0}, {5, 3}};
 
@@ -269,6 +179,16 @@ static void failures() {
         CHECK(throws<WrongAnswer>([&] { map.at({0, 0}); }));
         CHECK(closed(client));
     }
+    for (const char* answer : {"OK 1 4096 0 0 0\n", "OK 1 0 4294967295 0 0\n", "OK 1 2 0 0\n"}) {
+        Fake fake({"OK 0\n", answer}, false);
+        Client client(fake.port, std::chrono::seconds(2));
+        Pinned map = client.pin();
+        CHECK(throws<WrongAnswer>([&] { map.path({{0, 0}}); }) && closed(client));
+    }
+    Fake formless({"ERR 12 BadArguments\n"}, false);  // then its bytes are read as lines
+    Client stamping(formless.port, std::chrono::seconds(2));
+    CHECK(refused(BadArguments, "BadArguments", {}, [&] { stamping.stamp({0, 0}, "P1\n1 1\n1"); }));
+    CHECK(closed(stamping));
     Fake endless({std::string(200, 'A')}, false);
     Client client(endless.port);
     CHECK(throws<WrongAnswer>([&] { client.pin(); }));
@@ -303,6 +223,6 @@ int main(int count, char** words) {
     checkpoints(static_cast<std::uint16_t>(std::atoi(words[2])));
     failures();
     frames();
-    std::printf("tests of clearmap.hpp: %d, all good\n", tried);
+    std::printf("tests of clearmap.hpp: %d, all good\n", tried.load());
     return 0;
 }

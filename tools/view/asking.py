@@ -4,12 +4,13 @@ import hmac
 import json
 import math
 from fractions import Fraction
-from typing import TYPE_CHECKING, Dict, List, Optional, Sequence, Tuple
+from typing import TYPE_CHECKING, Callable, Dict, List, Optional, Sequence, Tuple
 
 from aiohttp import web
 
 import clearmap
 import clearmap_ros as ros
+from draft import QUESTION
 
 if TYPE_CHECKING:
     from site_of_map import Site
@@ -151,19 +152,61 @@ class Asking:
         if not hmac.compare_digest(request.headers.get("X-Clearmap-Token", "").encode(), self.site.token.encode()):
             raise BadRequest("A change wants the page's own token.", 403)
         body = await body_of(request)
-        name, rect = body.get("command"), body.get("rect")
-        if name in ("paint", "clear"):
-            if not isinstance(rect, list) or len(rect) != 4 or not all(isinstance(side, int) and not isinstance(side, bool) for side in rect):
-                raise BadRequest("a rectangle is four whole numbers")
-            draw = clearmap.Client.paint if name == "paint" else clearmap.Client.clear
-            done = await asyncio.to_thread(self.site.watched.change, lambda client: draw(client, *rect))
-            return web.json_response({"said": f"{done.changed} cells of the draft {'painted' if name == 'paint' else 'cleared'}, place {done.place} of the log."})
-        calls = {
-            "publish": lambda client: f"Published as version {client.publish()}.",
-            "revert": lambda client: f"The draft is the newest version again, place {client.revert()} of the log.",
-            "collect": lambda client: "Collected: {0.floor} is the least version that is kept, and {0.freed} blocks came back.".format(client.collect()),
-            "checkpoint": lambda client: f"The log's entries are dropped, place {client.checkpoint()}.",
-        }
-        if name not in calls:
+        name = str(body.get("command"))
+        if name == "publish" and self.site.draft.asks and body.get("sure") is not True:
+            return web.json_response({"asks": QUESTION})
+        draws = name in ("paint", "clear")
+        call = self.drawing(name, body.get("rect")) if draws else self.commands().get(name)
+        if call is None:
             raise BadRequest("no such command")
-        return web.json_response({"said": await asyncio.to_thread(self.site.watched.change, calls[str(name)])})
+        try:
+            said = await asyncio.to_thread(self.site.watched.change, call)
+        except clearmap.TimedOut:
+            self.site.draft.lost()  # the command may have been accepted
+            raise
+        finally:
+            await self.site.tell(self.site.fault)
+        return web.json_response({"said": said})
+
+    def drawing(self, name: str, rect: object) -> Callable[[clearmap.Client], str]:
+        """A paint or a clear of a rectangle."""
+        sides = rect if isinstance(rect, list) else []
+        if len(sides) != 4 or any(type(side) is not int for side in sides):
+            raise BadRequest("a rectangle is four whole numbers")
+        paints = name == "paint"
+        draw = clearmap.Client.paint if paints else clearmap.Client.clear
+
+        def call(client: clearmap.Client) -> str:
+            done = draw(client, *sides)
+            self.site.draft.drew(name, sides, done.place)
+            changed = f"{done.changed} cells of the draft {'painted' if paints else 'cleared'}"
+            return f"{changed}, place {done.place} of the log."
+
+        return call
+
+    def commands(self) -> Dict[str, Callable[[clearmap.Client], str]]:
+        """The commands without a rectangle. Each tells the draft its place."""
+        draft = self.site.draft
+
+        def publish(client: clearmap.Client) -> str:
+            version = client.publish()
+            draft.published(version)
+            return f"Published as version {version}."
+
+        def revert(client: clearmap.Client) -> str:
+            place = client.revert()
+            draft.reverted(place)
+            return f"The draft is the newest version again, place {place} of the log."
+
+        def collect(client: clearmap.Client) -> str:
+            done = client.collect()
+            draft.passed(done.place)
+            kept = f"{done.floor} is the least version that is kept"
+            return f"Collected: {kept}, and {done.freed} blocks came back."
+
+        def checkpoint(client: clearmap.Client) -> str:
+            place = client.checkpoint()
+            draft.passed(place)
+            return f"The log's entries are dropped, place {place}."
+
+        return {"publish": publish, "revert": revert, "collect": collect, "checkpoint": checkpoint}

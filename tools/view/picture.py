@@ -8,7 +8,7 @@ import struct
 import subprocess
 import threading
 import zlib
-from typing import BinaryIO, List, Optional, Tuple
+from typing import BinaryIO, Iterable, List, Optional, Sequence, Tuple
 
 import numpy
 
@@ -109,11 +109,27 @@ def size_of(image: bytes) -> Tuple[int, int]:
     return int(width), int(height)
 
 
+def bits_of(image: bytes) -> "numpy.ndarray[object, object]":
+    """The cells of a plain PBM image, as a server dumps it, by rows: which are obstacles."""
+    width, height = size_of(image)
+    text = image.split(b"\n", 2)[2].translate(None, b" \n")
+    return numpy.frombuffer(text, numpy.uint8).reshape(height, width) == ord("1")
+
+
+def differing(before: bytes, drawn: Iterable[Tuple[Sequence[int], bool]], after: bytes) -> int:
+    """In how many cells an image differs from the one before it with these rectangles drawn in
+    turn, each of obstacles or of free cells."""
+    cells = bits_of(before).copy()
+    for (x0, y0, x1, y1), obstacle in drawn:
+        cells[y0:y1, x0:x1] = obstacle
+    return int((cells != bits_of(after)).sum())
+
+
 def telling_cell(image: bytes) -> Optional[Tuple[int, int]]:
     """A cell on the border of a plain PBM image, as a server dumps it, all of whose neighbours are free: its nearest obstacle is one step away by `chess` just
     where the border is a wall. None where there is no such cell; then no cell of the border is farther than that from an obstacle anyway."""
     width, height = size_of(image)
-    bits = numpy.frombuffer(image.split(b"\n", 2)[2].translate(None, b" \n"), numpy.uint8).reshape(height, width) == ord("1")
+    bits = bits_of(image)
     sides = (
         (bits[:2].any(axis=0), lambda at: (at, 0)),
         (bits[-2:].any(axis=0), lambda at: (at, height - 1)),

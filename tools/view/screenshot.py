@@ -7,7 +7,7 @@ import pathlib
 import tempfile
 import unittest
 
-import test_clearmap_view as tests
+import testing as tests
 from selenium.webdriver.common.by import By
 
 WIDTH, HEIGHT = 200, 130
@@ -25,7 +25,7 @@ def rows():
     return [[int(any(x0 <= x < x1 and y0 <= y < y1 for x0, y0, x1, y1 in BOXES)) for x in range(WIDTH)] for y in range(HEIGHT)]
 
 
-class Screenshot(tests.Page):
+class Screenshot(tests.InBrowser):
     """A page as the tests of the page have it, with a path in it."""
 
     def runTest(self):

@@ -12,6 +12,7 @@ import clearmap
 import clearmap_ros as ros
 import picture
 from asking import Asking, BadRequest
+from draft import Draft
 from watched import Watched, in_words
 
 PAGE = pathlib.Path(__file__).resolve().parent / "page"
@@ -45,7 +46,8 @@ class Site:
         self.port, self.program, self.frame, self.read_only = port, program, frame, read_only
         self.hosts = {f"{name}:{own}" for name in ("127.0.0.1", "localhost")}
         self.token = "" if read_only else secrets.token_urlsafe(24)
-        self.watched = Watched(port)
+        self.draft = Draft()
+        self.watched = Watched(port, self.draft.lost)
         self.shown: List[Shown] = []  # the newest, and the one before it
         self.pinned = (0, 0)
         self.serial = 0
@@ -64,6 +66,7 @@ class Site:
     def state(self) -> Dict[str, object]:
         """What each page is told when it changes."""
         told: Dict[str, object] = {"fault": self.fault, "readOnly": self.read_only, "port": self.port}
+        told["draft"] = self.draft.state()
         if self.shown:
             shown = self.shown[0]
             frame = self.frame_of(shown)
@@ -85,9 +88,10 @@ class Site:
         if self.listeners == 0:
             return await asyncio.to_thread(self.watched.rest)
         try:
-            pinned = await asyncio.to_thread(self.watched.renew)
+            pinned = await asyncio.to_thread(self.watched.renew, self.draft.saw)
             if pinned != self.pinned or not self.shown:
                 image, edge = await asyncio.to_thread(self.watched_map)
+                await asyncio.to_thread(self.compare, pinned[1], image)
                 self.serial += 1
                 self.shown = [Shown(self.serial, pinned[1], image, edge), *self.shown[:1]]
                 self.pinned = pinned
@@ -98,6 +102,16 @@ class Site:
             said = f"The server at port {self.port} can't be asked: {fault}. It is tried again."
             if said != self.fault:
                 await self.tell(said)
+
+    def compare(self, version: int, image: bytes) -> None:
+        """Looks for changes of others in a version that was published from here: the page showed it
+        as the one before it, with what was drawn."""
+        drawn = self.draft.sent(version)
+        if drawn is None or not self.shown or self.shown[0].version + 1 != version:
+            return
+        before = self.shown[0].image
+        if picture.size_of(before) == picture.size_of(image):
+            self.draft.found(version, picture.differing(before, drawn, image))
 
     def watched_map(self) -> Tuple[bytes, str]:
         """The pinned version, and whether its border is open or a wall, as it shows where its neighbours are free."""

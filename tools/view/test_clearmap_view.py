@@ -3,13 +3,10 @@
 
 Wants aiohttp and numpy; the tests of the page also Selenium, Chromium and its driver, and without them they are left out with a word.
 """
-import http.client
 import http.server
 import io
 import json
 import pathlib
-import re
-import shutil
 import socket
 import struct
 import subprocess
@@ -20,63 +17,13 @@ import time
 import unittest
 import zlib
 
-HERE = pathlib.Path(__file__).resolve().parent
-sys.path[:0] = [str(HERE), str(HERE.parent), str(HERE.parent.parent / "clients/python"), str(HERE.parent / "ros")]
+from testing import HERE, PATIENCE, POST, YAML, ActionChains, By, InBrowser
+from testing import Select, Viewed, Viewing, webdriver
 
 import clearmap
 import numpy
 import picture
 from served import PROGRAM, Served
-
-try:
-    from selenium import webdriver
-    from selenium.webdriver.chrome.service import Service
-    from selenium.webdriver.common.action_chains import ActionChains
-    from selenium.webdriver.common.by import By
-    from selenium.webdriver.support.ui import Select, WebDriverWait
-except ImportError:
-    webdriver = None
-
-POST = b"P1\n6 4\n000000\n001000\n000000\n000000\n"  # one obstacle, at column 2 of row 1
-YAML = "image: map.pgm\nresolution: 0.5\norigin: [-1.0, -2.0, 0.0]\nnegate: 0\noccupied_thresh: 0.65\nfree_thresh: 0.196\n"
-PATIENCE = 30  # seconds for what a busy machine takes its time for
-
-
-class Viewed:
-    """A clearmap-view of a port, with a page's port that the system picks."""
-
-    def __init__(self, port, *words):
-        words = [sys.executable, str(HERE / "clearmap_view.py"), "--port", str(port), "--web", "0", *words]
-        self.process = subprocess.Popen(words, stdout=subprocess.PIPE, text=True)
-        self.url = self.process.stdout.readline().split()[1]
-        self.port = int(self.url.rsplit(":", 1)[1].strip("/"))
-
-    def ask(self, method, path, body=None, **headers):
-        """The status and the body of a request's answer."""
-        connection = http.client.HTTPConnection("127.0.0.1", self.port, timeout=PATIENCE)
-        connection.request(method, path, body=body, headers={name.replace("_", "-"): value for name, value in headers.items()})
-        answer = connection.getresponse()
-        text = answer.read()
-        connection.close()
-        return answer.status, text
-
-    def events(self):
-        """The states that the page is told, one after another."""
-        connection = http.client.HTTPConnection("127.0.0.1", self.port, timeout=PATIENCE)
-        connection.request("GET", "/events")
-        answer = connection.getresponse()
-        try:
-            while line := answer.readline():
-                if line.startswith(b"data: "):
-                    yield json.loads(line[6:])
-        finally:
-            answer.close()
-            connection.close()
-
-    def end(self):
-        self.process.terminate()
-        self.process.wait(PATIENCE)
-        self.process.stdout.close()
 
 
 def decoded(png):
@@ -150,22 +97,7 @@ class Pictures(unittest.TestCase):
                 picture.make_picture(program, image, "city", "open", 1)
 
 
-class Requests(unittest.TestCase):
-    def setUp(self):
-        self.served = Served(POST)
-        self.addCleanup(self.served.end)
-
-    def view(self, *words):
-        viewed = Viewed(self.served.port, *words)
-        self.addCleanup(viewed.end)
-        states = viewed.events()
-        state = next(states)
-        while "version" not in state:
-            state = next(states)
-        self.states = states
-        self.token = re.search(rb'name="token" content="([^"]*)"', viewed.ask("GET", "/")[1])[1].decode()
-        return viewed, state
-
+class Requests(Viewing):
     def test_walls(self):
         """The picture is of the map with its frame where the server's border is a wall, and so are the answers."""
         self.served.end()
@@ -340,70 +272,7 @@ class CommandLine(unittest.TestCase):
         self.assertEqual(next(states)["version"], 0)
 
 
-def browser():
-    """Headless Chromium, where it and its driver are installed."""
-    binary, driver = shutil.which("chromium"), shutil.which("chromedriver")
-    if webdriver is None or binary is None or driver is None:
-        return None
-    options = webdriver.ChromeOptions()
-    options.binary_location = binary
-    for word in ("--headless=new", "--no-sandbox", "--disable-dev-shm-usage", "--window-size=1100,760"):
-        options.add_argument(word)
-    options.set_capability("goog:loggingPrefs", {"browser": "ALL"})
-    return webdriver.Chrome(service=Service(driver), options=options)
-
-
-class Page(unittest.TestCase):
-    @classmethod
-    def setUpClass(cls):
-        cls.driver = browser()
-        if cls.driver is None:
-            print("the page isn't tried: install chromium, chromium-driver and python3-selenium", file=sys.stderr)
-            raise unittest.SkipTest("no browser")
-        cls.addClassCleanup(cls.driver.quit)
-
-    def open(self, image=POST, *words, view=()):
-        self.served = Served(image, *words)
-        self.addCleanup(self.served.end)
-        self.viewed = Viewed(self.served.port, *view)
-        self.addCleanup(self.viewed.end)
-        self.driver.get(self.viewed.url)
-        self.until(lambda: self.text("version") == "version 0")
-
-    def until(self, holds):
-        return WebDriverWait(self.driver, PATIENCE, poll_frequency=0.02).until(lambda _: holds())
-
-    def text(self, name):
-        return self.driver.find_element(By.ID, name).text
-
-    def middle(self, x, y):
-        """Where the middle of a cell is on the canvas."""
-        return self.driver.execute_script("return window.clearmapView.pixel(arguments[0] + 0.5, arguments[1] + 0.5)", x, y)
-
-    def colour(self, x, y):
-        """The picture's colour at a cell, which is waited for to be drawn."""
-        return self.driver.execute_async_script(
-            """const [x, y, done] = arguments;
-            const [px, py] = window.clearmapView.pixel(x + 0.5, y + 0.5).map((at) => Math.round(at * devicePixelRatio));
-            const context = document.getElementById("picture").getContext("2d");
-            requestAnimationFrame(() => setTimeout(() => done(Array.from(context.getImageData(px, py, 1, 1).data)), 0));""",
-            x, y,
-        )
-
-    def to(self, x, y, actions=None):
-        """The pointer goes to a cell."""
-        marks = self.driver.find_element(By.ID, "marks")
-        px, py = self.middle(x, y)
-        size = marks.size
-        actions = actions or ActionChains(self.driver, duration=20)
-        return actions.move_to_element_with_offset(marks, round(px - size["width"] / 2), round(py - size["height"] / 2))
-
-    def mode(self, name):
-        self.driver.find_element(By.CSS_SELECTOR, f"input[value={name}]").click()
-
-    def press(self, command):
-        self.driver.find_element(By.CSS_SELECTOR, f"[data-command={command}]").click()
-
+class Page(InBrowser):
     def test_pixels_are_the_distances(self):
         self.open()
         colours, most = picture.palette(), 13**0.5
@@ -559,11 +428,6 @@ class Page(unittest.TestCase):
     def test_read_only(self):
         self.open(view=["--read-only"])
         self.assertFalse(any(part.is_displayed() for part in self.driver.find_elements(By.CLASS_NAME, "changes")))
-
-    def tearDown(self):
-        faults = [entry["message"] for entry in self.driver.get_log("browser") if entry["source"] in ("javascript", "security")]
-        self.assertEqual(faults, [])
-
 
 if __name__ == "__main__":
     unittest.main()

@@ -27,10 +27,13 @@ def in_words(refusal: clearmap.Refused) -> str:
 
 
 class Watched:
-    """The connection and its pin. Whatever fails drops both, and the next call connects again."""
+    """The connection and its pin. Whatever fails drops both, and the next call connects again.
 
-    def __init__(self, port: int) -> None:
-        self._port, self._lock = port, threading.Lock()
+    `lost` is told where the server may have ended.
+    """
+
+    def __init__(self, port: int, lost: Callable[[], None]) -> None:
+        self._port, self._lost, self._lock = port, lost, threading.Lock()
         self._client: Optional[clearmap.Client] = None
         self._pinned: Optional[clearmap.Pinned] = None
         self._connections = 0
@@ -43,17 +46,23 @@ class Watched:
                     self._client = clearmap.Client(self._port, timeout=PATIENCE)
                     self._connections += 1
                 yield self._client
-            except (clearmap.ConnectionLost, clearmap.WrongAnswer):
+            except (clearmap.ConnectionLost, clearmap.WrongAnswer) as fault:
                 self._client = self._pinned = None
+                if not isinstance(fault, clearmap.TimedOut):
+                    self._lost()
                 raise
 
-    def renew(self) -> Tuple[int, int]:
-        """Pins the newest version: which connection it is, counted from 1, and the version."""
+    def renew(self, saw: Callable[[int], None]) -> Tuple[int, int]:
+        """Pins the newest version: which connection it is, counted from 1, and the version.
+
+        `saw` is told the version before another call goes on.
+        """
         with self._connected() as client:
             if self._pinned is not None:
                 self._pinned.unpin()
             self._pinned = None
             self._pinned = client.pin()
+            saw(self._pinned.version)
             return self._connections, self._pinned.version
 
     def rest(self) -> None:

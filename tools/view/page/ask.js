@@ -21,4 +21,4 @@ function post(path, body) {
 export const askPicture = (metric) => answer(`picture/${metric}`);
 export const askAt = (metric, cell) => answer(`at?metric=${metric}&x=${cell.x}&y=${cell.y}`);
 export const askPath = (metric, points, radius) => post("path", { metric, radius, points: points.map((cell) => [cell.x, cell.y]) });
-export const change = (command, rect) => post("change", { command, rect });
+export const change = (command, rect, sure) => post("change", { command, rect, sure });

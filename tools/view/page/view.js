@@ -72,7 +72,6 @@ async function showNewest() {
     if (other || !page.picture) sight.fit();
     await picture.load(sight);
     if (wanted !== key) return;
-    if (other || page.state.fault) page.drafts = [];
     page.picture = picture;
     by("version").textContent = `version ${picture.version}`;
     drawLegend(picture);
@@ -88,6 +87,8 @@ async function showNewest() {
 
 function take(state) {
   page.state = state;
+  page.drafts = state.draft.drawn;
+  by("draft").textContent = state.draft.said;
   document.body.classList.toggle("read-only", state.readOnly);
   by("server").textContent = state.fault || `Server at port ${state.port}, ${state.width} by ${state.height} cells`;
   by("server").classList.toggle("lost", Boolean(state.fault));
@@ -95,6 +96,7 @@ function take(state) {
   by("notice").hidden = !state.notice;
   by("unit").textContent = state.resolution ? "metres" : "cells";
   if (!state.fault) showNewest();
+  redraw();
 }
 
 function follow() {
@@ -148,17 +150,15 @@ async function askWay() {
   redraw();
 }
 
+/** Gives a command. What the page's server asks before it does so, the page asks once. */
 async function doChange(command, rect) {
   try {
-    const { said } = await change(command, rect);
-    if (rect) page.drafts = [...page.drafts, { command, rect }];
-    else if (command === "publish" || command === "revert") page.drafts = [];
-    by("draft").textContent = page.drafts.length ? `${page.drafts.length} rectangles from here aren't published yet.` : "Nothing changed from here.";
-    say(said);
+    let told = await change(command, rect);
+    if (told.asks && confirm(told.asks)) told = await change(command, rect, true);
+    say(told.said ?? "Nothing was published.");
   } catch (fault) {
     say(fault.message, true);
   }
-  redraw();
 }
 
 // ---- the pointer and the keys

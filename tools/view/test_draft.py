@@ -1,0 +1,214 @@
+#!/usr/bin/env python3
+"""Tests of what clearmap-view knows and tells of the draft: by places alone, by requests, and on
+the page in headless Chromium. CLEARMAP names the built program."""
+import io
+import json
+import unittest
+
+from testing import POST, InBrowser, Served, Viewing, alert_is_present
+
+import clearmap
+from draft import Draft
+
+
+OTHERS = "Changes of others may be in the draft, which no request shows."
+
+
+class Places(unittest.TestCase):
+    def test_alone(self):
+        """Whether a publish asks, after events of a draft: each is a call and its arguments."""
+        drew = lambda place: ("drew", "paint", (0, 0, 1, 1), place)
+        rows = (
+            ((), True),  # somebody may have drawn before
+            ((drew(1),), False),
+            ((drew(2),), True),
+            ((drew(1), drew(2), ("passed", 3)), False),
+            ((drew(1), drew(3)), True),
+            ((drew(1), drew(3), ("reverted", 4)), False),
+            ((drew(7), ("published", 1)), False),
+            ((drew(7), ("published", 1), drew(9)), False),
+            ((drew(7), ("published", 1), drew(10)), True),
+            ((drew(7), ("published", 1), ("saw", 1)), False),
+            ((drew(7), ("published", 1), ("saw", 2)), True),
+            ((("published", 1), ("saw", 1), drew(3)), True),
+            ((("reverted", 5), ("saw", 4), ("saw", 3)), True),  # another server
+            ((("reverted", 5), drew(1)), False),  # another server, and nobody before
+            ((("reverted", 5), drew(2)), True),
+            ((("reverted", 5), ("lost",)), True),
+        )
+        for events, asks in rows:
+            draft = Draft()
+            for name, *words in events:
+                getattr(draft, name)(*words)
+            self.assertEqual(draft.asks, asks, events)
+
+    def test_another_server(self):
+        """Rectangles of an earlier server aren't told."""
+        for name, *words in (("drew", "clear", (0, 0, 1, 1), 1), ("saw", 2), ("lost",)):
+            draft = Draft()
+            draft.saw(3)
+            draft.drew("paint", (1, 1, 2, 2), 4)
+            getattr(draft, name)(*words)
+            self.assertNotIn("paint", [it["command"] for it in draft.state()["drawn"]], name)
+
+
+class DraftRequests(Viewing):
+    def give(self, viewed, command, **more):
+        """What a command is answered."""
+        status, said = viewed.ask(
+            "POST", "/change", json.dumps({"command": command, **more}), X_Clearmap_Token=self.token
+        )
+        self.assertEqual(status, 200, said)
+        return json.loads(said)
+
+    def loaded(self, viewed):
+        """The draft as a page that is loaded now is told it."""
+        return next(viewed.events())["draft"]
+
+    def test_the_draft_after_a_reload(self):
+        viewed, state = self.view()
+        self.assertEqual(
+            (state["draft"]["drawn"], state["draft"]["said"]),
+            ([], "Nothing changed from here. " + OTHERS),
+        )
+        self.give(viewed, "paint", rect=[0, 0, 2, 1])
+        self.assertIn(
+            "1 rectangle from here isn't published yet (place 1 of the log)",
+            self.loaded(viewed)["said"],
+        )
+        self.give(viewed, "clear", rect=[1, 0, 2, 1])
+        draft = self.loaded(viewed)
+        self.assertEqual(
+            draft["drawn"],
+            [
+                {"command": "paint", "rect": [0, 0, 2, 1], "place": 1},
+                {"command": "clear", "rect": [1, 0, 2, 1], "place": 2},
+            ],
+        )
+        self.assertIn(
+            "2 rectangles from here aren't published yet (places 1 to 2 of the log). Changes of",
+            draft["said"],
+        )
+        self.assertEqual(
+            self.give(viewed, "publish"), {"said": "Published as version 1."}
+        )  # each place was our own
+        self.assertEqual(self.loaded(viewed)["drawn"], [])
+        self.give(viewed, "paint", rect=[0, 0, 2, 1])
+        self.give(viewed, "revert")
+        self.assertEqual(self.loaded(viewed)["drawn"], [])
+
+    def test_a_publish_of_what_is_not_shown_is_asked_about(self):
+        with clearmap.Client(self.served.port) as other:
+            other.paint(0, 3, 1, 4)
+            viewed, _ = self.view()
+            self.assertIn("may hold changes of others", self.give(viewed, "publish")["asks"])
+            self.assertIn("asks", self.give(viewed, "publish", sure=False))
+            self.assertEqual(other.revert(), 2)  # nothing was sent
+            self.assertEqual(
+                self.give(viewed, "publish", sure=True), {"said": "Published as version 1."}
+            )  # place 3
+            self.assertEqual(
+                self.give(viewed, "publish"), {"said": "Published as version 2."}
+            )  # it asks once
+            self.give(viewed, "paint", rect=[0, 0, 1, 1])
+            other.paint(0, 2, 1, 3)
+            self.give(viewed, "collect")
+            self.assertIn("asks", self.give(viewed, "publish"))
+            self.give(viewed, "revert")
+            self.assertNotIn("asks", self.give(viewed, "publish"))
+
+    def test_what_others_changed_at_last(self):
+        """What came after the last place of this page is found in the version."""
+        viewed, _ = self.view()
+        self.give(viewed, "paint", rect=[0, 0, 2, 1])
+        with clearmap.Client(self.served.port) as other:
+            other.paint(1, 0, 3, 1)
+            other.clear(2, 1, 3, 2)
+            self.give(viewed, "publish")
+            state = next(it for it in viewed.events() if it.get("version") == 1)
+            self.assertIn(
+                "Version 1 was published with 2 cells that others changed.", state["draft"]["said"]
+            )
+            self.give(viewed, "paint", rect=[4, 0, 6, 1])
+            self.give(viewed, "clear", rect=[5, 0, 6, 1])
+            self.give(viewed, "publish", sure=True)
+            state = next(it for it in viewed.events() if it.get("version") == 2)
+            self.assertEqual(state["draft"]["said"], "Nothing changed from here. " + OTHERS)
+
+    def test_a_draft_that_another_publishes(self):
+        viewed, _ = self.view()
+        self.give(viewed, "paint", rect=[0, 0, 1, 1])
+        with clearmap.Client(self.served.port) as other:
+            other.publish()
+            state = next(it for it in viewed.events() if it.get("version") == 1)
+            self.assertIn(
+                "Another client has published since: they may be in its version",
+                state["draft"]["said"],
+            )
+            self.assertIn("asks", self.give(viewed, "publish"))
+
+    def test_the_draft_of_a_server_that_ended(self):
+        viewed, _ = self.view()
+        self.give(viewed, "paint", rect=[0, 0, 1, 1])
+        self.served.end()
+        self.assertEqual(next(it for it in viewed.events() if it["fault"])["draft"]["drawn"], [])
+        again = Served(POST, port=self.served.port)
+        self.addCleanup(again.end)
+        self.served.process.stdout = io.BytesIO()
+        next(it for it in viewed.events() if not it["fault"])
+        self.assertIn("asks", self.give(viewed, "publish"))
+        self.give(viewed, "paint", rect=[0, 0, 1, 1])
+        self.assertEqual(self.loaded(viewed)["drawn"][0]["place"], 1)
+        self.assertEqual(self.give(viewed, "publish"), {"said": "Published as version 1."})
+
+
+class DraftPage(InBrowser):
+    def test_a_reload_with_a_draft(self):
+        """A page that is loaded again tells what was changed from here, and asks once before it
+        publishes what it can't show."""
+        self.open()
+        with clearmap.Client(self.served.port) as other:
+            self.mode("paint")
+            self.to(4, 2).click().perform()
+            self.until(
+                lambda: self.text("draft").startswith(
+                    "1 rectangle from here isn't published yet (place 1 of the log)."
+                )
+            )
+            other.paint(0, 0, 1, 1)
+            self.driver.refresh()
+            self.until(
+                lambda: self.text("draft").startswith(
+                    "1 rectangle from here isn't published yet (place 1 of the log)."
+                )
+            )
+            self.assertTrue(
+                self.text("draft").endswith(
+                    "Changes of others may be in the draft, which no request shows."
+                )
+            )
+            self.mode("paint")
+            self.to(5, 2).click().perform()
+            self.until(
+                lambda: self.text("draft").startswith(
+                    "2 rectangles from here aren't published yet (places 1 to 3 of the log)."
+                )
+            )
+            for accepted, said in (
+                (False, "Nothing was published."),
+                (True, "Published as version 1."),
+            ):
+                self.press("publish")
+                asked = self.until(lambda: alert_is_present()(self.driver))
+                self.assertIn("may hold changes of others", asked.text)
+                asked.accept() if accepted else asked.dismiss()
+                self.until(lambda: self.text("said") == said)
+                with other.pin() as pinned:
+                    self.assertEqual(pinned.version, int(accepted))
+            self.until(lambda: self.text("draft").startswith("Nothing changed from here."))
+            self.press("publish")
+            self.until(lambda: self.text("said") == "Published as version 2.")
+
+
+if __name__ == "__main__":
+    unittest.main()
