@@ -1,12 +1,13 @@
 #!/usr/bin/env python3
 """Interrupts the Python client inside its calls, and shares it between threads: no wrong answer.
 
-    tools/stress_python_client.py [--interrupts 10000] [--calls 100000] [--seed N]
+    tools/stress_python_client.py [--interrupts 10000] [--calls 100000] [--stride 1] [--seed N]
 
 An alarm comes at a random moment of a call and raises there. The same client is asked again: it has
-to answer rightly, or to say that its connection is lost. Eight threads ask one client and one pin
-at once, while a painter publishes and one of them renews the pin. Wants the built program,
-which CLEARMAP names. Status 1 where an answer is wrong.
+to answer rightly, or to say that its connection is lost. The same is done at each step of the
+interpreter, or each so many, of one call of each kind. Eight threads ask one client and one pin at
+once, while a painter publishes and one of them renews the pin. Wants the built program, which
+CLEARMAP names. Status 1 where an answer is wrong.
 """
 import argparse
 import math
@@ -288,6 +289,76 @@ class Sharing:
                     return
 
 
+class Cutter:
+    """Raises an Alarm at one step of the interpreter in the client's own code."""
+
+    HOME = str(pathlib.Path(clearmap.__file__).parent)
+
+    def __init__(self, step):
+        self.left = step
+
+    def enter(self, frame, *_):
+        """Traces the client's functions alone."""
+        if not frame.f_code.co_filename.startswith(self.HOME):
+            return None
+        frame.f_trace_opcodes = True
+        return self.step
+
+    def step(self, _, event, *__):
+        self.left -= event == "opcode"
+        if self.left == 0:
+            sys.settrace(None)
+            raise Alarm
+        return self.step
+
+
+KINDS = {
+    "at": lambda client, pin: pin.at(0, 0),
+    "ask": lambda client, pin: pin.ask(clearmap.Queries().at(0, 0).at(1, 1)),
+    "dump": lambda client, pin: pin.dump(),
+    "renew": lambda client, pin: pin.renew(),
+    "paint": lambda client, pin: client.paint(0, 0, 1, 1),
+    "unpin": lambda client, pin: pin.unpin(),
+    "close": lambda client, pin: client.close(),
+}
+
+
+def cut_at(call, step, client, pin):
+    """Makes a call that is cut off at a step, and says whether it came so far."""
+    old = sys.gettrace()
+    sys.settrace(Cutter(step).enter)
+    try:
+        call(client, pin)
+        return False
+    except Alarm:
+        return True
+    finally:
+        sys.settrace(old)
+
+
+def each_step(stride, seed=1):
+    """Cuts a call of each kind off at each so many of its steps, and asks again. How many were cut
+    off, and the wrong answers."""
+    cuts, wrong = 0, []
+    with Painter(random.Random(seed)) as painter:
+        wanted = painter.versions[0].at(5, 3, "city")
+        for call in KINDS.values():
+            step, came = 1, True
+            while came:
+                with clearmap.Client(painter.server.port, timeout=PATIENCE) as client:
+                    pin = client.pin()
+                    came = cut_at(call, step, client, pin)
+                    cuts, step = cuts + came, step + stride
+                    try:
+                        found = pin.at(5, 3, "city")
+                    except clearmap.ClearmapError as lost:
+                        is_left = str(lost) == "the pin was left"
+                        is_lost = isinstance(lost, clearmap.ConnectionLost)
+                        found = wanted if is_left or is_lost else lost
+                    wrong += [found] if found != wanted else []
+    return cuts, wrong
+
+
 def calls_of_threads(calls, seed=1):
     """Asks so many questions from eight threads. How many answers were right, and the wrong
     ones."""
@@ -298,20 +369,23 @@ def calls_of_threads(calls, seed=1):
 
 
 def main():
-    """Both, in their long form."""
+    """All three, in their long form."""
     words = argparse.ArgumentParser(description=__doc__.split("\n")[0])
     words.add_argument("--interrupts", type=int, default=10_000)
     words.add_argument("--calls", type=int, default=100_000)
+    words.add_argument("--stride", type=int, default=1)
     words.add_argument("--seed", type=int, default=1)
     told = words.parse_args()
     client = interrupts(told.interrupts, told.seed)
-    right, wrong = calls_of_threads(told.calls, told.seed)
     print(f"{client.interrupts} interrupted calls: {client.right} answers right,", end=" ")
-    print(f"{len(client.wrong)} wrong, {client.lost} connections lost")
+    print(f"{len(client.wrong)} wrong, {client.lost} connections lost", flush=True)
+    cuts, after = each_step(told.stride, told.seed)
+    print(f"{cuts} calls cut off at a step: {len(after)} answers wrong", flush=True)
+    right, wrong = calls_of_threads(told.calls, told.seed)
     print(f"{told.calls} calls of {THREADS} threads: {right} right, {len(wrong)} wrong")
-    for answer in [*client.wrong[:3], *wrong[:3]]:
+    for answer in [*client.wrong[:3], *after[:3], *wrong[:3]]:
         print(f"wrong: {answer!r:.200}")
-    return 1 if client.wrong or wrong else 0
+    return 1 if client.wrong or after or wrong else 0
 
 
 if __name__ == "__main__":

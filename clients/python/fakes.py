@@ -1,8 +1,14 @@
 """A server for the tests of the client that answers as it is told to: wrongly, late or never."""
+import contextlib
+import signal
 import socket
 import threading
 
 POST = b"P1\n6 4\n000000\n001000\n000000\n000000\n"  # one obstacle, at column 2 of row 1
+
+
+class Ring(bytes):
+    """Bytes that are sent, and after which an alarm comes, in the middle of the client's call."""
 
 
 class Fake:
@@ -23,11 +29,13 @@ class Fake:
 
     def serve(self, answers, closes, then):
         with self.listener.accept()[0] as stream, stream.makefile("rb") as lines:
-            self.answer(stream, lines, answers)
+            with contextlib.suppress(ConnectionError):  # the client went away
+                self.answer(stream, lines, answers)
             if not closes and then is None:
                 self.done.wait(20)
             elif not closes:
-                lines.read()
+                with contextlib.suppress(ConnectionError):
+                    lines.read()
         if then is not None:
             self.serve(then, False, None)
 
@@ -39,6 +47,8 @@ class Fake:
                 return
             self.lines[-1].append(line)
             stream.sendall(answer)
+            if isinstance(answer, Ring):
+                signal.pthread_kill(threading.main_thread().ident, signal.SIGALRM)
 
     def __enter__(self):
         return self

@@ -12,21 +12,17 @@ sys.path.append(str(pathlib.Path(__file__).resolve().parent.parent.parent / "too
 
 import clearmap
 import stress_python_client as stress
-from fakes import POST, Fake
+from fakes import POST, Fake, Ring
 from served import Served
-
-SOON = 0.2  # seconds until an alarm, in which a fake server has read what was sent
 
 
 @contextlib.contextmanager
-def alarm(handler, delay=SOON):
-    """An alarm in the middle of what is done, for which this is called."""
+def alarms(handler):
+    """For the time of a `with`, this is called when an alarm comes."""
     old = signal.signal(signal.SIGALRM, handler)
-    signal.setitimer(signal.ITIMER_REAL, delay)
     try:
         yield
     finally:
-        signal.setitimer(signal.ITIMER_REAL, 0)
         signal.signal(signal.SIGALRM, old)
 
 
@@ -34,7 +30,7 @@ class Interrupts(unittest.TestCase):
     """In each the server answers the interrupted call late: with the reply to the next line."""
 
     def cut_off(self, call):
-        with self.assertRaises(stress.Alarm), alarm(stress.ring):
+        with self.assertRaises(stress.Alarm), alarms(stress.ring):
             call()
 
     def lost(self, call):
@@ -43,14 +39,15 @@ class Interrupts(unittest.TestCase):
 
     def test_a_query(self):
         late = b"OK 1 0 0\nOK 4 0 0\n"
-        with Fake(b"OK 0\n", b"", late) as fake, clearmap.Client(fake.port, timeout=5) as client:
+        with Fake(b"OK 0\n", Ring(), late) as fake, clearmap.Client(fake.port) as client:
             pinned = client.pin()
             self.cut_off(lambda: pinned.at(0, 0))
             self.lost(lambda: pinned.at(0, 1))
             self.lost(client.pin)
 
     def test_a_batch_that_is_half_read(self):
-        answers = (b"OK 0\n", b"OK 1 0 0\n", b"", b"", b"OK 2 0 0\nOK 3 0 0\nOK 4 0 0\n")
+        late = b"OK 2 0 0\nOK 3 0 0\nOK 4 0 0\n"
+        answers = (b"OK 0\n", b"OK 1 0 0\n", b"", Ring(), late)
         for ask in (
             lambda pinned: pinned.clearances([(0, 0), (1, 0), (2, 0)]),
             lambda pinned: pinned.ask(clearmap.Queries().at(0, 0).at(1, 0).at(2, 0)),
@@ -61,21 +58,21 @@ class Interrupts(unittest.TestCase):
                 self.lost(lambda: pinned.at(3, 0))
 
     def test_a_checkpoint_that_is_half_done(self):
-        answers = (b"ERR 4 LogFull\n", b"", b"OK 7\nOK 8\n")
+        answers = (b"ERR 4 LogFull\n", Ring(), b"OK 7\nOK 8\n")
         with Fake(*answers) as fake:
             with clearmap.Client(fake.port, timeout=5, checkpoints=True) as client:
                 self.cut_off(client.publish)
                 self.lost(client.revert)
 
     def test_a_renewal_that_is_half_done(self):
-        with Fake(b"OK 0\n", b"OK 0\n", b"", b"OK 1\nOK 4 0 0\n") as fake:
+        with Fake(b"OK 0\n", b"OK 0\n", Ring(), b"OK 1\nOK 4 0 0\n") as fake:
             with clearmap.Client(fake.port, timeout=5) as client:
                 pinned = client.pin()
                 self.cut_off(pinned.renew)
                 self.lost(lambda: pinned.at(0, 0))
 
     def test_a_dump_that_is_half_read(self):
-        with Fake(b"OK 0\n", b"OK 12\nP1\n2 2\n", b"01\n10OK 4 0 0\n") as fake:
+        with Fake(b"OK 0\n", Ring(b"OK 12\nP1\n2 2\n"), b"01\n10OK 4 0 0\n") as fake:
             with clearmap.Client(fake.port, timeout=5) as client:
                 pinned = client.pin()
                 self.cut_off(pinned.dump)
@@ -83,15 +80,15 @@ class Interrupts(unittest.TestCase):
 
     def test_the_interrupt_comes_out(self):
         """What was raised in a `with` isn't replaced by the loss of the connection."""
-        with Fake(b"OK 0\n", b"", b"") as fake, clearmap.Client(fake.port, timeout=5) as client:
-            with self.assertRaises(stress.Alarm), client.pin() as pinned, alarm(stress.ring):
+        with Fake(b"OK 0\n", Ring(), b"") as fake, clearmap.Client(fake.port) as client:
+            with self.assertRaises(stress.Alarm), client.pin() as pinned, alarms(stress.ring):
                 pinned.at(0, 0)
 
     def test_a_handler_that_asks(self):
         """A call in the middle of another one takes no reply of it; both are told so."""
         late = b"OK 1 0 0\nOK 4 0 0\n"
         said = []
-        with Fake(b"OK 0\n", b"", late) as fake, clearmap.Client(fake.port, timeout=5) as client:
+        with Fake(b"OK 0\n", Ring(), late) as fake, clearmap.Client(fake.port) as client:
             pinned = client.pin()
 
             def handler(*_):
@@ -100,7 +97,7 @@ class Interrupts(unittest.TestCase):
                 except clearmap.ConnectionLost as fault:
                     said.append(str(fault))
 
-            with alarm(handler), self.assertRaises(clearmap.ConnectionLost):
+            with alarms(handler), self.assertRaises(clearmap.ConnectionLost):
                 said.append(pinned.at(0, 0))
         self.assertEqual(said, ["a call was cut off on this connection, which is closed now"])
 
@@ -121,6 +118,12 @@ class Interrupts(unittest.TestCase):
 
                 self.assertRaises(KeyboardInterrupt, pinned.path, fails())
                 self.assertEqual(pinned.at(0, 0).distance, 5)
+
+    def test_each_step(self):
+        """At each fifth step of the interpreter, in a call of each kind."""
+        cuts, wrong = stress.each_step(5)
+        self.assertEqual(wrong[:3], [])
+        self.assertGreater(cuts, 50)
 
     def test_many(self):
         client = stress.interrupts(500)
@@ -230,9 +233,9 @@ class Servers(unittest.TestCase):
 
     def test_a_server_that_stops_answering(self):
         with Fake(b"OK 0\n", closes=False) as fake:
-            with clearmap.Client(fake.port, timeout=0.5) as client:
+            with clearmap.Client(fake.port, timeout=2) as client:
                 pinned = client.pin()
-                with self.assertRaisesRegex(clearmap.TimedOut, "^no reply within 0.5 s$"):
+                with self.assertRaisesRegex(clearmap.TimedOut, "^no reply within 2 s$"):
                     pinned.at(0, 0)
 
     def test_no_time(self):
@@ -283,10 +286,10 @@ class Reconnecting(unittest.TestCase):
     def test_after_an_interrupt(self):
         """The call that finds out raises, and the next one connects anew."""
         late = (b"OK 0\n", b"OK 4 0 0\n")
-        with Fake(b"OK 0\n", b"", closes=False, then=late) as fake:
+        with Fake(b"OK 0\n", Ring(), closes=False, then=late) as fake:
             with clearmap.Client(fake.port, timeout=5, reconnect=True) as client:
                 pinned = client.pin()
-                with self.assertRaises(stress.Alarm), alarm(stress.ring):
+                with self.assertRaises(stress.Alarm), alarms(stress.ring):
                     pinned.at(0, 0)
                 self.assertRaises(clearmap.ConnectionLost, pinned.at, 0, 0)
                 self.assertEqual(client.pin().at(7, 7), (4, (0, 0)))

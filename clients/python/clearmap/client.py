@@ -76,6 +76,7 @@ class Client:
             self._is_closed = True
             connection = self._connection
             if connection.is_open() and not connection.busy:
+                connection.busy = True  # whose reply nobody reads
                 connection.quit()
             connection.close()
 

@@ -138,7 +138,7 @@ class Connection:
         except socket.timeout as fault:
             raise TimedOut(f"the server took no bytes{self._within()}") from fault
         except OSError as fault:
-            raise ConnectionLost(f"the server went away: {fault}") from fault
+            raise ConnectionLost(self._why_lost(fault)) from fault
 
     def _read_more(self) -> None:
         """Reads what has come, and waits for it."""
@@ -147,10 +147,15 @@ class Connection:
         except socket.timeout as fault:
             raise TimedOut(self._why_late()) from fault
         except OSError as fault:
-            raise ConnectionLost(f"the server went away: {fault}") from fault
+            raise ConnectionLost(self._why_lost(fault)) from fault
         if not data:
             raise ConnectionLost("the server ended the connection")
         self._buffer += data
+
+    def _why_lost(self, fault: OSError) -> str:
+        """Who closed the connection: it may have been a signal's handler."""
+        closed = "the connection was closed in the middle of a call"
+        return closed if self._stream is None else f"the server went away: {fault}"
 
     def _why_late(self) -> str:
         """What it may be that no reply comes."""
