@@ -1,7 +1,6 @@
 """Request lines, what may stand in them, and how their replies are read. Nothing is sent here."""
 import operator
 import re
-from dataclasses import dataclass
 from typing import Callable, Generic, Iterable, List, NamedTuple, Optional, Tuple, TypeVar
 
 from .errors import BadPath, OutOfRange, WrongAnswer
@@ -54,13 +53,13 @@ class Collected(NamedTuple):
     freed: int
 
 
-@dataclass(frozen=True)
 class Request(Generic[T_co]):
     """A line, the bytes that it counts, and how its reply is read."""
 
-    line: str
-    read: Callable[[str, str], T_co]
-    data: bytes = b""
+    __slots__ = ("line", "read", "data")
+
+    def __init__(self, line: str, read: Callable[[str, str], T_co], data: bytes = b"") -> None:
+        self.line, self.read, self.data = line, read, data
 
     def sent(self) -> bytes:
         """What is sent."""
