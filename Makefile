@@ -23,7 +23,10 @@ install: all
 	for page in $(pages); do $(INSTALL) -D -m 644 man/$$page '$(to)/share/man/man1/'$$page || exit 1; done
 	$(INSTALL) -D -m 644 man/clearmap-protocol.7 '$(to)/share/man/man7/clearmap-protocol.7'
 	$(INSTALL) -D -m 644 packaging/clearmap.bash '$(to)/share/bash-completion/completions/clearmap'
-	for part in $(client); do $(INSTALL) -D -m 644 clients/python/clearmap/$$part '$(to)/share/clearmap/python/clearmap/'$$part || exit 1; done
+	for part in $(client); do \
+	    $(INSTALL) -D -m 644 clients/python/clearmap/$$part \
+	        '$(to)/share/clearmap/python/clearmap/'$$part || exit 1; \
+	done
 	$(INSTALL) -D -m 755 tools/ros/clearmap_ros.py '$(to)/share/clearmap/python/clearmap_ros.py'
 	$(INSTALL) -D -m 644 tools/ros/clearmap_grid.py '$(to)/share/clearmap/python/clearmap_grid.py'
 	$(INSTALL) -D -m 644 tools/ros/clearmap_feed.py '$(to)/share/clearmap/python/clearmap_feed.py'

@@ -269,6 +269,11 @@ class Sizes(unittest.TestCase):
                 self.assertEqual((run.returncode, said.count(b"\n")), (status, 1), run)
                 self.assertIn(b" m at (" if status == 0 else b"60 by 40 cells, and 6 by 4", said)
                 self.assertEqual(run.stderr if status == 0 else run.stdout, b"")
+            for port in ("x", "70000", "1"):
+                words = [sys.executable, TOP / "examples/plan.py", yaml, port]
+                run = subprocess.run(words, input=b"0.01 0.01\n", capture_output=True, timeout=60)
+                self.assertEqual((run.returncode, run.stdout), (1, b""))
+                self.assertRegex(run.stderr, b"^plan.py: .*\n$")
 
 
 if __name__ == "__main__":
