@@ -87,19 +87,31 @@ class Interrupts(unittest.TestCase):
     def test_a_handler_that_asks(self):
         """A call in the middle of another one takes no reply of it; both are told so."""
         late = b"OK 1 0 0\nOK 4 0 0\n"
-        said = []
-        with Fake(b"OK 0\n", Ring(), late) as fake, clearmap.Client(fake.port) as client:
-            pinned = client.pin()
+        cut_off = "a call was cut off on this connection, which is closed now"
+        for seconds in (10, None):
+            said = []
+            with Fake(b"OK 0\n", Ring(), late) as fake:
+                with clearmap.Client(fake.port, timeout=seconds) as client:
+                    pinned = client.pin()
 
-            def handler(*_):
-                try:
-                    said.append(pinned.at(5, 3))
-                except clearmap.ConnectionLost as fault:
-                    said.append(str(fault))
+                    def handler(*_):
+                        try:
+                            said.append(pinned.at(5, 3))
+                        except clearmap.ConnectionLost as fault:
+                            said.append(str(fault))
 
-            with alarms(handler), self.assertRaises(clearmap.ConnectionLost):
-                said.append(pinned.at(0, 0))
-        self.assertEqual(said, ["a call was cut off on this connection, which is closed now"])
+                    with alarms(handler), self.assertRaises(clearmap.ConnectionLost):
+                        said.append(pinned.at(0, 0))
+            self.assertEqual(said, [cut_off])
+
+    def test_a_handler_that_ends_the_client(self):
+        with Fake(b"OK 0\n", Ring(), b"OK 1 0 0\n") as fake:
+            with clearmap.Client(fake.port) as client:
+                pinned = client.pin()
+                with alarms(lambda *_: client.close()):
+                    with self.assertRaisesRegex(clearmap.ConnectionLost, "closed"):
+                        pinned.at(0, 0)
+        self.assertEqual(fake.lines[0][2:], [])
 
     def test_points_that_ask(self):
         """A path's points may be asked for while the path is made up: nothing is sent by then."""
