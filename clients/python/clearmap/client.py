@@ -25,6 +25,10 @@ class Client:
     where a signal's handler calls the client in the middle of a call, the connection is closed: no
     answer can belong to an earlier question. What was sent by then may have been accepted.
 
+    **Errors.** Any call raises `ConnectionLost`, or `TimedOut`, where no reply comes, `WrongAnswer`
+    where what comes is none, and the `Refused` of what the server refuses. What can't be sent
+    raises TypeError or ValueError, and nothing is sent.
+
     With `size`, as columns and rows, another map is refused by `WrongMap`, when the connection is
     made. It takes a pin for that time.
 
@@ -108,21 +112,26 @@ class Client:
     # ---- painters
 
     def paint(self, x0: int, y0: int, x1: int, y1: int) -> Change:
-        """Makes columns x0 up to x1 - 1 of rows y0 up to y1 - 1 of the draft obstacles."""
+        """Makes columns x0 up to x1 - 1 of rows y0 up to y1 - 1 of the draft obstacles.
+
+        They are 1 cell at least, else BadArguments, and lie on the map, else OutOfRange. LogFull
+        and BlocksFull are refusals of any change.
+        """
         return self._command(requests.draw("PAINT", x0, y0, x1, y1))
 
     def clear(self, x0: int, y0: int, x1: int, y1: int) -> Change:
-        """Makes them free."""
+        """Makes them free; refused as `paint` is."""
         return self._command(requests.draw("CLEAR", x0, y0, x1, y1))
 
     def stamp(self, x: int, y: int, image: object) -> Change:
         """Gives the cells from (x, y) on the values of a PBM image, plain or raw; black is an
         obstacle. The image is anything with the buffer protocol, as `bytes`, by its bytes: at most
-        17,100,000."""
+        17,100,000. BadImage where they are no image; else refused as `paint` is."""
         return self._command(requests.stamp(x, y, image))
 
     def publish(self) -> int:
-        """Appends the draft as the next version, and answers its number."""
+        """Appends the draft as the next version, and answers its number. VersionsFull where as many
+        are kept as may be."""
         return self._command(requests.PUBLISH)
 
     def revert(self) -> int:
@@ -157,7 +166,7 @@ class Client:
 
     def pin(self) -> Pinned:
         """Pins the newest version: a context manager that is asked, and leaves the pin at its end.
-        One at a time on a connection."""
+        One at a time on a connection: a second one is AlreadyPinned."""
 
         def work(connection: Connection) -> Union[Pinned, Refused]:
             version = connection.ask(requests.PIN)

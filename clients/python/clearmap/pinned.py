@@ -31,7 +31,7 @@ class Pinned:
 
     Several threads may ask one pin, as they may use one client; `unpin` and `renew` are for all of
     them. A pin belongs to its connection, and is lost with it: a client that connects anew pins
-    anew.
+    anew. Errors are those of a `Client`; a pin that was left raises ClearmapError.
     """
 
     def __init__(
@@ -48,7 +48,7 @@ class Pinned:
             return
         try:
             self.unpin()
-        except ConnectionLost:
+        except ClearmapError:
             if kind is None:  # else what was raised first goes on
                 raise
 
@@ -95,19 +95,21 @@ class Pinned:
         return self._exchange(work)
 
     def at(self, x: int, y: int, metric: str = EUCLID2) -> Optional[Near]:
-        """The nearest obstacle of a cell. None where the map has none."""
+        """The nearest obstacle of a cell. None where the map has none; OutOfRange for a cell that
+        isn't on it. The distance is in cells, with euclid2 a square."""
         return self._ask(requests.at(x, y, metric))
 
     def rect(
         self, x0: int, y0: int, x1: int, y1: int, metric: str = EUCLID2
     ) -> Optional[Tightest]:
         """The first cell by rows, of columns x0 up to x1 - 1 and rows y0 up to y1 - 1, that has the
-        least distance."""
+        least distance. None where the map has no obstacle."""
         return self._ask(requests.rect(x0, y0, x1, y1, metric))
 
     def path(self, points: Iterable[Cell], metric: str = EUCLID2) -> Optional[Tightest]:
         """The first cell along a path that has the least distance. A path has 1 to 1000 points,
-        each in the row or column of the one before."""
+        else BadPath, each in the row or column of the one before, else Crooked. None as in `rect`.
+        """
         return self._ask(requests.path(points, metric))
 
     def clear_of(
