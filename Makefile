@@ -11,6 +11,7 @@ program = crates/clearmap/out/clearmap
 version = $(shell sed -n 's/^version = "\(.*\)"/\1/p' clients/python/pyproject.toml)
 filled = sed 's|@PREFIX@|$(PREFIX)|; s|@VERSION@|$(version)|'
 pages = clearmap.1 clearmap-backup.1 clearmap-ros.1 clearmap-ros-node.1 clearmap-view.1
+client = $(notdir $(wildcard clients/python/clearmap/*.py)) py.typed
 view = asking.py draft.py picture.py site_of_map.py watched.py page/ask.js page/index.html page/map.js page/view.css page/view.js
 
 # The library: what is proved comes from rt, and clients/c/clearmap.c goes with it.
@@ -35,8 +36,10 @@ install: all
 	for page in $(pages); do $(INSTALL) -D -m 644 man/$$page '$(to)/share/man/man1/'$$page || exit 1; done
 	$(INSTALL) -D -m 644 man/clearmap-protocol.7 '$(to)/share/man/man7/clearmap-protocol.7'
 	$(INSTALL) -D -m 644 packaging/clearmap.bash '$(to)/share/bash-completion/completions/clearmap'
-	$(INSTALL) -D -m 644 clients/python/clearmap/__init__.py '$(to)/share/clearmap/python/clearmap/__init__.py'
-	$(INSTALL) -D -m 644 clients/python/clearmap/py.typed '$(to)/share/clearmap/python/clearmap/py.typed'
+	for part in $(client); do \
+	    $(INSTALL) -D -m 644 clients/python/clearmap/$$part \
+	        '$(to)/share/clearmap/python/clearmap/'$$part || exit 1; \
+	done
 	$(INSTALL) -D -m 755 tools/ros/clearmap_ros.py '$(to)/share/clearmap/python/clearmap_ros.py'
 	$(INSTALL) -D -m 644 tools/ros/clearmap_grid.py '$(to)/share/clearmap/python/clearmap_grid.py'
 	$(INSTALL) -D -m 644 tools/ros/clearmap_feed.py '$(to)/share/clearmap/python/clearmap_feed.py'

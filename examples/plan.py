@@ -1,5 +1,8 @@
 #!/usr/bin/env python3
-"""How far a plan in metres keeps from the obstacles of a served map: plan.py MAP.yaml PORT, with a point X Y on each line of standard input."""
+"""How far a plan in metres keeps from the obstacles of a served map, which is the yaml's.
+
+    plan.py MAP.yaml PORT, with a point X Y on each line of standard input
+"""
 import pathlib
 import sys
 
@@ -12,16 +15,19 @@ import clearmap_ros as ros
 def main(yaml, port):
     frame = ros.read_map(yaml).frame
     path = frame.staircase(ros.read_plan(sys.stdin))
-    with clearmap.Client(int(port)) as client, client.pin() as pinned:
+    with clearmap.Client(int(port), size=frame.size) as client, client.pin() as pinned:
         found = [pinned.path(piece) for piece in ros.pieces(path)]
     if None in found:
         return print("the map has no obstacle")
     tightest = min(found, key=lambda it: it.distance)
     x, y = frame.centre(tightest.cell)
-    print(f"{frame.metres(tightest.distance):.3f} m at ({x:.3f}, {y:.3f}), and {frame.free_metres(tightest.distance):.3f} m free in any case")
+    metres, free = frame.metres(tightest.distance), frame.free_metres(tightest.distance)
+    print(f"{metres:.3f} m at ({x:.3f}, {y:.3f}), and {free:.3f} m free in any case")
 
 
+if len(sys.argv) != 3 or not sys.argv[2].isdecimal():
+    sys.exit("plan.py: name the map and the server's port: plan.py MAP.yaml PORT")
 try:
     main(*sys.argv[1:])
-except (ros.RosError, clearmap.ClearmapError) as fault:
+except (ros.RosError, clearmap.ClearmapError, OverflowError) as fault:
     sys.exit(f"plan.py: {fault}")

@@ -17,6 +17,7 @@ from served import Served, blank
 
 CLIENTS = 16
 SIDE = 256
+PATIENCE = 60  # seconds for a reply
 COMMANDS = ("PAINT", "CLEAR", "STAMP", "PUBLISH", "REVERT", "COLLECT", "CHECKPOINT")
 QUERIES = ("AT", "RECT", "PATH", "CLEAROF")
 METRICS = ("euclid2", "city", "chess")
@@ -64,8 +65,11 @@ class Client:
     def run(self):
         while time.time() < self.until:
             self.opened += 1
-            with socket.create_connection(("127.0.0.1", self.port)) as stream:
-                self.talk(stream)
+            try:
+                with socket.create_connection(("127.0.0.1", self.port), PATIENCE) as stream:
+                    self.talk(stream)
+            except socket.timeout:
+                self.wrong.append(f"no reply within {PATIENCE} s")
 
     def talk(self, stream):
         replies = stream.makefile("rb")
@@ -114,7 +118,7 @@ def main():
         for client in clients:
             client.thread.join()
         time.sleep(0.5)  # the last killed clients are noticed
-        with socket.create_connection(("127.0.0.1", server.port)) as stream:
+        with socket.create_connection(("127.0.0.1", server.port), PATIENCE) as stream:
             replies = stream.makefile("rb")
             (checkpointed, _, published) = (ask(stream, replies, line) for line in (b"CHECKPOINT", b"COLLECT", b"PUBLISH"))
             collected = ask(stream, replies, b"COLLECT")

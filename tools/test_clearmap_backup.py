@@ -1,5 +1,6 @@
 #!/usr/bin/env python3
 """Tests of clearmap_backup.sh against the built server, which CLEARMAP names, and against servers whose dump isn't whole, or none."""
+import contextlib
 import os
 import pathlib
 import socket
@@ -25,22 +26,24 @@ class Backups(unittest.TestCase):
         streams = {"stdout": subprocess.PIPE, "stderr": subprocess.PIPE, **streams}
         return subprocess.run([SCRIPT, *words], env=self.environment, stdin=subprocess.DEVNULL, timeout=30, **streams)
 
-    def said_by(self, text):
-        """A backup from a server of one connection that says this at once, and ends when its client does."""
+    def said_by(self, text, *words, stops=False):
+        """A backup from a server of one connection that says this at once, and ends when its client
+        does; one that stops doesn't say that this was all."""
         listener = socket.create_server(("127.0.0.1", 0))
 
         def serve():
             stream, _ = listener.accept()
             with stream:
                 stream.sendall(text)
-                stream.shutdown(socket.SHUT_WR)
+                if not stops:
+                    stream.shutdown(socket.SHUT_WR)
                 while stream.recv(4096):
                     pass
 
         thread = threading.Thread(target=serve)
         thread.start()
         try:
-            return self.run_script("--port", str(listener.getsockname()[1]))
+            return self.run_script("--port", str(listener.getsockname()[1]), *words)
         finally:
             thread.join()
             listener.close()
@@ -82,12 +85,34 @@ class Backups(unittest.TestCase):
             port = listener.getsockname()[1]
         run = self.run_script("--port", str(port))
         self.assertEqual((run.returncode, run.stdout, run.stderr), (1, b"", b"clearmap-backup: no map from port %d: FAULT net\n" % port))
-        for words in ((), ("--port",), ("--port", "0"), ("--port", "x"), ("--port", "70000"), ("--port", "1", "2"), ("map.pbm",), ("--help", "1")):
+        late = ("0", "-1", "x", "1.5", "86401", "", "1000000", "01")
+        ports = ((), ("0",), ("x",), ("70000",), ("1", "2"), ("1", "--timeout"))
+        rows = [("--port", *port) for port in ports]
+        rows += [("--port", "1", "--timeout", word) for word in late]
+        for words in ((), *rows, ("--timeout", "9"), ("map.pbm",), ("--help", "1")):
             with self.subTest(words=words):
                 run = self.run_script(*words)
                 self.assertEqual((run.returncode, run.stdout), (2, b""))
                 self.assertNotEqual(run.stderr, b"")
-        self.assertIn(b"\nUsage: clearmap-backup --port <NUMBER>\n", self.run_script("--help").stdout)
+        usage = b"\nUsage: clearmap-backup [OPTIONS] --port <NUMBER>\n"
+        self.assertIn(usage, self.run_script("--help").stdout)
+
+    def test_time_outs(self):
+        """Two clients that say nothing keep both workers; a server that stops in the middle."""
+        with Served(POST, "--workers", "2") as server, contextlib.ExitStack() as idle:
+            for _ in range(2):
+                link = socket.create_connection(("127.0.0.1", server.port), timeout=30)
+                stream = idle.enter_context(link)
+                stream.sendall(b"PIN\n")
+                self.assertEqual(stream.recv(5), b"OK 0\n")
+            run = self.run_script("--timeout", "1", "--port", str(server.port))
+        self.assertEqual((run.returncode, run.stdout), (1, b""))
+        sentence = b"connected, but no worker has answered within 1 s: "
+        sentence += b"are all workers of the server taken?"
+        self.assertEqual(run.stderr, b"clearmap-backup: " + sentence + b"\n")
+        run = self.said_by(b"OK 0\nOK 35\nP1\n", "--timeout", "3", stops=True)
+        wanted = (1, b"", b"clearmap-backup: no reply within 3 s\n")
+        self.assertEqual((run.returncode, run.stdout, run.stderr), wanted)
 
 
 if __name__ == "__main__":

@@ -8,7 +8,8 @@ import tarfile
 import zipfile
 
 HERE = pathlib.Path(__file__).resolve().parent
-PARTS = ("clearmap/__init__.py", "clearmap/py.typed")
+MODULES = sorted(f"clearmap/{path.name}" for path in HERE.glob("clearmap/*.py"))
+PARTS = (*MODULES, "clearmap/py.typed")
 SOURCES = (*PARTS, "build_wheel.py", "pyproject.toml")
 
 

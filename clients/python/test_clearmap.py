@@ -6,43 +6,13 @@ import pathlib
 import socket
 import subprocess
 import sys
-import threading
 import unittest
 
 sys.path.append(str(pathlib.Path(__file__).resolve().parent.parent.parent / "tools"))
 
 import clearmap
+from fakes import POST, Fake
 from served import PROGRAM, Served
-
-POST = b"P1\n6 4\n000000\n001000\n000000\n000000\n"  # one obstacle, at column 2 of row 1
-
-
-class Fake:
-    """A server of one connection that answers each line with the next of these bytes, then waits or closes."""
-
-    def __init__(self, *answers, closes=True):
-        self.listener = socket.create_server(("127.0.0.1", 0))
-        self.port = self.listener.getsockname()[1]
-        self.done = threading.Event()
-        self.thread = threading.Thread(target=self.serve, args=(answers, closes))
-        self.thread.start()
-
-    def serve(self, answers, closes):
-        stream, _ = self.listener.accept()
-        with stream, stream.makefile("rb") as lines:
-            for answer in answers:
-                lines.readline()
-                stream.sendall(answer)
-            if not closes:
-                self.done.wait(20)
-
-    def __enter__(self):
-        return self
-
-    def __exit__(self, *_):
-        self.done.set()
-        self.thread.join()
-        self.listener.close()
 
 
 class Serving(unittest.TestCase):
@@ -251,7 +221,7 @@ class Refusals(unittest.TestCase):
         with Served(POST) as server, clearmap.Client(server.port) as client, client.pin() as pinned:
             with self.assertRaises(ValueError):
                 pinned.at(0, 0, "city 0 0\nPAINT")
-            with self.assertRaises(ValueError):
+            with self.assertRaises(TypeError):
                 pinned.at("0", 0)
             with self.assertRaises(ValueError):
                 pinned.path([(4294967295, 4294967295)] * 1000)

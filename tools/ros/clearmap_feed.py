@@ -74,7 +74,7 @@ class Feed:
                 raise RosError("no map has come yet")
             frame = self.frame
             path = frame.staircase(plan)
-            version, found = self._tried(lambda: self._ask(path))
+            version, found = self._tried(lambda: self._ask(path, frame))
         tightest = min(found, key=lambda it: it.distance, default=None)
         if tightest is None:
             return Clearance(version, math.inf, math.inf)
@@ -103,13 +103,20 @@ class Feed:
             self._client.close()
         self._client, self._there = None, False
 
-    def _connected(self, grid: Optional[grids.Grid]) -> clearmap.Client:
-        """The connection. A server of one's own that has ended, or wasn't started yet, is started with this map."""
+    def _connected(
+        self, size: Tuple[int, int], grid: Optional[grids.Grid] = None
+    ) -> clearmap.Client:
+        """The connection to a server whose map has this size. A server of one's own that has ended,
+        or wasn't started yet, is started with this map."""
         if not self._given and (self._server is None or self._server.poll() is not None):
             self._lose()
             self._start(grid)
         if self._client is None:
-            self._client = clearmap.Client(self.port, timeout=PATIENCE, checkpoints=self._checkpoints)
+            self._client = clearmap.Client(
+                self.port, timeout=PATIENCE, checkpoints=self._checkpoints, size=size
+            )
+        elif self._client.size != size:
+            raise clearmap.WrongMap(size, self._client.size)
         return self._client
 
     def _start(self, grid: Optional[grids.Grid]) -> None:
@@ -135,13 +142,15 @@ class Feed:
         self._server, self.port = server, int(said[1])
 
     def _put(self, grid: grids.Grid) -> str:
-        client = self._connected(grid)
+        try:
+            client = self._connected(grid.size, grid)
+        except clearmap.WrongMap as other:
+            sizes = "the map has %d by %d cells, and that of the server %d by %d"
+            raise RosError(sizes % (*grid.size, *other.served) + ": it isn't put") from None
         before = self._grid if self._there else None
         if before is None:
             with client.pin() as pinned:
                 before = grids.grid_of_dump(pinned.dump())
-        if (before.width, before.height) != (grid.width, grid.height):
-            raise RosError(f"the map has {grid.width} by {grid.height} cells, and that of the server {before.width} by {before.height}: it isn't put")
         area = before.changed(grid)
         if area is None:
             self._there = True
@@ -161,11 +170,13 @@ class Feed:
             client.collect()
         return call()
 
-    def _ask(self, path: Sequence[Tuple[int, int]]) -> Tuple[int, List[clearmap.Tightest]]:
+    def _ask(
+        self, path: Sequence[Tuple[int, int]], frame: Frame
+    ) -> Tuple[int, List[clearmap.Tightest]]:
         queries = clearmap.Queries()
         for piece in pieces(path):
             queries.path(piece)
-        with self._connected(None).pin() as pinned:
+        with self._connected(frame.size).pin() as pinned:
             answers = pinned.ask(queries)
         for answer in answers:
             if isinstance(answer, clearmap.Refused):

@@ -76,6 +76,11 @@ class Grid:
     height: int
     cells: bytes
 
+    @property
+    def size(self) -> Tuple[int, int]:
+        """Columns and rows."""
+        return self.width, self.height
+
     def changed(self, newer: "Grid") -> Optional[Area]:
         """The least rectangle that has each cell that another grid of the same size has otherwise; None where there is none."""
         width = self.width

@@ -230,6 +230,11 @@ class Frame:
     origin_x: Fraction
     origin_y: Fraction
 
+    @property
+    def size(self) -> Tuple[int, int]:
+        """Columns and rows, as a client takes the size of the map that it expects."""
+        return self.width, self.height
+
     def _upwards(self, point: Point) -> Tuple[Fraction, Fraction]:
         """A point in cells from the lower left corner, y upwards."""
         u = (exact(point[0]) - self.origin_x) / self.resolution

@@ -180,6 +180,23 @@ class Feeds(unittest.TestCase):
         plain = self.served(b"P1\n6 4\n000000\n000000\n000000\n000000\n", "--log", "1")
         self.assertRaises(clearmap.LogFull, self.feed(plain.port).put, POST, FRAME)
 
+    def test_another_map(self):
+        """No metres are told of a map that isn't of the size of the topic's."""
+        served = self.served(POST.pbm())
+        feed = self.feed(served.port)
+        plan = [(-0.9, -1.9), (1.9, -1.9)]
+        feed.put(POST, FRAME)
+        self.assertEqual(feed.clearance(plan).metres, 1.0)
+        served.end()
+        other = self.served(b"P1\n8 8\n" + b"0" * 63 + b"1", port=served.port)
+        self.assertRaisesRegex(clearmap.WrongMap, "8 by 8 cells, and 6 by 4", feed.clearance, plan)
+        sentence = "6 by 4 cells, and that of the server 8 by 8: it isn't put"
+        self.assertRaisesRegex(RosError, sentence, feed.put, POST, FRAME)
+        self.assertRaises(clearmap.WrongMap, feed.clearance, plan)
+        other.end()
+        self.served(POST.pbm(), port=served.port)
+        self.assertEqual(feed.clearance(plan).metres, 1.0)
+
     def test_no_server_and_no_program(self):
         served = self.served(POST.pbm())
         served.end()

@@ -13,6 +13,7 @@ import sys
 import tempfile
 import time
 import unittest
+import xmlrpc.client
 
 HERE = pathlib.Path(__file__).resolve().parent
 sys.path[:0] = [str(HERE), str(HERE.parent), str(HERE.parent.parent / "clients/python")]
@@ -120,7 +121,16 @@ class Running(unittest.TestCase):
         node = subprocess.Popen([sys.executable, str(HERE / "clearmap_node.py"), *words], stdout=subprocess.DEVNULL, stderr=subprocess.DEVNULL)
         self.addCleanup(self.end, node)
         until(lambda: all(topic.get_num_connections() for topic in both) and self.logs.get_num_connections() > 1, "the node")  # this process logs, too
+        until(self.is_heard, "the node's own end of the connections")
         return self.publishers
+
+    @staticmethod
+    def is_heard():
+        """Whether the node knows who listens to it: what it publishes before that is lost."""
+        uri = rospy.get_master().lookupNode("/clearmap")[2]
+        buses = xmlrpc.client.ServerProxy(uri).getBusInfo("/test_clearmap_node")[2]
+        listened = {topic for _, _, way, _, topic, *_ in buses if way == "o"}
+        return {"/clearmap/clearance", "/clearmap/tightest", "/rosout"} <= listened
 
     def line(self, part):
         """Waits for a line of the node's log with these words, and says how many seconds that took."""

@@ -1,0 +1,213 @@
+"""A client of one server: its connection, whose calls wait for one another, and its commands."""
+import os
+import threading
+from typing import Callable, NoReturn, Optional, Union
+
+from . import requests
+from .connection import Connection
+from .errors import ConnectionLost, LogFull, Refused, Size, raised
+from .pinned import Pinned
+from .requests import Change, Collected, Request, T
+from .size import check_size, find_size, size_of
+
+FORKED = "a forked process can't use its parent's connection: it makes a client of its own"
+
+
+class Client:
+    """A connection to a server on this machine. `timeout` is in seconds, above 0, for each wait
+    for bytes; None waits for ever.
+
+    **Threads.** Calls of several threads, also of pins, are done one after another: each waits for
+    the whole of the one before, and gets its own answer. A process that was forked is refused, and
+    makes a client of its own; a client can't be copied or pickled.
+
+    **Interrupts.** Where a call is cut off (`KeyboardInterrupt`, an alarm, any exception), and
+    where a signal's handler calls the client in the middle of a call, the connection is closed: no
+    answer can belong to an earlier question. What was sent by then may have been accepted.
+
+    **Errors.** Any call raises `ConnectionLost`, or `TimedOut`, where no reply comes, `WrongAnswer`
+    where what comes is none, and the `Refused` of what the server refuses. What can't be sent
+    raises TypeError or ValueError, and nothing is sent.
+
+    With `size`, as columns and rows, another map is refused by `WrongMap`, when the connection is
+    made. It takes a pin for that time.
+
+    With `reconnect` a call that finds the connection closed connects anew first, and a known size
+    is checked again. A call whose own reply was lost raises, and is never sent twice. A pin is lost
+    with its connection. Nothing connects anew after `close`.
+
+    With `checkpoints` a command that is answered LogFull is sent once more after a checkpoint.
+    **That drops the entries of the log, those of other painters too**: no bitmap and no version
+    changes by it. A log that others have filled again by then is a LogFull as without the flag.
+    """
+
+    def __init__(
+        self,
+        port: int,
+        host: str = "127.0.0.1",
+        timeout: Optional[float] = 10.0,
+        checkpoints: bool = False,
+        *,
+        size: Optional[Size] = None,
+        reconnect: bool = False,
+    ) -> None:
+        if timeout is not None and not timeout > 0:
+            raise ValueError(f"a time-out of {timeout} s, where more than 0 or None is wanted")
+        self._address, self._timeout = (host, port), timeout
+        self._checkpoints, self._reconnect = checkpoints, reconnect
+        self._size = None if size is None else size_of(size)
+        self._lock = threading.RLock()
+        self._process = os.getpid()
+        self._is_closed = False
+        self._connection = self._connected()
+
+    def __enter__(self) -> "Client":
+        return self
+
+    def __exit__(self, *_: object) -> None:
+        self.close()
+
+    def __reduce__(self) -> NoReturn:
+        raise TypeError("a Client is one connection, which can't be copied or pickled")
+
+    def close(self) -> None:
+        """Ends the connection, once the call of another thread is done: what was accepted stays
+        accepted, and a pin is left. It may be called again."""
+        if self._process != os.getpid():
+            self._connection.close()
+            return
+        with self._lock:
+            self._is_closed = True
+            connection = self._connection
+            if connection.is_open() and not connection.busy:
+                connection.busy = True  # whose reply nobody reads
+                connection.quit()
+            connection.close()
+
+    # ---- the map
+
+    @property
+    def size(self) -> Size:
+        """Columns and rows of the served map. Where they weren't told, the first use asks for them,
+        by two writes, and with a pin where none stands."""
+        return self._size or raised(self._exchange(self._found_size))
+
+    @property
+    def width(self) -> int:
+        """Columns of the served map, as `size` has them."""
+        return self.size[0]
+
+    @property
+    def height(self) -> int:
+        """Rows of the served map, as `size` has them."""
+        return self.size[1]
+
+    def _found_size(self, connection: Connection) -> Union[Size, Refused]:
+        """Asks for the size, and keeps it."""
+        found = find_size(connection)
+        if not isinstance(found, Refused):
+            self._size = found
+        return found
+
+    # ---- painters
+
+    def paint(self, x0: int, y0: int, x1: int, y1: int) -> Change:
+        """Makes columns x0 up to x1 - 1 of rows y0 up to y1 - 1 of the draft obstacles.
+
+        They are 1 cell at least, else BadArguments, and lie on the map, else OutOfRange. LogFull
+        and BlocksFull are refusals of any change.
+        """
+        return self._command(requests.draw("PAINT", x0, y0, x1, y1))
+
+    def clear(self, x0: int, y0: int, x1: int, y1: int) -> Change:
+        """Makes them free; refused as `paint` is."""
+        return self._command(requests.draw("CLEAR", x0, y0, x1, y1))
+
+    def stamp(self, x: int, y: int, image: object) -> Change:
+        """Gives the cells from (x, y) on the values of a PBM image, plain or raw; black is an
+        obstacle. The image is anything with the buffer protocol, as `bytes`, by its bytes: at most
+        17,100,000. BadImage where they are no image; else refused as `paint` is."""
+        return self._command(requests.stamp(x, y, image))
+
+    def publish(self) -> int:
+        """Appends the draft as the next version, and answers its number. VersionsFull where as many
+        are kept as may be."""
+        return self._command(requests.PUBLISH)
+
+    def revert(self) -> int:
+        """Makes the draft the newest version again, and answers the place in the log."""
+        return self._command(requests.REVERT)
+
+    def collect(self) -> Collected:
+        """Gives back what no kept version uses: the newest is kept, and each that a pin holds."""
+        return self._command(requests.COLLECT)
+
+    def checkpoint(self) -> int:
+        """Drops the entries of the log that the server keeps, so that a full log goes on, and
+        answers its own place. Places go on counting, and no bitmap and no version changes."""
+        return raised(self._exchange(lambda connection: connection.ask(requests.CHECKPOINT)))
+
+    def _command(self, request: Request[T]) -> T:
+        """Sends a command; where the log is full and `checkpoints` is set, a checkpoint and the
+        command again."""
+
+        def work(connection: Connection) -> Union[T, Refused]:
+            answer = connection.ask(request)
+            if not self._checkpoints or not isinstance(answer, LogFull):
+                return answer
+            cleared = connection.ask(requests.CHECKPOINT)
+            if isinstance(cleared, Refused):
+                return cleared
+            return connection.ask(request)
+
+        return raised(self._exchange(work))
+
+    # ---- planners
+
+    def pin(self) -> Pinned:
+        """Pins the newest version: a context manager that is asked, and leaves the pin at its end.
+        One at a time on a connection: a second one is AlreadyPinned."""
+
+        def work(connection: Connection) -> Union[Pinned, Refused]:
+            version = connection.ask(requests.PIN)
+            return version if isinstance(version, Refused) else Pinned(self, version, connection)
+
+        return raised(self._exchange(work))
+
+    # ---- the connection
+
+    def _exchange(self, work: Callable[[Connection], T], of: Optional[Connection] = None) -> T:
+        """Does a request and its replies, on the connection of a pin or the newest, with nothing
+        between them. What `work` raises closes the connection; an error that leaves it in step, as
+        a refusal, is given back."""
+        if self._process != os.getpid():
+            (of or self._connection).close()
+            raise ConnectionLost(FORKED)
+        with self._lock:
+            connection = of or self._newest()
+            connection.check_ready()
+            connection.busy = True
+            try:
+                answer = work(connection)
+            except BaseException:
+                connection.close()
+                raise
+            connection.busy = False
+            return answer
+
+    def _newest(self) -> Connection:
+        """The connection, made anew where it has ended and that is wanted."""
+        if self._reconnect and not self._is_closed and self._connection.has_ended():
+            self._connection = self._connected()
+        return self._connection
+
+    def _connected(self) -> Connection:
+        """A new connection, whose map has the size that is known."""
+        connection = Connection(self._address, self._timeout)
+        if self._size is not None:
+            try:
+                raised(check_size(connection, self._size))
+            except BaseException:
+                connection.close()
+                raise
+        return connection

@@ -1,0 +1,191 @@
+"""One connection to a server: requests out, replies in, and whether the two are in step."""
+import os
+import re
+import select
+import socket
+from typing import List, Optional, Sequence, Tuple, TypeVar, Union
+
+from .errors import DETAILS, ENDING, REFUSALS, ConnectionLost, Refused, TimedOut, WrongAnswer
+from .requests import Request, wrong
+
+T = TypeVar("T")
+
+LONGEST_REPLY = 128  # bytes of a reply line, with its line feed
+PIECE = 65_536  # bytes that are sent or read at once
+
+
+def _can_read(stream: socket.socket) -> bool:
+    """Whether bytes, or the connection's end, have come."""
+    if not hasattr(select, "poll"):
+        return bool(select.select([stream], [], [], 0)[0])
+    waiting = select.poll()
+    waiting.register(stream, select.POLLIN)
+    return bool(waiting.poll(0))
+
+
+class Connection:
+    """A socket and what was read from it ahead. It is never opened again once it is closed.
+
+    `busy` is set before the first byte of an exchange is sent, and cleared once the last byte of
+    its last reply was taken. Whoever finds it set at the start of an exchange knows that the one
+    before was cut off, so that the next reply may belong to it.
+    """
+
+    def __init__(self, address: Tuple[str, int], timeout: Optional[float]) -> None:
+        self.busy = False
+        self._buffer = bytearray()
+        self._timeout = timeout
+        self._heard = False  # whether a reply has come
+        self._process = os.getpid()
+        self._stream: Optional[socket.socket] = None
+        where = f"{address[0]}:{address[1]}"
+        try:
+            self._stream = socket.create_connection(address, timeout)
+            self._stream.setsockopt(socket.IPPROTO_TCP, socket.TCP_NODELAY, 1)
+        except socket.timeout as fault:
+            raise TimedOut(f"no answer at {where}{self._within()}") from fault
+        except OSError as fault:
+            raise ConnectionLost(f"no server at {where}: {fault}") from fault
+
+    # ---- its state
+
+    def is_of_this_process(self) -> bool:
+        """Whether this process opened it. A forked child has the descriptor too, and is refused."""
+        return self._process == os.getpid()
+
+    def is_open(self) -> bool:
+        """Whether it is open, as far as is known here, and of this process."""
+        return self._stream is not None and self.is_of_this_process()
+
+    def close(self) -> None:
+        """Gives back this process's descriptor. It sends nothing, and may be called again."""
+        stream, self._stream = self._stream, None
+        if stream is not None:
+            stream.close()
+
+    def has_ended(self) -> bool:
+        """Whether it is closed, or the server has ended it. Then it is closed here too."""
+        if self._stream is not None and not self.busy and self._unasked() == b"":
+            self.close()
+        return self._stream is None
+
+    def check_ready(self) -> None:
+        """Closes it and raises ConnectionLost where the next reply could belong to an earlier
+        question, or there is nobody to ask."""
+        if self._stream is None:
+            raise ConnectionLost("the connection is closed")
+        if self.busy:
+            self.close()
+            raise ConnectionLost("a call was cut off on this connection, which is closed now")
+        unasked = self._unasked()
+        if unasked is None:
+            return
+        self.close()
+        if not unasked:
+            raise ConnectionLost("the server ended the connection")
+        text = unasked[:80].decode("ascii", "replace")
+        raise ConnectionLost(f"the server sent {text!r} unasked: the connection is closed")
+
+    def _unasked(self) -> Optional[bytes]:
+        """What has come though nothing is asked: b"" where the server has ended the connection,
+        and None where nothing has come."""
+        if self._buffer:
+            return bytes(self._buffer)
+        stream = self._open()
+        try:
+            return stream.recv(LONGEST_REPLY, socket.MSG_PEEK) if _can_read(stream) else None
+        except (OSError, ValueError):  # the latter where it was closed by now
+            return b""
+
+    # ---- exchanges
+
+    def ask(self, request: Request[T]) -> Union[T, Refused]:
+        """Sends a request, and reads its reply. A refusal is given back, and not raised: all that
+        is raised here leaves the connection out of step."""
+        self._send(request.sent())
+        return self._receive(request)
+
+    def ask_all(self, requests: Sequence[Request[T]]) -> List[Union[T, Refused]]:
+        """Sends requests in one write, and reads their replies."""
+        self._send(b"".join(request.sent() for request in requests))
+        return [self._receive(request) for request in requests]
+
+    def counted(self, count: int) -> bytes:
+        """The next bytes, so many."""
+        while len(self._buffer) < count:
+            self._read_more()
+        data = bytes(self._buffer[:count])
+        del self._buffer[:count]
+        return data
+
+    def quit(self) -> None:
+        """Says that the connection ends, where somebody still listens."""
+        try:
+            self._send(b"QUIT\n")
+        except ConnectionLost:
+            pass
+
+    def _open(self) -> socket.socket:
+        if self._stream is None:
+            raise ConnectionLost("the connection is closed")
+        return self._stream
+
+    def _send(self, data: bytes) -> None:
+        stream = self._open()
+        try:
+            for start in range(0, len(data), PIECE):
+                stream.sendall(data[start : start + PIECE])
+        except socket.timeout as fault:
+            raise TimedOut(f"the server took no bytes{self._within()}") from fault
+        except OSError as fault:
+            raise ConnectionLost(self._why_lost(fault)) from fault
+
+    def _read_more(self) -> None:
+        """Reads what has come, and waits for it."""
+        try:
+            data = self._open().recv(PIECE)
+        except socket.timeout as fault:
+            raise TimedOut(self._why_late()) from fault
+        except OSError as fault:
+            raise ConnectionLost(self._why_lost(fault)) from fault
+        if not data:
+            raise ConnectionLost("the server ended the connection")
+        self._buffer += data
+
+    def _why_lost(self, fault: OSError) -> str:
+        """Who closed the connection: it may have been a signal's handler."""
+        closed = "the connection was closed in the middle of a call"
+        return closed if self._stream is None else f"the server went away: {fault}"
+
+    def _why_late(self) -> str:
+        """What it may be that no reply comes."""
+        if self._heard:
+            return f"no reply{self._within()}"
+        late = f"connected, but no worker has answered{self._within()}"
+        return f"{late}: are all workers of the server taken?"
+
+    def _within(self) -> str:
+        """The time that was waited; the system has a limit of its own where none is set here."""
+        return "" if self._timeout is None else f" within {self._timeout:g} s"
+
+    def _receive(self, request: Request[T]) -> Union[T, Refused]:
+        """The next reply line, as its request reads it."""
+        line = request.line
+        while (end := self._buffer.find(b"\n", 0, LONGEST_REPLY)) < 0:
+            if len(self._buffer) >= LONGEST_REPLY:
+                raise WrongAnswer(f"no reply line answers '{line[:80]}'")
+            self._read_more()
+        reply = self._buffer[:end].decode("ascii", "replace")
+        del self._buffer[: end + 1]
+        self._heard = True
+        return self._refusal(reply, line) if reply.startswith("ERR ") else request.read(reply, line)
+
+    def _refusal(self, reply: str, line: str) -> Refused:
+        words = reply.split(" ")
+        number = int(words[1]) if re.fullmatch(r"\d{1,2}", words[1]) else 0
+        name, kind = REFUSALS.get(number, ("", Refused))
+        if not name or not re.fullmatch(f"ERR {number} {name}" + DETAILS.get(number, ""), reply):
+            raise wrong(reply, line)
+        if number in ENDING:
+            self.close()
+        return kind(number, name, tuple(int(it) if it.isdigit() else it for it in words[3:]), line)

@@ -1,0 +1,184 @@
+"""A pin: the queries of planners, on one version that stays as it is."""
+import math
+from typing import TYPE_CHECKING, Callable, Iterable, List, NoReturn, Optional, Sequence, Union
+
+from . import requests
+from .connection import Connection
+from .errors import ClearmapError, ConnectionLost, OutOfRange, Refused, WrongAnswer, raised
+from .requests import (
+    EUCLID2,
+    LARGEST_DUMP,
+    LARGEST_SIDE,
+    LONGEST_PATH,
+    Cell,
+    Near,
+    Queries,
+    Request,
+    T,
+    Tightest,
+    whole,
+)
+
+if TYPE_CHECKING:
+    from .client import Client
+
+BATCH = 64  # requests that are sent before their replies are read
+
+
+class Pinned:
+    """A pin of one version, which stays as it is whatever is published. `with client.pin() as
+    pinned:` leaves it at the end.
+
+    Several threads may ask one pin, as they may use one client; `unpin` and `renew` are for all of
+    them. A pin belongs to its connection, and is lost with it: a client that connects anew pins
+    anew. Errors are those of a `Client`; a pin that was left raises ClearmapError.
+    """
+
+    def __init__(
+        self, client: "Client", version: int, connection: Optional[Connection] = None
+    ) -> None:
+        self._client, self._connection = client, connection or client._connection
+        self.version, self._is_left = version, False
+
+    def __enter__(self) -> "Pinned":
+        return self
+
+    def __exit__(self, kind: object, *_: object) -> None:
+        if self._is_left or not self._connection.is_open():
+            return
+        try:
+            self.unpin()
+        except ClearmapError:
+            if kind is None:  # else what was raised first goes on
+                raise
+
+    def __reduce__(self) -> NoReturn:
+        raise TypeError("a Pinned belongs to its connection, which can't be copied or pickled")
+
+    def _exchange(self, work: Callable[[Connection], Union[T, ClearmapError]]) -> T:
+        """Does what is asked of this pin, on its own connection alone."""
+
+        def held(connection: Connection) -> Union[T, ClearmapError]:
+            return ClearmapError("the pin was left") if self._is_left else work(connection)
+
+        if not self._connection.is_open() and self._connection.is_of_this_process():
+            raise ConnectionLost("the connection is closed, and its pin lost: pin again")
+        return raised(self._client._exchange(held, self._connection))
+
+    def _ask(self, request: Request[T]) -> T:
+        """One request and its reply."""
+        return self._exchange(lambda connection: connection.ask(request))
+
+    def unpin(self) -> None:
+        """Leaves the pin. What is asked of it later is refused here, and isn't sent."""
+
+        def work(connection: Connection) -> Union[int, Refused]:
+            self._is_left = True
+            return connection.ask(requests.UNPIN)
+
+        self._exchange(work)
+
+    def renew(self) -> int:
+        """Moves the pin to the newest version, and answers its number. Nothing else tells of a
+        publish. Where the server refuses the new pin, the old one was left."""
+
+        def work(connection: Connection) -> Union[int, Refused]:
+            self._is_left = True
+            left = connection.ask(requests.UNPIN)
+            if isinstance(left, Refused):
+                return left
+            version = connection.ask(requests.PIN)
+            if not isinstance(version, Refused):
+                self.version, self._is_left = version, False
+            return version
+
+        return self._exchange(work)
+
+    def at(self, x: int, y: int, metric: str = EUCLID2) -> Optional[Near]:
+        """The nearest obstacle of a cell. None where the map has none; OutOfRange for a cell that
+        isn't on it. The distance is in cells, with euclid2 a square."""
+        return self._ask(requests.at(x, y, metric))
+
+    def rect(
+        self, x0: int, y0: int, x1: int, y1: int, metric: str = EUCLID2
+    ) -> Optional[Tightest]:
+        """The first cell by rows, of columns x0 up to x1 - 1 and rows y0 up to y1 - 1, that has the
+        least distance. None where the map has no obstacle."""
+        return self._ask(requests.rect(x0, y0, x1, y1, metric))
+
+    def path(self, points: Iterable[Cell], metric: str = EUCLID2) -> Optional[Tightest]:
+        """The first cell along a path that has the least distance. A path has 1 to 1000 points,
+        else BadPath, each in the row or column of the one before, else Crooked. None as in `rect`.
+        """
+        return self._ask(requests.path(points, metric))
+
+    def clear_of(
+        self, distance: int, points: Iterable[Cell], metric: str = EUCLID2
+    ) -> Optional[Tightest]:
+        """None where each cell of the path has this distance at least, and else the first that
+        hasn't. With euclid2 the distance is a square."""
+        return self._ask(requests.clear_of(distance, points, metric))
+
+    def clearance(self, points: Sequence[Cell]) -> float:
+        """The straight distance of a path's tightest cell to its nearest obstacle, in cells from
+        middle to middle; infinite where the map has none.
+
+        The path may have any number of points: one of over 1000 is asked in pieces, which share
+        their ends.
+        """
+        queries = Queries()
+        for start in range(0, max(len(points) - 1, 1), LONGEST_PATH - 1):
+            queries.path(points[start : start + LONGEST_PATH])
+        least = math.inf
+        for answer in self.ask(queries):
+            if isinstance(answer, Refused):
+                raise answer
+            if isinstance(answer, Tightest):
+                least = min(least, math.sqrt(answer.distance))
+        return least
+
+    def clearances(self, cells: Iterable[Cell]) -> List[float]:
+        """For each cell its straight distance to the nearest obstacle, in cells: 0 for an obstacle
+        and for a cell that isn't on the map, infinite where the map has none. Cells are sent 64 in
+        one write."""
+        queries = Queries()
+        for x, y in cells:
+            x, y = whole(x), whole(y)
+            if not (0 <= x < LARGEST_SIDE and 0 <= y < LARGEST_SIDE):
+                x = y = LARGEST_SIDE  # a cell that no map has, and that a line can name
+            queries.at(x, y)
+        found: List[float] = []
+        for answer in self.ask(queries):
+            if isinstance(answer, OutOfRange):
+                found.append(0.0)
+            elif isinstance(answer, Refused):
+                raise answer
+            else:
+                found.append(math.sqrt(answer.distance) if isinstance(answer, Near) else math.inf)
+        return found
+
+    def dump(self) -> bytes:
+        """The version as a plain PBM image."""
+
+        def work(connection: Connection) -> Union[bytes, Refused]:
+            count = connection.ask(requests.DUMP)
+            if isinstance(count, Refused):
+                return count
+            if count > LARGEST_DUMP:
+                raise WrongAnswer(f"a map of {count} bytes")
+            return connection.counted(count)
+
+        return self._exchange(work)
+
+    def ask(self, queries: Queries) -> List[object]:
+        """The answers to many queries, sent without waiting in between. A refused one has its
+        `Refused` in its place, which isn't raised."""
+        asked = tuple(queries._requests)
+
+        def work(connection: Connection) -> List[object]:
+            answers: List[object] = []
+            for start in range(0, len(asked), BATCH):
+                answers += connection.ask_all(asked[start : start + BATCH])
+            return answers
+
+        return self._exchange(work)
