@@ -25,6 +25,9 @@ lib_cflags = -std=c11 -fPIC $(CFLAGS)
 lib_links = -Wl,-soname,libclearmap.so.0 -Wl,--version-script=clients/c/clearmap.map -Wl,-z,defs
 libdir = $(to)/lib
 
+# What both install and install-lib put in place: it goes with the last of the two.
+shared = '$(to)/include/clearmap.hpp' '$(to)/share/clearmap'
+
 .PHONY: all install uninstall deb lib install-lib uninstall-lib
 
 all:
@@ -60,9 +63,9 @@ install: all
 uninstall:
 	rm -f '$(to)/bin/clearmap' '$(to)/bin/clearmap-backup' '$(to)/bin/clearmap-ros' '$(to)/bin/clearmap-ros-node' '$(to)/bin/clearmap-view' '$(to)/share/man/man7/clearmap-protocol.7' \
 	    '$(to)/share/bash-completion/completions/clearmap' '$(to)/share/pkgconfig/clearmap.pc' '$(to)/lib/systemd/system/clearmap@.service'
-	[ -e '$(to)/include/clearmap_map.hpp' ] || rm -f '$(to)/include/clearmap.hpp'
 	for page in $(pages); do rm -f '$(to)/share/man/man1/'$$page; done
-	rm -rf '$(to)/share/clearmap' '$(to)/share/doc/clearmap'
+	rm -rf '$(to)/share/clearmap/python' '$(to)/share/clearmap/view' '$(to)/share/doc/clearmap'
+	[ -e '$(to)/include/clearmap.h' ] || rm -rf $(shared)
 
 deb: all
 	tools/make_deb.sh packages
@@ -100,4 +103,4 @@ install-lib: lib
 uninstall-lib:
 	rm -f '$(to)/include/clearmap.h' '$(to)/include/clearmap_map.hpp' '$(libdir)/libclearmap.a' \
 	    '$(libdir)/libclearmap.so.0' '$(libdir)/libclearmap.so' '$(to)/share/pkgconfig/libclearmap.pc'
-	[ -e '$(to)/bin/clearmap' ] || rm -f '$(to)/include/clearmap.hpp'
+	[ -e '$(to)/bin/clearmap' ] || rm -rf $(shared)

@@ -160,4 +160,20 @@ PROJECT
     says 'page.c by CMake' "$scratch/built/page" "$c_says"
     says 'page.cpp by CMake' "$scratch/built/page_cpp" "$cpp_says"
 fi
+
+# Nothing is left of it, and what the program's installation shares with it stays with the other.
+installed() { find "$prefix" ! -type d; }
+if [ -x crates/clearmap/out/clearmap ]; then
+    alone=$(installed | sort)
+    try 'make install' make -s -o all install PREFIX="$prefix"
+    try 'make uninstall' make -s uninstall PREFIX="$prefix"
+    [ "$(installed | sort)" = "$alone" ] || { failed=1; echo 'make uninstall took of the library'; }
+    try 'make install' make -s -o all install PREFIX="$prefix"
+    try 'make uninstall-lib' make -s uninstall-lib PREFIX="$prefix"
+    [ -e "$prefix/include/clearmap.hpp" ] || { failed=1; echo 'the client is gone'; }
+    try 'make uninstall' make -s uninstall PREFIX="$prefix"
+else
+    try 'make uninstall-lib' make -s uninstall-lib PREFIX="$prefix"
+fi
+[ -z "$(installed)" ] || { failed=1; installed; }
 exit "$failed"

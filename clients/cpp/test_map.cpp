@@ -103,7 +103,7 @@ struct Model {
 
 static Model random_model(int widest, int highest) {
     Model model{{1 + below(widest), 1 + below(highest)}, below(2) ? Edge::wall : Edge::open, {}};
-    int rare = 1 + below(200);
+    int rare = 1 + below(below(2) ? 200 : 20000);
     model.cells.resize(static_cast<std::size_t>(model.size.width * model.size.height));
     for (std::uint8_t& cell : model.cells) cell = below(rare) == 0 && below(9) > 0;
     return model;
@@ -253,7 +253,8 @@ static void made(int maps) {
             for (int x = 0; x < size.width; ++x)
                 if (model.obstacle(x, y)) CHECK(painted.paint(x, y, x + 1, y + 1) == 1);
         CHECK(painted == map && painted.bits().bands == map.bits().bands);
-        CHECK(map != Map(size, model.edge == Edge::open ? Edge::wall : Edge::open));
+        model.edge = model.edge == Edge::open ? Edge::wall : Edge::open;
+        CHECK(map != model.map() && map.words() == model.map().words());
     }
     const std::uint8_t grid[6] = {0, 65, 100, 101, 64, 255};
     Map bounds = Map::of_bytes(grid, {3, 2}, {65, 100});
@@ -282,6 +283,23 @@ static void drawn(int maps) {
         map.clear(0, 0, model.size.width, model.size.height);
         CHECK(map == Map(model.size, model.edge) && map.bits().bands == 0);
         CHECK(map.at({0, 0}).has_value() == (model.edge == Edge::wall));
+    }
+}
+
+/// A path of over 1000 points is asked in pieces, and no cell between two is left out.
+static void long_paths() {
+    Map map({6, 4});
+    map.paint(2, 1, 3, 2);
+    Path path;
+    for (int i = 0; i < 2500; ++i) path.push_back({5, i % 2});
+    CHECK(map.clearance(path) == 3.0);
+    for (std::size_t length : {999u, 1000u, 1001u, 1002u, 1998u, 1999u, 2000u}) {
+        Path joint(path.begin(), path.begin() + static_cast<std::ptrdiff_t>(length));
+        int row = joint.back().y;
+        joint.push_back({0, row});
+        CHECK(map.clearance(joint) == (row == 1 ? 0.0 : 1.0));
+        joint.push_back({1, 3});
+        CHECK(throws<std::invalid_argument>([&] { map.clearance(joint); }, "row or column"));
     }
 }
 
@@ -332,9 +350,10 @@ static void invalid_queries() {
         double cells = -1;
         CHECK(!map.is_valid(c.x, c.y, cells) && cells == 0);
     }
-    const int rects[][4] = {{0, 0, 0, 1},  {0, 0, 1, 0},  {0, 0, 71, 1}, {0, 0, 1, 6},
-                            {2, 0, 1, 1},  {0, 2, 1, 1},  {-1, 0, 1, 1}, {0, -1, 1, 1},
-                            {0, 0, -1, 1}, {0, 0, 1, -1}, {70, 4, 71, 5}};
+    const int rects[][4] = {{0, 0, 0, 1},  {0, 0, 1, 0},  {0, 0, 71, 1},  {0, 0, 1, 6},
+                            {2, 0, 1, 1},  {0, 2, 1, 1},  {-1, 0, 1, 1},  {0, -1, 1, 1},
+                            {0, 0, -1, 1}, {0, 0, 1, -1}, {70, 4, 71, 5}, {2, 0, 2, 1},
+                            {0, 2, 1, 2}};
     for (auto& r : rects) {
         CHECK(refused_as<Outside>(CLEARMAP_OUTSIDE, [&] { map.rect(r[0], r[1], r[2], r[3]); }));
         CHECK(refused_as<Outside>(CLEARMAP_OUTSIDE, [&] { map.paint(r[0], r[1], r[2], r[3]); }));
@@ -558,6 +577,7 @@ int main(int count, char** words) {
     random_maps(maps);
     made(maps);
     drawn(maps);
+    long_paths();
     shared();
     invalid_queries();
     invalid_maps();
