@@ -1,8 +1,8 @@
 #!/bin/sh
 # Builds libclearmap where it has to, and tries it from C and C++: the header against the source,
-# what the shared library shows, the tests (also under valgrind and the sanitizers), and the programs
-# of docs/LIBRARY.md. Leaves out, with a word, what isn't installed here. MAPS is how many random
-# maps. The C++ test asks servers of the built program too; CLEARMAP names another one.
+# what the shared library shows, the tests (also under valgrind and the sanitizers), and the
+# programs of docs/LIBRARY.md. Leaves out, with a word, what isn't installed here. MAPS is how many
+# random maps. The C++ test asks servers of the built program too; CLEARMAP names another one.
 set -u
 cd "$(dirname "$0")/.." || exit 1
 library=$PWD/crates/libclearmap/out
@@ -114,7 +114,7 @@ for compiler in g++ clang++; do
     map_test 5 "$compiler" -fsanitize=thread
 done
 
-# Installed into an empty prefix: the page's programs by pkg-config and by CMake, that in C as C++ too.
+# Installed into an empty prefix: the page's programs by pkg-config and by CMake.
 prefix=$scratch/usr
 try 'make install-lib' make -s install-lib PREFIX="$prefix"
 for language in c cpp; do

@@ -40,6 +40,29 @@ static bool done_with(long requests, Call call) {
     }
 }
 
+// ---- what compiles, and what doesn't
+
+static_assert(std::is_nothrow_move_constructible_v<Map> && std::is_nothrow_move_assignable_v<Map>);
+static_assert(std::is_nothrow_move_constructible_v<Field> && !std::is_copy_constructible_v<Field>);
+static_assert(noexcept(std::declval<const Field&>().distance({})) && noexcept(
+    std::declval<const Field&>().obstacle(
+        {})) && noexcept(std::declval<const Field&>()
+                             .clearance({})) && noexcept(std::declval<const Field&>()
+                                                             .metres(std::declval<const Frame&>(),
+                                                                     0, 0)));
+
+/// Whether a call takes whole numbers, and no others.
+template <class Call>
+constexpr bool takes_whole(Call) {
+    return std::is_invocable_v<Call, Map&, int> && !std::is_invocable_v<Call, Map&, double>;
+}
+constexpr auto paint = [](auto& map, auto x) -> decltype(map.paint(x, 0, 1, 1)) { return {}; };
+constexpr auto clear = [](auto& map, auto x) -> decltype(map.clear(x, 0, 1, 1)) { return {}; };
+constexpr auto rect = [](auto& map, auto x) -> decltype(map.rect(x, 0, 1, 1)) { return {}; };
+constexpr auto clear_of = [](auto& map, auto d) -> decltype(map.clear_of(d, {})) { return {}; };
+static_assert(takes_whole(paint) && takes_whole(clear) && takes_whole(rect));
+static_assert(takes_whole(clear_of));
+
 // ---- the model
 
 static const std::array<Metric, 3> metrics = {Metric::euclid2, Metric::city, Metric::chess};
