@@ -48,7 +48,7 @@ enum class Rows { downwards, upwards };
 
 namespace detail {
 
-constexpr std::size_t most_points = 1000;
+inline constexpr std::size_t most_points = 1000;
 
 /// What a status says, thrown; nothing where the call is done.
 inline void check(std::uint32_t status) {
@@ -218,7 +218,7 @@ private:
 // ---- the map
 
 /// A map of 1 to 4096 columns and rows, and what lies round it: a bit a cell. It can be copied and
-/// moved; one that was moved from has the size 0 by 0, and each query of it throws.
+/// moved; one that was moved from has the size 0 by 0, and no cell.
 class Map {
 public:
     /// A map without obstacles.
@@ -466,8 +466,9 @@ inline Map map_of(Pinned& pinned, Edge edge) { return Map::of_pbm(pinned.dump(),
 /// the size 0 by 0.
 class Field {
 public:
-    /// So many threads share the rows, each of which takes 3.3 MB on the largest map. 0 has as many
-    /// as the machine runs at a time, and one for less than 2^18 cells each.
+    /// Shares the rows among so many threads, each of which takes 3.3 MB on the largest map; 0 is as
+    /// many as the machine runs at a time, and no more than one for each 2^18 cells. Throws
+    /// std::invalid_argument for a map that was moved from.
     explicit Field(const Map& map, Metric metric = Metric::euclid2, unsigned threads = 0)
         : size_(map.size()), metric_(metric) {
         if (size_.width == 0) detail::check(CLEARMAP_SIZE);
