@@ -466,8 +466,8 @@ inline Map map_of(Pinned& pinned, Edge edge) { return Map::of_pbm(pinned.dump(),
 /// the size 0 by 0.
 class Field {
 public:
-    /// Shares the rows among so many threads, each of which takes 3.3 MB on the largest map; 0 is as
-    /// many as the machine runs at a time, and no more than one for each 2^18 cells. Throws
+    /// Shares the rows among so many threads, each of which takes 3.3 MB on the largest map; 0 is
+    /// as many as the machine runs at a time, and no more than one for each 2^18 cells. Throws
     /// std::invalid_argument for a map that was moved from.
     explicit Field(const Map& map, Metric metric = Metric::euclid2, unsigned threads = 0)
         : size_(map.size()), metric_(metric) {
