@@ -68,6 +68,32 @@ fi
 expect 'a first run without a terminal' "$(PATH=$scratch/fresh/bin:$PATH timeout 60 "$scratch/fresh/clearmap" one 2>&1)" \
     "$(printf '%s\n' "clearmap: the first run proves and builds the program's crates, which takes about half an hour" 'ran one')"
 
+# A checkout of somebody else: what is built runs, and what isn't is told at once.
+theirs=$scratch/theirs
+as_other='setpriv --reuid=65534 --regid=65534 --clear-groups'
+if [ "$(id -u)" = 0 ] && $as_other true 2> /dev/null; then
+    mkdir -p "$theirs/crates/clearmap" "$theirs/bin"
+    cp clearmap "$theirs/"
+    cp crates.txt "$theirs/"
+    printf '#!/bin/sh\nexit 1\n' > "$theirs/bin/rt"
+    chmod +x "$theirs/bin/rt"
+    chmod 755 "$scratch"
+    run_theirs() { PATH=$theirs/bin:$PATH $as_other "$theirs/clearmap" one two 2>&1; }
+    lacking="this user can't write to $theirs/crates"
+    expect 'nothing built by somebody else' "$(run_theirs; echo "status $?")" \
+        "$(printf '%s\n' "clearmap: nothing is built yet, and $lacking" 'status 3')"
+    mkdir "$theirs/crates/clearmap/out"
+    printf '#!/bin/sh\necho "ran $*"\n' > "$theirs/crates/clearmap/out/clearmap"
+    chmod +x "$theirs/crates/clearmap/out/clearmap"
+    sleep 1
+    touch "$theirs/crates.txt" "$theirs/crates/clearmap/new.rt"
+    expect 'a source of somebody else that is newer' "$(run_theirs; echo "status $?")" \
+        "$(printf '%s\n' "clearmap: sources are newer than the program, and $lacking: the program runs as it was built" \
+            'ran one two' 'status 0')"
+else
+    echo 'a checkout of somebody else left out: this needs root and setpriv'
+fi
+
 # What make install puts in place; `all` is left to the program that stands.
 if command -v make > /dev/null; then
     make -s -o all install DESTDIR="$scratch/root" PREFIX=/usr || wrong=$((wrong + 1))
