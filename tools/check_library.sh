@@ -1,7 +1,8 @@
 #!/bin/sh
 # Builds libclearmap where it has to, and tries it from C: the header against the source, what the
-# shared library shows, the tests (also under valgrind and the thread sanitizer), and the program of
-# docs/LIBRARY.md. Leaves out, with a word, what isn't installed here. MAPS is how many random maps.
+# shared library shows, the tests (also under valgrind, the thread sanitizer and, for ARM, qemu), and
+# the program of docs/LIBRARY.md. Leaves out, with a word, what isn't installed here. MAPS is how many
+# random maps.
 set -u
 cd "$(dirname "$0")/.." || exit 1
 library=$PWD/crates/libclearmap/out
@@ -64,6 +65,20 @@ if gcc $flags -O1 -fsanitize=thread $test "$library/libclearmap.a" -Wl,--wrap=ma
     try 'thread sanitizer' "$scratch/threads" 1
 else
     echo 'thread sanitizer left out: it does not link here'
+fi
+
+# The library for ARM, with the same test. It is linked with its C library, which qemu then needs not.
+if wants aarch64-linux-gnu-gcc 'the library for ARM' && wants qemu-aarch64 'the library for ARM'; then
+    kept=$scratch/kept
+    cp -p "$library"/*.a "$library"/*.o "$library"/*.so.0 "$(mkdir "$kept" && echo "$kept")"
+    try 'make lib-arm' make -s lib-arm
+    cp -p "$kept"/* "$library"
+    if aarch64-linux-gnu-gcc $flags -O2 -static $test "$library/aarch64/libclearmap.a" \
+        -Wl,--wrap=malloc -lpthread -o "$scratch/arm"; then
+        try 'test on ARM' qemu-aarch64 "$scratch/arm" 5
+    else
+        failed=1
+    fi
 fi
 
 # Installed into an empty prefix: the page's program by pkg-config, as C and as C++, and by CMake.
