@@ -27,6 +27,9 @@ lib_links = -Wl,-soname,libclearmap.so.0 -Wl,--version-script=clients/c/clearmap
 libdir = $(to)/lib
 arm = $(library)/aarch64
 
+# What both install and install-lib put in place: it goes with the last of the two.
+shared = '$(to)/include/clearmap.hpp' '$(to)/share/clearmap'
+
 .PHONY: all install uninstall deb lib lib-arm install-lib uninstall-lib
 
 all:
@@ -61,9 +64,10 @@ install: all
 
 uninstall:
 	rm -f '$(to)/bin/clearmap' '$(to)/bin/clearmap-backup' '$(to)/bin/clearmap-ros' '$(to)/bin/clearmap-ros-node' '$(to)/bin/clearmap-view' '$(to)/share/man/man7/clearmap-protocol.7' \
-	    '$(to)/share/bash-completion/completions/clearmap' '$(to)/include/clearmap.hpp' '$(to)/share/pkgconfig/clearmap.pc' '$(to)/lib/systemd/system/clearmap@.service'
+	    '$(to)/share/bash-completion/completions/clearmap' '$(to)/share/pkgconfig/clearmap.pc' '$(to)/lib/systemd/system/clearmap@.service'
 	for page in $(pages); do rm -f '$(to)/share/man/man1/'$$page; done
-	rm -rf '$(to)/share/clearmap' '$(to)/share/doc/clearmap'
+	rm -rf '$(to)/share/clearmap/python' '$(to)/share/clearmap/view' '$(to)/share/doc/clearmap'
+	[ -e '$(to)/include/clearmap.h' ] || rm -rf $(shared)
 
 deb: all
 	tools/make_deb.sh packages
@@ -98,6 +102,8 @@ $(arm)/liblibclearmap.a: $(lib_sources)
 
 install-lib: lib
 	$(INSTALL) -D -m 644 clients/c/clearmap.h '$(to)/include/clearmap.h'
+	$(INSTALL) -m 644 clients/cpp/clearmap_map.hpp '$(to)/include/clearmap_map.hpp'
+	$(INSTALL) -m 644 clients/cpp/clearmap.hpp '$(to)/include/clearmap.hpp'
 	$(INSTALL) -D -m 644 $(library)/libclearmap.a '$(libdir)/libclearmap.a'
 	$(INSTALL) -m 644 $(library)/libclearmap.so.0 '$(libdir)/libclearmap.so.0'
 	ln -sf libclearmap.so.0 '$(libdir)/libclearmap.so'
@@ -108,5 +114,6 @@ install-lib: lib
 	    > '$(to)/share/clearmap/cmake/clearmapConfigVersion.cmake'
 
 uninstall-lib:
-	rm -f '$(to)/include/clearmap.h' '$(libdir)/libclearmap.a' '$(libdir)/libclearmap.so.0' \
-	    '$(libdir)/libclearmap.so' '$(to)/share/pkgconfig/libclearmap.pc'
+	rm -f '$(to)/include/clearmap.h' '$(to)/include/clearmap_map.hpp' '$(libdir)/libclearmap.a' \
+	    '$(libdir)/libclearmap.so.0' '$(libdir)/libclearmap.so' '$(to)/share/pkgconfig/libclearmap.pc'
+	[ -e '$(to)/bin/clearmap' ] || rm -rf $(shared)

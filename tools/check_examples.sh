@@ -1,7 +1,8 @@
 #!/bin/sh
 # Runs each transcript of examples/ with the built program (or that of CLEARMAP), and compares what it prints with the file next to it.
 # With --write it writes those files instead: look at what changed before you commit it.
-# Each has a minute. A transcript that says "# Needs netpbm: TOOL .." or "# Needs the header: HEADER" is left out, and counted, where one of these isn't installed.
+# Each has a minute. A transcript that says "# Needs netpbm: TOOL .." or "# Needs the header: HEADER" is left out, and counted, where one of these isn't installed,
+# and one that says "# Needs the library: FILE" where that isn't built (make lib).
 set -u
 cd "$(dirname "$0")/.." || exit 1
 program=${CLEARMAP:-$PWD/crates/clearmap/out/clearmap}
@@ -20,6 +21,9 @@ has_tools() {
     for tool in $(sed -n 's/^# Needs [a-z]*: //p' "$1"); do
         command -v "$tool" > /dev/null || return 1
     done
+    for library in $(sed -n 's/^# Needs the library: //p' "$1"); do
+        [ -e "$library" ] || return 1
+    done
     for header in $(sed -n 's/^# Needs the header: //p' "$1"); do
         echo "#include <$header>" | g++ -std=c++17 -x c++ -fsyntax-only $(pkg-config --cflags-only-I ompl 2> /dev/null) - 2> /dev/null || return 1
     done
@@ -27,7 +31,7 @@ has_tools() {
 for example in examples/*.sh; do
     if ! has_tools "$example"; then
         left_out=$((left_out + 1))
-        echo "$example left out: install what it needs"
+        echo "$example left out: install, or build, what it needs"
         continue
     fi
     tried=$((tried + 1))

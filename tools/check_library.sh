@@ -1,13 +1,15 @@
 #!/bin/sh
-# Builds libclearmap where it has to, and tries it from C: the header against the source, what the
-# shared library shows, the tests (also under valgrind, the thread sanitizer and, for ARM, qemu), and
-# the program of docs/LIBRARY.md. Leaves out, with a word, what isn't installed here. MAPS is how many
-# random maps.
+# Builds libclearmap where it has to, and tries it from C and C++: the header against the source, what
+# the shared library shows, the tests (also under valgrind, the sanitizers and, for ARM, qemu), and the
+# programs of docs/LIBRARY.md. Leaves out, with a word, what isn't installed here. MAPS is how many
+# random maps. The C++ test asks servers of the built program too; CLEARMAP names another one.
 set -u
 cd "$(dirname "$0")/.." || exit 1
 library=$PWD/crates/libclearmap/out
+program=${CLEARMAP:-$PWD/crates/clearmap/out/clearmap}
 scratch=$(mktemp -d)
-trap 'rm -rf "$scratch"' EXIT
+servers=''
+trap 'for server in $servers; do kill "$server" 2> /dev/null; done; rm -rf "$scratch"' EXIT
 trap 'exit 1' INT TERM
 export PYTHONDONTWRITEBYTECODE=1
 failed=0
@@ -81,37 +83,111 @@ if wants aarch64-linux-gnu-gcc 'the library for ARM' && wants qemu-aarch64 'the 
     fi
 fi
 
-# Installed into an empty prefix: the page's program by pkg-config, as C and as C++, and by CMake.
+# The header for C++, its test by both compilers and under the sanitizers; its answers against those
+# of two servers too.
+serve() { # serve FLAG ..: starts a server of a blank map, whose port is added to `ports`
+    : > "$scratch/port"
+    timeout 900 "$program" serve --connections 1000 "$@" < "$scratch/blank" > "$scratch/port" &
+    servers="$servers $!"
+    port=''
+    for _ in $(seq 400); do
+        port=$(sed -n 's/^LISTENING //p' "$scratch/port")
+        [ -z "$port" ] && kill -0 "$!" 2> /dev/null || break
+        sleep 0.05
+    done
+    ports="$ports $port"
+    [ -n "$port" ] || { failed=1; echo 'no server listens'; }
+}
+ports=''
+if [ -x "$program" ]; then
+    { printf 'P1\n64 48\n'; yes "$(printf '%064d' 0)" | head -n 48; } > "$scratch/blank"
+    serve
+    serve --edge wall
+else
+    echo 'maps of a server left out: the program is not built'
+fi
+
+map_test() { # map_test MAPS COMPILER FLAG ..: the test of clearmap_map.hpp, built so
+    count=$1
+    shift
+    wants "$1" "clearmap_map.hpp by $1" || return
+    if ! "$@" -std=c++17 -Wall -Wextra -Wconversion -Wpedantic -Werror -g1 -pthread -Iclients/c \
+        -Iclients/cpp -c clients/cpp/test_map.cpp -o "$scratch/map.o"; then
+        failed=1
+    elif "$@" -pthread "$scratch/map.o" "$library/libclearmap.a" -o "$scratch/map" \
+        2> "$scratch/log"; then
+        try "$*" "$scratch/map" "$count" $ports
+    else
+        echo "$* left out: it does not link here"
+    fi
+}
+map_test "${MAPS:-40}" g++ -O2
+map_test 5 clang++ -O1
+for compiler in g++ clang++; do
+    map_test 5 "$compiler" -fsanitize=address,undefined -fno-sanitize-recover=all
+    map_test 5 "$compiler" -fsanitize=thread
+done
+
+# Installed into an empty prefix: the page's programs by pkg-config and by CMake, the one in C as C++
+# too.
 prefix=$scratch/usr
 try 'make install-lib' make -s install-lib PREFIX="$prefix"
-sed -n '/^```c$/,/^```$/{/^```/d;p}' docs/LIBRARY.md > "$scratch/page.c"
-said='clearance 0.250 m, nearest (7, 4)'
+for language in c cpp; do
+    sed -n "/^\`\`\`$language\$/,/^\`\`\`\$/{/^\`\`\`/d;p}" docs/LIBRARY.md > "$scratch/page.$language"
+done
 
-says() { # says WHAT PROGRAM: runs the page's program
+says() { # says WHAT PROGRAM WORDS: runs a program of the page, which says so
     try "$1" env LD_LIBRARY_PATH="$prefix/lib" "$2"
-    [ "$(cat "$scratch/log")" = "$said" ] || failed=1
+    [ "$(cat "$scratch/log")" = "$3" ] || { failed=1; echo "$1 should say: $3"; }
 }
+c_says='clearance 0.250 m, nearest (7, 4)'
+cpp_says='the path is clear: 0.751665 m at its tightest; 1.5 m at (2, 2)'
 
-if wants pkg-config "the page's program by pkg-config"; then
+if wants pkg-config "the page's programs by pkg-config"; then
     found=$(PKG_CONFIG_PATH=$prefix/share/pkgconfig pkg-config --cflags --libs libclearmap)
-    for compiler in 'gcc -std=c11' 'g++ -std=c++20 -x c++'; do
-        wants "${compiler%% *}" "the page's program by $compiler" || continue
-        $compiler -Wall -Wextra -Werror "$scratch/page.c" -x none $found -lm -o "$scratch/page" \
-            && says "page by $compiler" "$scratch/page" || failed=1
-    done
+    page() { # page FILE WORDS COMPILER FLAG ..: a program of the page, built so
+        file=$1 words=$2
+        shift 2
+        wants "$1" "the page's program by $1" || return
+        "$@" -Wall -Wextra -Werror "$scratch/$file" -x none $found -lm -pthread -o "$scratch/page" \
+            && says "$file by $*" "$scratch/page" "$words" || failed=1
+    }
+    page page.c "$c_says" gcc -std=c11
+    page page.c "$c_says" g++ -std=c++20 -x c++
+    page page.cpp "$cpp_says" g++ -std=c++17
+    page page.cpp "$cpp_says" clang++ -std=c++17
 fi
-if wants cmake "the page's program by CMake"; then
+if wants cmake "the page's programs by CMake"; then
     mkdir "$scratch/project"
-    cp "$scratch/page.c" "$scratch/project/"
+    cp "$scratch/page.c" "$scratch/page.cpp" "$scratch/project/"
     cat > "$scratch/project/CMakeLists.txt" << 'PROJECT'
 cmake_minimum_required(VERSION 3.16)
-project(page C)
+project(page C CXX)
 find_package(clearmap 0.1 REQUIRED)
 add_executable(page page.c)
 target_link_libraries(page clearmap::clearmap m)
+add_executable(page_cpp page.cpp)
+target_link_libraries(page_cpp clearmap::clearmap)
 PROJECT
     try 'cmake' cmake -S "$scratch/project" -B "$scratch/built" -DCMAKE_PREFIX_PATH="$prefix"
     try 'cmake --build' cmake --build "$scratch/built"
-    says 'page by CMake' "$scratch/built/page"
+    says 'page.c by CMake' "$scratch/built/page" "$c_says"
+    says 'page.cpp by CMake' "$scratch/built/page_cpp" "$cpp_says"
 fi
+
+# Nothing is left of it, and what the program's installation shares with it stays with the other.
+installed() { find "$prefix" ! -type d; }
+if [ -x crates/clearmap/out/clearmap ]; then
+    alone=$(installed | sort)
+    try 'make install' make -s -o all install PREFIX="$prefix"
+    try 'make uninstall' make -s uninstall PREFIX="$prefix"
+    [ "$(installed | sort)" = "$alone" ] || { failed=1; echo 'make uninstall took of the library'; }
+    try 'make install' make -s -o all install PREFIX="$prefix"
+    try 'make uninstall-lib' make -s uninstall-lib PREFIX="$prefix"
+    [ -e "$prefix/include/clearmap.hpp" ] || { failed=1; echo 'the client is gone'; }
+    try 'make uninstall' make -s uninstall PREFIX="$prefix"
+else
+    try 'make uninstall-lib' make -s uninstall-lib PREFIX="$prefix"
+fi
+[ -z "$(installed)" ] || { failed=1; installed; }
 exit "$failed"

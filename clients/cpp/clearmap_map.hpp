@@ -1,0 +1,562 @@
+// A map in process, for planners: queries and tables of distances without a server. One header over
+// clearmap.h, whose library is linked (-lclearmap -pthread), and clearmap.hpp, whose cells, answers
+// and frames it shares: C++17. The library is proved; this file is not (test_map.cpp tries it).
+//
+//     auto map = clearmap::Map::of_bytes(costmap, {640, 480}, {253, 254});
+//     double cells;
+//     if (map.is_valid(3, 4, cells)) ..                // as OMPL's isValid(state, dist)
+//     if (!map.clear_of(9, {{0, 0}, {30, 0}})) ..      // each cell keeps 3 cells or more
+//     clearmap::Field field(map);                      // all distances, made by several threads
+//     double nearest = field.clearance({3, 4});        // a look-up
+//
+// Columns x and rows y count from 0. A distance is in cells: euclid2 is the square of the straight
+// one, city and chess count steps.
+//
+// Threads. Any threads may ask one map or field at the same time, without a lock. While a thread
+// paints, clears, assigns to, moves or destroys one, no other uses it.
+//
+// Errors. What is wrong with a call is thrown with the text of its status: std::out_of_range for a
+// cell, rectangle or point that isn't in the map, std::invalid_argument for all else. A call that
+// throws has changed nothing. A query whose arguments are good throws nothing and takes no memory.
+// What makes a map or a field may throw std::bad_alloc.
+#ifndef CLEARMAP_MAP_HPP
+#define CLEARMAP_MAP_HPP
+
+#include "clearmap.h"
+#include "clearmap.hpp"
+
+#include <bitset>
+#include <cassert>
+#include <new>
+#include <string_view>
+#include <thread>
+
+namespace clearmap {
+
+/// What lies round a map: nothing, or a frame of obstacles.
+enum class Edge { open, wall };
+
+/// Which bytes are obstacles: low to high. An occupancy grid's occupied cells are {65, 100}, and
+/// {65, 255} with the unknown ones; a costmap's lethal ones {253, 254}; an image's zeros {0, 0}.
+struct Range {
+    std::uint8_t low, high;
+};
+
+/// How the rows of a map lie in memory: the top one first, or, as in ROS's occupancy grids and
+/// costmaps, the lowest first. In a map row 0 is the top one, as a Frame has it.
+enum class Rows { downwards, upwards };
+
+namespace detail {
+
+constexpr std::size_t most_points = 1000;
+
+/// What a status says, thrown; nothing where the call is done.
+inline void check(std::uint32_t status) {
+    if (status == CLEARMAP_DONE) return;
+    if (status == CLEARMAP_MEMORY) throw std::bad_alloc();
+    if (status == CLEARMAP_OUTSIDE) throw std::out_of_range(clearmap_status_text(status));
+    throw std::invalid_argument(clearmap_status_text(status));
+}
+
+/// A number of a metric, of an edge, or of a column or row: one below 0 is in no map.
+template <class Value>
+constexpr std::uint32_t numbered(Value value) {
+    return static_cast<std::uint32_t>(value);
+}
+static_assert(numbered(Metric::euclid2) == CLEARMAP_EUCLID2 &&
+              numbered(Metric::city) == CLEARMAP_CITY &&
+              numbered(Metric::chess) == CLEARMAP_CHESS && numbered(Edge::open) == CLEARMAP_OPEN &&
+              numbered(Edge::wall) == CLEARMAP_WALL);
+
+inline std::optional<Near> answer(const clearmap_near& near) {
+    if (near.dist == CLEARMAP_NO_OBSTACLE) return std::nullopt;
+    return Near{near.dist, {near.x, near.y}};
+}
+
+inline std::optional<Tightest> answer(const clearmap_found& found) {
+    if (found.near.dist == CLEARMAP_NO_OBSTACLE) return std::nullopt;
+    return Tightest{found.near.dist, {found.cell.x, found.cell.y}, {found.near.x, found.near.y}};
+}
+
+/// A distance by a metric as a straight one, or as steps, in cells.
+inline double in_cells(std::uint32_t distance, Metric metric) noexcept {
+    if (distance == CLEARMAP_NO_OBSTACLE) return std::numeric_limits<double>::infinity();
+    return metric == Metric::euclid2 ? std::sqrt(static_cast<double>(distance)) : distance;
+}
+
+/// Points as the library takes them, without memory of the heap. Of too many there is none, which
+/// has the same status.
+struct Points {
+    clearmap_cell cells[most_points];
+    std::size_t length = 0;
+
+    Points(const Cell* first, std::size_t count) {
+        if (count > most_points) return;
+        for (; length < count; ++length)
+            cells[length] = {narrow(first[length].x), narrow(first[length].y)};
+    }
+
+private:
+    /// A column or a row in 16 bits; what is in no map stays in none.
+    static std::uint16_t narrow(int at) {
+        return static_cast<std::uint16_t>(at < 0 || at > 65535 ? 65535 : at);
+    }
+};
+
+/// Reads a PBM image, plain or raw, by the rules of docs/FORMATS.md. The first fault from its front
+/// is thrown by its name there.
+class ImageReader {
+public:
+    explicit ImageReader(std::string_view image) : rest_(image) {
+        std::string_view magic = image.substr(0, 2);
+        if (magic.empty() || magic == "P") bad("Truncated");
+        if (magic != "P1" && magic != "P4") bad("BadMagic");
+        plain_ = magic == "P1";
+        rest_.remove_prefix(2);
+        gap();
+        width_ = side();
+        gap();
+        height_ = side();
+    }
+
+    Size size() const { return {width_, height_}; }
+
+    /// Sets the bits of the black pixels in rows of so many words, which are 0.
+    void read(std::vector<std::uint64_t>& words, std::size_t stride) {
+        space();
+        if (plain_)
+            read_plain(words, stride);
+        else
+            read_raw(words, stride);
+    }
+
+private:
+    [[noreturn]] static void bad(const char* fault) {
+        throw std::invalid_argument(std::string("BadImage ") + fault);
+    }
+    static bool blank(char c) { return c == ' ' || c == '\t' || c == '\r' || c == '\n'; }
+    static bool digit(char c) { return '0' <= c && c <= '9'; }
+
+    char front() const {
+        if (rest_.empty()) bad("Truncated");
+        return rest_.front();
+    }
+    char take() {
+        char c = front();
+        rest_.remove_prefix(1);
+        return c;
+    }
+
+    /// One whitespace byte.
+    void space() {
+        char c = take();
+        if (c == '#') bad("BadComment");
+        if (!blank(c)) bad("MissingSpace");
+    }
+
+    /// Whitespace and comments, up to another byte.
+    void blanks() {
+        for (; front() == '#' || blank(front()); take())
+            if (front() == '#')
+                while (front() != '\r' && front() != '\n') take();
+    }
+
+    void gap() {
+        space();
+        blanks();
+    }
+
+    int side() {
+        if (!digit(front())) bad("BadNumber");
+        int value = 0;
+        for (; !rest_.empty() && digit(rest_.front()); rest_.remove_prefix(1))
+            if (value <= largest_side) value = 10 * value + (rest_.front() - '0');
+        if (value == 0) bad("ZeroSize");
+        if (value > largest_side) bad("TooLarge");
+        return value;
+    }
+
+    void read_plain(std::vector<std::uint64_t>& words, std::size_t stride) {
+        blanks();
+        for (int y = 0; y < height_; ++y)
+            for (int x = 0; x < width_; ++x) set(words, stride, x, y, pixel());
+        if (!rest_.empty() && !blank(rest_.front())) bad("JunkNotSpaced");
+    }
+
+    bool pixel() {
+        if (front() == '#') bad("BadComment");
+        if (blank(front())) blanks();
+        char c = take();
+        if (c != '0' && c != '1') bad("BadPixel");
+        return c == '1';
+    }
+
+    void read_raw(std::vector<std::uint64_t>& words, std::size_t stride) {
+        const int row = (width_ + 7) / 8;
+        if (rest_.size() < static_cast<std::size_t>(row) * static_cast<std::size_t>(height_))
+            bad("Truncated");
+        for (int y = 0; y < height_; ++y, rest_.remove_prefix(static_cast<std::size_t>(row)))
+            for (int x = 0; x < width_; ++x) {
+                int byte = static_cast<unsigned char>(rest_[static_cast<std::size_t>(x) / 8]);
+                set(words, stride, x, y, (byte >> (7 - x % 8) & 1) != 0);
+            }
+    }
+
+    static void set(std::vector<std::uint64_t>& words, std::size_t stride, int x, int y,
+                    bool black) {
+        words[static_cast<std::size_t>(y) * stride + static_cast<std::size_t>(x) / 64] |=
+            std::uint64_t{black} << (x % 64);
+    }
+
+    std::string_view rest_;
+    bool plain_ = false;
+    int width_ = 0, height_ = 0;
+};
+
+}  // namespace detail
+
+// ---- the map
+
+/// A map of 1 to 4096 columns and rows, and what lies round it: a bit a cell. It can be copied and
+/// moved; one that was moved from has the size 0 by 0, and each query of it throws.
+class Map {
+public:
+    /// A map without obstacles.
+    explicit Map(Size size, Edge edge = Edge::open) : size_(size), edge_(edge) {
+        auto side = [](int cells) { return 1 <= cells && cells <= detail::largest_side; };
+        if (!side(size.width) || !side(size.height)) detail::check(CLEARMAP_SIZE);
+        if (edge != Edge::open && edge != Edge::wall) detail::check(CLEARMAP_EDGE);
+        words_.resize(stride() * static_cast<std::size_t>(size.height));
+    }
+
+    /// A map in bytes, as a vector, an array or a span has them: its rows one after another, width
+    /// times height bytes and no more.
+    template <class Bytes, class Element = decltype(*std::data(std::declval<const Bytes&>()))>
+    static Map of_bytes(const Bytes& cells, Size size, Range obstacles, Edge edge = Edge::open,
+                        Rows rows = Rows::downwards) {
+        static_assert(sizeof(Element) == 1, "a map is bytes: its elements have the size 1");
+        Map map(size, edge);
+        std::size_t width = map.width(), length = std::size(cells);
+        if (length > width * static_cast<std::size_t>(size.height))
+            throw std::invalid_argument("the map's memory goes on after its last row");
+        map.pack(std::data(cells), length, width, obstacles, rows);
+        return map;
+    }
+
+    /// The same in a larger array: `stride` bytes lie from one row to the next, and `length` from
+    /// `cells` to the end of the array.
+    static Map of_bytes(const void* cells, std::size_t length, std::size_t stride, Size size,
+                        Range obstacles, Edge edge = Edge::open, Rows rows = Rows::downwards) {
+        Map map(size, edge);
+        map.pack(cells, length, stride, obstacles, rows);
+        return map;
+    }
+
+    /// A PBM image, plain or raw (docs/FORMATS.md), as Pinned::dump answers it; black is an
+    /// obstacle. Throws std::invalid_argument with the name of the first fault, as "BadImage
+    /// BadMagic".
+    static Map of_pbm(std::string_view image, Edge edge = Edge::open) {
+        detail::ImageReader reader(image);
+        Map map(reader.size(), edge);
+        reader.read(map.words_, map.stride());
+        map.mark(0, map.size_.height);
+        return map;
+    }
+
+    Size size() const noexcept { return words_.empty() ? Size{0, 0} : size_; }
+    Edge edge() const noexcept { return edge_; }
+
+    /// The bits, as the calls of clearmap.h take them with `bits()`: those after a row's last
+    /// column are 0.
+    const std::vector<std::uint64_t>& words() const noexcept { return words_; }
+    clearmap_bits bits() const noexcept {
+        return {detail::numbered(size().width), detail::numbered(size().height), stride(), bands_};
+    }
+
+    /// Whether the sizes, the edges and the obstacles are the same.
+    friend bool operator==(const Map& a, const Map& b) {
+        return a.size() == b.size() && a.edge_ == b.edge_ && a.words_ == b.words_;
+    }
+    friend bool operator!=(const Map& a, const Map& b) { return !(a == b); }
+
+    // -- queries
+
+    /// The nearest obstacle of a cell. Nothing where the map has none.
+    std::optional<Near> at(Cell c, Metric m = Metric::euclid2) const {
+        clearmap_near near{};
+        ask(clearmap_bits_at, m, detail::numbered(c.x), detail::numbered(c.y), &near);
+        return detail::answer(near);
+    }
+
+    /// The first cell by rows, of columns x0 up to x1 - 1 and rows y0 up to y1 - 1, that has the
+    /// least distance. Nothing where the map has no obstacle.
+    std::optional<Tightest> rect(int x0, int y0, int x1, int y1, Metric m = Metric::euclid2) const {
+        clearmap_found found{};
+        ask(clearmap_bits_rect, m, detail::numbered(x0), detail::numbered(y0), detail::numbered(x1),
+            detail::numbered(y1), &found);
+        return detail::answer(found);
+    }
+    template <class A, class B, class C, class D, class = detail::IfReal<A, B, C, D>>
+    std::optional<Tightest> rect(A x0, B y0, C x1, D y1, Metric m = Metric::euclid2) const = delete;
+
+    /// The first cell along a path of 1 to 1000 points that has the least distance. Nothing where
+    /// the map has no obstacle.
+    std::optional<Tightest> path(const Path& p, Metric m = Metric::euclid2) const {
+        return tightest(p.data(), p.size(), m);
+    }
+
+    /// Nothing where each cell of the path has this distance at least, and else the first that
+    /// hasn't. With euclid2 it is a square.
+    std::optional<Tightest> clear_of(std::uint32_t distance, const Path& p,
+                                     Metric m = Metric::euclid2) const {
+        const detail::Points points(p.data(), p.size());
+        clearmap_found found{};
+        ask(clearmap_bits_clear_of, m, points.cells, points.length, distance, &found);
+        return detail::answer(found);
+    }
+    /// A distance is a whole number: round a fraction up, or ask Frame::clear_distance.
+    template <class Real, class = detail::IfReal<Real>>
+    std::optional<Tightest> clear_of(Real distance, const Path& p,
+                                     Metric m = Metric::euclid2) const = delete;
+
+    /// The straight distance of a path's tightest cell to its nearest obstacle, in cells from
+    /// middle to middle; infinite where the map has none. The path has one point or more.
+    double clearance(const Path& p) const {
+        std::uint32_t least = CLEARMAP_NO_OBSTACLE;
+        std::size_t start = 0;
+        do {  // pieces share their ends
+            std::size_t count = std::min(detail::most_points, p.size() - start);
+            auto found = tightest(p.data() + start, count, Metric::euclid2);
+            if (found) least = std::min(least, found->distance);
+            start += detail::most_points - 1;
+        } while (start + 1 < p.size());
+        return detail::in_cells(least, Metric::euclid2);
+    }
+
+    /// Whether a cell is on the map and no obstacle, and its straight distance to the nearest
+    /// obstacle in cells: 0 for a cell that isn't on the map, infinite where the map has none.
+    bool is_valid(int x, int y, double& clearance) const {
+        clearance = 0;
+        if (!inside(x, y)) return false;
+        auto near = at({x, y});
+        clearance = detail::in_cells(near ? near->distance : CLEARMAP_NO_OBSTACLE, Metric::euclid2);
+        return clearance > 0;
+    }
+    /// A cell is two whole numbers: Frame::cell gives that of a point in metres.
+    template <class X, class Y, class = detail::IfReal<X, Y>>
+    bool is_valid(X x, Y y, double& clearance) const = delete;
+
+    /// Whether a cell is an obstacle.
+    bool is_obstacle(Cell c) const {
+        if (!inside(c.x, c.y)) detail::check(CLEARMAP_OUTSIDE);
+        return (words_[word(c.x, c.y)] >> (c.x % 64) & 1) != 0;
+    }
+
+    // -- changes
+
+    /// Makes columns x0 up to x1 - 1 of rows y0 up to y1 - 1 obstacles, and answers how many cells
+    /// changed.
+    std::uint32_t paint(int x0, int y0, int x1, int y1) { return draw(x0, y0, x1, y1, true); }
+    template <class A, class B, class C, class D, class = detail::IfReal<A, B, C, D>>
+    std::uint32_t paint(A x0, B y0, C x1, D y1) = delete;
+
+    /// Makes these cells free, and answers how many changed.
+    std::uint32_t clear(int x0, int y0, int x1, int y1) { return draw(x0, y0, x1, y1, false); }
+    template <class A, class B, class C, class D, class = detail::IfReal<A, B, C, D>>
+    std::uint32_t clear(A x0, B y0, C x1, D y1) = delete;
+
+private:
+    static constexpr int band = 64;  // rows
+
+    std::size_t width() const noexcept { return static_cast<std::size_t>(size_.width); }
+    std::size_t stride() const noexcept { return (width() + 63) / 64; }
+    std::size_t word(int x, int y) const noexcept {
+        return static_cast<std::size_t>(y) * stride() + static_cast<std::size_t>(x) / 64;
+    }
+    bool inside(int x, int y) const noexcept {
+        return 0 <= x && x < size().width && 0 <= y && y < size().height;
+    }
+
+    /// Asks a call of the library about these bits.
+    template <class Call, class... Asked>
+    void ask(Call call, Metric m, Asked... asked) const {
+        static constexpr std::uint64_t none = 0;
+        const clearmap_bits map = bits();
+        detail::check(call(words_.empty() ? &none : words_.data(), words_.size(), &map,
+                           detail::numbered(m), detail::numbered(edge_), asked...));
+    }
+
+    std::optional<Tightest> tightest(const Cell* first, std::size_t count, Metric m) const {
+        const detail::Points points(first, count);
+        clearmap_found found{};
+        ask(clearmap_bits_path, m, points.cells, points.length, &found);
+        return detail::answer(found);
+    }
+
+    /// Takes the cells over from bytes.
+    void pack(const void* cells, std::size_t length, std::size_t stride, Range obstacles,
+              Rows rows) {
+        if (obstacles.low > obstacles.high)
+            throw std::invalid_argument("a range of bytes ends before it begins");
+        static constexpr std::uint8_t none = 0;
+        const clearmap_bytes from{detail::numbered(size_.width), detail::numbered(size_.height),
+                                  stride, obstacles.low, obstacles.high};
+        clearmap_bits to{};
+        detail::check(clearmap_pack(length == 0 ? &none : static_cast<const std::uint8_t*>(cells),
+                                    length, &from, words_.data(), words_.size(), &to));
+        bands_ = to.bands;
+        if (rows == Rows::upwards) flip();
+    }
+
+    /// Turns the rows over, from the top to the bottom.
+    void flip() {
+        for (int y = 0; y < size_.height / 2; ++y) {
+            auto upper = words_.begin() + static_cast<std::ptrdiff_t>(word(0, y));
+            auto lower =
+                words_.begin() + static_cast<std::ptrdiff_t>(word(0, size_.height - 1 - y));
+            std::swap_ranges(upper, upper + static_cast<std::ptrdiff_t>(stride()), lower);
+        }
+        mark(0, size_.height);
+    }
+
+    /// Says of each band of the rows y0 up to y1 - 1 whether it has an obstacle.
+    void mark(int y0, int y1) {
+        for (int b = y0 / band; b <= (y1 - 1) / band; ++b) {
+            auto rows = [&](int y) {
+                return words_.begin() + static_cast<std::ptrdiff_t>(word(0, y));
+            };
+            bool any = std::any_of(rows(b * band), rows(std::min((b + 1) * band, size_.height)),
+                                   [](std::uint64_t bits) { return bits != 0; });
+            std::uint64_t bit = std::uint64_t{1} << b;
+            bands_ = any ? bands_ | bit : bands_ & ~bit;
+        }
+    }
+
+    std::uint32_t draw(int x0, int y0, int x1, int y1, bool obstacles) {
+        if (!(inside(x0, y0) && x0 < x1 && y0 < y1 && inside(x1 - 1, y1 - 1)))
+            detail::check(CLEARMAP_OUTSIDE);
+        std::size_t changed = 0;
+        for (int y = y0; y < y1; ++y)
+            for (int first = x0 / 64 * 64; first < x1; first += 64) {
+                int from = std::max(x0 - first, 0), to = std::min(x1 - first, 64);
+                std::uint64_t mask = ~std::uint64_t{0} << from & ~std::uint64_t{0} >> (64 - to);
+                std::uint64_t& old = words_[word(first, y)];
+                std::uint64_t drawn = obstacles ? old | mask : old & ~mask;
+                changed += std::bitset<64>(old ^ drawn).count();
+                old = drawn;
+            }
+        mark(y0, y1);
+        return static_cast<std::uint32_t>(changed);
+    }
+
+    Size size_;
+    Edge edge_;
+    std::uint64_t bands_ = 0;
+    std::vector<std::uint64_t> words_;
+};
+
+/// A pinned version, by one DUMP. What a server answers doesn't tell its edge: give the one that it
+/// was started with (`serve --edge`), or the distances differ from its own.
+inline Map map_of(Pinned& pinned, Edge edge) { return Map::of_pbm(pinned.dump(), edge); }
+
+// ---- all distances
+
+/// The nearest obstacle of each cell of a map by one metric, as the map was when the field was
+/// made: 8 bytes a cell. A look-up reads one of them. It can be moved; one that was moved from has
+/// the size 0 by 0.
+class Field {
+public:
+    /// So many threads share the rows, each of which takes 3.3 MB on the largest map. 0 has as many
+    /// as the machine runs at a time, and one for less than 2^18 cells each.
+    explicit Field(const Map& map, Metric metric = Metric::euclid2, unsigned threads = 0)
+        : size_(map.size()), metric_(metric) {
+        if (size_.width == 0) detail::check(CLEARMAP_SIZE);
+        std::size_t cells = width() * static_cast<std::size_t>(size_.height);
+        nears_.reset(new clearmap_near[cells]);  // not set to 0 first
+        fill(map, threads > 0 ? threads : chosen(cells));
+    }
+
+    Size size() const noexcept { return nears_ ? size_ : Size{0, 0}; }
+    Metric metric() const noexcept { return metric_; }
+
+    /// The nearest obstacle of a cell. Nothing where the map has none; throws std::out_of_range for
+    /// a cell that isn't in the map.
+    std::optional<Near> at(Cell c) const {
+        if (!inside(c)) detail::check(CLEARMAP_OUTSIDE);
+        return detail::answer(near(c));
+    }
+
+    // -- look-ups of a cell that IS in the map, which nothing checks but an assertion
+
+    /// The distance by the field's metric; CLEARMAP_NO_OBSTACLE where the map has no obstacle.
+    std::uint32_t distance(Cell c) const noexcept { return near(c).dist; }
+
+    /// The nearest obstacle; CLEARMAP_NOWHERE twice where the map has none.
+    Cell obstacle(Cell c) const noexcept { return {near(c).x, near(c).y}; }
+
+    /// The distance in cells, the straight one where the metric is euclid2; infinite where the map
+    /// has no obstacle.
+    double clearance(Cell c) const noexcept { return detail::in_cells(distance(c), metric_); }
+
+    /// The same in metres for a point in metres: 0 for one outside. The frame has the field's size.
+    double metres(const Frame& frame, double x, double y) const noexcept {
+        assert(frame.size() == size());
+        auto cell = frame.cell(x, y);
+        return cell ? frame.metres(clearance(*cell)) : 0;
+    }
+
+private:
+    std::size_t width() const noexcept { return static_cast<std::size_t>(size_.width); }
+    bool inside(Cell c) const noexcept {
+        return 0 <= c.x && c.x < size().width && 0 <= c.y && c.y < size().height;
+    }
+    const clearmap_near& near(Cell c) const noexcept {
+        assert(inside(c));
+        return nears_[static_cast<std::size_t>(c.y) * width() + static_cast<std::size_t>(c.x)];
+    }
+
+    /// How many threads are worth their start for so many cells.
+    static unsigned chosen(std::size_t cells) {
+        std::size_t most = std::max<std::size_t>(1, cells >> 18);
+        return static_cast<unsigned>(
+            std::min<std::size_t>(std::max(1u, std::thread::hardware_concurrency()), most));
+    }
+
+    /// Fills the table by threads; what one that can't be started had to do is done here.
+    void fill(const Map& map, unsigned threads) {
+        auto height = detail::numbered(size_.height);
+        threads = std::max(1u, std::min(threads, height));
+        std::vector<std::uint32_t> statuses(threads);
+        std::vector<std::thread> started;
+        started.reserve(threads);
+        auto work = [&](unsigned k) noexcept {
+            statuses[k] = rows(map, height * k / threads, height * (k + 1) / threads);
+        };
+        for (unsigned k = 1; k < threads; ++k) {
+            try {
+                started.emplace_back(work, k);
+            } catch (const std::exception&) {
+                work(k);
+            }
+        }
+        work(0);
+        for (std::thread& thread : started) thread.join();
+        for (std::uint32_t status : statuses) detail::check(status);
+    }
+
+    /// Fills the rows y0 up to y1 - 1, and answers the status.
+    std::uint32_t rows(const Map& map, std::uint32_t y0, std::uint32_t y1) const noexcept {
+        const clearmap_bits bits = map.bits();
+        return clearmap_bits_nearest(map.words().data(), map.words().size(), &bits,
+                                     detail::numbered(metric_), detail::numbered(map.edge()), y0,
+                                     y1, nears_.get() + y0 * width(), (y1 - y0) * width());
+    }
+
+    Size size_;
+    Metric metric_;
+    std::unique_ptr<clearmap_near[]> nears_;
+};
+
+}  // namespace clearmap
+
+#endif
