@@ -72,8 +72,10 @@ try 'make install-lib' make -s install-lib PREFIX="$prefix"
 sed -n '/^```c$/,/^```$/{/^```/d;p}' docs/LIBRARY.md > "$scratch/page.c"
 said='clearance 0.250 m, nearest (7, 4)'
 
-says() { # says WHAT PROGRAM: runs the page's program
-    try "$1" env LD_LIBRARY_PATH="$prefix/lib" "$2"
+says() { # says WHAT PROGRAM ..: runs the page's program
+    what=$1
+    shift
+    try "$what" env LD_LIBRARY_PATH="$prefix/lib" "$@"
     [ "$(cat "$scratch/log")" = "$said" ] || failed=1
 }
 
@@ -85,6 +87,24 @@ if wants pkg-config "the page's program by pkg-config"; then
             && says "page by $compiler" "$scratch/page" || failed=1
     done
 fi
+# The page's lines in Python, by a package and a library that are installed to this prefix.
+sed -n '/^```python$/,/^```$/{/^```/d;p}' docs/LIBRARY.md > "$scratch/page.py"
+mkdir -p "$prefix/share/clearmap/python"
+cp -r clients/python/clearmap "$prefix/share/clearmap/python/"
+arrays=''
+for python in python3 /usr/bin/python3; do
+    if "$python" -c 'import numpy' 2> /dev/null; then arrays=$python; fi
+done
+if [ -n "$arrays" ]; then
+    export PYTHONPATH="$prefix/share/clearmap/python"
+    says 'page by Python' "$arrays" "$scratch/page.py"
+    try 'its library' "$arrays" -c 'import clearmap.library as it; it.library(); print(it._found())'
+    [ "$(cat "$scratch/log")" = "$prefix/lib/libclearmap.so.0" ] || failed=1
+    unset PYTHONPATH
+else
+    echo "the page's lines in Python left out: there is no python3 with numpy"
+fi
+
 if wants cmake "the page's program by CMake"; then
     mkdir "$scratch/project"
     cp "$scratch/page.c" "$scratch/project/"
