@@ -4,11 +4,13 @@
 They need numpy and the library; scipy and OpenCV are compared with where they are installed. ARRAYS
 in the environment is how many random arrays are tried, 150 where it isn't there.
 """
+import ctypes
 import gc
 import importlib.util
 import os
 import pathlib
 import random
+import re
 import shutil
 import subprocess
 import sys
@@ -396,6 +398,32 @@ class Finding(unittest.TestCase):
         self.assertIn(f"#define CLEARMAP_NOWHERE ({clearmap.NOWHERE})", header)
         self.assertEqual(clearmap.NO_OBSTACLE, np.iinfo(np.uint32).max)
         self.assertIn(f'#define CLEARMAP_VERSION "{library.VERSION}', header)
+
+    def test_what_the_header_declares(self):
+        """Each call has the argument list of the header, in order."""
+        header = (TOP / "clients/c/clearmap.h").read_text()
+        kinds = {
+            "uint32_t": ctypes.c_uint32,
+            "uint8_t": ctypes.c_uint8,
+            "size_t": ctypes.c_size_t,
+            "clearmap_bytes *": ctypes.POINTER(library.Bytes),
+            "clearmap_bits *": ctypes.POINTER(library.Bits),
+        }
+        answers = {
+            "clearmap_near *near": ctypes.POINTER(library.CNear),
+            "clearmap_found *found": ctypes.POINTER(library.CFound),
+        }
+        calls = re.findall(r"^uint32_t (clearmap_\w+)\(([^)]*)\);", header, re.MULTILINE)
+        self.assertEqual(len(calls), 14)
+        for name, words in calls:
+            wanted = []
+            for word in re.sub(r"\s+", " ", words).replace("const ", "").split(", "):
+                kind = word[: word.rfind(" ") + 1].strip() + (" *" if "*" in word else "")
+                other = ctypes.c_void_p if "*" in word else None
+                wanted.append(answers.get(word) or kinds.get(kind, other))
+            declared = getattr(library.library(), name)
+            self.assertEqual(list(declared.argtypes), wanted, name)
+            self.assertIs(declared.restype, ctypes.c_uint32)
 
     def test_no_memory(self):
         self.assertRaises(MemoryError, library.check, library.MEMORY)

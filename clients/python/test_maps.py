@@ -89,7 +89,7 @@ class Maps(unittest.TestCase):
                         copy = pinned.map(edge)
                     self.assertEqual((copy.edge, copy.size), (edge, area.size))
                     np.testing.assert_array_equal(copy.grid(), area.grid())
-                    told = pinned.distances("city", threads=2, edge=edge)
+                    told = pinned.distances("city", threads=2)
                     np.testing.assert_array_equal(told, area.distances("city"))
                 for _ in range(6):
                     name = chance.choice(("paint", "clear"))
@@ -183,25 +183,31 @@ class Maps(unittest.TestCase):
 
 class Copies(unittest.TestCase):
     def test_the_edge(self):
-        """Each map of 3 by 3 cells: where cells of the border tell the edge, it is found."""
+        """Each map of 1 to 4 by 3 cells: where a cell of the border tells the edge, it is found, and
+        where none does, both edges have the same answers."""
         untold = 0
-        for number in range(1 << 9):
-            grid = np.array([number >> k & 1 for k in range(9)], bool).reshape(3, 3)
-            text = b"P1\n3 3\n" + b"".join(b"%d%d%d\n" % tuple(row) for row in grid)
-            for edge in EDGES:
-                served = clearmap.Map(grid, edge)
-                copy = copies.copied(text, None, lambda request: self.answer(served, request))
-                if isinstance(copy, clearmap.Map):
-                    self.assertEqual(copy.edge, edge)
-                    np.testing.assert_array_equal(copy.grid(), grid)
-                    continue
-                untold += 1
-                for metric in METRICS:
-                    np.testing.assert_array_equal(
-                        served.distances(metric), clearmap.distances(grid, metric)
-                    )
-        self.assertGreaterEqual(untold, 4)  # the middle is all that a border of obstacles leaves
-        self.assertLess(untold, 512)
+        for width in (1, 2, 3, 4):
+            for number in range(1 << 3 * width):
+                bits = np.array([number >> k & 1 for k in range(3 * width)], bool)
+                untold += sum(self.check_edge(bits.reshape(3, width), edge) for edge in EDGES)
+        self.assertGreaterEqual(untold, 8)  # a border of obstacles leaves the middle
+
+    def check_edge(self, grid, edge):
+        """Whether no cell of the border tells this edge of a grid."""
+        text = b"P1\n%d %d\n" % grid.shape[::-1]
+        text += b"\n".join(b"".join(b"%d" % cell for cell in row) for row in grid) + b"\n"
+        served = clearmap.Map(grid, edge)
+        copy = copies.copied(text, None, lambda request: self.answer(served, request))
+        if isinstance(copy, clearmap.Map):
+            self.assertEqual(copy.edge, edge)
+            np.testing.assert_array_equal(copy.grid(), grid)
+            return False
+        copy = copies.copied(text, None, None, "open")
+        for metric in METRICS:
+            told, wanted = (area.distances(metric, nearest=True) for area in (copy, served))
+            np.testing.assert_array_equal(told[0], wanted[0])
+            np.testing.assert_array_equal(told[1], wanted[1])
+        return True
 
     def answer(self, served, request):
         """What a server of this map answers."""

@@ -27,16 +27,21 @@ def read_dump(text: bytes) -> Memory:
     return byte_map(np.frombuffer(digits, np.uint8).reshape(height, width), 49, 49)
 
 
-def copied(text: bytes, edge: Optional[str], ask: Ask) -> Union[Map, ClearmapError]:
+def copied(
+    text: bytes, edge: Optional[str], ask: Ask, untold: Optional[str] = None
+) -> Union[Map, ClearmapError]:
     """The dumped version as a map. Where no edge is named, the server is asked for a cell whose
-    answer tells it; an error where there is none."""
+    answer tells it. Where there is none, it is `untold`, and an error if that is None.
+
+    Where no cell of the border tells it, no cell of the map does, until some are cleared: what is
+    nearest to a cell, and not of the frame, is then nearer than the frame."""
     memory = packed(read_dump(text))
     if edge is not None:
         return Map._of(memory, edge)
     by_edge = {name: Map._of(memory, name) for name in (OPEN, WALL)}
     telling = _telling(by_edge[OPEN], by_edge[WALL])
     if telling is None:
-        return ClearmapError(UNTOLD)
+        return ClearmapError(UNTOLD) if untold is None else by_edge[untold]
     (x, y), metric = telling
     answer = ask(at(x, y, metric))
     if isinstance(answer, Refused):

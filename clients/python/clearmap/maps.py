@@ -59,7 +59,8 @@ class Map:
     what they raise.
 
     Any threads may ask, paint and clear one map at any time: a query answers for the cells as they
-    are when it begins. `paint` and `clear` copy the map's bits, and wait for one another alone.
+    are when it begins. `paint` and `clear` copy the map's bits, and wait for one another alone; a
+    signal's handler makes neither.
     """
 
     def __init__(

@@ -19,7 +19,7 @@ from . import requests
 from .connection import Connection
 from .copies import copied
 from .errors import ClearmapError, ConnectionLost, OutOfRange, Refused, WrongAnswer, raised
-from .grids import edge_of
+from .grids import OPEN, edge_of
 from .library import library, numpy
 from .maps import Map
 from .requests import (
@@ -215,12 +215,12 @@ class Pinned:
         *,
         edge: Optional[str] = None,
     ) -> Any:
-        """The package's `distances`, of this version; by one DUMP, as `map`, and with its errors.
-        """
-        copy = self._copied(edge)
+        """The package's `distances`, of this version, by one DUMP; as `map`, but that an edge which
+        no cell tells isn't needed, since it changes no distance and no nearest obstacle."""
+        copy = self._copied(edge, OPEN)
         return copy.distances(metric, nearest, threads)  # type: ignore[call-overload]
 
-    def _copied(self, edge: Optional[str]) -> Map:
+    def _copied(self, edge: Optional[str], untold: Optional[str] = None) -> Map:
         """The version as a map, copied in one exchange."""
         library(), numpy()
         if edge is not None:
@@ -228,7 +228,9 @@ class Pinned:
 
         def work(connection: Connection) -> Union[Map, ClearmapError]:
             text = _dumped(connection)
-            return text if isinstance(text, Refused) else copied(text, edge, connection.ask)
+            return text if isinstance(text, Refused) else copied(
+                text, edge, connection.ask, untold
+            )
 
         return self._exchange(work)
 
