@@ -370,15 +370,25 @@ class Finding(unittest.TestCase):
     def test_where_it_lies(self):
         """Beside the package, and in the lib of the prefix that the package is installed to."""
         code = "import clearmap.library as it; it.library(); print(it._found())"
-        for package, beside in (("clearmap", "clearmap"), ("share/clearmap/python", "lib")):
+        for package, beside in ((".", "clearmap"), ("share/clearmap/python", "lib")):
             with tempfile.TemporaryDirectory() as folder:
                 top = pathlib.Path(folder).resolve()
-                path = top if package == "clearmap" else top / package
-                shutil.copytree(HERE / "clearmap", path / "clearmap")
+                shutil.copytree(HERE / "clearmap", top / package / "clearmap")
                 file = top / beside / library.FILE
                 file.parent.mkdir(exist_ok=True)
                 shutil.copy(library._found(), file)
-                self.assertEqual(self.said(code, path).stdout, f"{file}\n")
+                self.assertEqual(self.said(code, top / package).stdout, f"{file}\n")
+
+    def test_where_python_lies(self):
+        """In the lib of Python's prefix, as a virtual environment has one."""
+        with tempfile.TemporaryDirectory() as folder:
+            top = pathlib.Path(folder).resolve()
+            shutil.copytree(HERE / "clearmap", top / "clearmap")
+            (top / "lib").mkdir()
+            shutil.copy(library._found(), top / "lib")
+            code = f"import sys; sys.prefix = {str(top)!r}; import clearmap.library as it; "
+            said = self.said(code + "it.library(); print(it._found())", top)
+            self.assertEqual(said.stdout, f"{top / 'lib' / library.FILE}\n")
 
     def test_another_library(self):
         code = "import clearmap, numpy; clearmap.distances(numpy.zeros((2, 2), bool))"

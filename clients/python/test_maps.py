@@ -183,11 +183,11 @@ class Maps(unittest.TestCase):
 
 class Copies(unittest.TestCase):
     def test_the_edge(self):
-        """Each map of 1 to 4 by 3 cells: where a cell of the border tells the edge, it is found, and
-        where none does, both edges have the same answers."""
+        """Each map of 1 to 3 by 3 cells, and some of 4 by 3: where a cell of the border tells the
+        edge, it is found, and where none does, both edges have the same answers."""
         untold = 0
         for width in (1, 2, 3, 4):
-            for number in range(1 << 3 * width):
+            for number in range(0, 1 << 3 * width, 1 if width < 4 else 9):
                 bits = np.array([number >> k & 1 for k in range(3 * width)], bool)
                 untold += sum(self.check_edge(bits.reshape(3, width), edge) for edge in EDGES)
         self.assertGreaterEqual(untold, 8)  # a border of obstacles leaves the middle

@@ -4,6 +4,7 @@ import functools
 import importlib
 import os
 import pathlib
+import sys
 from typing import Any, Dict, List, Optional
 
 from .errors import ClearmapError
@@ -80,7 +81,8 @@ def _declare(library: ctypes.CDLL) -> None:
 
 def _places() -> List[pathlib.Path]:
     """Where the library may lie: beside the package, in the tree that the package is in, and in
-    the folder lib of the prefix that it is installed to."""
+    the folder lib of the prefix that it is installed to, of Python's, and of /usr/local, which the
+    system's loader knows after `ldconfig` alone."""
     folder = pathlib.Path(__file__).resolve().parent
     parents = folder.parents
     places = [folder]
@@ -88,6 +90,7 @@ def _places() -> List[pathlib.Path]:
         places.append(parents[2] / "crates/libclearmap/out")
     if folder.parts[-4:-1] == ("share", "clearmap", "python"):
         places.append(parents[3] / "lib")
+    places += [pathlib.Path(sys.prefix, "lib"), pathlib.Path("/usr/local/lib")]
     return [place / FILE for place in places]
 
 

@@ -116,7 +116,8 @@ def distances(
     A grid is an array of 2 dimensions with 1 to 4096 rows and as many columns, of any memory order.
     Of bools, True is an obstacle. Of numbers, a cell is one where low <= cell <= high; a limit that
     isn't given is none, and one of them has to be given. Limits of whole numbers are whole; floats
-    are compared as numpy compares them, and a NaN is a ValueError. By `edge="wall"` each cell of the frame round the grid is an obstacle too.
+    are compared as numpy compares them, and a NaN is a ValueError. By `edge="wall"` each cell of
+    the frame round the grid is an obstacle too.
 
     With `nearest=True` the answer is (distances, obstacles), two views of one array: obstacles has
     the shape (rows, columns, 2) and the dtype int16, and obstacles[y, x] is the column and the row
