@@ -111,6 +111,26 @@ tried_scripts() { # tried_scripts PREFIX: the scripts and the client there
     expect 'the client in Python' "$(PYTHONPATH=$1/share/clearmap/python python3 -c 'import clearmap, clearmap_feed, clearmap_grid, clearmap_ros; print(clearmap.CITY)')" city
 }
 tried_scripts "$usr"
+
+# The library, where it is built, and the installed package over it.
+if [ -e crates/libclearmap/out/libclearmap.so.0 ]; then
+    make -s -o lib install-lib DESTDIR="$scratch/root" PREFIX=/usr || wrong=$((wrong + 1))
+    arrays=''
+    for python in python3 /usr/bin/python3; do
+        if "$python" -c 'import numpy' 2> /dev/null; then arrays=$python; fi
+    done
+    if [ -n "$arrays" ]; then
+        expect 'in process' "$(PYTHONPATH=$usr/share/clearmap/python "$arrays" -c '
+import clearmap, clearmap.library as it
+it.library()
+print(it._found(), clearmap.distances([[True, False, False]]).tolist())')" \
+            "$usr/lib/libclearmap.so.0 [[0, 1, 4]]"
+    else
+        echo 'the package in process left out: there is no python3 with numpy'
+    fi
+else
+    echo 'the library left out: it is not built (make lib)'
+fi
 expect 'what it links' "$(ldd "$usr/bin/clearmap" | grep -v 'vdso\|libc.so\|ld-linux')" ''
 expect 'the unit' "$(grep '^ExecStart' "$usr/lib/systemd/system/clearmap@.service")" 'ExecStart=/usr/bin/clearmap serve --connections 1000000 --port %i'
 if command -v systemd-analyze > /dev/null; then
@@ -223,6 +243,6 @@ else
     echo 'the package for Debian left out: there is no dpkg-deb, or no strip'
 fi
 
-expect 'what is left' "$(make -s uninstall DESTDIR="$scratch/root" PREFIX=/usr && find "$scratch/root" ! -type d)" ''
+expect 'what is left' "$(make -s uninstall uninstall-lib DESTDIR="$scratch/root" PREFIX=/usr && find "$scratch/root" ! -type d)" ''
 echo "install: wrong $wrong"
 [ "$wrong" = 0 ]
