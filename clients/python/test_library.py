@@ -368,13 +368,13 @@ class Finding(unittest.TestCase):
             self.assertRegex(said, f"ImportError: the library {missing} can't be loaded: ")
 
     def test_where_it_lies(self):
-        """Beside the package, and in the lib of the prefix that the package is installed to."""
+        """Next to the package, and in the lib of the prefix that the package is installed to."""
         code = "import clearmap.library as it; it.library(); print(it._found())"
-        for package, beside in ((".", "clearmap"), ("share/clearmap/python", "lib")):
+        for package, place in ((".", "clearmap"), ("share/clearmap/python", "lib")):
             with tempfile.TemporaryDirectory() as folder:
                 top = pathlib.Path(folder).resolve()
                 shutil.copytree(HERE / "clearmap", top / package / "clearmap")
-                file = top / beside / library.FILE
+                file = top / place / library.FILE
                 file.parent.mkdir(exist_ok=True)
                 shutil.copy(library._found(), file)
                 self.assertEqual(self.said(code, top / package).stdout, f"{file}\n")

@@ -17,7 +17,7 @@ def read_dump(text: bytes) -> Memory:
     np = numpy()
     head = re.match(rb"P1\n(\d{1,4}) (\d{1,4})\n", text)
     if not head:
-        raise WrongAnswer(f"a dump begins with {text[:20]!r}")
+        raise WrongAnswer(f"a dump starts with {text[:20]!r}")
     width, height = map(int, head.groups())
     digits = text[head.end() :].translate(None, b"\n")
     if not (1 <= width <= LARGEST_SIDE and 1 <= height <= LARGEST_SIDE):

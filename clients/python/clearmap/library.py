@@ -10,7 +10,7 @@ from typing import Any, Dict, List, Optional
 from .errors import ClearmapError
 
 FILE = "libclearmap.so.0"
-VERSION = "0.1."  # what a library's version begins with whose calls are those below
+VERSION = "0.1."  # what a library's version starts with whose calls are those below
 NO_OBSTACLE = 0xFFFF_FFFF  # the distance where there is no obstacle at all
 NOWHERE = -2  # the column and the row of no obstacle
 
@@ -80,7 +80,7 @@ def _declare(library: ctypes.CDLL) -> None:
 
 
 def _places() -> List[pathlib.Path]:
-    """Where the library may lie: beside the package, in the tree that the package is in, and in
+    """Where the library may lie: next to the package, in the tree that the package is in, and in
     the folder lib of the prefix that it is installed to, of Python's, and of /usr/local, which the
     system's loader knows after `ldconfig` alone."""
     folder = pathlib.Path(__file__).resolve().parent
