@@ -2,6 +2,7 @@
 #   make install PREFIX=/usr/local DESTDIR=
 #   make lib                      (the library for C, in crates/libclearmap/out/)
 #   make install-lib PREFIX=/usr/local DESTDIR=
+#   make lib-arm                  (the library for ARM, in crates/libclearmap/out/aarch64/)
 #   make deb                      (a package for Debian, in the folder packages/)
 PREFIX = /usr/local
 DESTDIR =
@@ -24,11 +25,12 @@ CFLAGS = -O2
 lib_cflags = -std=c11 -fPIC $(CFLAGS)
 lib_links = -Wl,-soname,libclearmap.so.0 -Wl,--version-script=clients/c/clearmap.map -Wl,-z,defs
 libdir = $(to)/lib
+arm = $(library)/aarch64
 
 # What both install and install-lib put in place: it goes with the last of the two.
 shared = '$(to)/include/clearmap.hpp' '$(to)/share/clearmap'
 
-.PHONY: all install uninstall deb lib install-lib uninstall-lib
+.PHONY: all install uninstall deb lib lib-arm install-lib uninstall-lib
 
 all:
 	./clearmap --version
@@ -86,6 +88,17 @@ $(library)/libclearmap.a: $(archive) $(library)/clearmap.o
 $(library)/libclearmap.so.0: $(archive) $(library)/clearmap.o clients/c/clearmap.map
 	$(CC) -shared $(lib_links) -o $@ $(library)/clearmap.o \
 	    -Wl,--whole-archive $(archive) -Wl,--no-whole-archive
+
+# rt writes the archive of each processor to one place, so this one is moved. Wants Debian's
+# gcc-aarch64-linux-gnu.
+lib-arm: $(arm)/liblibclearmap.a
+	$(MAKE) lib library=$(arm) CC=aarch64-linux-gnu-gcc AR=aarch64-linux-gnu-ar
+
+$(arm)/liblibclearmap.a: $(lib_sources)
+	$(INSTALL) -d $(arm)
+	cd crates/libclearmap && rt lib --target aarch64-unknown-linux-gnu
+	mv $(archive) $@
+	touch $@
 
 install-lib: lib
 	$(INSTALL) -D -m 644 clients/c/clearmap.h '$(to)/include/clearmap.h'

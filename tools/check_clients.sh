@@ -29,6 +29,31 @@ for test in tools/ros/test_clearmap_ros.py tools/ros/test_clearmap_grid.py \
     tried python3 "$test"
 done
 
+# What works in process: with the built library, or the one that CLEARMAP_LIBRARY names.
+library=${CLEARMAP_LIBRARY:-crates/libclearmap/out/libclearmap.so.0}
+arrays=''
+for python in python3 /usr/bin/python3; do
+    if "$python" -c 'import numpy' 2> /dev/null; then arrays=$python; fi
+done
+if [ -n "$arrays" ] && [ -e "$library" ]; then
+    for test in clients/python/test_library.py clients/python/test_maps.py; do
+        tried "$arrays" "$test"
+    done
+    for peer in scipy cv2; do
+        "$arrays" -c "import $peer" 2> /dev/null || echo "  not compared with $peer: there is none"
+    done
+else
+    echo 'test_library.py and test_maps.py left out: there is no python3 with numpy, or no' "$library"
+fi
+if command -v mypy > /dev/null && [ -n "$arrays" ]; then
+    (cd clients/python && timeout 300 mypy --strict --cache-dir "$scratch/mypy" \
+        --python-executable "$(command -v "$arrays")" clearmap) > "$scratch/log" 2>&1 ||
+        { failed=1; cat "$scratch/log"; }
+    echo "mypy --strict clients/python/clearmap: $(tail -n 1 "$scratch/log")"
+else
+    echo 'the types of clients/python left out: there is no mypy, or no python3 with numpy'
+fi
+
 # Debian's packages of ROS are for its own python3.
 ros=''
 for python in python3 /usr/bin/python3; do

@@ -68,6 +68,32 @@ fi
 expect 'a first run without a terminal' "$(PATH=$scratch/fresh/bin:$PATH timeout 60 "$scratch/fresh/clearmap" one 2>&1)" \
     "$(printf '%s\n' "clearmap: the first run proves and builds the program's crates, which takes about half an hour" 'ran one')"
 
+# A checkout of somebody else: what is built runs, and what isn't is told at once.
+theirs=$scratch/theirs
+as_other='setpriv --reuid=65534 --regid=65534 --clear-groups'
+if [ "$(id -u)" = 0 ] && $as_other true 2> /dev/null; then
+    mkdir -p "$theirs/crates/clearmap" "$theirs/bin"
+    cp clearmap "$theirs/"
+    cp crates.txt "$theirs/"
+    printf '#!/bin/sh\nexit 1\n' > "$theirs/bin/rt"
+    chmod +x "$theirs/bin/rt"
+    chmod 755 "$scratch"
+    run_theirs() { PATH=$theirs/bin:$PATH $as_other "$theirs/clearmap" one two 2>&1; }
+    lacking="this user can't write to $theirs/crates"
+    expect 'nothing built by somebody else' "$(run_theirs; echo "status $?")" \
+        "$(printf '%s\n' "clearmap: nothing is built yet, and $lacking" 'status 3')"
+    mkdir "$theirs/crates/clearmap/out"
+    printf '#!/bin/sh\necho "ran $*"\n' > "$theirs/crates/clearmap/out/clearmap"
+    chmod +x "$theirs/crates/clearmap/out/clearmap"
+    sleep 1
+    touch "$theirs/crates.txt" "$theirs/crates/clearmap/new.rt"
+    expect 'a source of somebody else that is newer' "$(run_theirs; echo "status $?")" \
+        "$(printf '%s\n' "clearmap: sources are newer than the program, and $lacking: the program runs as it was built" \
+            'ran one two' 'status 0')"
+else
+    echo 'a checkout of somebody else left out: this needs root and setpriv'
+fi
+
 # What make install puts in place; `all` is left to the program that stands.
 if command -v make > /dev/null; then
     make -s -o all install DESTDIR="$scratch/root" PREFIX=/usr || wrong=$((wrong + 1))
@@ -85,6 +111,26 @@ tried_scripts() { # tried_scripts PREFIX: the scripts and the client there
     expect 'the client in Python' "$(PYTHONPATH=$1/share/clearmap/python python3 -c 'import clearmap, clearmap_feed, clearmap_grid, clearmap_ros; print(clearmap.CITY)')" city
 }
 tried_scripts "$usr"
+
+# The library, where it is built, and the installed package over it.
+if [ -e crates/libclearmap/out/libclearmap.so.0 ]; then
+    make -s -o lib install-lib DESTDIR="$scratch/root" PREFIX=/usr || wrong=$((wrong + 1))
+    arrays=''
+    for python in python3 /usr/bin/python3; do
+        if "$python" -c 'import numpy' 2> /dev/null; then arrays=$python; fi
+    done
+    if [ -n "$arrays" ]; then
+        expect 'in process' "$(PYTHONPATH=$usr/share/clearmap/python "$arrays" -c '
+import clearmap, clearmap.library as it
+it.library()
+print(it._found(), clearmap.distances([[True, False, False]]).tolist())')" \
+            "$usr/lib/libclearmap.so.0 [[0, 1, 4]]"
+    else
+        echo 'the package in process left out: there is no python3 with numpy'
+    fi
+else
+    echo 'the library left out: it is not built (make lib)'
+fi
 expect 'what it links' "$(ldd "$usr/bin/clearmap" | grep -v 'vdso\|libc.so\|ld-linux')" ''
 expect 'the unit' "$(grep '^ExecStart' "$usr/lib/systemd/system/clearmap@.service")" 'ExecStart=/usr/bin/clearmap serve --connections 1000000 --port %i'
 if command -v systemd-analyze > /dev/null; then
@@ -197,6 +243,6 @@ else
     echo 'the package for Debian left out: there is no dpkg-deb, or no strip'
 fi
 
-expect 'what is left' "$(make -s uninstall DESTDIR="$scratch/root" PREFIX=/usr && find "$scratch/root" ! -type d)" ''
+expect 'what is left' "$(make -s uninstall uninstall-lib DESTDIR="$scratch/root" PREFIX=/usr && find "$scratch/root" ! -type d)" ''
 echo "install: wrong $wrong"
 [ "$wrong" = 0 ]

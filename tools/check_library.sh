@@ -1,8 +1,8 @@
 #!/bin/sh
 # Builds libclearmap where it has to, and tries it from C and C++: the header against the source,
-# what the shared library shows, the tests (also under valgrind and the sanitizers), and the
-# programs of docs/LIBRARY.md. Leaves out, with a word, what isn't installed here. MAPS is how many
-# random maps. The C++ test asks servers of the built program too; CLEARMAP names another one.
+# what the shared library shows, the tests (also under valgrind, the sanitizers and, for ARM, qemu),
+# and the programs of docs/LIBRARY.md. Leaves out, with a word, what isn't installed here. MAPS is how
+# many random maps. The C++ test asks servers of the built program too; CLEARMAP names another one.
 set -u
 cd "$(dirname "$0")/.." || exit 1
 library=$PWD/crates/libclearmap/out
@@ -69,6 +69,20 @@ else
     echo 'thread sanitizer left out: it does not link here'
 fi
 
+# The library for ARM, with the same test. It is linked with its C library, which qemu then needs not.
+if wants aarch64-linux-gnu-gcc 'the library for ARM' && wants qemu-aarch64 'the library for ARM'; then
+    kept=$scratch/kept
+    cp -p "$library"/*.a "$library"/*.o "$library"/*.so.0 "$(mkdir "$kept" && echo "$kept")"
+    try 'make lib-arm' make -s lib-arm
+    cp -p "$kept"/* "$library"
+    if aarch64-linux-gnu-gcc $flags -O2 -static $test "$library/aarch64/libclearmap.a" \
+        -Wl,--wrap=malloc -lpthread -o "$scratch/arm"; then
+        try 'test on ARM' qemu-aarch64 "$scratch/arm" 5
+    else
+        failed=1
+    fi
+fi
+
 # The header for C++, its test by both compilers and under the sanitizers; its answers against those
 # of two servers too.
 serve() { # serve FLAG ..: starts a server of a blank map, whose port is added to `ports`
@@ -122,9 +136,11 @@ for language in c cpp; do
         > "$scratch/page.$language"
 done
 
-says() { # says WHAT PROGRAM WORDS: runs a program of the page, which says so
-    try "$1" env LD_LIBRARY_PATH="$prefix/lib" "$2"
-    [ "$(cat "$scratch/log")" = "$3" ] || { failed=1; echo "$1 should say: $3"; }
+says() { # says WHAT WORDS PROGRAM ..: runs a program of the page, which says so
+    what=$1 words=$2
+    shift 2
+    try "$what" env LD_LIBRARY_PATH="$prefix/lib" "$@"
+    [ "$(cat "$scratch/log")" = "$words" ] || { failed=1; echo "$what should say: $words"; }
 }
 c_says='clearance 0.250 m, nearest (7, 4)'
 cpp_says='the path is clear: 0.751665 m at its tightest; 1.5 m at (2, 2)'
@@ -136,13 +152,31 @@ if wants pkg-config "the page's programs by pkg-config"; then
         shift 2
         wants "$1" "the page's program by $1" || return
         "$@" -Wall -Wextra -Werror "$scratch/$file" -x none $found -lm -pthread -o "$scratch/page" \
-            && says "$file by $*" "$scratch/page" "$words" || failed=1
+            && says "$file by $*" "$words" "$scratch/page" || failed=1
     }
     page page.c "$c_says" gcc -std=c11
     page page.c "$c_says" g++ -std=c++20 -x c++
     page page.cpp "$cpp_says" g++ -std=c++17
     page page.cpp "$cpp_says" clang++ -std=c++17
 fi
+# The page's lines in Python, by a package and a library that are installed to this prefix.
+sed -n '/^```python$/,/^```$/{/^```/d;p}' docs/LIBRARY.md > "$scratch/page.py"
+mkdir -p "$prefix/share/clearmap/python"
+cp -r clients/python/clearmap "$prefix/share/clearmap/python/"
+arrays=''
+for python in python3 /usr/bin/python3; do
+    if "$python" -c 'import numpy' 2> /dev/null; then arrays=$python; fi
+done
+if [ -n "$arrays" ]; then
+    export PYTHONPATH="$prefix/share/clearmap/python"
+    says 'page by Python' "$c_says" "$arrays" "$scratch/page.py"
+    try 'its library' "$arrays" -c 'import clearmap.library as it; it.library(); print(it._found())'
+    [ "$(cat "$scratch/log")" = "$prefix/lib/libclearmap.so.0" ] || failed=1
+    unset PYTHONPATH
+else
+    echo "the page's lines in Python left out: there is no python3 with numpy"
+fi
+
 if wants cmake "the page's programs by CMake"; then
     mkdir "$scratch/project"
     cp "$scratch/page.c" "$scratch/page.cpp" "$scratch/project/"
@@ -157,8 +191,8 @@ target_link_libraries(page_cpp clearmap::clearmap)
 PROJECT
     try 'cmake' cmake -S "$scratch/project" -B "$scratch/built" -DCMAKE_PREFIX_PATH="$prefix"
     try 'cmake --build' cmake --build "$scratch/built"
-    says 'page.c by CMake' "$scratch/built/page" "$c_says"
-    says 'page.cpp by CMake' "$scratch/built/page_cpp" "$cpp_says"
+    says 'page.c by CMake' "$c_says" "$scratch/built/page"
+    says 'page.cpp by CMake' "$cpp_says" "$scratch/built/page_cpp"
 fi
 
 # Nothing is left of it, and what the program's installation shares with it stays with the other.

@@ -1,6 +1,7 @@
-"""A client of `clearmap serve`, and a reader of what `clearmap dist` writes.
+"""A client of `clearmap serve`, a reader of what `clearmap dist` writes, and distances in process.
 
-Python 3.8 or later, standard library alone. The server is proved; this package is not. It is tested
+Python 3.8 or later, standard library alone; what works in process needs numpy and libclearmap, and
+says so at its first use. The server and the library are proved; this package is not. It is tested
 against the built server, and against servers that answer wrongly, late or not at all.
 
     import clearmap
@@ -18,6 +19,12 @@ Columns x and rows y count from 0 at the upper left, and are whole numbers: an i
 numpy. A distance is in cells: `euclid2` is the square of the straight one, `city` and `chess` count
 steps. With `size` a client refuses a server of another map. The server listens on the loopback
 interface of its machine alone.
+
+In process, over an array of numpy:
+
+    squares = clearmap.distances(grid, low=65)      # uint32; an obstacle is a cell of 65 and more
+    area = clearmap.Map(grid, low=65)
+    near = area.at(3, 4)                            # answers as a pin's
 
 A client is one connection, which serves the calls of several threads one after another. A call that
 is cut off, by an interrupt or by any exception, closes it: no answer belongs to another question.
@@ -43,9 +50,13 @@ from .errors import (
     WrongAnswer,
     WrongMap,
 )
+from .grids import OPEN, WALL
+from .library import NO_OBSTACLE, NOWHERE
+from .maps import Map
 from .pinned import Pinned
 from .requests import CHESS, CITY, EUCLID2, Change, Collected, Near, Queries, Tightest
 from .tables import Entry, read_distances
+from .transforms import distance_transform_cdt, distance_transform_edt, distances
 
 __version__ = "0.1.0"
 __all__ = [
@@ -58,6 +69,14 @@ __all__ = [
     "Collected",
     "Entry",
     "read_distances",
+    "Map",
+    "distances",
+    "distance_transform_edt",
+    "distance_transform_cdt",
+    "NO_OBSTACLE",
+    "NOWHERE",
+    "OPEN",
+    "WALL",
     "ClearmapError",
     "ConnectionLost",
     "TimedOut",

@@ -1,10 +1,27 @@
 """A pin: the queries of planners, on one version that stays as it is."""
 import math
-from typing import TYPE_CHECKING, Callable, Iterable, List, NoReturn, Optional, Sequence, Union
+from typing import (
+    TYPE_CHECKING,
+    Any,
+    Callable,
+    Iterable,
+    List,
+    Literal,
+    NoReturn,
+    Optional,
+    Sequence,
+    Tuple,
+    Union,
+    overload,
+)
 
 from . import requests
 from .connection import Connection
+from .copies import copied
 from .errors import ClearmapError, ConnectionLost, OutOfRange, Refused, WrongAnswer, raised
+from .grids import OPEN, edge_of
+from .library import library, numpy
+from .maps import Map
 from .requests import (
     EUCLID2,
     LARGEST_DUMP,
@@ -21,6 +38,7 @@ from .requests import (
 
 if TYPE_CHECKING:
     from .client import Client
+    from .transforms import Distances, Obstacles
 
 BATCH = 64  # requests that are sent before their replies are read
 
@@ -159,14 +177,60 @@ class Pinned:
 
     def dump(self) -> bytes:
         """The version as a plain PBM image."""
+        return self._exchange(_dumped)
 
-        def work(connection: Connection) -> Union[bytes, Refused]:
-            count = connection.ask(requests.DUMP)
-            if isinstance(count, Refused):
-                return count
-            if count > LARGEST_DUMP:
-                raise WrongAnswer(f"a map of {count} bytes")
-            return connection.counted(count)
+    def map(self, edge: Optional[str] = None) -> Map:
+        """The version as a map of this process, which outlives the pin, by one DUMP. It needs numpy
+        and libclearmap, else ImportError.
+
+        A dump tells no edge. Where none is named, the server is asked about a cell of the border
+        whose answer tells it. ClearmapError where no cell does, as where the whole border are
+        obstacles: name it then. A named edge is taken as it is.
+        """
+        return self._copied(edge)
+
+    @overload
+    def distances(
+        self,
+        metric: str = ...,
+        nearest: Literal[False] = ...,
+        threads: int = ...,
+        *,
+        edge: Optional[str] = ...,
+    ) -> "Distances": ...
+    @overload
+    def distances(
+        self,
+        metric: str = ...,
+        *,
+        nearest: Literal[True],
+        threads: int = ...,
+        edge: Optional[str] = ...,
+    ) -> "Tuple[Distances, Obstacles]": ...
+    def distances(
+        self,
+        metric: str = EUCLID2,
+        nearest: bool = False,
+        threads: int = 1,
+        *,
+        edge: Optional[str] = None,
+    ) -> Any:
+        """The package's `distances`, of this version, by one DUMP; as `map`, but that an edge which
+        no cell tells isn't needed, since it changes no distance and no nearest obstacle."""
+        copy = self._copied(edge, OPEN)
+        return copy.distances(metric, nearest, threads)  # type: ignore[call-overload]
+
+    def _copied(self, edge: Optional[str], untold: Optional[str] = None) -> Map:
+        """The version as a map, copied in one exchange."""
+        library(), numpy()
+        if edge is not None:
+            edge_of(edge)
+
+        def work(connection: Connection) -> Union[Map, ClearmapError]:
+            text = _dumped(connection)
+            return text if isinstance(text, Refused) else copied(
+                text, edge, connection.ask, untold
+            )
 
         return self._exchange(work)
 
@@ -182,3 +246,13 @@ class Pinned:
             return answers
 
         return self._exchange(work)
+
+
+def _dumped(connection: Connection) -> Union[bytes, Refused]:
+    """The bytes of a DUMP."""
+    count = connection.ask(requests.DUMP)
+    if isinstance(count, Refused):
+        return count
+    if count > LARGEST_DUMP:
+        raise WrongAnswer(f"a map of {count} bytes")
+    return connection.counted(count)

@@ -12,14 +12,14 @@ const HELP: &str =
 
 /// The text of help for `dist`.
 const DIST_HELP: &str =
-    "Print each cell's distance to the nearest obstacle of the image on standard input\n\nUsage: clearmap dist [OPTIONS]\n\nOptions:\n      --metric <METRIC>   The distance, in cells: euclid2 (straight, squared), city or chess [default: euclid2]\n      --nearest           Print each entry as distance/x/y, with its nearest obstacle\n      --query <LINE>      Print only the answer to LINE, as 'AT city 3 4'; there are AT, RECT, PATH and CLEAROF\n      --workers <NUMBER>  How many workers share the rows, 1 to 16 [default: 1]\n      --edge <EDGE>       What the border is: open, or a wall, of obstacles one cell outside [default: open]\n  -h, --help              Print help\n\nStandard input is an image, PBM plain (P1) or raw (P4), 1 to 4096 pixels a side; a black pixel is an\nobstacle. Each line of the answer is a row of distances, and '-' stands where there is no obstacle.\nStatus 1: a fault of the image or the line is one line in its place, as 'ERR 15 BadImage BadMagic', or a\nstandard stream failed. Status 2: the command line was refused.\n\nExamples:\n  clearmap dist --metric chess < map.pbm\n  clearmap dist --query 'AT euclid2 3 4' < map.pbm\n  clearmap dist --edge wall --nearest < map.pbm\n  clearmap dist --workers 4 < map.pbm\n";
+    "Print each cell's distance to the nearest obstacle of the image on standard input\n\nUsage: clearmap dist [OPTIONS] < IMAGE\n\nOptions:\n      --metric <METRIC>   The distance, in cells: euclid2 (straight, squared), city or chess [default: euclid2]\n      --nearest           Print each entry as distance/x/y, with its nearest obstacle\n      --query <LINE>      Print only the answer to LINE, as 'AT city 3 4'; there are AT, RECT, PATH and CLEAROF\n      --workers <NUMBER>  How many workers share the rows, 1 to 16 [default: 1]\n      --edge <EDGE>       What the border is: open, or a wall, of obstacles one cell outside [default: open]\n  -h, --help              Print help\n\nStandard input is an image, PBM plain (P1) or raw (P4), 1 to 4096 pixels a side; a black pixel is an\nobstacle. Each line of the answer is a row of distances, and '-' stands where there is no obstacle.\nStatus 1: a fault of the image or the line is one line in its place, as 'ERR 15 BadImage BadMagic', or a\nstandard stream failed. Status 2: the command line was refused.\n\nExamples:\n  clearmap dist --metric chess < map.pbm\n  clearmap dist --query 'AT euclid2 3 4' < map.pbm\n  clearmap dist --edge wall --nearest < map.pbm\n  clearmap dist --workers 4 < map.pbm\n";
 
 /// What words that are no run write to the standard output, to the standard error, and their status.
 static TOLD: [(&[&str], &str, &str, u8); 22] = [
     (
         &["clearmap", "serve"],
         "",
-        "error: the following required arguments were not provided:\n  --connections <NUMBER>\n\nUsage: clearmap serve --connections <NUMBER>\n\nFor more information, try '--help'.\n",
+        "error: the following required arguments were not provided:\n  --connections <NUMBER>\n\nUsage: clearmap serve [OPTIONS] --connections <NUMBER> < IMAGE\n\nFor more information, try '--help'.\n",
         2,
     ),
     (
@@ -63,13 +63,13 @@ static TOLD: [(&[&str], &str, &str, u8); 22] = [
     (
         &["clearmap", "dist", "map.pbm"],
         "",
-        "error: unexpected argument 'map.pbm' found\n\nUsage: clearmap dist [OPTIONS]\n\nFor more information, try '--help'.\n",
+        "error: unexpected argument 'map.pbm' found\n\nUsage: clearmap dist [OPTIONS] < IMAGE\n\nFor more information, try '--help'.\n",
         2,
     ),
     (
         &["clearmap", "dist", "--fast"],
         "",
-        "error: unexpected argument '--fast' found\n\nUsage: clearmap dist [OPTIONS]\n\nFor more information, try '--help'.\n",
+        "error: unexpected argument '--fast' found\n\nUsage: clearmap dist [OPTIONS] < IMAGE\n\nFor more information, try '--help'.\n",
         2,
     ),
     (
@@ -135,7 +135,7 @@ static TOLD: [(&[&str], &str, &str, u8); 22] = [
     (
         &["clearmap", "steps", "now"],
         "",
-        "error: unexpected argument 'now' found\n\nUsage: clearmap steps\n\nFor more information, try '--help'.\n",
+        "error: unexpected argument 'now' found\n\nUsage: clearmap steps < EVENTS\n\nFor more information, try '--help'.\n",
         2,
     ),
 ];

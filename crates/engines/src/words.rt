@@ -109,6 +109,7 @@ fn dist_command<'a>(alloc: Global) -> Result<Command<'a>, Error>
 {
     Ok(
         Command::new(alloc, "dist")
+            .override_usage("clearmap dist [OPTIONS] < IMAGE")
             .about(
                 "Print each cell's distance to the nearest obstacle of the image on standard input",
             )
@@ -129,6 +130,7 @@ fn steps_command<'a>(alloc: Global) -> Command<'a>
     ensures local { (out-Command result).has_globals ≡ false }
 {
     Command::new(alloc, "steps")
+        .override_usage("clearmap steps < EVENTS")
         .about(
             "Do the events on standard input in a map with numbered versions, one word at a time",
         )

@@ -121,6 +121,7 @@ pub fn serve_command<'a>(alloc: Global) -> Result<Command<'a>, Error>
 {
     Ok(
         Command::new(alloc, "serve")
+            .override_usage("clearmap serve [OPTIONS] --connections <NUMBER> < IMAGE")
             .about("Serve the map on standard input to connections on 127.0.0.1, line by line")
             .after_help(
                 "Standard input is an image, PBM plain (P1) or raw (P4), 1 to 4096 pixels a side; a black pixel is an\nobstacle. The line 'LISTENING <port>' comes once connections are accepted, and 'SERVED <connections>\n<log length>' at the end. A fault is one line on standard output in place of these, with status 1:\n'ERR 15 ..' of the image, 'FAULT net' of the port, 'ERR 16 ..' of a setting, or 'ERR 5 Memory'.\nA connection that fails counts as served.\n\nExamples:\n  clearmap serve --connections 2 < map.pbm\n  clearmap serve --connections 1000 --port 7400 --workers 8 --versions 32 < map.pbm",
@@ -143,9 +144,10 @@ pub fn ask_command<'a>(alloc: Global) -> Result<Command<'a>, Error>
 {
     Ok(
         Command::new(alloc, "ask")
+            .override_usage("clearmap ask --port <NUMBER> < LINES")
             .about("Send the lines on standard input to a server, and print each reply")
             .after_help(
-                "After a line 'STAMP x y n' come the n bytes of its image. Each line is answered before the next is\nsent. The run ends after BYE, or at the end of standard input; a last line without a line feed isn't\nsent. Without a server, or where it ends before a reply that is due, 'FAULT net' is printed, with\nstatus 1.\n\nExamples:\n  printf 'PIN\\nAT euclid2 3 4\\nQUIT\\n' | clearmap ask --port 7400\n  printf 'PAINT 0 0 8 8\\nPUBLISH\\nQUIT\\n' | clearmap ask --port 7400",
+                "After a line 'STAMP x y n' come the n bytes of its image. Each line is answered before the next is\nsent. The run ends after BYE, or at the end of standard input; a last line without a line feed isn't\nsent. Without a server, or where it ends before a reply that is due, 'FAULT net' is printed, with\nstatus 1. Where all workers of the server are taken, it waits until one is free.\n\nExamples:\n  printf 'PIN\\nAT euclid2 3 4\\nQUIT\\n' | clearmap ask --port 7400\n  printf 'PAINT 0 0 8 8\\nPUBLISH\\nQUIT\\n' | clearmap ask --port 7400",
             )
             .arg(server_flag(alloc))?,
     )

@@ -1,0 +1,151 @@
+"""Arrays of numpy as maps that libclearmap reads, in place where their memory allows it."""
+from typing import Any, NamedTuple, Optional, Tuple, Union
+
+from .library import Bits, Bytes, numpy
+from .requests import LARGEST_SIDE, METRICS, metric_of, whole
+
+OPEN, WALL = "open", "wall"
+EDGES = (OPEN, WALL)
+
+
+class Memory(NamedTuple):
+    """A map as the library reads it. `cells` is the array that owns the memory, and is held as long
+    as a call runs."""
+
+    kind: str  # bytes or bits
+    cells: Any
+    length: int
+    layout: Union[Bytes, Bits]
+
+
+def edge_of(edge: str) -> int:
+    """An edge's number."""
+    if edge not in EDGES:
+        raise ValueError(f"'{edge}' is no edge: open or wall")
+    return EDGES.index(edge)
+
+
+def number_of(metric: str) -> int:
+    """A metric's number."""
+    return METRICS.index(metric_of(metric))
+
+
+# ---- arrays as maps
+
+
+def _array(grid: object) -> Any:
+    """An array of two dimensions, whose sides are those of a map."""
+    np = numpy()
+    if isinstance(grid, np.ma.MaskedArray):
+        raise TypeError("a masked array is no map: fill it first, as by grid.filled(1)")
+    array = np.asarray(grid)
+    if array.dtype.kind not in "biufc":
+        raise TypeError(f"an array of dtype {array.dtype} is no map: bools or numbers are wanted")
+    if array.ndim != 2:
+        raise ValueError(f"a map has 2 dimensions, and this array has {array.ndim}")
+    height, width = array.shape
+    if not (1 <= height <= LARGEST_SIDE and 1 <= width <= LARGEST_SIDE):
+        sides = f"1 to {LARGEST_SIDE} rows and 1 to {LARGEST_SIDE} columns"
+        raise ValueError(f"a map has {sides}, and this array has {height} by {width}")
+    return array
+
+
+def byte_map(array: Any, low: int, high: int) -> Memory:
+    """A map of an array of one byte a cell: in place where its rows lie from the left, without
+    overlapping, one after another."""
+    np = numpy()
+    height, width = array.shape
+    array = array.view(np.uint8)
+    row, column = array.strides
+    if height == 1:
+        row = width
+    in_place = (width == 1 or column == 1) and width <= row < 1 << 32
+    if not in_place:
+        array, row = np.ascontiguousarray(array), width
+    length = row * (height - 1) + width
+    return Memory("bytes", array, length, Bytes(width, height, row, low, high))
+
+
+def _byte_range(array: Any, low: int, high: int) -> Optional[Tuple[int, int]]:
+    """The limits low to high as limits of an array's bytes, where it has one byte a cell, and the
+    cells in between are one range of bytes."""
+    kind, size = array.dtype.kind, array.dtype.itemsize
+    if size != 1:
+        return None
+    if kind == "u":
+        return low, high
+    if kind == "i" and (low >= 0 or high < 0):
+        return low & 255, high & 255
+    return None
+
+
+def _of_numbers(array: Any, low: Optional[float], high: Optional[float]) -> Memory:
+    """A map of an array of numbers: an obstacle is a cell from low to high. A limit that is None is
+    none."""
+    np = numpy()
+    kind = array.dtype.kind
+    if kind == "c":
+        raise TypeError("complex numbers have no order: low and high say nothing of them")
+    if kind == "f":
+        return _of_floats(array, low, high)
+    if kind == "b":
+        return _of_bools(array, low, high)
+    limits = np.iinfo(array.dtype)
+    least = limits.min if low is None else max(whole(low), int(limits.min))
+    most = limits.max if high is None else min(whole(high), int(limits.max))
+    if least > most:  # no number of this dtype
+        return byte_map(np.zeros(array.shape, np.uint8), 1, 1)
+    found = _byte_range(array, int(least), int(most))
+    if found is not None:
+        return byte_map(array, *found)
+    number = array.dtype.type
+    return byte_map((array >= number(least)) & (array <= number(most)), 1, 255)
+
+
+def _of_bools(array: Any, low: Optional[float], high: Optional[float]) -> Memory:
+    """The same of an array of bools, of which True is 1, whatever its byte."""
+    free, full = (
+        (low is None or low <= number) and (high is None or number <= high) for number in (0, 1)
+    )
+    if not free and not full:
+        return byte_map(numpy().zeros(array.shape, bool), 1, 1)
+    return byte_map(array, 0 if free else 1, 255 if full else 0)
+
+
+def _of_floats(array: Any, low: Optional[float], high: Optional[float]) -> Memory:
+    """The same of an array of floats."""
+    np = numpy()
+    if np.isnan(array).any():
+        raise ValueError("a cell is NaN, which is neither an obstacle nor free")
+    obstacles = np.ones(array.shape, bool)
+    if low is not None:
+        obstacles &= array >= low
+    if high is not None:
+        obstacles &= array <= high
+    return byte_map(obstacles, 1, 255)
+
+
+def map_of(grid: object, low: Optional[float], high: Optional[float]) -> Memory:
+    """A map of an array: of bools, where True is an obstacle, or of numbers with limits."""
+    array = _array(grid)
+    if low is None and high is None:
+        if array.dtype.kind != "b":
+            raise ValueError(
+                f"an array of {array.dtype} wants low or high: a cell is an obstacle where "
+                "low <= cell <= high"
+            )
+        return byte_map(array, 1, 255)
+    for limit in (low, high):
+        if limit is not None and limit != limit:
+            raise ValueError("a limit is NaN")
+    if low is not None and high is not None and low > high:
+        raise ValueError(f"low is {low}, above high, which is {high}")
+    return _of_numbers(array, low, high)
+
+
+def zeros_of(grid: object) -> Memory:
+    """A map of an array whose zeros are the obstacles."""
+    array = _array(grid)
+    if array.dtype.itemsize == 1:
+        return byte_map(array, 0, 0)
+    return byte_map(array == 0, 1, 255)

@@ -1,0 +1,154 @@
+"""Finds libclearmap.so.0, and declares its calls as clients/c/clearmap.h has them."""
+import ctypes
+import functools
+import importlib
+import os
+import pathlib
+import sys
+from typing import Any, Dict, List, Optional
+
+from .errors import ClearmapError
+
+FILE = "libclearmap.so.0"
+VERSION = "0.1."  # what a library's version starts with whose calls are those below
+NO_OBSTACLE = 0xFFFF_FFFF  # the distance where there is no obstacle at all
+NOWHERE = -2  # the column and the row of no obstacle
+
+DONE, CROOKED, MEMORY = 0, 8, 10  # statuses
+
+
+class Bytes(ctypes.Structure):
+    """clearmap_bytes: how a map lies in bytes."""
+
+    _fields_ = [
+        ("width", ctypes.c_uint32),
+        ("height", ctypes.c_uint32),
+        ("stride", ctypes.c_size_t),
+        ("low", ctypes.c_uint8),
+        ("high", ctypes.c_uint8),
+    ]
+
+
+class Bits(ctypes.Structure):
+    """clearmap_bits: how a map lies in bits."""
+
+    _fields_ = [
+        ("width", ctypes.c_uint32),
+        ("height", ctypes.c_uint32),
+        ("stride", ctypes.c_size_t),
+        ("bands", ctypes.c_uint64),
+    ]
+
+
+class CNear(ctypes.Structure):
+    """clearmap_near: a distance, and the obstacle it is to."""
+
+    _fields_ = [("dist", ctypes.c_uint32), ("x", ctypes.c_int16), ("y", ctypes.c_int16)]
+
+
+class CFound(ctypes.Structure):
+    """clearmap_found: a cell, and its nearest obstacle."""
+
+    _fields_ = [("x", ctypes.c_uint16), ("y", ctypes.c_uint16), ("near", CNear)]
+
+
+def _declare(library: ctypes.CDLL) -> None:
+    """Gives the calls their argument lists. All but the version answer a status."""
+    address, u32, length = ctypes.c_void_p, ctypes.c_uint32, ctypes.c_size_t
+    library.clearmap_version.restype = ctypes.c_char_p
+    library.clearmap_status_text.restype = ctypes.c_char_p
+    library.clearmap_status_text.argtypes = [u32]
+    for kind, layout in (("bytes", Bytes), ("bits", Bits)):
+        on_map: List[Any] = [address, length, ctypes.POINTER(layout), u32, u32]
+        calls: Dict[str, List[Any]] = {
+            "distances": [u32, u32, address, length],
+            "nearest": [u32, u32, address, length],
+            "at": [u32, u32, ctypes.POINTER(CNear)],
+            "rect": [u32, u32, u32, u32, ctypes.POINTER(CFound)],
+            "path": [address, length, ctypes.POINTER(CFound)],
+            "clear_of": [address, length, u32, ctypes.POINTER(CFound)],
+        }
+        for name, rest in calls.items():
+            call = getattr(library, f"clearmap_{kind}_{name}")
+            call.argtypes, call.restype = [*on_map, *rest], u32
+    by_bytes, by_bits = ctypes.POINTER(Bytes), ctypes.POINTER(Bits)
+    library.clearmap_pack.argtypes = [address, length, by_bytes, address, length, by_bits]
+    library.clearmap_unpack.argtypes = [
+        address, length, by_bits, ctypes.c_uint8, ctypes.c_uint8, address, length,
+    ]  # fmt: skip
+    library.clearmap_pack.restype = library.clearmap_unpack.restype = u32
+
+
+def _places() -> List[pathlib.Path]:
+    """Where the library may lie: next to the package, in the tree that the package is in, and in
+    the folder lib of the prefix that it is installed to, of Python's, and of /usr/local, which the
+    system's loader knows after `ldconfig` alone."""
+    folder = pathlib.Path(__file__).resolve().parent
+    parents = folder.parents
+    places = [folder]
+    if len(parents) > 2:
+        places.append(parents[2] / "crates/libclearmap/out")
+    if folder.parts[-4:-1] == ("share", "clearmap", "python"):
+        places.append(parents[3] / "lib")
+    places += [pathlib.Path(sys.prefix, "lib"), pathlib.Path("/usr/local/lib")]
+    return [place / FILE for place in places]
+
+
+def _found() -> str:
+    """The file that is loaded. CLEARMAP_LIBRARY names it, or it lies in one of the places, or the
+    system's loader knows it."""
+    named = os.environ.get("CLEARMAP_LIBRARY")
+    if named:
+        return os.path.abspath(named)
+    return next((str(place) for place in _places() if place.is_file()), FILE)
+
+
+def _why_not(path: str, fault: Optional[OSError]) -> str:
+    """What is said where a file can't be loaded."""
+    if path == FILE:
+        return (
+            f"there is no {FILE}: build it by `make lib` in clearmap's tree, install it by "
+            "`make install-lib`, or name it in CLEARMAP_LIBRARY"
+        )
+    return f"the library {path} can't be loaded: {fault}"
+
+
+@functools.lru_cache(maxsize=None)
+def library() -> ctypes.CDLL:
+    """The library, loaded at the first use. ImportError where it isn't there, or is another one.
+
+    It isn't loaded by PyDLL: the interpreter's lock is released while a call runs."""
+    path = _found()
+    try:
+        loaded = ctypes.CDLL(path)
+    except OSError as fault:
+        raise ImportError(_why_not(path, fault)) from fault
+    try:
+        _declare(loaded)
+    except AttributeError as fault:
+        raise ImportError(f"{path} is no libclearmap {VERSION}x: {fault}") from fault
+    version = loaded.clearmap_version().decode("ascii", "replace")
+    if not version.startswith(VERSION):
+        raise ImportError(f"{path} is libclearmap {version}, where {VERSION}x is wanted")
+    return loaded
+
+
+def numpy() -> Any:
+    """The module numpy, imported at the first use."""
+    try:
+        return importlib.import_module("numpy")
+    except ImportError as fault:
+        raise ImportError(
+            "there is no numpy, which this call needs: install it by `apt-get install "
+            "python3-numpy` or `pip install numpy`"
+        ) from fault
+
+
+def check(status: int) -> None:
+    """Raises what a status says. The arguments were checked before, so that only want of memory is
+    left to be told."""
+    if status == MEMORY:
+        raise MemoryError("libclearmap had no memory for the call")
+    if status != DONE:
+        text = library().clearmap_status_text(status).decode("ascii", "replace")
+        raise ClearmapError(f"libclearmap refuses the call: {text}")

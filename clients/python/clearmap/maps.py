@@ -1,0 +1,278 @@
+"""A map in bits, which answers what a pin of a server answers, in this process."""
+from __future__ import annotations
+
+import ctypes
+import threading
+from array import array
+from typing import (
+    TYPE_CHECKING,
+    Any,
+    Iterable,
+    List,
+    Literal,
+    Optional,
+    Tuple,
+    overload,
+)
+
+from . import requests
+from .errors import BadArguments, BadPath, Crooked, OutOfRange, Refused, Size
+from .grids import EDGES, OPEN, Memory, edge_of, map_of, number_of
+from .library import CROOKED, NO_OBSTACLE, Bits, CFound, CNear, check, library, numpy
+from .requests import EUCLID2, LARGEST_SIDE, LONGEST_PATH, Cell, Near, Request, Tightest, whole
+from .transforms import distances_of
+
+if TYPE_CHECKING:
+    import numpy as np
+    from numpy.typing import NDArray
+
+    from .transforms import Distances, Obstacles
+
+END = 1 << 32  # what is less can be asked for
+ROWS = 64  # rows of a band
+
+
+def packed(memory: Memory) -> Memory:
+    """A map in bytes as one in bits, in memory of its own."""
+    np = numpy()
+    _, cells, length, layout = memory
+    words = np.empty((layout.height, (layout.width + 63) // 64), np.uint64)
+    bits = Bits()
+    source = cells.ctypes.data, length, ctypes.byref(layout)
+    check(library().clearmap_pack(*source, words.ctypes.data, words.size, ctypes.byref(bits)))
+    return Memory("bits", words, words.size, bits)
+
+
+class _Held:
+    """The cells of a map at one time, which nobody writes, and how a call is told of them."""
+
+    __slots__ = ("memory", "where")
+
+    def __init__(self, memory: Memory) -> None:
+        self.memory = memory
+        self.where = memory.cells.ctypes.data, memory.length, ctypes.byref(memory.layout)
+
+
+class Map:
+    """A map of this process: the cells of a grid, as `distances` takes it, in an eighth of a byte a
+    cell. The grid isn't used afterwards. Queries answer what those of a `Pinned` answer, and raise
+    what they raise.
+
+    Any threads may ask, paint and clear one map at any time: a query answers for the cells as they
+    are when it begins. `paint` and `clear` copy the map's bits, and wait for one another alone; a
+    signal's handler makes neither.
+    """
+
+    def __init__(
+        self,
+        grid: object,
+        edge: str = OPEN,
+        *,
+        low: Optional[float] = None,
+        high: Optional[float] = None,
+    ) -> None:
+        self._begin(packed(map_of(grid, low, high)), edge)
+
+    def _begin(self, memory: Memory, edge: str) -> None:
+        """Holds a map in bits, which nobody writes any more."""
+        self._edge, self._lock = edge_of(edge), threading.Lock()
+        self._held = _Held(memory)
+        self._size = int(memory.layout.width), int(memory.layout.height)
+
+    @classmethod
+    def _of(cls, memory: Memory, edge: str) -> "Map":
+        """A map of what is packed already."""
+        made = cls.__new__(cls)
+        made._begin(memory, edge)
+        return made
+
+    @property
+    def size(self) -> Size:
+        """Columns and rows."""
+        return self._size
+
+    @property
+    def width(self) -> int:
+        """Columns."""
+        return self._size[0]
+
+    @property
+    def height(self) -> int:
+        """Rows."""
+        return self._size[1]
+
+    @property
+    def edge(self) -> str:
+        """OPEN or WALL."""
+        return EDGES[self._edge]
+
+    # ---- queries
+
+    def _asked(self, name: str, metric: str, *rest: Any) -> int:
+        """The status of a call about the cells as they are now."""
+        held = self._held  # not given back before the call is done
+        call = getattr(library(), f"clearmap_bits_{name}")
+        return int(call(*held.where, number_of(metric), self._edge, *rest))
+
+    def at(self, x: int, y: int, metric: str = EUCLID2) -> Optional[Near]:
+        """As `Pinned.at`."""
+        x, y = whole(x), whole(y)
+        width, height = self._size
+        if not (0 <= x < width and 0 <= y < height):
+            raise _outside((x, y), requests.at(x, y, metric))
+        near = CNear()
+        check(self._asked("at", metric, x, y, ctypes.byref(near)))
+        return None if near.dist == NO_OBSTACLE else Near(near.dist, (near.x, near.y))
+
+    def rect(
+        self, x0: int, y0: int, x1: int, y1: int, metric: str = EUCLID2
+    ) -> Optional[Tightest]:
+        """As `Pinned.rect`."""
+        number_of(metric)
+        corners = self._corners(f"RECT {metric}", x0, y0, x1, y1)
+        found = CFound()
+        check(self._asked("rect", metric, *corners, ctypes.byref(found)))
+        return _tightest(found)
+
+    def path(self, points: Iterable[Cell], metric: str = EUCLID2) -> Optional[Tightest]:
+        """As `Pinned.path`."""
+        return self._along(None, points, metric)
+
+    def clear_of(
+        self, distance: int, points: Iterable[Cell], metric: str = EUCLID2
+    ) -> Optional[Tightest]:
+        """As `Pinned.clear_of`."""
+        return self._along(whole(distance), points, metric)
+
+    def _along(
+        self, distance: Optional[int], points: Iterable[Cell], metric: str
+    ) -> Optional[Tightest]:
+        """PATH where there is no distance, and else CLEAROF."""
+        cells = _cells(points)
+        if not self._has(cells) or not (distance is None or 0 <= distance < END):
+            raise self._bad_path(distance, cells, metric)
+        numbers = array("H", [number for cell in cells for number in cell])
+        found = CFound()
+        name, limit = ("path", ()) if distance is None else ("clear_of", (distance,))
+        way = numbers.buffer_info()[0], len(cells)
+        status = self._asked(name, metric, *way, *limit, ctypes.byref(found))
+        if status == CROOKED:
+            raise self._bad_path(distance, cells, metric)
+        check(status)
+        return _tightest(found)
+
+    # ---- what a server refuses
+
+    def _has(self, cells: List[Cell]) -> bool:
+        """Whether these are the points of a path, and on the map."""
+        width, height = self._size
+        return 0 < len(cells) <= LONGEST_PATH and all(
+            0 <= x < width and 0 <= y < height for x, y in cells
+        )
+
+    def _corners(self, name: str, *corners: int) -> Tuple[int, ...]:
+        """The corners x0, y0, x1, y1 of a rectangle that has a cell, and lies on the map."""
+        numbers = tuple(map(whole, corners))
+        x0, y0, x1, y1 = numbers
+        if not (0 <= x0 < x1 <= LARGEST_SIDE and 0 <= y0 < y1 <= LARGEST_SIDE):
+            raise BadArguments(12, "BadArguments", (), requests.draw(name, *numbers).line)
+        if not (x1 <= self.width and y1 <= self.height):
+            raise OutOfRange(1, "OutOfRange", (), requests.draw(name, *numbers).line)
+        return numbers
+
+    def _bad_path(self, distance: Optional[int], cells: List[Cell], metric: str) -> Refused:
+        """The refusal of a path."""
+        request: Request[Any] = requests.path(cells, metric)
+        if distance is not None:
+            request = requests.clear_of(distance, cells, metric)
+        numbers = [number for cell in cells for number in cell] + [distance or 0]
+        if not cells and 0 <= numbers[0] < END:
+            return BadPath(8, "BadPath", (), request.line)
+        if not self._has(cells) or not 0 <= numbers[-1] < END:
+            return _outside(numbers, request)
+        pairs = enumerate(zip(cells, cells[1:]), 1)
+        index = next(k for k, (a, b) in pairs if a[0] != b[0] and a[1] != b[1])
+        return Crooked(9, "Crooked", (index,), request.line)
+
+    # ---- all cells
+
+    @overload
+    def distances(
+        self, metric: str = ..., nearest: Literal[False] = ..., threads: int = ...
+    ) -> Distances: ...
+    @overload
+    def distances(
+        self, metric: str = ..., *, nearest: Literal[True], threads: int = ...
+    ) -> Tuple[Distances, Obstacles]: ...
+    def distances(self, metric: str = EUCLID2, nearest: bool = False, threads: int = 1) -> Any:
+        """As the package's `distances`, of this map and its edge."""
+        return distances_of(self._held.memory, metric, self.edge, nearest, threads)
+
+    def grid(self) -> NDArray[np.bool_]:
+        """The cells as an array of bools by rows, True where an obstacle is."""
+        np = numpy()
+        out = np.empty((self.height, self.width), np.uint8)
+        held = self._held
+        check(library().clearmap_unpack(*held.where, 0, 1, out.ctypes.data, out.size))
+        return out.view(bool)  # type: ignore[no-any-return]
+
+    # ---- changes
+
+    def paint(self, x0: int, y0: int, x1: int, y1: int) -> None:
+        """Makes columns x0 up to x1 - 1 of rows y0 up to y1 - 1 obstacles, at once. Refused as
+        `Client.paint` is for its rectangle."""
+        self._draw("PAINT", x0, y0, x1, y1)
+
+    def clear(self, x0: int, y0: int, x1: int, y1: int) -> None:
+        """Makes them free; refused as `paint` is."""
+        self._draw("CLEAR", x0, y0, x1, y1)
+
+    def _draw(self, name: str, *corners: int) -> None:
+        """Puts a changed copy in the place of the cells, which queries may still read."""
+        x0, y0, x1, y1 = self._corners(name, *corners)
+        first, mask = _mask(x0, x1)
+        with self._lock:
+            _, cells, length, old = self._held.memory
+            cells, bands = cells.copy(), int(old.bands)
+            part = cells[y0:y1, first : first + len(mask)]
+            if name == "PAINT":
+                part |= mask
+            else:
+                part &= ~mask
+            for band in range(y0 // ROWS, (y1 - 1) // ROWS + 1):
+                rows = cells[band * ROWS : (band + 1) * ROWS]
+                bands = bands & ~(1 << band) | int(rows.any()) << band
+            bits = Bits(old.width, old.height, old.stride, bands)
+            self._held = _Held(Memory("bits", cells, length, bits))
+
+
+def _mask(x0: int, x1: int) -> Tuple[int, Any]:
+    """The first word of a row that has some of the columns x0 up to x1 - 1, and these bits of it
+    and of the words after it."""
+    first, last = x0 // 64, (x1 - 1) // 64
+    row = ((1 << x1) - (1 << x0)) >> (64 * first)
+    words = [row >> (64 * k) & (2**64 - 1) for k in range(last - first + 1)]
+    return first, numpy().array(words, "u8")
+
+
+def _outside(numbers: Iterable[int], request: Request[Any]) -> Refused:
+    """The refusal of a request whose numbers no line has, or whose cells aren't all on the map."""
+    if not all(0 <= number < END for number in numbers):
+        return BadArguments(12, "BadArguments", (), request.line)
+    return OutOfRange(1, "OutOfRange", (), request.line)
+
+
+def _cells(points: Iterable[Cell]) -> List[Cell]:
+    """The points of a path. One of too many is refused before they are read."""
+    cells = list(points)
+    if len(cells) > LONGEST_PATH:
+        raise BadPath(8, "BadPath", (), f"a path of {len(cells)} points")
+    return [(whole(x), whole(y)) for x, y in cells]
+
+
+def _tightest(found: CFound) -> Optional[Tightest]:
+    """What was found, if anything."""
+    near = found.near
+    if near.dist == NO_OBSTACLE:
+        return None
+    return Tightest(near.dist, (found.x, found.y), (near.x, near.y))
