@@ -1,8 +1,9 @@
 #!/bin/sh
 # Builds libclearmap where it has to, and tries it from C and C++: the header against the source,
 # what the shared library shows, the tests (also under valgrind, the sanitizers and, for ARM, qemu),
-# and the programs of docs/LIBRARY.md. Leaves out, with a word, what isn't installed here. MAPS is how
-# many random maps. The C++ test asks servers of the built program too; CLEARMAP names another one.
+# and the programs of docs/LIBRARY.md. Leaves out, with a word, what isn't installed here. MAPS is
+# how many random maps. The C++ test asks servers of the built program too; CLEARMAP names another
+# one.
 set -u
 cd "$(dirname "$0")/.." || exit 1
 library=$PWD/crates/libclearmap/out
@@ -69,7 +70,7 @@ else
     echo 'thread sanitizer left out: it does not link here'
 fi
 
-# The library for ARM, with the same test. It is linked with its C library, which qemu then needs not.
+# The library for ARM, with the same test. It is linked with its C library, so that qemu needs none.
 if wants aarch64-linux-gnu-gcc 'the library for ARM' && wants qemu-aarch64 'the library for ARM'; then
     kept=$scratch/kept
     cp -p "$library"/*.a "$library"/*.o "$library"/*.so.0 "$(mkdir "$kept" && echo "$kept")"
@@ -176,6 +177,7 @@ if [ -n "$arrays" ]; then
 else
     echo "the page's lines in Python left out: there is no python3 with numpy"
 fi
+rm -r "$prefix/share/clearmap/python"
 
 if wants cmake "the page's programs by CMake"; then
     mkdir "$scratch/project"
