@@ -2,7 +2,8 @@
 """Looks that being out of memory is never made up: each `Memory` comes from a growth that the allocator refused.
 
 A value that says so is made in a `From` of the toolchain's `AllocError` or `AllocFailed`, and reaches callers by `?` and by
-arms whose pattern already names it. Any other expression that makes one is listed, and the status is 1. Tests may make them.
+arms whose pattern already names it. The status of the library for C that says so (`MEMORY`) stands on an arm for an error. Any
+other expression that makes one is listed, and the status is 1. Tests may make them.
 
 What that doesn't show: that a growth was needed, or that it wasn't larger than it had to be.
 """
@@ -15,6 +16,8 @@ MADE = re.compile(r"\b(\w+)::(OutOf)?Memory\b")
 PATTERN = re.compile(r"(\((_|mut \w+|\w+)\))?\)*\s*(=>|\||if\b|=(?!=))")
 KNOWN = re.compile(r"::(OutOf)?Memory\b.*=>")
 CONVERSION = re.compile(r"fn from\(\w+: Alloc(Error|Failed<\w+>)\)")
+STATUS = re.compile(r"\bMEMORY\b")
+STATUS_OF_AN_ERROR = re.compile(r"Err\(_\) => (Err\()?MEMORY\b|^\s*(pub )?(const|use)\b")
 REFUSED_GROWTH = re.compile(r"\bAllocError\b(?!>)|\bAllocFailed\s*\{")
 
 # The other places, each with why it is no invention.
@@ -45,6 +48,8 @@ def makes_memory(code, above):
             continue
         if CONVERSION.search(above):
             continue
+        return True
+    if STATUS.search(code) and not STATUS_OF_AN_ERROR.search(code):
         return True
     for match in REFUSED_GROWTH.finditer(code):
         before = code[: match.start()].rstrip()
