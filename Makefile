@@ -89,16 +89,18 @@ $(library)/libclearmap.so.0: $(archive) $(library)/clearmap.o clients/c/clearmap
 	$(CC) -shared $(lib_links) -o $@ $(library)/clearmap.o \
 	    -Wl,--whole-archive $(archive) -Wl,--no-whole-archive
 
-# rt writes the archive of each processor to one place, so this one is moved. Wants Debian's
-# gcc-aarch64-linux-gnu.
+# rt writes the archive of each processor to one place: this one is moved, and the other one is put
+# back. Wants Debian's gcc-aarch64-linux-gnu.
 lib-arm: $(arm)/liblibclearmap.a
 	$(MAKE) lib library=$(arm) CC=aarch64-linux-gnu-gcc AR=aarch64-linux-gnu-ar
 
 $(arm)/liblibclearmap.a: $(lib_sources)
 	$(INSTALL) -d $(arm)
+	[ ! -e $(archive) ] || cp -p $(archive) $(arm)/other.a
 	cd crates/libclearmap && rt lib --target aarch64-unknown-linux-gnu
 	mv $(archive) $@
 	touch $@
+	[ ! -e $(arm)/other.a ] || mv $(arm)/other.a $(archive)
 
 install-lib: lib
 	$(INSTALL) -D -m 644 clients/c/clearmap.h '$(to)/include/clearmap.h'

@@ -1,15 +1,16 @@
 #!/usr/bin/env python3
-"""Tries clients of the built server beside one another, where a slow or a leaving one could hold up or deceive the others.
+"""Tries clients of the built server beside one another: a slow or a leaving one could hold up or
+deceive the others.
 
 - Half of a stamp's bytes hold up no painter, and no planner.
-- A pin is left before its BYE goes out: a collect that comes after it keeps the newest version alone.
+- A pin is left before its BYE goes out: a collect after it keeps the newest version alone.
 - The last reply before a connection's end arrives, however the client ends it.
 - A refused command line that is long is told whole.
 """
 import subprocess
 import sys
 
-from limit_tools import Line
+from limit_tools import CHECKS, Line, check
 from served import PROGRAM, Served, blank
 
 TURNS = 300
@@ -21,13 +22,13 @@ def half_a_stamp(server):
     slow, painter, planner = (Line(server.port) for _ in range(3))
     body = b"P1\n2 2\n1001"
     slow.send(b"STAMP 0 0 %d\n" % len(body) + body[:5])
-    yield "a paint beside half a stamp", painter.ask("PAINT 0 0 1 1\n"), "OK 1 1"
-    yield "a publish beside it", painter.ask("PUBLISH\n"), "OK 2 1"
-    yield "a pin beside it", planner.ask("PIN\n"), "OK 1"
-    yield "a query beside it", planner.ask("AT city 3 4\n"), "OK 7 0 0"
-    yield "the stamp, once it has come", slow.ask(body[5:]), "OK 3 1"
+    check("a paint beside half a stamp", painter.ask("PAINT 0 0 1 1\n"), "OK 1 1")
+    check("a publish beside it", painter.ask("PUBLISH\n"), "OK 2 1")
+    check("a pin beside it", planner.ask("PIN\n"), "OK 1")
+    check("a query beside it", planner.ask("AT city 3 4\n"), "OK 7 0 0")
+    check("the stamp, once it has come", slow.ask(body[5:]), "OK 3 1")
     for line in (slow, painter, planner):
-        yield "the end", line.once("QUIT\n"), b"BYE\n"
+        check("the end", line.once("QUIT\n"), b"BYE\n")
 
 
 def pins_left_before_bye(server):
@@ -38,12 +39,13 @@ def pins_left_before_bye(server):
         planner = Line(server.port)
         pinned = planner.once("PIN\nQUIT\n")
         x = turn % 2
-        painter.send(f"CLEAR {1 - x} 0 {2 - x} 1\nPAINT {x} 0 {x + 1} 1\nPUBLISH\nCOLLECT\nCHECKPOINT\n")
+        painter.send(f"CLEAR {1 - x} 0 {2 - x} 1\nPAINT {x} 0 {x + 1} 1\n")
+        painter.send("PUBLISH\nCOLLECT\nCHECKPOINT\n")
         replies = [painter.reply() for _ in range(5)]
         version = replies[2].split(" ")[2]
         good += pinned.endswith(b"\nBYE\n") and replies[3].split(" ")[2] == version
-    yield "pins that are left before BYE", good, TURNS
-    yield "the painter's end", painter.once("QUIT\n"), b"BYE\n"
+    check("pins that are left before BYE", good, TURNS)
+    check("the painter's end", painter.once("QUIT\n"), b"BYE\n")
 
 
 def last_replies(server):
@@ -55,7 +57,7 @@ def last_replies(server):
         line.socket.shutdown(1)
         good += line.rest().count(b"\n") == 2
         line.socket.close()
-    yield "last replies where the sending side is closed", good, TURNS
+    check("last replies where the sending side is closed", good, TURNS)
 
 
 def long_words():
@@ -63,23 +65,17 @@ def long_words():
     name = "x" * 100_000
     run = subprocess.run([PROGRAM, "dist", f"--metric={name}"], capture_output=True, timeout=60)
     wanted = f"clearmap: --metric is one of euclid2, city and chess, not '{name}'\n".encode()
-    yield "a long name that is refused", (run.returncode, run.stderr == wanted), (2, True)
+    check("a long name that is refused", (run.returncode, run.stderr == wanted), (2, True))
 
 
 def main():
     """Tries each, and counts what differs."""
-    tried = wrong = 0
-    found = list(long_words())
+    long_words()
     for part in (half_a_stamp, pins_left_before_bye, last_replies):
         with Served(MAP, "--workers", "4", "--versions", "4") as server:
-            found += part(server)
-    for what, got, wanted in found:
-        tried += 1
-        if got != wanted:
-            wrong += 1
-            print(f"{what}: {got!r} where {wanted!r} was wanted")
-    print(f"tried {tried}, wrong {wrong}")
-    return 1 if wrong else 0
+            part(server)
+    print(f"tried {CHECKS.tried}, wrong {CHECKS.failed}")
+    return 1 if CHECKS.failed else 0
 
 
 if __name__ == "__main__":

@@ -31,10 +31,7 @@ done
 
 # What works in process: with the built library, or the one that CLEARMAP_LIBRARY names.
 library=${CLEARMAP_LIBRARY:-crates/libclearmap/out/libclearmap.so.0}
-arrays=''
-for python in python3 /usr/bin/python3; do
-    if "$python" -c 'import numpy' 2> /dev/null; then arrays=$python; fi
-done
+arrays=$(tools/python_with numpy)
 if [ -n "$arrays" ] && [ -e "$library" ]; then
     for test in clients/python/test_library.py clients/python/test_maps.py; do
         tried "$arrays" "$test"
@@ -55,10 +52,7 @@ else
 fi
 
 # Debian's packages of ROS are for its own python3.
-ros=''
-for python in python3 /usr/bin/python3; do
-    if "$python" -c 'import rospy, nav_msgs.msg, map_msgs.msg, visualization_msgs.msg' 2> /dev/null; then ros=$python; fi
-done
+ros=$(tools/python_with rospy, nav_msgs.msg, map_msgs.msg, visualization_msgs.msg)
 if [ -n "$ros" ] && command -v roscore > /dev/null; then
     tried "$ros" tools/ros/test_clearmap_node.py
     sed -n '/^[.]*seconds for a map/s/^[.]*/  /p' "$scratch/log"

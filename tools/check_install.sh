@@ -115,10 +115,7 @@ tried_scripts "$usr"
 # The library, where it is built, and the installed package over it.
 if [ -e crates/libclearmap/out/libclearmap.so.0 ]; then
     make -s -o lib install-lib DESTDIR="$scratch/root" PREFIX=/usr || wrong=$((wrong + 1))
-    arrays=''
-    for python in python3 /usr/bin/python3; do
-        if "$python" -c 'import numpy' 2> /dev/null; then arrays=$python; fi
-    done
+    arrays=$(tools/python_with numpy)
     if [ -n "$arrays" ]; then
         expect 'in process' "$(PYTHONPATH=$usr/share/clearmap/python "$arrays" -c '
 import clearmap, clearmap.library as it
@@ -203,10 +200,7 @@ expect 'a backup' "$(timeout 60 "$usr/bin/clearmap-backup" --port "$port")" "$(p
 expect 'a backup of nothing' "$(timeout 60 "$usr/bin/clearmap-backup" --port 1 2> /dev/null; echo "status $?")" 'status 1'
 
 # The installed page of this server.
-web=''
-for python in python3 /usr/bin/python3; do
-    if "$python" -c 'import aiohttp, numpy' 2> /dev/null; then web=$python; fi
-done
+web=$(tools/python_with aiohttp, numpy)
 if [ -n "$web" ]; then
     : > "$scratch/url"
     timeout 300 "$web" "$usr/bin/clearmap-view" --port "$port" --web 0 > "$scratch/url" &

@@ -37,7 +37,6 @@ try 'header' tools/check_header.py
 wants gcc 'the library' && wants make 'the library' || exit "$failed"
 timeout 1100 make -s lib > "$scratch/log" 2>&1 || { tail -n 30 "$scratch/log"; exit 1; }
 
-
 flags="-std=c11 -Wall -Wextra -Wshadow -Wconversion -Wpedantic -Werror -g -Iclients/c"
 test="clients/c/test_clearmap.c"
 
@@ -72,10 +71,7 @@ fi
 
 # The library for ARM, with the same test. It is linked with its C library, so that qemu needs none.
 if wants aarch64-linux-gnu-gcc 'the library for ARM' && wants qemu-aarch64 'the library for ARM'; then
-    kept=$scratch/kept
-    cp -p "$library"/*.a "$library"/*.o "$library"/*.so.0 "$(mkdir "$kept" && echo "$kept")"
     try 'make lib-arm' make -s lib-arm
-    cp -p "$kept"/* "$library"
     if aarch64-linux-gnu-gcc $flags -O2 -static $test "$library/aarch64/libclearmap.a" \
         -Wl,--wrap=malloc -lpthread -o "$scratch/arm"; then
         try 'test on ARM' qemu-aarch64 "$scratch/arm" 5
@@ -164,10 +160,7 @@ fi
 sed -n '/^```python$/,/^```$/{/^```/d;p}' docs/LIBRARY.md > "$scratch/page.py"
 mkdir -p "$prefix/share/clearmap/python"
 cp -r clients/python/clearmap "$prefix/share/clearmap/python/"
-arrays=''
-for python in python3 /usr/bin/python3; do
-    if "$python" -c 'import numpy' 2> /dev/null; then arrays=$python; fi
-done
+arrays=$(tools/python_with numpy)
 if [ -n "$arrays" ]; then
     export PYTHONPATH="$prefix/share/clearmap/python"
     says 'page by Python' "$c_says" "$arrays" "$scratch/page.py"

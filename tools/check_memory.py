@@ -1,9 +1,10 @@
 #!/usr/bin/env python3
-"""Looks that being out of memory is never made up: each `Memory` comes from a growth that the allocator refused.
+"""Looks that being out of memory is never made up: each `Memory` comes from a refused growth.
 
-A value that says so is made in a `From` of the toolchain's `AllocError` or `AllocFailed`, and reaches callers by `?` and by
-arms whose pattern already names it. The status of the library for C that says so (`MEMORY`) stands on an arm for an error. Any
-other expression that makes one is listed, and the status is 1. Tests may make them.
+A value that says so is made in a `From` of the toolchain's `AllocError` or `AllocFailed`, and reaches
+callers by `?` and by arms whose pattern already names it. The status of the library for C that says so
+(`MEMORY`) stands on an arm for an error. Any other expression that makes one is listed, and the status
+is 1. Tests may make them.
 
 What that doesn't show: that a growth was needed, or that it wasn't larger than it had to be.
 """
@@ -70,7 +71,8 @@ def found_in(path):
 
 def main():
     """Lists the lines of all crates but those of tests."""
-    paths = sorted(path for path in (TOP / "crates").glob("*/src/**/*.rt") if not path.relative_to(TOP / "crates").parts[0].endswith("_tests"))
+    crates = (crate for crate in (TOP / "crates").iterdir() if not crate.name.endswith("_tests"))
+    paths = sorted(path for crate in crates for path in crate.glob("src/**/*.rt"))
     found = [line for path in paths for line in found_in(path)]
     for line in found:
         print(line)

@@ -1,4 +1,4 @@
-"""What check_limits.py tries with: checks that count, runs of the program, and connections."""
+"""What check_limits.py and check_beside.py try with: checks that count, runs of the program, and connections."""
 import socket
 import struct
 import subprocess
