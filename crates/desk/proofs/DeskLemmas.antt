@@ -11,9 +11,11 @@ use Rattle.metric.specs.declared.refusal.Refusal.{Refusal}
 use Rattle.map_core.specs.declared.command.Command.{Command}
 use Rattle.map_core.specs.declared.command.Entry.{Entry}
 use Rattle.map_core.specs.declared.command.Reply.{Reply}
+use Rattle.map_core.specs.declared.kept.Kept.{Kept}
+use Rattle.map_core.specs.Kept.{members, kept_after, announcements}
 use Rattle.map_core.specs.Story.{Story, newest}
 use Rattle.map_core.specs.Ledger.{takes_room}
-use Rattle.map_core.specs.Legal.{told, refused, are_places_used}
+use Rattle.map_core.specs.Legal.{told, refused, are_places_used, kept_told}
 use Rattle.map_core.specs.Words.{Base}
 use Rattle.map_core.specs.Views.{story}
 use Rattle.shelf.specs.declared.store_entry.StoreEntry.{StoreEntry}
@@ -21,15 +23,18 @@ use Rattle.shelf.specs.Store.{StoreId, readers_of}
 use Rattle.shelf.proofs.logs.LogParts.{entries-push, length-entries, prefix-push}
 use Rattle.shelf.proofs.logs.NowLemmas.{story-push}
 use Rattle.map_core.proofs.logs.LogLemmas.{places_are, places-legal}
+use Rattle.map_core.proofs.logs.KeptAfter.{few_after}
+use Rattle.map_core.proofs.invariants.TidyLog.{slots_apart}
 use Rattle.map_core.specs.Legal.{IsLegal}
 use Rattle.std.proofs.lemmas.List.{drop-append-le, drop_all, length-append}
 use Rattle.shelf.specs.Roles.{KeeperView, ReaderView, entries, resting, unmet_by}
 use Rattle.shelf.specs.Steps.{met, met_by}
 use Rattle.shelf.proofs.seats.ReaderSeats.{hold_stays}
 use Rattle.desk.specs.declared.holding.Holding.{Holding}
-use Rattle.desk.specs.Holdings.{IsToldByLog, Refuses}
-use Rattle.desk.specs.Carries.{CanCarry, IsCarried, signed}
-use Rattle.desk.specs.Desks.{DeskView, story_told, base_place, kept_part, entries_kept_after, IsDesk, IsSteady, IsAccepted, IsWhy, IsCommandRefused, IsApplied}
+use Rattle.desk.specs.Holdings.{IsToldByLog, Refuses, Does}
+use Rattle.desk.specs.Carries.{CanCarry, IsCarried, KeepsScanned, signed}
+use Rattle.desk.proofs.ScanSteps.{kept_replied}
+use Rattle.desk.specs.Desks.{DeskView, story_told, base_place, kept_part, entries_kept_after, IsDesk, IsSteady, IsByScan, IsAccepted, IsWhy, IsCommandRefused, IsApplied}
 
 -- a desk refuses a command where the log does, or for want of memory
 why_is : (z : StoreId) (d : DeskView) (h : Holding) (c : Command) (refusal : Refusal) → IsToldByLog z.base (entries d.log) h → Refuses h c refusal → IsWhy z d c refusal
@@ -41,13 +46,13 @@ met_steady : (z : Base) (k : KeeperView) (x : ReaderView) (more : ℕ) → IsSte
 met_steady z k x more steady count = λ i. record x { seen = k.log; made = x.made + count i; holds = hold_stays x (newest (story z (entries k.log))) steady i }
 
 -- once a reader has met the keeper of a desk, the keeper rests at the desk's log
-pub keeper_met : (z : StoreId) (d : DeskView) (k after : KeeperView) (h : Holding) (kept : List StoreEntry) (as' : List (Option Seen)) → IsDesk z d k h kept as' → after ≡ met k → after ≡ resting (readers_of z) d.log
-keeper_met z d k after h kept as' desk is = is ∙ ap met desk.keeper_is
+pub keeper_met : (z : StoreId) (d : DeskView) (k after : KeeperView) (h : Holding) (kept : List StoreEntry) → IsDesk z d k h kept → after ≡ met k → after ≡ resting (readers_of z) d.log
+keeper_met z d k after h kept desk is = is ∙ ap met desk.keeper_is
 
 -- a reader that has met the keeper of a desk has seen the desk's log
-pub reader_met : (z : StoreId) (d : DeskView) (k : KeeperView) (h : Holding) (kept : List StoreEntry) (as' : List (Option Seen)) (x y : ReaderView) → IsDesk z d k h kept as' → IsSteady x → y ≡ met_by z.base k x
+pub reader_met : (z : StoreId) (d : DeskView) (k : KeeperView) (h : Holding) (kept : List StoreEntry) (x y : ReaderView) → IsDesk z d k h kept → IsSteady x → y ≡ met_by z.base k x
     → y ≡ record x { seen = d.log }
-reader_met z d k h kept as' x y desk steady is =
+reader_met z d k h kept x y desk steady is =
     is ∙ (ap (λ (u : KeeperView). met_by z.base u x) desk.keeper_is
     ∙ (met_steady z.base (resting (readers_of z) d.log) x 0 steady refl ∙ ap (λ (n : ℕ). record x { seen = d.log; made = n }) (add-zero x.made)))
 
@@ -59,10 +64,10 @@ can_carry z d k h told is = record {
 }
 
 -- a command is refused where what is held refuses it, the desk is as before, and the reader has met the keeper
-pub refused_is : (z : StoreId) (d new : DeskView) (k : KeeperView) (h : Holding) (kept : List StoreEntry) (as' : List (Option Seen)) (x y : ReaderView) (c : Command) (refusal : Refusal) → IsDesk z d k h kept as'
+pub refused_is : (z : StoreId) (d new : DeskView) (k : KeeperView) (h : Holding) (kept : List StoreEntry) (x y : ReaderView) (c : Command) (refusal : Refusal) → IsDesk z d k h kept
     → IsSteady x → Refuses h c refusal → new ≡ d → y ≡ met_by z.base k x → IsCommandRefused z d x c refusal new y
-refused_is z d new k h kept as' x y c refusal desk steady judged same met_is =
-    record { why = why_is z d h c refusal desk.told judged; same = same; seat_is = reader_met z d k h kept as' x y desk steady met_is }
+refused_is z d new k h kept x y c refusal desk steady judged same met_is =
+    record { why = why_is z d h c refusal desk.told judged; same = same; seat_is = reader_met z d k h kept x y desk steady met_is }
 
 -- a command that is accepted was done so: the keeper rested at the desk's log, and carried it out
 pub record IsDone (z : StoreId) (d : DeskView) (k : KeeperView) (h : Holding) (by : ℕ) (c : Command) (reply : Reply) (after : KeeperView) (new : Holding) : Type 0 where
@@ -117,11 +122,12 @@ log_after z d k h by c reply after last new done last_is = ap (λ (q : KeeperVie
 
 -- once a command is accepted, and its reader has met the keeper, the desk is one with one more entry
 pub desk_after : (z : StoreId) (d : DeskView) (k : KeeperView) (h : Holding) (by : ℕ) (c : Command) (reply : Reply) (after last : KeeperView) (new : Holding) (before kept : List StoreEntry) (as' : List (Option Seen))
-    → IsDone z d k h by c reply after new → before ≡ kept_part z d.log → kept ≡ entries_kept_after before (signed by c reply) → last ≡ met after → length as' ≡ readers_of z → IsDesk z record { log = last.log } last new kept as'
+    → IsDone z d k h by c reply after new → before ≡ kept_part z d.log → kept ≡ entries_kept_after before (signed by c reply) → last ≡ met after → length as' ≡ readers_of z
+    → IsDesk z record { log = last.log; scanned = as' } last new kept
 desk_after z d k h by c reply after last new before kept as' done before_is kept_is last_is place_each =
     let e = signed by c reply in
     let rests : last ≡ resting (readers_of z) (d.log ++ e ∷ []) = last_is ∙ ap met (keeper_after z d k h by c reply after new done) in
-    subst (λ (q : KeeperView). IsDesk z record { log = q.log } q new kept as') (sym rests)
+    subst (λ (q : KeeperView). IsDesk z record { log = q.log; scanned = as' } q new kept) (sym rests)
     record {
       keeper_is = refl;
       told = subst (λ (l : List Entry). IsToldByLog z.base l new) (sym (entries-push d.log e)) (done.carried.does z.base (entries d.log) done.told).1;
@@ -129,14 +135,32 @@ desk_after z d k h by c reply after last new before kept as' done before_is kept
       place_each = place_each;
     }
 
+-- a collect that is carried out keeps what its scan saw asked for
+by_scan : (z : StoreId) (d : DeskView) (k : KeeperView) (h : Holding) (by : ℕ) (c : Command) (reply : Reply) (after : KeeperView) (new : Holding) (seen : List (Option Seen))
+    → IsDone z d k h by c reply after new → KeepsScanned h c new seen → length seen ≡ readers_of z → c ≡ Collect → IsByScan z d reply seen
+by_scan z d k h by c reply after new seen done keeps each is =
+    let s = story_told z d.log in
+    let ledger = done.told.holds.summary.ledger_is in
+    let does : Does h Collect reply new = subst (λ (q : Command). Does h q reply new) is done.carried.does in
+    let kept_is : kept_told s reply ≡ kept_after s.kept (newest s) seen =
+    kept_replied z.base (entries d.log) h new reply _ done.told does (keeps is)
+    ∙ (λ i. kept_after (ledger.kept_is i) (ledger.newest_is i) seen) in
+    record {
+      each = each;
+      kept_is = kept_is;
+      few = λ exact. subst (λ (q : Kept). length (members q.slots) ≤ 1 + announcements seen) (sym kept_is)
+          (few_after s.kept (newest s) seen (slots_apart z.base (entries d.log) done.told.ready done.told.legal) exact);
+    }
+
 -- a command that is carried out, and whose reader then meets the keeper, is accepted
 pub accepted_is : (z : StoreId) (d now : DeskView) (k : KeeperView) (h : Holding) (by : ℕ) (c : Command) (reply : Reply) (after : KeeperView) (new : Holding) (x seen y : ReaderView)
-    → IsDone z d k h by c reply after new → IsSteady x → by ≡ x.number → now ≡ record { log = d.log ++ signed by c reply ∷ [] } → seen ≡ record x { seen = d.log } → y ≡ met_by z.base after seen
+    → IsDone z d k h by c reply after new → IsSteady x → by ≡ x.number → now.log ≡ d.log ++ signed by c reply ∷ []
+    → KeepsScanned h c new now.scanned → length now.scanned ≡ readers_of z → seen ≡ record x { seen = d.log } → y ≡ met_by z.base after seen
     → IsAccepted z d x c reply now y
-accepted_is z d now k h by c reply after new x seen y done steady by_is now_is seen_is y_is =
+accepted_is z d now k h by c reply after new x seen y done steady by_is now_is keeps each seen_is y_is =
     let one = same_number x.number by by_is in
     let last : KeeperView = record (resting (readers_of z) (d.log ++ signed by c reply ∷ [])) { unmet = Some by } in
-    let whole : now.log ≡ d.log ++ signed x.number c reply ∷ [] = ap (λ (v : DeskView). v.log) now_is ∙ ap (λ (n : ℕ). d.log ++ signed n c reply ∷ []) by_is in
+    let whole : now.log ≡ d.log ++ signed x.number c reply ∷ [] = now_is ∙ ap (λ (n : ℕ). d.log ++ signed n c reply ∷ []) by_is in
     record {
       answer = (done.carried.does z.base (entries d.log) done.told).0;
       log = whole;
@@ -147,7 +171,8 @@ accepted_is z d now k h by c reply after new x seen y done steady by_is now_is s
           ∙ ap (λ (n : ℕ). if takes_room c then base_place z d.log else n) (sym (ap length whole ∙ length-append d.log (signed x.number c reply ∷ []))));
       seat_is = y_is ∙ ((λ i. met_by z.base (keeper_after z d k h by c reply after new done i) (seen_is i))
           ∙ (met_steady z.base last (record x { seen = d.log }) 1 steady one
-          ∙ ap (λ (l : List StoreEntry). record x { seen = l; made = x.made + 1 }) (sym (ap (λ (v : DeskView). v.log) now_is))));
+          ∙ ap (λ (l : List StoreEntry). record x { seen = l; made = x.made + 1 }) (sym now_is)));
+      collects = by_scan z d k h by c reply after new now.scanned done keeps each;
     }
   where
     same_number : (a b : ℕ) → b ≡ a → ◌≡◌ {A = ℕ} (cond (a == b) 1 0) 1
@@ -169,10 +194,10 @@ only_places z d new x y Checkpoint refusal none back = by_why (are_places_used (
     by_why used refusal (inr is) = absurd (let never = is.2 in cc)
 
 -- a log is legal after a command that is accepted
-pub legal_after : (z : StoreId) (d now : DeskView) (k : KeeperView) (h : Holding) (by : ℕ) (c : Command) (reply : Reply) (after : KeeperView) (new : Holding) → IsDone z d k h by c reply after new → now ≡ record { log = d.log ++ signed by c reply ∷ [] }
+pub legal_after : (z : StoreId) (d now : DeskView) (k : KeeperView) (h : Holding) (by : ℕ) (c : Command) (reply : Reply) (after : KeeperView) (new : Holding) → IsDone z d k h by c reply after new → now.log ≡ d.log ++ signed by c reply ∷ []
     → IsLegal z.base.setting z.base.opening (entries now.log)
 legal_after z d now k h by c reply after new done is =
-    subst (λ (l : List Entry). IsLegal z.base.setting z.base.opening l) (sym (ap (λ (v : DeskView). entries v.log) is ∙ entries-push d.log (signed by c reply))) (done.carried.does z.base (entries d.log) done.told).1.legal
+    subst (λ (l : List Entry). IsLegal z.base.setting z.base.opening l) (sym (ap entries is ∙ entries-push d.log (signed by c reply))) (done.carried.does z.base (entries d.log) done.told).1.legal
 
 -- a command that is accepted is answered, and its seat has seen the whole log
 pub applied_accepted : (z : StoreId) (d now : DeskView) (x y : ReaderView) (c : Command) (reply : Reply) → IsAccepted z d x c reply now y → IsPrefix x.seen d.log → IsLegal z.base.setting z.base.opening (entries now.log)

@@ -59,13 +59,13 @@ newest_kept z k h tells =
     subst (λ (q : Kept × ℕ). IsIn q.0 q.1) (λ j. (sym ledger.kept_is j, sym ledger.newest_is j)) (tidy_told z (entries k.log) h tells).slots.newest_in
 
 -- the versions that the ledger keeps after a collect are those of the collect's reply
-kept_replied : (z : Base) (k : KeeperView) (h new : Holding) (reply : Reply) (kept : Kept) → IsToldByLog z (entries k.log) h → Does h Collect reply new → new.ledger.kept ≡ kept
-    → kept_told (story z (entries k.log)) reply ≡ kept
+pub kept_replied : (z : Base) (log : List Entry) (h new : Holding) (reply : Reply) (kept : Kept) → IsToldByLog z log h → Does h Collect reply new → new.ledger.kept ≡ kept
+    → kept_told (story z log) reply ≡ kept
 unfolding told
-kept_replied z k h new reply kept tells does is =
+kept_replied z log h new reply kept tells does is =
     let e : Entry = record { command = Collect; reply = reply } in
-    let after = (does z (entries k.log) tells).1 in
-    sym (after.holds.summary.ledger_is.kept_is ∙ ap (λ (s : Story). s.kept) (story-push z (entries k.log) e)) ∙ is
+    let after = (does z log tells).1 in
+    sym (after.holds.summary.ledger_is.kept_is ∙ ap (λ (s : Story). s.kept) (story-push z log e)) ∙ is
 
 -- the keeper that has taken a collect in hand has loaded nothing yet
 pub collect_begun : (k u : KeeperView) (by : ℕ) (c : Command) → u ≡ with_command k by c → c ≡ Collect → u ≡ scanning u by []
@@ -92,7 +92,7 @@ may_commit_scanned z k u h by seen able caller is all =
 -- the reply of a collect has the versions that its scan keeps
 pub kept_of_reply : (z : StoreId) (k : KeeperView) (h new : Holding) (kept : Kept) (seen : List (Option Seen)) (reply : Reply) → CanCarry z k h → Does h Collect reply new → new.ledger.kept ≡ kept
     → kept ≡ kept_scanned (story z.base (entries k.log)) (map pin_word seen) → HasKept (story z.base (entries k.log)) Collect reply (map pin_word seen)
-kept_of_reply z k h new kept seen reply able does kept_is of_scan = kept_replied z.base k h new reply kept able.told does kept_is ∙ of_scan
+kept_of_reply z k h new kept seen reply able does kept_is of_scan = kept_replied z.base (entries k.log) h new reply kept able.told does kept_is ∙ of_scan
 
 -- a collect that has seen each reader's word is carried out once it is committed
 pub collect_carried : (z : StoreId) (k l : KeeperView) (h new : Holding) (by : ℕ) (kept : Kept) (seen : List (Option Seen)) (c : Command) (reply : Reply) → CanCarry z k h → c ≡ Collect

@@ -1,7 +1,10 @@
 -- How a command that is judged is carried out: this project's own rule.
-use Rattle.std.specs.Prelude.{◌≡◌, ℕ, [], ◌∷◌, ◌++◌, Some, None}
+use Rattle.std.specs.Prelude.{◌≡◌, ℕ, List, [], ◌∷◌, ◌++◌, Option, Some, None}
 use Rattle.map_core.specs.declared.command.Command.{Command}
+use Rattle.map_core.specs.declared.command.Command.TheVariants.{Collect}
 use Rattle.map_core.specs.declared.command.Reply.{Reply}
+use Rattle.map_core.specs.declared.kept.Seen.{Seen}
+use Rattle.map_core.specs.Kept.{kept_after}
 use Rattle.shelf.specs.declared.store_entry.StoreEntry.{StoreEntry}
 use Rattle.shelf.specs.Store.{StoreId, readers_of}
 use Rattle.shelf.specs.Roles.{KeeperView, entries, resting}
@@ -16,6 +19,11 @@ pub record CanCarry (store : StoreId) (k : KeeperView) (h : Holding) : Type 0 wh
 -- the entry of a command is kept with its caller
 abbrev pub signed : ℕ → Command → Reply → StoreEntry
 signed by c reply = record { by = by; entry = record { command = c; reply = reply } }
+
+-- a collect keeps what its scan saw asked for, of the versions that were kept
+abbrev pub KeepsScanned : Holding → Command → Holding → List (Option Seen) → Type 0
+KeepsScanned old c new scanned =
+    c ≡ Collect → new.ledger.kept ≡ kept_after old.ledger.kept old.ledger.newest scanned
 
 -- a command is carried out: what is held is answered so, and the keeper's log has the entry, whose caller is to meet the keeper
 pub record IsCarried (k : KeeperView) (h : Holding) (by : ℕ) (c : Command) (reply : Reply) (after : KeeperView) (new : Holding) : Type 0 where

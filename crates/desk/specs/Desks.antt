@@ -1,15 +1,16 @@
 -- What contracts see of a desk, and how it answers a command: this project's own rule.
-use Rattle.std.specs.Prelude.{◌≡◌, ℕ, ◌+◌, ◌⊎◌, true, false, List, [], ◌∷◌, ◌++◌, length, drop, Option, Some, None, Result, Ok, Err, IfOk, IfErr, if◌then◌else◌}
+use Rattle.std.specs.Prelude.{◌≡◌, ℕ, ◌+◌, ◌≤◌, ◌⊎◌, true, false, List, [], ◌∷◌, ◌++◌, length, drop, Option, Some, None, Result, Ok, Err, IfOk, IfErr, if◌then◌else◌}
 use mathlib.Core.List.{IsPrefix}
 use Rattle.metric.specs.declared.refusal.Refusal.{Refusal}
 use Rattle.metric.specs.declared.refusal.Refusal.TheVariants.{Memory, PlacesUsed}
 use Rattle.map_core.specs.declared.command.Command.{Command}
-use Rattle.map_core.specs.declared.command.Command.TheVariants.{Stamp}
+use Rattle.map_core.specs.declared.command.Command.TheVariants.{Stamp, Collect}
 use Rattle.map_core.specs.declared.command.Reply.{Reply}
 use Rattle.map_core.specs.declared.kept.Seen.{Seen}
-use Rattle.map_core.specs.Story.{Story}
+use Rattle.map_core.specs.Kept.{members, kept_after, AreExact, announcements}
+use Rattle.map_core.specs.Story.{Story, newest}
 use Rattle.map_core.specs.Ledger.{takes_room}
-use Rattle.map_core.specs.Legal.{refused, IsAnswer, IsLegal}
+use Rattle.map_core.specs.Legal.{refused, kept_told, IsAnswer, IsLegal}
 use Rattle.map_core.specs.Views.{story}
 use Rattle.shelf.specs.declared.store_entry.StoreEntry.{StoreEntry}
 use Rattle.shelf.specs.Store.{StoreId, readers_of}
@@ -17,9 +18,10 @@ use Rattle.shelf.specs.Roles.{KeeperView, ReaderView, entries, resting}
 use Rattle.desk.specs.declared.holding.Holding.{Holding}
 use Rattle.desk.specs.Holdings.{IsToldByLog}
 
--- contracts see the whole log of a desk
+-- contracts see of a desk the whole log, and what the last collect's scan saw of each reader
 pub record DeskView : Type 0 where
   pub log : List StoreEntry
+  pub scanned : List (Option Seen)
 
 -- the log of a desk tells this story of the map
 abbrev pub story_told : StoreId → List StoreEntry → Story
@@ -39,15 +41,24 @@ entries_kept_after kept e = if takes_room e.entry.command then kept ++ e ∷ [] 
 
 -- the keeper's seat rests at the desk's log, what is held is what the log tells, and the log's last part is kept,
 -- with a place for what each reader announces
-pub record IsDesk (store : StoreId) (d : DeskView) (keeper : KeeperView) (h : Holding) (kept : List StoreEntry) (announced : List (Option Seen)) : Type 0 where
+pub record IsDesk (store : StoreId) (d : DeskView) (keeper : KeeperView) (h : Holding) (kept : List StoreEntry) : Type 0 where
   pub keeper_is : keeper ≡ resting (readers_of store) d.log
   pub told : IsToldByLog store.base (entries d.log) h
   pub kept_is : kept ≡ kept_part store d.log
-  pub place_each : length announced ≡ readers_of store
+  pub place_each : length d.scanned ≡ readers_of store
 
 -- no load moves the hold of a reader that has announced nothing, or holds a version
 abbrev pub IsSteady : ReaderView → Type 0
 IsSteady x = (x.announced ≡ None) ⊎ ((version : ℕ) × (x.holds ≡ Some version))
+
+-- a collect's reply keeps the versions that its scan saw asked for; where all of these announcements
+-- are exact, it keeps at most one version more than there are of them
+pub record IsByScan (store : StoreId) (old : DeskView) (reply : Reply) (scanned : List (Option Seen)) : Type 0 where
+  pub each : length scanned ≡ readers_of store
+  pub kept_is : kept_told (story_told store old.log) reply
+      ≡ kept_after (story_told store old.log).kept (newest (story_told store old.log)) scanned
+  pub few : AreExact scanned
+      → length (members (kept_told (story_told store old.log) reply).slots) ≤ 1 + announcements scanned
 
 -- a command is accepted: the log has one more entry, by the seat's session, and the seat has seen the whole log and counts the entry
 pub record IsAccepted (store : StoreId) (old : DeskView) (seat : ReaderView) (c : Command) (reply : Reply) (new : DeskView) (seat_after : ReaderView) : Type 0 where
@@ -57,6 +68,7 @@ pub record IsAccepted (store : StoreId) (old : DeskView) (seat : ReaderView) (c 
   -- the entry is kept after the others; a checkpoint leaves none, and its place is the base place then
   pub kept : kept_part store new.log ≡ entries_kept_after (kept_part store old.log) record { by = seat.number; entry = record { command = c; reply = reply } }
   pub base : base_place store new.log ≡ (if takes_room c then base_place store old.log else length new.log)
+  pub collects : c ≡ Collect → IsByScan store old reply new.scanned
 
 -- why a command is refused: by the log, or, where the log doesn't refuse it, for want of memory, which a checkpoint never is
 abbrev pub IsWhy : StoreId → DeskView → Command → Refusal → Type 0

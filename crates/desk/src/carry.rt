@@ -6,7 +6,7 @@ mod publish;
 ghost use Rattle.std.specs.Prelude.{◌≡◌, ◌<◌, length};
 ghost use Rattle.shelf.specs.Store.{readers_of};
 ghost use Rattle.desk.specs.Judging.{IsAtOnce, IsJudged};
-ghost use Rattle.desk.specs.Carries.{CanCarry, IsCarried};
+ghost use Rattle.desk.specs.Carries.{CanCarry, IsCarried, KeepsScanned};
 
 use crate::carry::collect::carry_collect;
 use crate::carry::publish::carry_publish;
@@ -48,6 +48,7 @@ pub fn carry<Id: StoreName>(
     requires place_each { length announced.old.items ≡ readers_of Id.store }
     requires judged { IsJudged holding.old asked.now.command judged }
     ensures carried { IsCarried keeper.old holding.old asked.now.by asked.now.command result keeper.new holding.new }
+    ensures scanned { KeepsScanned holding.old asked.now.command holding.new announced.new.items }
     ensures place_each { length announced.new.items ≡ readers_of Id.store }
 {
     match judged {

@@ -14,7 +14,8 @@ use std::marker::Model;
 
 /// The value that the writers' lock of a store guards.
 ///
-/// Contracts see it as the whole log, of which it keeps the entries after the last checkpoint.
+/// Contracts see it as the whole log, of which it keeps the entries after the last checkpoint, and what the
+/// last collect's scan saw.
 ///
 /// The type keeps that the log is legal, that ledger, draft, kept versions and blocks are what the log tells, and that the keeper's seat
 /// rests at the log.
@@ -34,7 +35,8 @@ impl<Id: StoreName> Model for Desk<Id> {
 
     ghost Value = { DeskView };
 
-    ghost view = { λ d. record { log = d.keeper.log } };
+    ghost view = { λ d. record { log = d.keeper.log; scanned = d.announced.items } };
 
-    ghost invariant = { λ d. IsDesk Id.store record { log = d.keeper.log } d.keeper d.holding d.log.items d.announced.items };
+    ghost invariant = { λ d. IsDesk Id.store record { log = d.keeper.log; scanned = d.announced.items }
+        d.keeper d.holding d.log.items };
 }

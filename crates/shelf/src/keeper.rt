@@ -56,7 +56,9 @@ impl<Id: StoreName> KeeperSeat<Id> {
         self.plan
     }
 
-    /// Takes a command in hand, with its caller. No word changes. Conditions: none is in hand, and the command is accepted after the log.
+    /// Takes a command in hand, with its caller: exchanges NOW for itself. That this stores what stands there is
+    /// the rule's (`Order` of `seats_do_events`); the clause says what the keeper knows then. Conditions: none
+    /// is in hand, and the command is accepted after the log.
     pub fn order(&mut self, asked: &Request)
         requires none { self.old.task ≡ None }
         requires accepted { refused Id.store.base.setting (story Id.store.base (entries self.old.log)) asked.now.command ≡ None }

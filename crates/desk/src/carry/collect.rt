@@ -10,7 +10,7 @@ ghost use Rattle.map_core.specs.Views.{story};
 ghost use Rattle.shelf.specs.Store.{readers_of};
 ghost use Rattle.shelf.specs.Roles.{entries};
 ghost use Rattle.shelf.specs.Steps.{scanning, collected};
-ghost use Rattle.desk.specs.Carries.{CanCarry, IsCarried};
+ghost use Rattle.desk.specs.Carries.{CanCarry, IsCarried, KeepsScanned};
 
 use crate::holding::Holding;
 use epoch::kept_after;
@@ -53,6 +53,7 @@ pub fn carry_collect<Id: StoreName>(
     ensures scanned { keeper.new ≡ collected Id.store.base keeper.old asked.now.by (map pin_word announced.new.items) }
     ensures kept { holding.new.ledger.kept ≡ kept_scanned (story Id.store.base (entries keeper.old.log))
         (map pin_word announced.new.items) }
+    ensures keeps { KeepsScanned holding.old asked.now.command holding.new announced.new.items }
     ensures place_each { length announced.new.items ≡ readers_of Id.store }
 {
     keeper.order(asked);

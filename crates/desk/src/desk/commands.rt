@@ -145,9 +145,11 @@ impl<Id: StoreName> Desk<Id> {
         answered(self.apply(seat, Command::Revert))
     }
 
-    /// Keeps newest, each version that a reader has announced exactly, and from each other announcement on all that were kept, as one word after another is loaded:
-    /// `Reply::Collected`, with the least of them and how many blocks came back. That these are the versions which the loaded words ask for is a clause of the
-    /// keeper's steps (`KeeperSeat::scan`, `commit`), since the words of readers stand in no clause here.
+    /// Keeps newest, each version that a reader has announced exactly, and from each other announcement on all
+    /// that were kept, as one word after another is loaded: `Reply::Collected`, with the least of them and how
+    /// many blocks came back. Where all that the scan saw is exact, it keeps at most one version more than
+    /// there are announcements (`collects`). That the scan saw the readers' words as they stood when it
+    /// loaded them is a clause of the keeper's step (`KeeperSeat::scan`).
     ///
     /// Refused, in this order, for want of room in the log (`LogFull`), of a place (`PlacesUsed`) and of memory.
     pub fn collect(&mut self, seat: &mut ReaderSeat<Id>) -> Result<Reply, Refusal>

@@ -74,7 +74,7 @@ impl FreshDesk {
     /// The desk of the store with this name. Condition: the name is its store's.
     pub fn named<Id: StoreName>(self) -> Desk<Id>
         requires { self ≡ Id.store }
-        ensures { result ≡ record { log = [] } }
+        ensures { result.log ≡ [] }
     {
         let FreshDesk {
             keeper,

@@ -85,6 +85,12 @@ mapped_still k s m tidy r there h =
     record {
       version = v;
       kept = record { slot = user.slot; there = user.there };
+      inside =
+          let h_inside = h.inside in
+          let h_before = h.before in
+          let until = user.until in
+          let long = tidy.shape.directory v (omega arith) in
+          omega arith;
       there =
           elim (tidy.mapped v r.position record { slot = user.slot; there = user.there } h.inside) [
             | inl has ↦

@@ -1,5 +1,5 @@
 -- What holds of the empty log holds after any legal log: one lemma for each command.
-use Rattle.std.proofs.Common.{◌≡◌, ℕ, ◌+◌, ◌<◌, ◌≤◌, Bool, true, false, if◌then◌else◌, List, [], ◌∷◌, ◌++◌, length, refl, arith}
+use Rattle.std.proofs.Common.{◌≡◌, ℕ, ◌+◌, ◌<◌, ◌≤◌, Bool, true, false, if◌then◌else◌, List, [], ◌∷◌, ◌++◌, length, refl, sym, ◌∙◌, arith}
 use Rattle.std.specs.Prelude.{Some, None, nat_le}
 use Rattle.std.proofs.lemmas.Bool.{cases_lt}
 use Rattle.std.proofs.lemmas.Bool.Decides.{nat_tests}
@@ -11,6 +11,7 @@ use Rattle.map_core.specs.declared.command.Reply.{Reply}
 use Rattle.map_core.specs.declared.command.Reply.TheVariants.{Painted, Published, Reverted, Collected, Checkpointed}
 use Rattle.map_core.specs.declared.command.Entry.{Entry}
 use Rattle.map_core.specs.declared.setting.Setting.{Setting}
+use Rattle.map_core.specs.Kept.{IsApart}
 use Rattle.map_core.specs.Story.{Story, opened, kept}
 use Rattle.map_core.specs.Legal.{refused, IsAnswer, told, after, IsLegalFrom, IsLegal, is_log_full, are_places_used}
 use Rattle.map_core.specs.Blocks.{Blocks, opened_blocks, moved, blocks_after}
@@ -62,6 +63,13 @@ IsTidy-after k s m (e ∷ es) few tidy legal =
 pub IsTidy-legal : (k : Base) (log : List Entry) → IsReady k → IsLegal k.setting k.opening log → IsTidy k (story k log) (blocks k log)
 unfolding story blocks
 IsTidy-legal k log ready legal = IsTidy-after k (opened k.opening) (opened_blocks (tiles k) k.setting.blocks) log ready.few_versions (IsTidy-opened k ready) legal
+
+-- after a legal log no version stands in two slots
+pub slots_apart : (k : Base) (log : List Entry) → IsReady k → IsLegal k.setting k.opening log
+    → IsApart (story k log).kept
+slots_apart k log ready legal =
+    let slots = (IsTidy-legal k log ready legal).slots in
+    λ i j v first second. sym (slots.own i v first) ∙ slots.own j v second
 
 -- one entry more makes the next story of the story before it
 pub after-push : (s : Story) (log : List Entry) (e : Entry) → after s (log ++ e ∷ []) ≡ told (after s log) e.command e.reply

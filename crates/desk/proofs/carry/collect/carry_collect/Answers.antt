@@ -62,3 +62,7 @@ returns-clause-carried g c =
     collect_carried z c.args.keeper.now _ _ _ c.args.asked.now.by _ c.scan_all.new.announced.items _ _ c.requires.able c.requires.command c.collect-reply.ensures.done c.collect-reply.ensures.kept
     (kept_computed z.base c.args.keeper.now _ _ c.scan_all.new.announced.items _ c.requires.able.told c.kept_after-kept.ensures.kept c.as_slice.ensures.value)
     (collect_done z.base c.args.keeper.now _ _ _ _ (scanned_all c.args.keeper.now _ _ _ _ _ c.order.ensures c.scan_all.ensures.keeper) c.commit.ensures.committed)
+
+pub returns-clause-keeps : goal.returns-clause-keeps
+returns-clause-keeps g c = λ is.
+    c.collect-reply.ensures.kept ∙ rw c.as_slice.ensures.value at c.kept_after-kept.ensures.kept
