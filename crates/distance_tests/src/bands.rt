@@ -13,23 +13,39 @@ use std::thread::Threads;
 
 #[test]
 fn bands_meet(rt: HostRuntime) -> Result<(), Fail> {
-    let bitmap = Bitmap::blank(rt.alloc(), 8, 4)?;
-    let workers = Workers::new(2).ok_or("no workers")?;
-    let gate = Meeting::new();
-    assert!(rt; bitmap.height() == 4);
-    let nears = rows_with::<City, _, _>(
-        &rt,
-        rt.alloc(),
-        &bitmap,
-        Edge::Open,
-        0,
-        4,
-        workers,
-        &gate,
-    )?;
-    same(&rt, nears.len(), 32, "answers");
-    holds(&rt, !gate.was_alone(), "both bands enter");
+    let bitmap = Bitmap::blank(rt.alloc(), 2, 16)?;
+    assert!(rt; bitmap.height() == 16);
+    for bands in [2, 16] {
+        let workers = Workers::new(bands).ok_or("no workers")?;
+        let gate = Meeting::of(bands);
+        let nears = rows_with::<City, _, _>(
+            &rt,
+            rt.alloc(),
+            &bitmap,
+            Edge::Open,
+            0,
+            16,
+            workers,
+            &gate,
+        )?;
+        same(&rt, nears.len(), 32, "answers");
+        all_met(&rt, &gate, bands);
+    }
     Ok(())
+}
+
+/// Compares how the bands of a gate entered: all at the same time, and each once.
+pub fn all_met(rt: &impl Abort, gate: &Meeting, bands: u8) {
+    holds(rt, !gate.was_alone(), ("all bands enter", bands));
+    for band in 0..17 {
+        let once = u64::from(1 <= band && band <= usize::from(bands));
+        same(
+            rt,
+            gate.entries(band),
+            once,
+            ("how often band entered", band),
+        );
+    }
 }
 
 #[test]

@@ -1,10 +1,10 @@
-//! Gates that bands enter: one that tells how often, and one in which two bands have to meet.
+//! Gates that bands enter: one that tells how often, and one in which all of them have to meet.
 
 use metric::Gate;
 use std::sync::atomic::{AtomicBool, AtomicU64, Ordering};
 use std::thread;
 
-/// How often a band looks whether the other one has entered.
+/// How often a band looks whether another one has entered.
 const MOST_TURNS: u32 = 50_000_000;
 
 /// A gate that all workers pass.
@@ -43,41 +43,49 @@ impl Gate for Counts {
     }
 }
 
-/// A gate in which each of two bands waits until the other has entered.
+/// A gate in which each of so many bands waits until all others have entered.
 #[derive(Drop)]
 pub struct Meeting {
-    entered: [AtomicBool; 2],
+    entered: Counts,
+    bands: u8,
     alone: AtomicBool,
 }
 
 impl Meeting {
-    pub fn new() -> Self {
+    pub fn of(bands: u8) -> Self {
         Meeting {
-            entered: [AtomicBool::new(false), AtomicBool::new(false)],
+            entered: Counts::new(),
+            bands,
             alone: AtomicBool::new(false),
         }
     }
 
-    /// Whether a band waited for the other one in vain.
+    /// Whether a band waited for another one in vain.
     pub fn was_alone(&self) -> bool {
         self.alone.load(Ordering::SeqCst)
+    }
+
+    /// How often this band entered.
+    pub fn entries(&self, band: usize) -> u64 {
+        self.entered.of(band)
     }
 }
 
 impl Gate for Meeting {
     fn enter(&self, band: u8) {
-        let (own, other) = if band == 1 { (0, 1) } else { (1, 0) };
-        self.entered[own].store(true, Ordering::SeqCst);
-        if !is_seen(&self.entered[other]) {
-            self.alone.store(true, Ordering::SeqCst);
+        self.entered.enter(band);
+        for other in 0..usize::from(self.bands) {
+            if !is_seen(&self.entered, other + 1) {
+                self.alone.store(true, Ordering::SeqCst);
+            }
         }
     }
 }
 
-/// Waits for this, but not forever.
-fn is_seen(signal: &AtomicBool) -> bool {
+/// Waits until this band has entered, but not forever.
+fn is_seen(entered: &Counts, band: usize) -> bool {
     for _ in 0..MOST_TURNS {
-        if signal.load(Ordering::SeqCst) {
+        if entered.of(band) > 0 {
             return true;
         }
         thread::yield_now();

@@ -1,5 +1,6 @@
 //! The table that keeps of each cell's nearest obstacle only where it is: that it finds memory, and that it tells what the rows have, for each number of workers.
 
+use crate::bands::all_met;
 use crate::compare::{holds, same};
 use crate::draws::Draws;
 use crate::gates::{Counts, Meeting, Open};
@@ -12,10 +13,10 @@ use std::test::Fail;
 use std::thread::Threads;
 
 /// Compares a row of the table, as a line and cell by cell.
-fn compare_row<M: Metric>(
+fn compare_row<M: Metric + Sync>(
     rt: &impl Abort,
     alloc: Global,
-    table: &ObstacleTable,
+    table: &ObstacleTable<M>,
     y: u16,
     want: &[Option<Near>],
 ) -> Result<(), Fail> {
@@ -23,11 +24,11 @@ fn compare_row<M: Metric>(
     let mut line = vec![in alloc; None; usize::from(width)]?;
     assert!(rt; table.has_row(y));
     assert!(rt; line.len() == usize::from(width));
-    table.fill_row::<M>(y, line.as_mut_slice());
+    table.fill_row(y, line.as_mut_slice());
     same(rt, line.as_slice(), want, ("line", y));
     for (x, near) in (0..width).zip(want.iter()) {
         assert!(rt; x < width);
-        same(rt, table.near::<M>(x, y), *near, (x, y));
+        same(rt, table.near(x, y), *near, (x, y));
     }
     Ok(())
 }
@@ -44,11 +45,11 @@ pub fn compare<M: Metric + Sync>(
     let workers = Workers::new(count).ok_or("no workers")?;
     let (width, y1) = (usize::from(bitmap.width()), bitmap.height());
     assert!(rt; y0 <= y1);
-    let table = ObstacleTable::of::<M, _, _>(rt, alloc, bitmap, edge, y0, y1, workers, &Open)?;
+    let table = ObstacleTable::<M>::of(rt, alloc, bitmap, edge, y0, y1, workers, &Open)?;
     let nears = rows::<M>(alloc, bitmap, edge, y0, y1)?;
     same(rt, usize::from(table.width()), width, "width");
     for (y, want) in (y0..y1).zip(nears.as_slice().chunks_exact(width)) {
-        compare_row::<M>(rt, alloc, &table, y, want)?;
+        compare_row(rt, alloc, &table, y, want)?;
     }
     holds(rt, !table.has_row(y1), "a row after the last");
     holds(
@@ -79,12 +80,14 @@ fn tells_what_the_rows_have(rt: HostRuntime) -> Result<(), Fail> {
 
 #[test]
 fn strips_meet(rt: HostRuntime) -> Result<(), Fail> {
-    let bitmap = Bitmap::blank(rt.alloc(), 8, 4)?;
-    let workers = Workers::new(2).ok_or("no workers")?;
-    let gate = Meeting::new();
-    assert!(rt; bitmap.height() == 4);
-    ObstacleTable::of::<City, _, _>(&rt, rt.alloc(), &bitmap, Edge::Open, 0, 4, workers, &gate)?;
-    holds(&rt, !gate.was_alone(), "both strips enter");
+    let bitmap = Bitmap::blank(rt.alloc(), 2, 16)?;
+    assert!(rt; bitmap.height() == 16);
+    for strips in [2, 16] {
+        let workers = Workers::new(strips).ok_or("no workers")?;
+        let gate = Meeting::of(strips);
+        ObstacleTable::<City>::of(&rt, rt.alloc(), &bitmap, Edge::Open, 0, 16, workers, &gate)?;
+        all_met(&rt, &gate, strips);
+    }
     Ok(())
 }
 
@@ -94,7 +97,7 @@ fn each_strip_enters_once(rt: HostRuntime) -> Result<(), Fail> {
     let bitmap = Bitmap::blank(rt.alloc(), 5, 3)?;
     let gate = Counts::new();
     assert!(rt; bitmap.height() == 3);
-    ObstacleTable::of::<Chess, _, _>(&rt, rt.alloc(), &bitmap, Edge::Open, 0, 3, workers, &gate)?;
+    ObstacleTable::<Chess>::of(&rt, rt.alloc(), &bitmap, Edge::Open, 0, 3, workers, &gate)?;
     for strip in 0..17 {
         let once = u64::from(1 <= strip && strip <= 4);
         same(

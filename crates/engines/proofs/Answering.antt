@@ -1,5 +1,5 @@
 -- An answer of `dist`, written whole or in part.
-use Rattle.std.proofs.Common.{◌≡◌, ◌≢◌, ℕ, List, [], ◌∷◌, ◌++◌, Option, Some, None, Result, Ok, Err, inl, inr, refl, arith, IfOk, OnOk, OnErr, IsOk}
+use Rattle.std.proofs.Common.{◌≡◌, ◌≢◌, ℕ, List, [], ◌∷◌, ◌++◌, Option, Some, None, Result, Ok, Err, inl, inr, refl, subst, arith, IfOk, OnOk, OnErr, IsOk}
 use Rattle.std.specs.Borrow.{Bor}
 use Rattle.std.specs.Result.{result_unwrap_or}
 use Rattle.metric.specs.declared.fault.PbmFault.{PbmFault}
@@ -10,10 +10,11 @@ use Rattle.metric.specs.declared.stream.WriteFault.{WriteFault}
 use Rattle.metric.specs.Refusal.{image_text, refusal_text}
 use Rattle.metric.specs.Stream.{Appends, AppendsFront, Counts}
 use Rattle.engines.specs.declared.words.arguments.DistOptions.{DistOptions}
-use Rattle.engines.specs.declared.dist.table.Table.{Table}
 use Rattle.engines.specs.dist.Table.{table_text}
-use Rattle.engines.specs.dist.Tabled.{IsTableOf, nears_of}
+use Rattle.engines.specs.dist.Tabled.{IsTableOf, TableView}
 use Rattle.bits.specs.Cells.{Cells}
+use Rattle.field.specs.Rows.{AreNears}
+use Rattle.metric.specs.Kind.{distance_of}
 use Rattle.pbm.specs.Faults.{◌>>=◌, header, image}
 use Rattle.pbm.specs.Image.{Reads}
 use Rattle.pbm.proofs.Following.{told, AreAll-told}
@@ -108,14 +109,14 @@ map_wanting_whole options cells refusal before after (Ok status) none one whole 
 map_wanting_whole options cells refusal before after (Err failed) none one whole = tt
 
 -- where no query is asked, the lines of the map's table are an answer to an image of it
-pub asked_of_table : (options : DistOptions) (cells : Cells) (table : Table) → options.query ≡ None → IsTableOf options.metric options.edge cells table
-    → IsMapAnswer options cells (table_text options.nearest table.width table.height (nears_of table)) 0
-asked_of_table options cells table no_line of = λ bytes taken reads. inl (rw no_line (record {
+pub asked_of_table : (options : DistOptions) (cells : Cells) (distance : ℕ → ℕ → ℕ) (table : TableView) → options.query ≡ None → distance ≡ distance_of options.metric → IsTableOf distance options.edge cells table
+    → IsMapAnswer options cells (table_text options.nearest table.width table.height table.nears) 0
+asked_of_table options cells distance table no_line by of = λ bytes taken reads. inl (rw no_line (record {
   taken = taken;
   cells = cells;
-  nears = nears_of table;
+  nears = table.nears;
   reads = reads;
-  rows = of.rows;
+  rows = subst (λ (d : ℕ → ℕ → ℕ). AreNears d cells options.edge 0 cells.height table.nears) by of.rows;
   text_is = rw (of.width_is, of.height_is) refl;
   status_is = refl;
 }))

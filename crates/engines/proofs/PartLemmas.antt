@@ -5,10 +5,9 @@ use Rattle.metric.specs.Stream.{Appends, AppendsFront}
 use Rattle.metric.proofs.Appending.{Appends-more, AppendsFront-more}
 use Rattle.metric.specs.declared.near.Near.{Near}
 use Rattle.engines.specs.declared.dist.parts.WorkerLines.{WorkerLines}
-use Rattle.engines.specs.declared.dist.table.Table.{Table}
 use Rattle.engines.specs.dist.Parts.{AreShares, ShareRows, parts_text}
+use Rattle.engines.specs.dist.Tabled.{TableView}
 use Rattle.engines.specs.dist.Table.{rows_text, table_text}
-use Rattle.engines.specs.dist.Tabled.{nears_of}
 use Rattle.engines.proofs.RowLemmas.{rows_text-all, rows_text-append}
 
 -- the lines of the rows from one to before another come one after another
@@ -59,20 +58,20 @@ AppendsFront-part nearest width height nears rows from k count text before betwe
     (omega arith) (omega arith) (omega (arith, further)) above (rw is at here)
 
 -- where the lines of some parts are written after those of the rows above, the lines of all these rows are
-pub Appends-parts : (nearest : Bool) (table : Table) (rows from count : ℕ) (before between after : Option (List ℕ))
-    → Appends before (rows_between nearest table.width (nears_of table) 0 (min table.height from)) between → Appends between (parts_text nearest table rows from count) after
-    → Appends before (rows_between nearest table.width (nears_of table) 0 (min table.height (from + rows * count))) after
+pub Appends-parts : (nearest : Bool) (table : TableView) (rows from count : ℕ) (before between after : Option (List ℕ))
+    → Appends before (rows_between nearest table.width table.nears 0 (min table.height from)) between → Appends between (parts_text nearest table rows from count) after
+    → Appends before (rows_between nearest table.width table.nears 0 (min table.height (from + rows * count))) after
 Appends-parts nearest table rows from count before between after above here =
-    rw (rows_between-join nearest table.width (nears_of table) 0 (min table.height from) (min table.height (from + rows * count)) (omega arith) (omega arith))
-    (Appends-more before between after (rows_between nearest table.width (nears_of table) 0 (min table.height from)) (rows_between nearest table.width (nears_of table) (min table.height from) (min table.height (from + rows * count))) above here)
+    rw (rows_between-join nearest table.width table.nears 0 (min table.height from) (min table.height (from + rows * count)) (omega arith) (omega arith))
+    (Appends-more before between after (rows_between nearest table.width table.nears 0 (min table.height from)) (rows_between nearest table.width table.nears (min table.height from) (min table.height (from + rows * count))) above here)
 
 -- a beginning of the lines of some parts, after those of the rows above, is a beginning of the table
-pub AppendsFront-parts : (nearest : Bool) (table : Table) (rows from count : ℕ) (before between after : Option (List ℕ))
-    → Appends before (rows_between nearest table.width (nears_of table) 0 (min table.height from)) between → AppendsFront between (parts_text nearest table rows from count) after
-    → AppendsFront before (table_text nearest table.width table.height (nears_of table)) after
+pub AppendsFront-parts : (nearest : Bool) (table : TableView) (rows from count : ℕ) (before between after : Option (List ℕ))
+    → Appends before (rows_between nearest table.width table.nears 0 (min table.height from)) between → AppendsFront between (parts_text nearest table rows from count) after
+    → AppendsFront before (table_text nearest table.width table.height table.nears) after
 AppendsFront-parts nearest table rows from count before between after above here =
-    rw (table_text-between nearest table.width table.height (nears_of table))
-    (AppendsFront-rows nearest table.width (nears_of table) 0 (min table.height from) (min table.height (from + rows * count)) table.height before between after (omega arith) (omega arith) (omega arith) above here)
+    rw (table_text-between nearest table.width table.height table.nears)
+    (AppendsFront-rows nearest table.width table.nears 0 (min table.height from) (min table.height (from + rows * count)) table.height before between after (omega arith) (omega arith) (omega arith) above here)
 
 -- a set of parts into which rows were put is one still
 pub AreParts-put : (nearest : Bool) (width height rows from : ℕ) (nears : List (Option Near)) (old new : List WorkerLines) → AreShares width rows old → length new ≡ length old

@@ -1,11 +1,11 @@
 //! The command `dist`: from the bytes of an image to the text of its distances.
 
-ghost use Rattle.std.specs.Prelude.{◌≡◌, ◌≢◌, ℕ, ◌+◌, ◌≤◌, ◌∷◌, ◌++◌, [], List, IfOk, OnOk, OnErr};
+ghost use Rattle.std.specs.Prelude.{◌≡◌, ◌≢◌, ℕ, ◌+◌, ◌≤◌, ◌∷◌, ◌++◌, [], List, None, IfOk, OnOk, OnErr};
+ghost use Rattle.metric.specs.Kind.{distance_of};
 ghost use Rattle.metric.specs.Refusal.{image_text};
 ghost use Rattle.metric.specs.Stream.{Appends, AppendsFront, Counts, CanFail};
 ghost use Rattle.engines.specs.dist.Dist.{AnswersImage, BeginsToAnswerImage, IsMapAnswer};
 ghost use Rattle.engines.specs.dist.Table.{table_text};
-ghost use Rattle.engines.specs.dist.Tabled.{nears_of};
 
 mod decimals;
 mod distances;
@@ -24,7 +24,9 @@ use crate::streams::output::{write_refusal, write_text};
 use crate::words::arguments::DistOptions;
 use crate::{DONE, REFUSED};
 use bits::Bitmap;
-use metric::{PbmFault, Refusal, Sink, Source, WriteFault};
+use metric::{
+    Chess, City, Euclid2, Metric, MetricKind, PbmFault, Refusal, Sink, Source, WriteFault,
+};
 use pbm::{ImageStop, read_source};
 use std::alloc::Global;
 use std::thread::Threads;
@@ -81,32 +83,47 @@ fn write_answer<W: Sink, T: Threads + Sync>(
             Ok(reply) => write_text(writer, reply.text.as_bytes(), reply.status),
             Err(refusal) => write_refusal(writer, refusal),
         },
-        None => match TableWriter::of(
-            rt,
-            alloc,
-            map,
-            options.metric,
-            options.edge,
-            options.nearest,
-            options.workers,
-        ) {
-            Ok(print) => write_rows(rt, writer, print, options.nearest),
-            Err(refusal) => write_refusal(writer, refusal),
+        None => match options.metric {
+            MetricKind::Euclid2 => write_map::<Euclid2, W, T>(rt, alloc, options, map, writer),
+            MetricKind::City => write_map::<City, W, T>(rt, alloc, options, map, writer),
+            MetricKind::Chess => write_map::<Chess, W, T>(rt, alloc, options, map, writer),
         },
     }
 }
 
+/// Writes the lines of a map's table by this metric, which is that of the options.
+fn write_map<M: Metric + Sync, W: Sink, T: Threads + Sync>(
+    rt: &T,
+    alloc: Global,
+    options: &DistOptions<'_>,
+    map: &Bitmap,
+    writer: &mut W,
+) -> Result<u8, WriteFault>
+    requires writer { CanFail (W.failed_writes writer.old) }
+    requires table { options.now.query ≡ None }
+    requires metric { M.distance ≡ distance_of options.now.metric }
+    ensures whole { IfOk result (λ status. (text : List ℕ) × IsMapAnswer options.now map.now text status × Appends (W.held writer.old) text (W.held writer.new)) }
+    ensures front { OnErr result ((text : List ℕ) × (status : ℕ) × IsMapAnswer options.now map.now text status × AppendsFront (W.held writer.old) text (W.held writer.new)) }
+    ensures counts { Counts (W.failed_writes writer.old) result (W.failed_writes writer.new) }
+{
+    let (nearest, workers) = (options.nearest, options.workers);
+    match TableWriter::<M>::of(rt, alloc, map, options.edge, nearest, workers) {
+        Ok(print) => write_rows(rt, writer, print, nearest),
+        Err(refusal) => write_refusal(writer, refusal),
+    }
+}
+
 /// Writes the table's lines.
-fn write_rows<W: Sink, T: Threads + Sync>(
+fn write_rows<M: Metric + Sync, W: Sink, T: Threads + Sync>(
     rt: &T,
     writer: &mut W,
-    print: TableWriter,
+    print: TableWriter<M>,
     nearest: bool,
 ) -> Result<u8, WriteFault>
     requires { CanFail (W.failed_writes writer.old) }
     ensures status { IfOk result (λ status. status ≡ 0) }
-    ensures whole { OnOk result (Appends (W.held writer.old) (table_text nearest print.table.width print.table.height (nears_of print.table)) (W.held writer.new)) }
-    ensures front { OnErr result (AppendsFront (W.held writer.old) (table_text nearest print.table.width print.table.height (nears_of print.table)) (W.held writer.new)) }
+    ensures whole { OnOk result (Appends (W.held writer.old) (table_text nearest print.table.width print.table.height print.table.nears) (W.held writer.new)) }
+    ensures front { OnErr result (AppendsFront (W.held writer.old) (table_text nearest print.table.width print.table.height print.table.nears) (W.held writer.new)) }
     ensures counts { Counts (W.failed_writes writer.old) result (W.failed_writes writer.new) }
 {
     let TableWriter {

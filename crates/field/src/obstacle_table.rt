@@ -11,23 +11,23 @@ use crate::workers::Workers;
 use bits::Bitmap;
 use metric::{Edge, Gate, Metric, Near, Refusal};
 use std::alloc::Global;
-use std::marker::Model;
+use std::marker::{Model, PhantomData};
 use std::thread::Threads;
 
-/// The nearest obstacles of the cells of some rows, 4 bytes a cell. Contracts see it as these obstacles, row by row.
-///
-/// It serves the metric that it was made by: by another one what it tells is an obstacle and its distance, but not the nearest.
+/// The nearest obstacles of the cells of some rows by one metric, 4 bytes a cell. Contracts see it as these
+/// obstacles, row by row.
 #[derive(Debug, Drop)]
-pub struct ObstacleTable {
+pub struct ObstacleTable<M> {
     width: u16,
     y0: u16,
     y1: u16,
     /// How many rows a strip has; the last one may have fewer.
     height: u16,
     strips: Vec<Vec<ObstacleCell>>,
+    by: PhantomData<M>,
 }
 
-impl Model for ObstacleTable {
+impl<M> Model for ObstacleTable<M> {
     ghost use Rattle.std.specs.Prelude.{map};
     ghost use Rattle.field.specs.Obstacles.{HaveRows, Obstacles, in_strips};
 
@@ -38,9 +38,9 @@ impl Model for ObstacleTable {
     ghost invariant = { λ t. HaveRows t.width t.y0 t.y1 t.height (map (λ strip. strip.items) t.strips.items) };
 }
 
-impl ObstacleTable {
+impl<M: Metric + Sync> ObstacleTable<M> {
     /// The nearest obstacles of the cells of rows `y0` to `y1 - 1`, the same as `rows` has them, each worker in a strip of its own: all strips have equally many rows, but for the last ones, which may have fewer, or none. Each strip is worked by a thread of its own, which enters the gate first with the strip's number from 1; where a thread can't be started, the calling thread works that strip. Refused for want of memory alone.
-    pub fn of<M: Metric + Sync, G: Gate + Sync, R: Threads + Sync>(
+    pub fn of<G: Gate + Sync, R: Threads + Sync>(
         rt: &R,
         alloc: Global,
         bitmap: &Bitmap,
@@ -74,6 +74,7 @@ impl ObstacleTable {
             y1,
             height,
             strips,
+            by: PhantomData,
         })
     }
 
@@ -91,8 +92,8 @@ impl ObstacleTable {
         self.y0 <= y && y < self.y1
     }
 
-    /// The nearest obstacle of the cell in column `x` and row `y`, by the metric that the table was made by; `None` where there is no obstacle.
-    pub fn near<M: Metric>(&self, x: u16, y: u16) -> Option<Near>
+    /// The nearest obstacle of the cell in column `x` and row `y`; `None` where there is no obstacle.
+    pub fn near(&self, x: u16, y: u16) -> Option<Near>
         requires column { x < self.now.width }
         requires from { self.now.y0 ≤ y }
         requires to { y < self.now.y1 }
@@ -101,8 +102,8 @@ impl ObstacleTable {
         near_from::<M>(x, y, self.line(y - self.y0)[usize::from(x)])
     }
 
-    /// Fills a line with the nearest obstacles of the cells of row `y`, from the left, by the metric that the table was made by.
-    pub fn fill_row<M: Metric>(&self, y: u16, nears: &mut [Option<Near>])
+    /// Fills a line with the nearest obstacles of the cells of row `y`, from the left.
+    pub fn fill_row(&self, y: u16, nears: &mut [Option<Near>])
         requires from { self.now.y0 ≤ y }
         requires to { y < self.now.y1 }
         requires width { length nears.old ≡ self.now.width }
@@ -111,8 +112,9 @@ impl ObstacleTable {
         fill_line::<M>(y, self.line(y - self.y0), nears);
     }
 
-    /// Fills a line with the distances of the cells of row `y` to their nearest obstacles, from the left, by the metric that the table was made by; `u32::MAX` where there is no obstacle.
-    pub fn fill_distances<M: Metric>(&self, y: u16, distances: &mut [u32])
+    /// Fills a line with the distances of the cells of row `y` to their nearest obstacles, from the left;
+    /// `u32::MAX` where there is no obstacle.
+    pub fn fill_distances(&self, y: u16, distances: &mut [u32])
         requires from { self.now.y0 ≤ y }
         requires to { y < self.now.y1 }
         requires width { length distances.old ≡ self.now.width }

@@ -2,9 +2,8 @@
 use Rattle.std.specs.Prelude.{◌≡◌, ℕ, ◌+◌, ◌-◌, ◌*◌, ◌<◌, ◌≤◌, All, List, Bool, Option, length, min, slice_index_or, vec_capacity, vec_len}
 use Rattle.metric.specs.declared.near.Near.{Near}
 use Rattle.engines.specs.declared.dist.parts.WorkerLines.{WorkerLines}
-use Rattle.engines.specs.declared.dist.table.Table.{Table}
 use Rattle.engines.specs.dist.Table.{rows_text}
-use Rattle.engines.specs.dist.Tabled.{nears_of}
+use Rattle.engines.specs.dist.Tabled.{TableView}
 
 -- where a worker puts so many rows of this width: there is room for a row's line, and for the lines of all of them
 pub record IsShare (width rows : ℕ) (part : WorkerLines) : Type 0 where
@@ -31,5 +30,5 @@ abbrev pub ShareRows : Bool → ℕ → ℕ → List (Option Near) → ℕ → �
 ShareRows nearest width height nears rows from parts = (k : ℕ) (other : WorkerLines) → k < length parts → HasRows nearest width height nears rows (from + rows * k) (slice_index_or parts k other)
 
 -- so many parts of so many rows each have these lines of a table's rows, from this row on
-abbrev pub parts_text : Bool → Table → ℕ → ℕ → ℕ → List ℕ
-parts_text nearest table rows from count = rows_text nearest table.width (min table.height from) (min table.height (from + rows * count) - min table.height from) (nears_of table)
+abbrev pub parts_text : Bool → TableView → ℕ → ℕ → ℕ → List ℕ
+parts_text nearest table rows from count = rows_text nearest table.width (min table.height from) (min table.height (from + rows * count) - min table.height from) table.nears

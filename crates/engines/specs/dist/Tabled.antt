@@ -1,20 +1,30 @@
 -- What a table in memory is of a map: this project's own rule.
-use Rattle.std.specs.Prelude.{◌≡◌, List, Option}
-use Rattle.metric.specs.Kind.{distance_of}
+use Rattle.std.specs.Prelude.{◌≡◌, ℕ, ◌<◌, ◌≤◌, List, Option}
 use Rattle.metric.specs.declared.edge.Edge.{Edge}
-use Rattle.metric.specs.declared.kind.MetricKind.{MetricKind}
 use Rattle.metric.specs.declared.near.Near.{Near}
 use Rattle.bits.specs.Cells.{Cells}
-use Rattle.field.specs.Obstacles.{nears_told}
+use Rattle.field.specs.Obstacles.{Obstacles}
 use Rattle.field.specs.Rows.{AreNears}
-use Rattle.engines.specs.declared.dist.table.Table.{Table}
 
--- a table tells the nearest obstacles of all cells, row by row
-abbrev pub nears_of : Table → List (Option Near)
-nears_of table = nears_told (distance_of table.metric) table.obstacles
+-- contracts see a table as its size and the nearest obstacles of all cells, row by row
+pub record TableView : Type 0 where
+  pub width : ℕ
+  pub height : ℕ
+  pub nears : List (Option Near)
 
--- the map has the table's size, and these are its nearest obstacles by the metric, with this border
-pub record IsTableOf (metric : MetricKind) (edge : Edge) (cells : Cells) (table : Table) : Type 0 where
+-- each distance within a map and its frame is below the number that stands for none
+abbrev pub IsBelowNone : (ℕ → ℕ → ℕ) → Type 0
+IsBelowNone distance = (columns rows : ℕ) → columns ≤ 4097 → rows ≤ 4097 → distance columns rows < 4294967295
+
+-- these are the obstacles of all rows of a map of this size, by this distance
+pub record HasAllRows (distance : ℕ → ℕ → ℕ) (width height : ℕ) (obstacles : Obstacles) : Type 0 where
+  pub below : IsBelowNone distance
+  pub across : obstacles.width ≡ width
+  pub from : obstacles.y0 ≡ 0
+  pub to : obstacles.y1 ≡ height
+
+-- the map has the table's size, and these are its nearest obstacles by this distance, with this border
+pub record IsTableOf (distance : ℕ → ℕ → ℕ) (edge : Edge) (cells : Cells) (table : TableView) : Type 0 where
   pub width_is : table.width ≡ cells.width
   pub height_is : table.height ≡ cells.height
-  pub rows : AreNears (distance_of metric) cells edge 0 cells.height (nears_of table)
+  pub rows : AreNears distance cells edge 0 cells.height table.nears

@@ -4,13 +4,12 @@ ghost use Rattle.std.specs.Prelude.{◌≡◌, ◌+◌, ◌-◌, ◌*◌, ◌<�
 ghost use Rattle.engines.specs.dist.Putting.{Puts};
 ghost use Rattle.std.specs.List.{slice_range};
 ghost use Rattle.engines.specs.dist.Table.{row_line, rows_text};
-ghost use Rattle.engines.specs.dist.Tabled.{nears_of};
 
 use crate::dist::decimals::Decimals;
 use crate::dist::distances::put_distances;
 use crate::dist::line::{ENTRY_ROOM, SPARE_ROOM, put_row};
 use crate::dist::table::Table;
-use metric::Near;
+use metric::{Metric, Near};
 use std::alloc::{AllocError, Global};
 
 /// Where a worker puts the lines of its rows, and one row of the table: its nearest obstacles, or their distances alone, and its line.
@@ -24,9 +23,9 @@ pub struct WorkerLines {
 }
 
 /// Puts the lines of the rows `from` to `to - 1` in place of what the text has. There is room for them.
-fn put_rows(
+fn put_rows<M: Metric + Sync>(
     decimals: &Decimals,
-    table: &Table,
+    table: &Table<M>,
     from: u16,
     to: u16,
     nears: &mut [Option<Near>],
@@ -41,7 +40,7 @@ fn put_rows(
     requires distances { length distances.old ≡ table.now.width }
     requires line { 25 * table.now.width + 4 ≤ length line.old }
     requires room { (to - from) * (25 * table.now.width + 1) ≤ vec_capacity text.old }
-    ensures text { text.new.items ≡ rows_text nearest table.now.width from (to - from) (nears_of table.now) }
+    ensures text { text.new.items ≡ rows_text nearest table.now.width from (to - from) table.now.nears }
     ensures room { vec_capacity text.old ≤ vec_capacity text.new }
 {
     text.clear();
@@ -52,9 +51,9 @@ fn put_rows(
 }
 
 /// Puts the line of row `y`, and answers where it ends.
-fn put_line(
+fn put_line<M: Metric + Sync>(
     decimals: &Decimals,
-    table: &Table,
+    table: &Table<M>,
     y: u16,
     nears: &mut [Option<Near>],
     distances: &mut [u32],
@@ -65,7 +64,7 @@ fn put_line(
     requires nears { length nears.old ≡ table.now.width }
     requires distances { length distances.old ≡ table.now.width }
     requires room { 25 * table.now.width + 3 ≤ length line.old }
-    ensures line { Puts line.old 0 (row_line nearest (slice_range (nears_of table.now) (y * table.now.width) (y * table.now.width + table.now.width))) line.new result }
+    ensures line { Puts line.old 0 (row_line nearest (slice_range table.now.nears (y * table.now.width) (y * table.now.width + table.now.width))) line.new result }
     ensures end { result ≤ 25 * table.now.width + 1 }
 {
     if nearest {
@@ -95,13 +94,20 @@ impl WorkerLines {
     }
 
     /// Puts the lines of so many rows from this one on, or of those of them that there are.
-    pub fn put(&mut self, decimals: &Decimals, table: &Table, from: u32, rows: u32, nearest: bool)
+    pub fn put<M: Metric + Sync>(
+        &mut self,
+        decimals: &Decimals,
+        table: &Table<M>,
+        from: u32,
+        rows: u32,
+        nearest: bool,
+    )
         requires part { IsShare table.now.width rows self.old }
         requires from { from < 1000000 }
         requires rows { rows ≤ 4096 }
-        ensures { HasRows nearest table.now.width table.now.height (nears_of table.now) rows from self.new }
+        ensures { HasRows nearest table.now.width table.now.height table.now.nears rows from self.new }
     {
-        let height = u32::from(table.height);
+        let height = u32::from(table.height());
         let to = height.min(from + rows) as u16;
         let from = height.min(from) as u16;
         put_rows(

@@ -1,85 +1,89 @@
-//! The nearest obstacles of one image's cells, found by workers.
+//! The nearest obstacles of one image's cells by one metric, found by workers.
 
 ghost use Rattle.std.specs.Prelude.{◌≡◌, ◌+◌, ◌*◌, ◌<◌, ◌≤◌, IfErr, IfOk, length, slice_range};
-ghost use Rattle.metric.specs.Kind.{distance_of};
 ghost use Rattle.metric.specs.declared.refusal.Refusal.TheVariants.{Memory};
-ghost use Rattle.field.specs.Obstacles.{nears_told};
-ghost use Rattle.field.specs.Rows.{AreNears};
 ghost use Rattle.engines.specs.dist.Measured.{AreDistances};
+ghost use Rattle.engines.specs.dist.Tabled.{IsBelowNone, IsTableOf};
 
 use bits::Bitmap;
 use field::{ObstacleTable, Workers};
-use metric::{Chess, City, Edge, Euclid2, Gate, MetricKind, Near, Refusal};
+use metric::{Edge, Gate, Metric, Near, Refusal};
 use std::alloc::Global;
+use std::marker::Model;
 use std::thread::Threads;
 
-/// The nearest obstacles of all cells by one metric, four bytes a cell.
+/// The nearest obstacles of all cells by one metric, four bytes a cell. Contracts see it as its size and these
+/// obstacles, row by row.
 #[derive(Drop)]
-pub struct Table {
-    pub width: u16,
-    pub height: u16,
-    pub metric: MetricKind,
-    pub obstacles: ObstacleTable,
-    ghost across: { obstacles.width ≡ width },
-    ghost from: { obstacles.y0 ≡ 0 },
-    ghost to: { obstacles.y1 ≡ height },
+pub struct Table<M: Metric> {
+    width: u16,
+    height: u16,
+    obstacles: ObstacleTable<M>,
 }
 
-impl Table {
-    ghost use Rattle.engines.specs.dist.Tabled.{nears_of};
+impl<M: Metric> Model for Table<M> {
+    ghost use Rattle.field.specs.Obstacles.{nears_told};
+    ghost use Rattle.engines.specs.dist.Tabled.{HasAllRows, TableView};
 
+    ghost Value = { TableView };
+
+    ghost view = { λ t. record { width = t.width; height = t.height; nears = nears_told M.distance t.obstacles } };
+
+    ghost invariant = { λ t. HasAllRows M.distance t.width t.height t.obstacles };
+}
+
+impl<M: Metric + Sync> Table<M> {
     /// The nearest obstacles of the cells of this bitmap, whose border is this, found by so many workers, or by one where there are few cells.
     pub fn of<T: Threads + Sync>(
         rt: &T,
         alloc: Global,
         bitmap: &Bitmap,
         edge: Edge,
-        metric: MetricKind,
         workers: Workers,
     ) -> Result<Self, Refusal>
-        ensures width { IfOk result (λ table. table.width ≡ bitmap.now.width) }
-        ensures height { IfOk result (λ table. table.height ≡ bitmap.now.height) }
-        ensures rows { IfOk result (λ table. AreNears (distance_of metric) bitmap.now edge 0 bitmap.now.height (nears_of table)) }
+        requires below { IsBelowNone M.distance }
+        ensures table { IfOk result (IsTableOf M.distance edge bitmap.now) }
         ensures memory { IfErr result (λ refusal. refusal ≡ Memory) }
     {
-        let workers = if is_large(bitmap.width(), bitmap.height()) {
+        let (width, height) = (bitmap.width(), bitmap.height());
+        let workers = if is_large(width, height) {
             workers
         } else {
             Workers { count: 1 }
         };
-        let obstacles = obstacles_of(rt, alloc, bitmap, edge, metric, workers)?;
+        let obstacles = ObstacleTable::<M>::of(
+            rt, alloc, bitmap, edge, 0, height, workers, &Passing,
+        )?;
         Ok(Table {
-            width: bitmap.width(),
-            height: bitmap.height(),
-            metric,
+            width,
+            height,
             obstacles,
         })
+    }
+
+    /// How many rows there are.
+    pub fn height(&self) -> u16
+        ensures { result ≡ self.now.height }
+    {
+        self.height
     }
 
     /// Fills a line with the nearest obstacles of row `y`.
     pub fn fill_row(&self, y: u16, nears: &mut [Option<Near>])
         requires row { y < self.now.height }
         requires width { length nears.old ≡ self.now.width }
-        ensures { nears.new ≡ slice_range (nears_of self.now) (y * self.now.width) (y * self.now.width + self.now.width) }
+        ensures { nears.new ≡ slice_range self.now.nears (y * self.now.width) (y * self.now.width + self.now.width) }
     {
-        match self.metric {
-            MetricKind::Euclid2 => self.obstacles.fill_row::<Euclid2>(y, nears),
-            MetricKind::City => self.obstacles.fill_row::<City>(y, nears),
-            MetricKind::Chess => self.obstacles.fill_row::<Chess>(y, nears),
-        }
+        self.obstacles.fill_row(y, nears);
     }
 
     /// Fills a line with the distances of the cells of row `y`, in the metric's unit; `u32::MAX` where there is no obstacle.
     pub fn fill_distances(&self, y: u16, distances: &mut [u32])
         requires row { y < self.now.height }
         requires width { length distances.old ≡ self.now.width }
-        ensures { AreDistances (slice_range (nears_of self.now) (y * self.now.width) (y * self.now.width + self.now.width)) distances.new }
+        ensures { AreDistances (slice_range self.now.nears (y * self.now.width) (y * self.now.width + self.now.width)) distances.new }
     {
-        match self.metric {
-            MetricKind::Euclid2 => self.obstacles.fill_distances::<Euclid2>(y, distances),
-            MetricKind::City => self.obstacles.fill_distances::<City>(y, distances),
-            MetricKind::Chess => self.obstacles.fill_distances::<Chess>(y, distances),
-        }
+        self.obstacles.fill_distances(y, distances);
     }
 
     /// How many threads do the work of so many: as many where the table is large, and one where it has fewer than 2^20 cells.
@@ -119,41 +123,6 @@ const LARGE: u32 = 1 << 20;
 /// Whether a map of this size has so many cells that threads share its rows.
 fn is_large(width: u16, height: u16) -> bool {
     u32::from(width) * u32::from(height) >= LARGE
-}
-
-/// The obstacles by the metric of this name, with this border.
-fn obstacles_of<T: Threads + Sync>(
-    rt: &T,
-    alloc: Global,
-    bitmap: &Bitmap,
-    edge: Edge,
-    metric: MetricKind,
-    workers: Workers,
-) -> Result<ObstacleTable, Refusal>
-    ensures width { IfOk result (λ table. table.width ≡ bitmap.now.width) }
-    ensures from { IfOk result (λ table. table.y0 ≡ 0) }
-    ensures to { IfOk result (λ table. table.y1 ≡ bitmap.now.height) }
-    ensures rows { IfOk result (λ table. AreNears (distance_of metric) bitmap.now edge 0 bitmap.now.height (nears_told (distance_of metric) table)) }
-    ensures memory { IfErr result (λ refusal. refusal ≡ Memory) }
-{
-    let height = bitmap.height();
-    match metric {
-        MetricKind::Euclid2 => {
-            ObstacleTable::of::<Euclid2, Passing, T>(
-                rt, alloc, bitmap, edge, 0, height, workers, &Passing,
-            )
-        }
-        MetricKind::City => {
-            ObstacleTable::of::<City, Passing, T>(
-                rt, alloc, bitmap, edge, 0, height, workers, &Passing,
-            )
-        }
-        MetricKind::Chess => {
-            ObstacleTable::of::<Chess, Passing, T>(
-                rt, alloc, bitmap, edge, 0, height, workers, &Passing,
-            )
-        }
-    }
 }
 
 /// A gate that each worker passes at once.

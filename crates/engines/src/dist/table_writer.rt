@@ -6,14 +6,14 @@ ghost use Rattle.metric.specs.Stream.{Appends, AppendsFront, Counts, CanFail};
 ghost use Rattle.metric.specs.declared.refusal.Refusal.TheVariants.{Memory};
 ghost use Rattle.engines.specs.dist.Parts.{AreShares, ShareRows, IsShare, HasRows, parts_text};
 ghost use Rattle.engines.specs.dist.Table.{table_text};
-ghost use Rattle.engines.specs.dist.Tabled.{IsTableOf, nears_of};
+ghost use Rattle.engines.specs.dist.Tabled.{IsBelowNone, IsTableOf};
 
 use crate::dist::decimals::Decimals;
 use crate::dist::parts::WorkerLines;
 use crate::dist::table::Table;
 use bits::Bitmap;
 use field::Workers;
-use metric::{Edge, MOST_SIDE, MetricKind, Refusal, Sink, WriteFault};
+use metric::{Edge, MOST_SIDE, Metric, Refusal, Sink, WriteFault};
 use std::alloc::Global;
 use std::thread::{Threads, for_each_mut, join_mut};
 
@@ -28,8 +28,8 @@ const LATEST_ROWS: u32 = LATEST_TURN + SET_ROWS;
 
 /// A table, and all that is needed to write it: a set of parts for the even half turns, and one for the odd ones, with room for so many rows in each part.
 #[derive(Drop)]
-pub struct TableWriter {
-    pub table: Table,
+pub struct TableWriter<M: Metric> {
+    pub table: Table<M>,
     pub decimals: Decimals,
     pub rows: u32,
     pub even: Vec<WorkerLines>,
@@ -38,23 +38,23 @@ pub struct TableWriter {
     ghost odd_parts: { AreShares table.width rows odd.items },
 }
 
-impl TableWriter {
-    /// The table of a map, by this metric and with this border, with a part in each set for each of so many workers; a number that is no number of workers is one. How many rows a part has room for depends on whether obstacles are told too. Everything that takes memory is done here.
+impl<M: Metric + Sync> TableWriter<M> {
+    /// The table of a map with this border, with a part in each set for each of so many workers; a number that is no number of workers is one. How many rows a part has room for depends on whether obstacles are told too. Everything that takes memory is done here.
     pub fn of<T: Threads + Sync>(
         rt: &T,
         alloc: Global,
         map: &Bitmap,
-        metric: MetricKind,
         edge: Edge,
         nearest: bool,
         workers: u32,
     ) -> Result<Self, Refusal>
-        ensures table { IfOk result (λ print. IsTableOf metric edge map.now print.table) }
+        requires below { IsBelowNone M.distance }
+        ensures table { IfOk result (λ print. IsTableOf M.distance edge map.now print.table) }
         ensures workers { (1 ≤ workers) × (workers ≤ 16) → IfOk result (λ print. (vec_len print.even ≡ workers) × (vec_len print.odd ≡ workers)) }
         ensures memory { IfErr result (λ refusal. refusal ≡ Memory) }
     {
         let workers = workers_of(workers);
-        let table = Table::of(rt, alloc, map, edge, metric, workers)?;
+        let table = Table::<M>::of(rt, alloc, map, edge, workers)?;
         let rows = table.rows_at_a_time(workers.count, nearest);
         Ok(TableWriter {
             table,
@@ -91,11 +91,11 @@ fn row_after(from: u32, rows: u32, parts: usize) -> u32
 
 /// Writes the lines of all rows. In each half turn what one set of parts holds is written, while the workers put the rows after those into
 /// the other set, so many in each part.
-pub fn write_table<W: Sink, R: Threads + Sync>(
+pub fn write_table<M: Metric + Sync, W: Sink, R: Threads + Sync>(
     rt: &R,
     writer: &mut W,
     decimals: &Decimals,
-    table: &Table,
+    table: &Table<M>,
     even: &mut [WorkerLines],
     odd: &mut [WorkerLines],
     rows: u32,
@@ -104,11 +104,11 @@ pub fn write_table<W: Sink, R: Threads + Sync>(
     requires can_fail { CanFail (W.failed_writes writer.old) }
     requires even { AreShares table.now.width rows even.old }
     requires odd { AreShares table.now.width rows odd.old }
-    ensures all { OnOk result (Appends (W.held writer.old) (table_text nearest table.now.width table.now.height (nears_of table.now)) (W.held writer.new)) }
-    ensures front { OnErr result (AppendsFront (W.held writer.old) (table_text nearest table.now.width table.now.height (nears_of table.now)) (W.held writer.new)) }
+    ensures all { OnOk result (Appends (W.held writer.old) (table_text nearest table.now.width table.now.height table.now.nears) (W.held writer.new)) }
+    ensures front { OnErr result (AppendsFront (W.held writer.old) (table_text nearest table.now.width table.now.height table.now.nears) (W.held writer.new)) }
     ensures counts { Counts (W.failed_writes writer.old) result (W.failed_writes writer.new) }
 {
-    let height = u32::from(table.height);
+    let height = u32::from(table.height());
     put_parts(rt, decimals, table, even, 0, rows, nearest);
     let mut from = 0;
     'turns: while from < height {
@@ -124,11 +124,11 @@ pub fn write_table<W: Sink, R: Threads + Sync>(
 
 /// Writes what the full parts hold, the rows from this one on, and puts the rows after those into the free ones: side by side, or one after
 /// the other where one thread does.
-fn write_and_put<W: Sink, R: Threads + Sync>(
+fn write_and_put<M: Metric + Sync, W: Sink, R: Threads + Sync>(
     rt: &R,
     writer: &mut W,
     decimals: &Decimals,
-    table: &Table,
+    table: &Table<M>,
     full: &[WorkerLines],
     free: &mut [WorkerLines],
     from: u32,
@@ -138,12 +138,12 @@ fn write_and_put<W: Sink, R: Threads + Sync>(
     requires can_fail { CanFail (W.failed_writes writer.old) }
     requires from { from < LATEST_TURN }
     requires few { length full.now ≤ 16 }
-    requires rows { ShareRows nearest table.now.width table.now.height (nears_of table.now) rows from full.now }
+    requires rows { ShareRows nearest table.now.width table.now.height table.now.nears rows from full.now }
     requires free { AreShares table.now.width rows free.old }
     ensures all { OnOk result (Appends (W.held writer.old) (parts_text nearest table.now rows from (length full.now)) (W.held writer.new)) }
     ensures front { OnErr result (AppendsFront (W.held writer.old) (parts_text nearest table.now rows from (length full.now)) (W.held writer.new)) }
     ensures counts { Counts (W.failed_writes writer.old) result (W.failed_writes writer.new) }
-    ensures next { ShareRows nearest table.now.width table.now.height (nears_of table.now) rows (from + rows * length full.now) free.new }
+    ensures next { ShareRows nearest table.now.width table.now.height table.now.nears rows (from + rows * length full.now) free.new }
 {
     let next = row_after(from, rows, full.len());
     if threads_for(table, free.len(), next) == 1 {
@@ -157,11 +157,11 @@ fn write_and_put<W: Sink, R: Threads + Sync>(
 }
 
 /// Writes what the full parts hold in the calling thread, while the workers put the rows from `next` on into the free ones.
-fn write_beside<W: Sink, R: Threads + Sync>(
+fn write_beside<M: Metric + Sync, W: Sink, R: Threads + Sync>(
     rt: &R,
     writer: &mut W,
     decimals: &Decimals,
-    table: &Table,
+    table: &Table<M>,
     full: &[WorkerLines],
     free: &mut [WorkerLines],
     from: u32,
@@ -170,20 +170,20 @@ fn write_beside<W: Sink, R: Threads + Sync>(
     nearest: bool,
 ) -> Result<(), WriteFault>
     requires can_fail { CanFail (W.failed_writes writer.old) }
-    requires rows { ShareRows nearest table.now.width table.now.height (nears_of table.now) rows from full.now }
+    requires rows { ShareRows nearest table.now.width table.now.height table.now.nears rows from full.now }
     requires next { next < LATEST_ROWS }
     requires free { AreShares table.now.width rows free.old }
     ensures all { OnOk result (Appends (W.held writer.old) (parts_text nearest table.now rows from (length full.now)) (W.held writer.new)) }
     ensures front { OnErr result (AppendsFront (W.held writer.old) (parts_text nearest table.now rows from (length full.now)) (W.held writer.new)) }
     ensures counts { Counts (W.failed_writes writer.old) result (W.failed_writes writer.new) }
-    ensures next { ShareRows nearest table.now.width table.now.height (nears_of table.now) rows next free.new }
+    ensures next { ShareRows nearest table.now.width table.now.height table.now.nears rows next free.new }
 {
     let mut put = move ||
-        requires { IsSync R.row × (next < LATEST_ROWS) × AreShares table.now.width rows free.now }
-        ensures { ShareRows nearest table.entry.now.width table.entry.now.height (nears_of table.entry.now) rows next free.exit.now }
+        requires { IsSync R.row × IsSync M.row × (next < LATEST_ROWS) × AreShares table.now.width rows free.now }
+        ensures { ShareRows nearest table.entry.now.width table.entry.now.height table.entry.now.nears rows next free.exit.now }
     { put_parts(rt, decimals, table, free, next, rows, nearest) };
     let mut write = move || -> Result<(), WriteFault>
-        requires { CanFail (W.failed_writes writer.now) × ShareRows nearest table.now.width table.now.height (nears_of table.now) rows from full.now }
+        requires { CanFail (W.failed_writes writer.now) × ShareRows nearest table.now.width table.now.height table.now.nears rows from full.now }
         ensures all { OnOk result (Appends (W.held writer.entry.now) (parts_text nearest table.entry.now rows from (length full.entry.now)) (W.held writer.exit.now)) }
         ensures front { OnErr result (AppendsFront (W.held writer.entry.now) (parts_text nearest table.entry.now rows from (length full.entry.now)) (W.held writer.exit.now)) }
         ensures counts { Counts (W.failed_writes writer.entry.now) result (W.failed_writes writer.exit.now) }
@@ -193,21 +193,21 @@ fn write_beside<W: Sink, R: Threads + Sync>(
 }
 
 /// How many threads put the rows from this one on into so many parts: one each, or one in all where there are no such rows or the table is small.
-fn threads_for(table: &Table, parts: usize, from: u32) -> usize
+fn threads_for<M: Metric + Sync>(table: &Table<M>, parts: usize, from: u32) -> usize
     requires { 1 ≤ parts }
     ensures { 1 ≤ result }
 {
-    if from < u32::from(table.height) {
+    if from < u32::from(table.height()) {
         return table.threads(parts);
     }
     1
 }
 
 /// Puts the lines of the rows from this one on, so many in each part.
-fn put_parts<R: Threads + Sync>(
+fn put_parts<M: Metric + Sync, R: Threads + Sync>(
     rt: &R,
     decimals: &Decimals,
-    table: &Table,
+    table: &Table<M>,
     parts: &mut [WorkerLines],
     from: u32,
     rows: u32,
@@ -215,7 +215,7 @@ fn put_parts<R: Threads + Sync>(
 )
     requires from { from < LATEST_ROWS }
     requires parts { AreShares table.now.width rows parts.old }
-    ensures { ShareRows nearest table.now.width table.now.height (nears_of table.now) rows from parts.new }
+    ensures { ShareRows nearest table.now.width table.now.height table.now.nears rows from parts.new }
 {
     let threads = threads_for(table, parts.len(), from);
     for_each_mut(
@@ -224,22 +224,22 @@ fn put_parts<R: Threads + Sync>(
         threads,
         &|place, part: &mut WorkerLines|
             requires { (place < 16) × (from < LATEST_ROWS) × (1 ≤ rows) × (rows ≤ MOST_SIDE) × IsShare table.now.width rows part.now }
-            ensures { HasRows nearest table.entry.now.width table.entry.now.height (nears_of table.entry.now) rows (from + rows * place) part.exit.now }
+            ensures { HasRows nearest table.entry.now.width table.entry.now.height table.entry.now.nears rows (from + rows * place) part.exit.now }
         { part.put(decimals, table, row_after(from, rows, place), rows, nearest) },
     );
 }
 
 /// Writes what the parts hold, in their order.
-fn write_parts<W: Sink>(
+fn write_parts<M: Metric + Sync, W: Sink>(
     writer: &mut W,
-    table: &Table,
+    table: &Table<M>,
     parts: &[WorkerLines],
     from: u32,
     rows: u32,
     nearest: bool,
 ) -> Result<(), WriteFault>
     requires can_fail { CanFail (W.failed_writes writer.old) }
-    requires rows { ShareRows nearest table.now.width table.now.height (nears_of table.now) rows from parts.now }
+    requires rows { ShareRows nearest table.now.width table.now.height table.now.nears rows from parts.now }
     ensures all { OnOk result (Appends (W.held writer.old) (parts_text nearest table.now rows from (length parts.now)) (W.held writer.new)) }
     ensures front { OnErr result (AppendsFront (W.held writer.old) (parts_text nearest table.now rows from (length parts.now)) (W.held writer.new)) }
     ensures counts { Counts (W.failed_writes writer.old) result (W.failed_writes writer.new) }

@@ -1,13 +1,12 @@
 -- The lines of the rows before y are the text, and take no more than their share of the room.
 use Rattle.std.proofs.Common.{◌≡◌, ◌+◌, ◌-◌, ◌*◌, ◌≤◌, length, vec_capacity, vec_len}
 use Rattle.engines.specs.dist.Table.{rows_text}
-use Rattle.engines.specs.dist.Tabled.{nears_of}
 use Rattle.engines.proofs.dist.parts.put_rows.Given as goal
 
 -- the lines of the rows so far are put
 abbrev pub invariant-rows : goal.invariant-rows
-invariant-rows l = record {
-  text : l.text.items ≡ rows_text l.nearest l.table.width l.from (l.y - l.from) (nears_of l.table);
+invariant-rows g l = record {
+  text : l.text.items ≡ rows_text l.nearest l.table.width l.from (l.y - l.from) l.table.nears;
   taken : vec_len l.text ≤ (l.y - l.from) * (25 * l.table.width + 1);
   room : vec_capacity l.fn.text ≤ vec_capacity l.text;
   row : length l.nears ≡ l.table.width;

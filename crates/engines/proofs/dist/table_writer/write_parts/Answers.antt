@@ -3,7 +3,6 @@ use Rattle.std.proofs.Common.{◌≡◌, ◌+◌, ◌-◌, ◌*◌, ◌∙◌, r
 use Rattle.std.proofs.lemmas.Result.{err_from_is_err_and}
 use Rattle.metric.proofs.Appending.{Appends-nothing}
 use Rattle.engines.specs.dist.Parts.{HasRows}
-use Rattle.engines.specs.dist.Tabled.{nears_of}
 use Rattle.engines.proofs.RowLemmas.{rows_text-none}
 use Rattle.engines.proofs.PartLemmas.{Appends-part, AppendsFront-part}
 use Rattle.engines.proofs.dist.table_writer.write_parts.Goals as goal
@@ -13,7 +12,7 @@ parts-init g c =
     let start : c.args.from + c.args.rows * 0 ≡ c.args.from = omega arith in
     let none : min c.args.table.now.height c.args.from - min c.args.table.now.height c.args.from ≡ 0 = omega arith in
     record {
-      written = rw (start, none, rows_text-none c.args.nearest c.args.table.now.width (min c.args.table.now.height c.args.from) (nears_of c.args.table.now)) (Appends-nothing _);
+      written = rw (start, none, rows_text-none c.args.nearest c.args.table.now.width (min c.args.table.now.height c.args.from) c.args.table.now.nears) (Appends-nothing _);
       none_failed = refl;
     }
 
@@ -21,16 +20,16 @@ pub returns-in_err-write_all-clause-front : goal.returns-in_err-write_all-clause
 returns-in_err-write_all-clause-front g c =
     let table = c.args.table.now in
     let k = c.parts.part-index in
-    let has : HasRows c.args.nearest table.width table.height (nears_of table) c.args.rows (c.args.from + c.args.rows * k) c.part-item.result = rw (← c.part-item.is) at (c.requires.rows k c.part-item.result (omega arith)) in
+    let has : HasRows c.args.nearest table.width table.height table.nears c.args.rows (c.args.from + c.args.rows * k) c.part-item.result = rw (← c.part-item.is) at (c.requires.rows k c.part-item.result (omega arith)) in
     let p = err_from_is_err_and c.from_residual.result c.from_residual.ensures.1 in
-    rw p.1 (AppendsFront-part c.args.nearest table.width table.height (nears_of table) c.args.rows c.args.from k _ c.text.result.now _ _ _ (omega arith) c.parts.invariant.written (c.text.ensures ∙ has.text) c.in_err-write_all.ensures.front)
+    rw p.1 (AppendsFront-part c.args.nearest table.width table.height table.nears c.args.rows c.args.from k _ c.text.result.now _ _ _ (omega arith) c.parts.invariant.written (c.text.ensures ∙ has.text) c.in_err-write_all.ensures.front)
 
 pub parts-preserved : goal.parts-preserved
 parts-preserved g c =
     let table = c.args.table.now in
     let k = c.parts.part-index in
-    let has : HasRows c.args.nearest table.width table.height (nears_of table) c.args.rows (c.args.from + c.args.rows * k) c.part-item.result = rw (← c.part-item.is) at (c.requires.rows k c.part-item.result (omega arith)) in
+    let has : HasRows c.args.nearest table.width table.height table.nears c.args.rows (c.args.from + c.args.rows * k) c.part-item.result = rw (← c.part-item.is) at (c.requires.rows k c.part-item.result (omega arith)) in
     record {
-      written = Appends-part c.args.nearest table.width table.height (nears_of table) c.args.rows c.args.from k c.text.result.now _ _ _ c.parts.invariant.written (c.text.ensures ∙ has.text) c.in_ok-write_all.ensures.all;
+      written = Appends-part c.args.nearest table.width table.height table.nears c.args.rows c.args.from k c.text.result.now _ _ _ c.parts.invariant.written (c.text.ensures ∙ has.text) c.in_ok-write_all.ensures.all;
       none_failed = c.in_ok-write_all.ensures.counts ∙ c.parts.invariant.none_failed;
     }

@@ -2,7 +2,6 @@
 use Rattle.std.proofs.Common.{◌≡◌, ◌+◌, ◌*◌, ◌∙◌, refl, length, min, arith, rules}
 use Rattle.std.proofs.lemmas.Result.{err_from_is_err_and}
 use Rattle.metric.proofs.Appending.{Appends-nothing}
-use Rattle.engines.specs.dist.Tabled.{nears_of}
 use Rattle.engines.proofs.RowLemmas.{rows_text-none}
 use Rattle.engines.proofs.PartLemmas.{Appends-parts, AppendsFront-parts, AreParts-put, table_text-between}
 use Rattle.engines.proofs.dist.table_writer.write_table.Goals as goal
@@ -12,10 +11,10 @@ turns-init g c =
     let table = c.args.table.now in
     let none : min table.height 0 ≡ 0 = omega arith in
     record {
-      written = rw (none, rows_text-none c.args.nearest table.width 0 (nears_of table)) (Appends-nothing _);
+      written = rw (none, rows_text-none c.args.nearest table.width 0 table.nears) (Appends-nothing _);
       none_failed = refl;
       put = c.put_parts.ensures;
-      even = AreParts-put c.args.nearest table.width table.height c.args.rows 0 (nears_of table) c.args.even.now c.put_parts.new.parts c.requires.even c.put_parts.auto.parts c.put_parts.ensures;
+      even = AreParts-put c.args.nearest table.width table.height c.args.rows 0 table.nears c.args.even.now c.put_parts.new.parts c.requires.even c.put_parts.auto.parts c.put_parts.ensures;
       odd = c.requires.odd;
       height_is = search rules;
       from = omega arith;
@@ -36,7 +35,7 @@ returns-in_err-write_and_put-2-clause-front g c =
 pub turns-preserved : goal.turns-preserved
 turns-preserved g c =
     let table = c.args.table.now in
-    let nears = nears_of table in
+    let nears = table.nears in
     let rows = c.args.rows in
     let middle = c.row_after-middle.result in
     let middle_is : middle ≡ c.turns.from + rows * length c.turns.even = c.row_after-middle.ensures.row in
@@ -57,4 +56,4 @@ returns-clause-all g c =
     let table = c.args.table.now in
     let height = c.turns.invariant.height_is in
     let last : min table.height c.turns.from ≡ table.height = omega arith in
-    rw (table_text-between c.args.nearest table.width table.height (nears_of table)) (rw last at c.turns.invariant.written)
+    rw (table_text-between c.args.nearest table.width table.height table.nears) (rw last at c.turns.invariant.written)
