@@ -16,3 +16,4 @@ mod StepAnswering
 mod Telling
 mod ServingLemmas
 mod Requests
+mod Talks

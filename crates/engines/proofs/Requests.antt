@@ -10,8 +10,7 @@ use Rattle.std.proofs.lemmas.Slice.Eq.{bytes_eq-Decides}
 use Rattle.metric.specs.Stream.{Appends, Takes}
 use Rattle.metric.proofs.Appending.{Appends-more, Appends-nothing}
 use Rattle.metric.proofs.Taking.{Takes-nothing, Takes-behind}
-use Rattle.proto.specs.Said.{said, verb_in}
-use Rattle.engines.specs.ask.Asking.{IsRequest, IsUnended, bytes_behind}
+use Rattle.engines.specs.ask.Asking.{IsCounted, IsRequest, IsUnended, counted_by}
 use Rattle.engines.specs.streams.Passing.{Asks, AsksAll, EndsByBye, EndsCut, Gathers, GathersAll, PassesOn, PutsCount, PutsFewer, PutsLine, PutsUnended}
 use Rattle.engines.proofs.Gathering.{Gathers-both, Gathers-taken}
 
@@ -67,21 +66,21 @@ line_and_bytes before middle after line part empty first second =
     second ∙ (ap (λ t. t ++ part) (first ∙ ap (λ t. t ++ (line ++ 10 ∷ [])) empty) ∙ append_assoc line (10 ∷ []) part)
 
 -- the count of a line, taken from the line without its end, is the line's
-counts_so : (before middle line stripped : List ℕ) (count : ℕ) → before ≡ [] → middle ≡ before ++ (line ++ 10 ∷ []) → ((front : List ℕ) → middle ≡ front ++ 10 ∷ [] → stripped ≡ strip_carriage_return front)
-    → count ≡ bytes_behind (verb_in stripped) (said stripped) → count ≡ bytes_behind (verb_in (strip_carriage_return line)) (said (strip_carriage_return line))
-counts_so before middle line stripped count empty first strips is = is ∙ ap (λ l. bytes_behind (verb_in l) (said l)) (strips line (first ∙ ap (λ t. t ++ (line ++ 10 ∷ [])) empty))
+counts_so : (counts : List ℕ → ℕ) (before middle line stripped : List ℕ) (count : ℕ) → before ≡ [] → middle ≡ before ++ (line ++ 10 ∷ []) → ((front : List ℕ) → middle ≡ front ++ 10 ∷ [] → stripped ≡ strip_carriage_return front)
+    → count ≡ counts stripped → count ≡ counts (strip_carriage_return line)
+counts_so counts before middle line stripped count empty first strips is = is ∙ ap counts (strips line (first ∙ ap (λ t. t ++ (line ++ 10 ∷ [])) empty))
 
--- a line and the bytes that it counts are a request
-pub request_read : {T E : Type 0} (before middle after stripped : List ℕ) (count : ℕ) (result : Result T E) → before ≡ [] → PutsLine before middle → ((front : List ℕ) → middle ≡ front ++ 10 ∷ [] → stripped ≡ strip_carriage_return front)
-    → count ≡ bytes_behind (verb_in stripped) (said stripped) → OnOk result (PutsCount count middle after) → OnOk result (IsRequest after)
-request_read before middle after stripped count (Ok value) empty first strips is second = record {
+-- a line and the bytes that it counts were read
+pub counted_read : {T E : Type 0} (counts : List ℕ → ℕ) (before middle after stripped : List ℕ) (count : ℕ) (result : Result T E) → before ≡ [] → PutsLine before middle → ((front : List ℕ) → middle ≡ front ++ 10 ∷ [] → stripped ≡ strip_carriage_return front)
+    → count ≡ counts stripped → OnOk result (PutsCount count middle after) → OnOk result (IsCounted counts after)
+counted_read counts before middle after stripped count (Ok value) empty first strips is second = record {
   line = first.line;
   counted = second.part;
   unended = first.unended;
-  count = second.many ∙ counts_so before middle first.line stripped count empty first.after_is strips is;
+  count = second.many ∙ counts_so counts before middle first.line stripped count empty first.after_is strips is;
   bytes_are = line_and_bytes before middle after first.line second.part empty first.after_is second.after_is;
 }
-request_read before middle after stripped count (Err fault) empty first strips is second = tt
+counted_read counts before middle after stripped count (Err fault) empty first strips is second = tt
 
 -- where a stream ends in a line, less than a request was read
 pub cut_line : (unread left : Option (List ℕ)) (before after : List ℕ) → before ≡ [] → PutsUnended before after × GathersAll unread before after left → EndsCut unread left
@@ -94,7 +93,7 @@ cut_line unread left before after empty (part, all) = record {
 
 -- where a stream ends in the bytes that a line counts, less than a request was read
 pub cut_bytes : (unread between left : Option (List ℕ)) (before middle after stripped : List ℕ) (count : ℕ) → before ≡ [] → PutsLine before middle → Gathers unread before middle between
-    → ((front : List ℕ) → middle ≡ front ++ 10 ∷ [] → stripped ≡ strip_carriage_return front) → count ≡ bytes_behind (verb_in stripped) (said stripped)
+    → ((front : List ℕ) → middle ≡ front ++ 10 ∷ [] → stripped ≡ strip_carriage_return front) → count ≡ counted_by stripped
     → PutsFewer count middle after × GathersAll between middle after left → EndsCut unread left
 cut_bytes unread between left before middle after stripped count empty first one strips is (second, all) = record {
   tail = after;
@@ -102,7 +101,7 @@ cut_bytes unread between left before middle after stripped count empty first one
     line = first.line;
     counted = second.part;
     unended = first.unended;
-    few = subst (λ (n : ℕ). length second.part < n) (counts_so before middle first.line stripped count empty first.after_is strips is) second.few;
+    few = subst (λ (n : ℕ). length second.part < n) (counts_so counted_by before middle first.line stripped count empty first.after_is strips is) second.few;
     bytes_are = line_and_bytes before middle after first.line second.part empty first.after_is second.after_is;
   });
   taken = Gathers-taken unread left before after empty (Gathers-both _ _ _ _ _ _ one all.gathered);

@@ -1,2 +1,3 @@
 -- What the command `ask` asks and tells.
 pub mod Asking
+pub mod Talking

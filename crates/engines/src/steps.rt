@@ -8,7 +8,6 @@ mod answer;
 mod line;
 mod opening;
 mod run;
-pub mod text;
 
 use crate::REFUSED;
 use crate::streams::input::{InputStop, read_to_end};

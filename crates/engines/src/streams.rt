@@ -6,3 +6,4 @@ pub mod input;
 pub mod output;
 pub mod socket;
 pub mod standard;
+pub mod text;

@@ -15,24 +15,28 @@ bytes_behind other line = 0
 abbrev pub IsUnended : List ℕ → Type 0
 IsUnended bytes = All (λ byte. byte ≢ 10) bytes
 
--- a server reads so many bytes after a line, which comes without its LF
+-- a server reads so many bytes after a line
 abbrev pub counted_by : List ℕ → ℕ
-counted_by line = bytes_behind (verb_in (strip_carriage_return line)) (said (strip_carriage_return line))
+counted_by line = bytes_behind (verb_in line) (said line)
 
--- a request is a line with its LF, and the bytes that it counts
-pub record IsRequest (bytes : List ℕ) : Type 0 where
+-- these bytes are a line with its LF, and as many bytes as the line counts without the CR at its end
+pub record IsCounted (counts : List ℕ → ℕ) (bytes : List ℕ) : Type 0 where
   pub line : List ℕ
   pub counted : List ℕ
   pub unended : IsUnended line
-  pub count : length counted ≡ counted_by line
+  pub count : length counted ≡ counts (strip_carriage_return line)
   pub bytes_are : bytes ≡ line ++ (10 ∷ counted)
+
+-- a request is a line with its LF, and the bytes that a server reads after it
+abbrev pub IsRequest : List ℕ → Type 0
+IsRequest = IsCounted counted_by
 
 -- these bytes are a line with its LF, and fewer bytes than it counts
 pub record LacksBytes (bytes : List ℕ) : Type 0 where
   pub line : List ℕ
   pub counted : List ℕ
   pub unended : IsUnended line
-  pub few : length counted < counted_by line
+  pub few : length counted < counted_by (strip_carriage_return line)
   pub bytes_are : bytes ≡ line ++ (10 ∷ counted)
 
 -- these bytes are less than a request

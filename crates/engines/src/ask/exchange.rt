@@ -1,14 +1,18 @@
 //! A line that is sent, and its reply.
 
-ghost use Rattle.std.specs.Prelude.{◌≡◌, ◌≢◌, ℕ, List, OnOk, IfErr, Err};
+ghost use Rattle.std.specs.Prelude.{◌≡◌, ◌≢◌, ◌⊎◌, ℕ, List, [], OnOk, OnErr, IfErr, Err};
 ghost use Rattle.metric.specs.Stream.{Appends, AppendsFront, CanFail, Takes};
+ghost use Rattle.engines.specs.ask.Asking.{IsCounted};
+ghost use Rattle.engines.specs.ask.Talking.{IsReplyTo, asks_for_bytes, bytes_promised};
 ghost use Rattle.engines.specs.streams.Passing.{Gathers};
+ghost use Rattle.engines.specs.streams.TextLines.{lines_of};
 ghost use Rattle.engines.specs.declared.ask.Stop.TheVariants.{Net, Standard};
 ghost use Rattle.engines.specs.declared.streams.gather.PartStop.TheVariants.{Failed};
 
 use crate::ask::Stop;
 use crate::ask::request::without_end;
 use crate::streams::gather::{PartStop, read_count, read_line};
+use crate::streams::text::split_line;
 use metric::Stream;
 use proto::{Verb, only_number, split_word, verb_of};
 
@@ -23,15 +27,23 @@ pub fn exchange<S: Stream>(stream: &mut S, request: &[u8], reply: &mut Vec<u8>) 
     ensures counts { result ≢ Err Net → (S.failed_reads stream.new ≡ S.failed_reads stream.old)
         × (S.failed_writes stream.new ≡ S.failed_writes stream.old) }
     ensures net { result ≢ Err Standard }
+    ensures reply { OnOk result (IsReplyTo request.now reply.new.items) }
+    ensures cut { OnErr result ((S.rest stream.new ≡ S.rest stream.old)
+        ⊎ Appends (S.held stream.old) request.now (S.held stream.new)) }
 {
     send(stream, request)?;
     reply.clear();
     read_reply(stream, asks_for_bytes(request), reply)
 }
 
-/// Whether a good reply to the line is followed by bytes.
-fn asks_for_bytes(request: &[u8]) -> bool {
-    verb_of(without_end(request)) == Some(Verb::Dump)
+/// Whether a good reply to a request is followed by bytes.
+fn asks_for_bytes(request: &[u8]) -> bool
+    ensures { result ≡ asks_for_bytes (lines_of request.now) }
+{
+    match split_line(request) {
+        Some((line, _)) => matches!(verb_of(line), Some(Verb::Dump)),
+        None => false,
+    }
 }
 
 /// Sends a line.
@@ -57,6 +69,7 @@ fn read_reply<S: Stream>(stream: &mut S, dump: bool, reply: &mut Vec<u8>) -> Res
     ensures written { S.written stream.new ≡ S.written stream.old }
     ensures reads { result ≢ Err Net → S.failed_reads stream.new ≡ S.failed_reads stream.old }
     ensures net { result ≢ Err Standard }
+    ensures reply { reply.old.items ≡ [] → OnOk result (IsCounted (bytes_promised dump) reply.new.items) }
 {
     match read_whole(stream, dump, reply) {
         Ok(()) => Ok(()),
@@ -72,15 +85,21 @@ fn read_whole<S: Stream>(stream: &mut S, dump: bool, reply: &mut Vec<u8>) -> Res
     ensures taken { (taken : List ℕ) × Takes (S.rest stream.old) taken (S.rest stream.new) }
     ensures written { S.written stream.new ≡ S.written stream.old }
     ensures reads { result ≢ Err Failed → S.failed_reads stream.new ≡ S.failed_reads stream.old }
+    ensures reply { reply.old.items ≡ [] → OnOk result (IsCounted (bytes_promised dump) reply.new.items) }
 {
     read_line(stream, reply)?;
-    let count = if dump { counted(reply.as_slice()) } else { 0 };
+    let count = promised(without_end(reply.as_slice()), dump);
     read_count(stream, reply, count)
 }
 
-/// How many bytes follow a line that is `OK` and a number; none follow another one.
-fn counted(line: &[u8]) -> u32 {
-    let (word, rest) = split_word(without_end(line));
+/// How many bytes follow a line that is `OK` and a number, where bytes were asked for; none follow another one.
+fn promised(line: &[u8], dump: bool) -> u32
+    ensures { result ≡ bytes_promised dump line.now }
+{
+    if !dump {
+        return 0;
+    }
+    let (word, rest) = split_word(line);
     if word != b"OK".as_slice() {
         return 0;
     }

@@ -3,8 +3,7 @@
 ghost use Rattle.std.specs.Prelude.{◌≡◌, ◌≢◌, ◌++◌, ◌∷◌, [], ℕ, List, ◌+◌, OnOk, Ok, Err, true, false};
 ghost use Rattle.std.specs.Str.Lines.{strip_carriage_return};
 ghost use Rattle.metric.specs.Stream.{CanFail, Takes};
-ghost use Rattle.proto.specs.Said.{said, verb_in};
-ghost use Rattle.engines.specs.ask.Asking.{IsRequest, bytes_behind};
+ghost use Rattle.engines.specs.ask.Asking.{IsRequest, counted_by};
 ghost use Rattle.engines.specs.streams.Passing.{EndsCut, Gathers};
 ghost use Rattle.engines.specs.declared.ask.Stop.TheVariants.{Standard};
 ghost use Rattle.engines.specs.declared.streams.gather.PartStop.TheVariants.{Ended, Failed};
@@ -60,7 +59,7 @@ pub fn without_end(line: &[u8]) -> &[u8]
 
 /// How many bytes a server reads after a line.
 fn counted(line: &[u8]) -> u32
-    ensures { result ≡ bytes_behind (verb_in line.now) (said line.now) }
+    ensures { result ≡ counted_by line.now }
 {
     let Some((Verb::Stamp, rest)) = split_verb(line) else {
         return 0;

@@ -3,6 +3,7 @@ use Rattle.std.proofs.Common.{◌∙◌, rules}
 use Rattle.std.proofs.lemmas.Result.{err_from_is_err_and}
 use Rattle.engines.proofs.Gathering.{PassesOn-both, PassesFront-both}
 use Rattle.engines.proofs.Requests.{Asks-both, Asks-passes, AsksAll-both}
+use Rattle.engines.proofs.Talks.{Exchanges-both, Breaks-behind, Breaks-none}
 use Rattle.engines.proofs.ask.ask_lines.Goals as goal
 
 pub returns-in_err-ask_line-clause-sent : goal.returns-in_err-ask_line-clause-sent
@@ -23,6 +24,7 @@ pub lines-preserved : goal.lines-preserved
 lines-preserved g c = record {
   asked = Asks-both _ _ _ _ _ _ c.lines.invariant.asked (c.in_ok-ask_line.ensures.went (search rules));
   printed = PassesOn-both _ _ _ _ _ _ c.lines.invariant.printed c.in_ok-ask_line.ensures.printed;
+  order = Exchanges-both _ _ _ c.lines.invariant.order (c.in_ok-ask_line.ensures.exchanged (search rules));
   stream_reads = c.in_ok-ask_line.ensures.stream_reads (λ e. absurd cc) ∙ c.lines.invariant.stream_reads;
   stream_writes = c.in_ok-ask_line.ensures.stream_writes (λ e. absurd cc) ∙ c.lines.invariant.stream_writes;
   reader = c.in_ok-ask_line.ensures.reader (λ e. absurd cc) ∙ c.lines.invariant.reader;
@@ -32,3 +34,14 @@ lines-preserved g c = record {
 pub returns-then-not-branch-clause-asked : goal.returns-then-not-branch-clause-asked
 returns-then-not-branch-clause-asked g c =
     AsksAll-both _ _ _ _ _ _ _ _ _ c.lines.invariant.printed.bytes c.lines.invariant.asked c.lines.invariant.printed.written (c.in_ok-ask_line.ensures.over (search rules))
+
+pub returns-in_err-ask_line-clause-order : goal.returns-in_err-ask_line-clause-order
+returns-in_err-ask_line-clause-order g c =
+    Breaks-behind _ _ _ c.lines.invariant.order (c.in_err-ask_line.ensures.order (λ e. absurd cc))
+
+pub returns-then-not-branch-clause-order : goal.returns-then-not-branch-clause-order
+returns-then-not-branch-clause-order g c =
+    Breaks-behind _ _ _ c.lines.invariant.order (c.in_ok-ask_line.ensures.order (search rules))
+
+pub returns-clause-order : goal.returns-clause-order
+returns-clause-order g c = Breaks-none _ _ c.lines.invariant.order

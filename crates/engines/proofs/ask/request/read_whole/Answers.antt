@@ -1,7 +1,8 @@
 -- What is read is a line and the bytes that it counts, or less where the reader ends before.
 use Rattle.std.proofs.Common.{◌∙◌, rules}
+use Rattle.engines.specs.ask.Asking.{counted_by}
 use Rattle.engines.proofs.Gathering.{taken_behind}
-use Rattle.engines.proofs.Requests.{cut_bytes, cut_line, gathered_both, request_read}
+use Rattle.engines.proofs.Requests.{counted_read, cut_bytes, cut_line, gathered_both}
 use Rattle.engines.proofs.ask.request.read_whole.Goals as goal
 
 pub returns-clause-all : goal.returns-clause-all
@@ -12,7 +13,7 @@ returns-clause-taken g c = taken_behind _ _ _ _ _ c.in_ok-read_line.ensures.all 
 
 pub returns-clause-request : goal.returns-clause-request
 returns-clause-request g c = λ empty.
-    request_read _ _ _ c.without_end.result.now _ c.read_count.result empty c.in_ok-read_line.ensures.line (λ front is. c.without_end.ensures front (c.as_slice.ensures.value ∙ is)) c.counted-count.ensures c.read_count.ensures.count
+    counted_read counted_by _ _ _ c.without_end.result.now _ c.read_count.result empty c.in_ok-read_line.ensures.line (λ front is. c.without_end.ensures front (c.as_slice.ensures.value ∙ is)) c.counted-count.ensures c.read_count.ensures.count
 
 pub returns-clause-ended : goal.returns-clause-ended
 returns-clause-ended g c = λ empty ended.

@@ -1,7 +1,7 @@
 -- A text with an LF has the line before its first LF and then the lines of the rest; without one it has no line.
 use Rattle.std.proofs.Common.{sym}
 use Rattle.engines.proofs.LineSplitting.{lines_of-more, lines_of-none}
-use Rattle.engines.proofs.steps.text.split_line.Goals as goal
+use Rattle.engines.proofs.streams.text.split_line.Goals as goal
 
 pub returns-clause-lines : goal.returns-clause-lines
 returns-clause-lines c = rw c.without_cr.ensures (lines_of-more c.args.text.now c.in_ok-end.end (sym c.in_ok-end.ensures))

@@ -1,0 +1,132 @@
+-- A conversation of `ask`: each request is sent once the reply to the one before it was received and printed. This project's own rule.
+use Rattle.std.specs.Prelude.{◌≡◌, ℕ, ◌⊎◌, All, Bool, false, true, List, [], ◌∷◌, ◌++◌, map, Option, Some, None, bytes_eq, codes, unwrap_or, if◌then◌else◌}
+use Rattle.std.specs.List.{concat}
+use Rattle.metric.specs.Stream.{Appends, AppendsFront, Takes}
+use Rattle.proto.specs.Numbers.{numbers, only_number}
+use Rattle.proto.specs.Said.{verb_in}
+use Rattle.proto.specs.Words.{words}
+use Rattle.proto.specs.declared.verb.Verb.{Verb}
+use Rattle.proto.specs.declared.verb.Verb.TheVariants as verbs
+use Rattle.engines.specs.ask.Asking.{IsCounted, IsRequest}
+use Rattle.engines.specs.streams.TextLines.{lines_of}
+use Rattle.engines.specs.words.Refusals.{memory_text, net_text}
+
+-- the command is a dump
+abbrev pub is_dump : Option Verb → Bool
+is_dump (Some verbs.Dump) = true
+is_dump other = false
+
+-- the first of a request's lines asks for bytes after its reply
+abbrev pub asks_for_bytes : List (List ℕ) → Bool
+asks_for_bytes [] = false
+asks_for_bytes (line ∷ others) = is_dump (verb_in line)
+
+-- `OK` and one number count so many bytes; other words count none
+abbrev pub count_told : List (List ℕ) → ℕ
+count_told [] = 0
+count_told (word ∷ others) = if bytes_eq word (codes "OK") then unwrap_or (only_number (numbers others)) 0 else 0
+
+-- so many bytes follow a line of a reply, where bytes were asked for or not
+abbrev pub bytes_promised : Bool → List ℕ → ℕ
+bytes_promised false line = 0
+bytes_promised true line = count_told (words line)
+
+-- this is a whole reply to a request: a line with its LF, and the bytes that it counts where they were asked for
+abbrev pub IsReplyTo : List ℕ → List ℕ → Type 0
+IsReplyTo request = IsCounted (bytes_promised (asks_for_bytes (lines_of request)))
+
+-- a request and its reply
+pub record Exchange : Type 0 where
+  pub request : List ℕ
+  pub reply : List ℕ
+
+-- an exchange is a whole request with a whole reply to it
+pub record IsExchange (e : Exchange) : Type 0 where
+  pub request_is : IsRequest e.request
+  pub reply_is : IsReplyTo e.request e.reply
+
+-- these are the bytes of some exchanges' requests
+abbrev pub requests_of : List Exchange → List ℕ
+requests_of exchanges = concat (map (λ e. e.request) exchanges)
+
+-- these are the bytes of some exchanges' replies
+abbrev pub replies_of : List Exchange → List ℕ
+replies_of exchanges = concat (map (λ e. e.reply) exchanges)
+
+-- what is left to read of the requests, what was sent, what is left to receive of the replies, and what was printed
+pub record Talk : Type 0 where
+  pub unread : Option (List ℕ)
+  pub sent : Option (List ℕ)
+  pub unheard : Option (List ℕ)
+  pub printed : Option (List ℕ)
+
+-- requests were read and sent, and their replies received and printed, all of them whole
+pub record Exchanges (before after : Talk) : Type 0 where
+  pub exchanges : List Exchange
+  pub are : All IsExchange exchanges
+  pub read : Takes before.unread (requests_of exchanges) after.unread
+  pub sent : Appends before.sent (requests_of exchanges) after.sent
+  pub heard : Takes before.unheard (replies_of exchanges) after.unheard
+  pub printed : Appends before.printed (replies_of exchanges) after.printed
+
+-- no more than a part of a request was read
+pub record IsCutReading (before after : Talk) : Type 0 where
+  pub part : List ℕ
+  pub read : Takes before.unread part after.unread
+  pub sent : after.sent ≡ before.sent
+  pub heard : after.unheard ≡ before.unheard
+  pub printed : after.printed ≡ before.printed
+
+-- a request was read, and no more than a beginning of it was sent
+pub record IsCutSending (before after : Talk) : Type 0 where
+  pub request : List ℕ
+  pub request_is : IsRequest request
+  pub read : Takes before.unread request after.unread
+  pub sent : AppendsFront before.sent request after.sent
+  pub heard : after.unheard ≡ before.unheard
+  pub printed : after.printed ≡ before.printed
+
+-- a request was read and sent, and then some bytes were received, but no whole reply
+pub record IsCutHearing (before after : Talk) : Type 0 where
+  pub request : List ℕ
+  pub part : List ℕ
+  pub request_is : IsRequest request
+  pub read : Takes before.unread request after.unread
+  pub sent : Appends before.sent request after.sent
+  pub heard : Takes before.unheard part after.unheard
+  pub printed : after.printed ≡ before.printed
+
+-- a request was read and sent and its reply received, and no more than a beginning of the reply was printed
+pub record IsCutPrinting (before after : Talk) : Type 0 where
+  pub exchange : Exchange
+  pub whole : IsExchange exchange
+  pub read : Takes before.unread exchange.request after.unread
+  pub sent : Appends before.sent exchange.request after.sent
+  pub heard : Takes before.unheard exchange.reply after.unheard
+  pub printed : AppendsFront before.printed exchange.reply after.printed
+
+-- an exchange was cut off at one of its four steps, of which the later ones weren't begun
+abbrev pub IsCutOff : Talk → Talk → Type 0
+IsCutOff before after =
+    IsCutReading before after ⊎ (IsCutSending before after ⊎ (IsCutHearing before after ⊎ IsCutPrinting before after))
+
+-- exchanges, and then one that was cut off
+pub record Breaks (before after : Talk) : Type 0 where
+  pub between : Talk
+  pub exchanges : Exchanges before between
+  pub cut : IsCutOff between after
+
+-- a run of `ask` tells nothing at its end, or why it ended
+abbrev pub IsLastLine : List ℕ → Type 0
+IsLastLine line = (line ≡ []) ⊎ ((line ≡ net_text) ⊎ (line ≡ memory_text))
+
+-- exchanges, then one that was cut off, and then no more than a beginning of the line that tells why
+pub record Converses (before after : Talk) : Type 0 where
+  pub cut : Talk
+  pub line : List ℕ
+  pub breaks : Breaks before cut
+  pub line_is : IsLastLine line
+  pub told : AppendsFront cut.printed line after.printed
+  pub unread : after.unread ≡ cut.unread
+  pub sent : after.sent ≡ cut.sent
+  pub unheard : after.unheard ≡ cut.unheard
