@@ -78,6 +78,15 @@ check_dist() {
     text=$(cd / && image | clearmap dist | head -n 1); expect 'another folder' $? 0 "$text" '0 1 4'
 }
 
+# Where there is no memory for an image, it is told by one whole line.
+check_memory() {
+    (printf 'P4\n4096 4096\n'; head -c $((512 * 4096)) /dev/zero) > "$room/blank"
+    (ulimit -v 40000 && clearmap dist) < "$room/blank" > "$room/said"
+    expect 'dist with little memory' $? 1 "$(od -An -c "$room/said" | tr -d ' ')" 'ERR5Memory\n'
+    (ulimit -v 12000 && clearmap serve --connections 1) < "$room/blank" > "$room/said"
+    expect 'serve with little memory' $? 1 "$(od -An -c "$room/said" | tr -d ' ')" 'ERR5Memory\n'
+}
+
 check_steps() {
     events='OPEN 64 64 3 2 1 10\nL 0\n'
     text=$(printf "$events" | clearmap steps); expect 'good steps' $? 0 "$text" "$(printf 'OPENED 1\nNOW 0 0')"
@@ -139,10 +148,11 @@ check_ask() {
     ended; expect 'a server of six clients, to which two others sent nothing' "$status" 0 "$text" 'SERVED 6 3'
 }
 
-# Where no descriptor is left nothing can be accepted: such a connection counts, and the server waits before it tries again. It has four for itself.
+# Where no descriptor is left nothing can be accepted: such a connection counts, and the server waits before it tries
+# again, twice as long each time, so that two seconds have room for eight of twenty. It has four for itself.
 check_descriptors() {
     descriptors=4
-    serve --connections 1000; expect 'a server that may have no connection' $? 0 '' ''
+    serve --connections 20; expect 'a server that may have no connection' $? 0 '' ''
     timeout 20 python3 -c "import socket, time; held = socket.create_connection(('127.0.0.1', $port), 5); time.sleep(2)"; expect 'a connection that waits' $? 0 '' ''
     kill -0 "$server" 2> /dev/null; expect 'a server that goes on' $? 0 "$(sed 1d "$room/said")" ''
     kill "$server" 2> /dev/null
@@ -177,6 +187,7 @@ PYTHON
 }
 
 check_dist
+check_memory
 check_steps
 check_words
 check_serve
