@@ -109,6 +109,7 @@ public:
 
     /// Ends a row without cells, or the last row.
     void end_row() {
+        if (above_.empty() && here_.empty()) return;
         for (const Box& box : above_)
             if (box.y0 < box.y1) boxes.push_back(box);
         above_.swap(here_);

@@ -95,7 +95,7 @@ public:
     }
 
 private:
-    static constexpr std::size_t few_cells = 64;        // which are asked for one by one
+    static constexpr std::size_t few_cells = 128;       // which are asked for one by one
     static constexpr std::size_t cells_a_change = 512;  // a field of fewer is made anew
 
     static Size checked(Size size) {

@@ -1,10 +1,8 @@
 // Tests of a field that follows its map (clearmap_field.hpp): test_field MAPS, how many random
 // maps. After each change all cells are compared with those of a field that is made anew, which
 // test_map.cpp compares with a search of all obstacles. Wants the linker's --wrap=malloc.
-#include "clearmap_map.hpp"
+#include "drawing.hpp"
 #include "testing.hpp"
-
-#include <random>
 
 // ---- memory that is refused
 
@@ -41,51 +39,6 @@ constexpr bool takes_whole(Call) {
     return std::is_invocable_v<Call, Field&, int> && !std::is_invocable_v<Call, Field&, double>;
 }
 static_assert(takes_whole(paint) && takes_whole(clear));
-
-// ---- maps and boxes at random
-
-using detail::Box;
-
-static std::mt19937 random_numbers(11);
-static int below(int count) {
-    return std::uniform_int_distribution<int>(0, count - 1)(random_numbers);
-}
-static Metric random_metric() { return static_cast<Metric>(below(3)); }
-
-static Box random_box(Size size, int most) {
-    int x = below(size.width), y = below(size.height);
-    return {x, y, x + 1 + below(std::min(most, size.width - x)),
-            y + 1 + below(std::min(most, size.height - y))};
-}
-
-/// Few obstacles or many, or none.
-static Map random_map(int widest, int highest) {
-    Map map({1 + below(widest), 1 + below(highest)}, below(2) ? Edge::wall : Edge::open);
-    const Size size = map.size();
-    for (int k = below(2) ? below(8) : below(size.width * size.height); k > 0; --k) {
-        int x = below(size.width), y = below(size.height);
-        map.paint(x, y, x + 1, y + 1);
-    }
-    return map;
-}
-
-/// Paints or clears a box, of a map or a field.
-template <class Drawn>
-static std::uint32_t draw(Drawn& drawn, const Box& b, bool obstacles) {
-    return obstacles ? drawn.paint(b.x0, b.y0, b.x1, b.y1) : drawn.clear(b.x0, b.y0, b.x1, b.y1);
-}
-
-/// Whether a field is that of a map, cell by cell.
-static bool shows(const Field& field, const Map& map) {
-    const Field anew(map, field.metric());
-    if (field.map() != map || !(field.size() == map.size())) return false;
-    for (int y = 0; y < map.size().height; ++y)
-        for (int x = 0; x < map.size().width; ++x)
-            if (field.distance({x, y}) != anew.distance({x, y}) ||
-                !(field.obstacle({x, y}) == anew.obstacle({x, y})))
-                return false;
-    return true;
-}
 
 // ---- the tests
 
@@ -153,6 +106,40 @@ static void far_obstacles() {
             draw(map, box, false);
             CHECK(shows(field, map));
         }
+    }
+}
+
+/// Obstacles on a lattice, most of which go at once: what is left is far from the cells round each.
+static void gone_together(int maps) {
+    for (int i = 0; i < maps; ++i) {
+        Map map({100 + below(200), 100 + below(200)}, i % 2 ? Edge::wall : Edge::open);
+        const int step = 18 + below(20), left = below(4);
+        Map rest = map;
+        for (int y = step / 2; y < map.size().height; y += step)
+            for (int x = step / 2; x < map.size().width; x += step) {
+                draw(map, {x, y, x + 1, y + 1}, true);
+                draw(rest, {x, y, x + 1, y + 1}, below(20) < left);
+            }
+        Field field(map, static_cast<Metric>(i % 3), 1);
+        field.update(rest);
+        CHECK(shows(field, rest));
+    }
+}
+
+/// The window round the cells of the obstacle at (97, 97), 15 by 15 of them, begins in row 75. A
+/// cell has one obstacle in it, and another as near that lies one row over it and goes first.
+static void tie_outside() {
+    Map rest({200, 200});
+    draw(rest, {97, 74, 98, 75}, true);
+    draw(rest, {113, 90, 114, 91}, true);
+    Map map = rest;
+    for (int y : {82, 97, 112})
+        for (int x : {82, 97, 112}) draw(map, {x, y, x + 1, y + 1}, true);
+    for (Metric metric : {Metric::euclid2, Metric::city, Metric::chess}) {
+        Field field(map, metric);
+        CHECK(field.obstacle({97, 90}) == (Cell{97, 97}));
+        field.update(rest);
+        CHECK(field.obstacle({97, 90}) == (Cell{97, 74}) && shows(field, rest));
     }
 }
 
@@ -231,6 +218,8 @@ int main(int count, char** words) {
     drawn(maps, 150, 90, 20);
     updated(5 * maps);
     far_obstacles();
+    gone_together(2 * maps);
+    tie_outside();
     Map map({200, 100}, Edge::wall);
     map.paint(90, 40, 98, 48), map.paint(5, 5, 6, 6), map.paint(150, 90, 151, 91);
     without_memory(map, 5, [](auto& drawn) { drawn.clear(90, 40, 98, 48); });
