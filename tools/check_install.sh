@@ -1,6 +1,6 @@
 #!/bin/sh
 # Installs what is built into a scratch folder, and tries it there: the program, the pages of the manual, completion, the unit, the clients, the scripts,
-# the package for Debian, and the wrapper ./clearmap through a symbolic link and without rt. Leaves out, with a word, what isn't installed here.
+# and the wrapper ./clearmap through a symbolic link and without rt. Leaves out, with a word, what isn't installed here.
 # What may wait has a time limit.
 set -u
 cd "$(dirname "$0")/.." || exit 1
@@ -96,7 +96,7 @@ fi
 
 # What make install puts in place; `all` is left to the program that stands.
 if command -v make > /dev/null; then
-    make -s -o all install DESTDIR="$scratch/root" PREFIX=/usr || wrong=$((wrong + 1))
+    make -s -o all install-program DESTDIR="$scratch/root" PREFIX=/usr || wrong=$((wrong + 1))
 else
     echo 'make install left out: there is no make'
     exit "$wrong"
@@ -213,30 +213,6 @@ else
 fi
 kill "$server" 2> /dev/null
 
-# The client by pip, without a network.
-if python3 -m pip --version > /dev/null 2>&1; then
-    PIP_NO_INDEX=1 PIP_DISABLE_PIP_VERSION_CHECK=1 timeout 120 python3 -m pip install --no-cache-dir --root-user-action ignore -q --target "$scratch/pip" clients/python || wrong=$((wrong + 1))
-    expect 'the client by pip' "clearmap $(PYTHONPATH=$scratch/pip python3 -c 'import clearmap, importlib.metadata as it; print(it.version("clearmap"))')" "$version"
-    expect 'its types' "$(ls "$scratch/pip/clearmap/py.typed")" "$scratch/pip/clearmap/py.typed"
-else
-    echo 'pip install ./clients/python left out: there is no pip'
-fi
-
-# The package for Debian, unpacked.
-if command -v dpkg-deb > /dev/null && command -v strip > /dev/null; then
-    deb=$(timeout 120 tools/make_deb.sh "$scratch/packages") && dpkg-deb -x "$deb" "$scratch/unpacked" || wrong=$((wrong + 1))
-    expect 'the unpacked program' "$(printf "$room" | "$scratch/unpacked/usr/bin/clearmap" dist)" "$(printf '0 1 4\n1 2 5')"
-    expect 'its version' "clearmap $(dpkg-deb -f "$deb" Version)" "$version"
-    tried_scripts "$scratch/unpacked/usr"
-    if command -v lintian > /dev/null; then
-        expect 'lintian' "$(timeout 120 lintian --allow-root "$deb" 2>&1 | grep '^E:')" ''
-    else
-        echo 'the package is not read by lintian: there is none'
-    fi
-else
-    echo 'the package for Debian left out: there is no dpkg-deb, or no strip'
-fi
-
-expect 'what is left' "$(make -s uninstall uninstall-lib DESTDIR="$scratch/root" PREFIX=/usr && find "$scratch/root" ! -type d)" ''
+expect 'what is left' "$(make -s uninstall DESTDIR="$scratch/root" PREFIX=/usr && find "$scratch/root" ! -type d)" ''
 echo "install: wrong $wrong"
 [ "$wrong" = 0 ]
