@@ -126,8 +126,9 @@ for name in map field; do
     header_test "$name" "${MAPS:-40}" g++ -O2
     header_test "$name" 5 clang++ -O1
     for compiler in g++ clang++; do
-        header_test "$name" 5 "$compiler" -fsanitize=address,undefined -fno-sanitize-recover=all
-        header_test "$name" 5 "$compiler" -fsanitize=thread
+        header_test "$name" 5 "$compiler" -O1 -fsanitize=address,undefined \
+            -fno-sanitize-recover=all
+        header_test "$name" 5 "$compiler" -O1 -fsanitize=thread
     done
 done
 

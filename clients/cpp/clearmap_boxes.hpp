@@ -11,6 +11,7 @@ namespace clearmap::detail {
 struct Box {
     int x0, y0, x1, y1;
 
+    int longer_side() const noexcept { return std::max(x1 - x0, y1 - y0); }
     bool has(int x, int y) const noexcept { return x0 <= x && x < x1 && y0 <= y && y < y1; }
 };
 

@@ -16,7 +16,8 @@ namespace clearmap {
 /// A field has a copy of its map, and answers for that copy alone: where the map that it was made
 /// from is painted, the field stays as it is. `paint`, `clear` and `update` change the copy and
 /// work the cells that this can change, and no others; then each cell has the answer of a field
-/// that is made anew. The first of them reads the table once more, and takes a bit more memory.
+/// that is made anew. The first of them reads the table once more, and takes a bit more memory. A
+/// call may take as much as another field meanwhile; where `clear` finds none it is slower.
 class Field {
 public:
     /// Shares the rows among so many threads, each of which takes 3.3 MB on the largest map; 0 is
@@ -75,7 +76,8 @@ public:
     std::uint32_t clear(int x0, int y0, int x1, int y1) {
         ready();
         std::uint32_t changed = map_.clear(x0, y0, x1, y1);
-        if (changed > 0) rework({x0, y0, x1, y1});
+        const detail::Box box{x0, y0, x1, y1};
+        if (changed > 0) rework(&box, &box + 1);
         return changed;
     }
     template <class A, class B, class C, class D, class = detail::IfReal<A, B, C, D>>
@@ -90,13 +92,14 @@ public:
         if (changes.count() > table_.cells() / cells_a_change) return remake(map);
         ready();
         map_ = map;  // takes no memory: the sizes are the same
-        for (const detail::Box& box : changes.cleared.boxes) rework(box);
+        const std::vector<detail::Box>& cleared = changes.cleared.boxes;
+        rework(cleared.data(), cleared.data() + cleared.size());
         for (const detail::Box& box : changes.painted.boxes) table_.paint(box);
     }
 
 private:
-    static constexpr std::size_t few_cells = 128;       // which are asked for one by one
-    static constexpr std::size_t cells_a_change = 512;  // a field of fewer is made anew
+    static constexpr std::size_t few_cells = 128;        // which are asked for one by one
+    static constexpr std::size_t cells_a_change = 2048;  // a field of fewer is made anew
 
     static Size checked(Size size) {
         if (size.width == 0) detail::check(CLEARMAP_SIZE);
@@ -161,31 +164,45 @@ private:
 
     // -- the cells whose obstacle is gone
 
-    /// Works the cells anew whose nearest obstacle was in a box that is free now. The others keep
-    /// theirs: what was the nearest of all obstacles is the nearest of those that are left.
-    void rework(const detail::Box& box) noexcept {
+    /// Works the cells anew whose nearest obstacle was in one of some boxes, which are free now.
+    /// The others keep theirs: what was the nearest of all obstacles is the nearest of those left.
+    void rework(const detail::Box* first, const detail::Box* last) noexcept {
         try {
-            std::vector<Cell> cells;
-            const std::size_t most = table_.cells() / 4;
-            table_.held_by(box, [&](Cell c) {
-                if (cells.size() <= most) cells.push_back(c);
-            });
-            if (cells.size() <= most) return rework(cells);
-            const std::uint32_t status = fill();
-            table_.bound();
-            if (status == CLEARMAP_DONE) return;
+            if (by_windows(first, last)) return;
         } catch (const std::bad_alloc&) {
         }
-        table_.held_by(box, [&](Cell c) { by_query(c); });  // which takes no memory
+        for (; first != last; ++first)  // which takes no memory
+            table_.held_by(*first, [&](Cell c) { by_query(c); });
     }
 
-    /// Few cells are asked for one by one. More are worked by windows, larger and larger ones,
-    /// which tell the answers of most of the cells that are left.
-    void rework(std::vector<Cell>& cells) {
-        const detail::Box box = detail::box_of(cells);
-        int margin = std::max(box.x1 - box.x0, box.y1 - box.y0);
-        for (; cells.size() > few_cells; margin *= 2) by_window(cells, margin);
-        for (Cell c : cells) by_query(c);
+    /// The same by windows, and whether it is done. The first window round the cells of a box tells
+    /// most answers; what is left of all boxes is worked together by larger and larger ones.
+    bool by_windows(const detail::Box* first, const detail::Box* last) {
+        const std::size_t most = table_.cells() / 4;
+        std::vector<Cell> left;
+        for (; first != last; ++first) {
+            std::vector<Cell> cells;
+            table_.held_by(*first, [&](Cell c) {
+                if (cells.size() <= most) cells.push_back(c);
+            });
+            if (cells.size() > most) return refill();
+            if (cells.size() > few_cells) by_window(cells, detail::box_of(cells).longer_side());
+            if (cells.size() > few_cells)
+                left.insert(left.end(), cells.begin(), cells.end());
+            else
+                by_queries(cells);
+        }
+        int margin = detail::box_of(left).longer_side();
+        while (left.size() > few_cells) by_window(left, margin *= 2);
+        by_queries(left);
+        return true;
+    }
+
+    /// Makes the table anew, and answers whether there was memory for it.
+    bool refill() {
+        const std::uint32_t status = fill();
+        table_.bound();
+        return status == CLEARMAP_DONE;
     }
 
     void by_window(std::vector<Cell>& cells, int margin) {
@@ -198,6 +215,9 @@ private:
         cells.erase(std::remove_if(cells.begin(), cells.end(), is_done), cells.end());
     }
 
+    void by_queries(const std::vector<Cell>& cells) noexcept {
+        for (Cell c : cells) by_query(c);
+    }
     void by_query(Cell c) noexcept {
         clearmap_near found{};
         const clearmap_bits bits = map_.bits();

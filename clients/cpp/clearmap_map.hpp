@@ -1,6 +1,7 @@
 // A map in process, for planners: queries and tables of distances without a server. One header over
 // clearmap.h, whose library is linked (-lclearmap -pthread), and clearmap.hpp, whose cells, answers
-// and frames it shares: C++17. The library is proved; this file is not (test_map.cpp tries it).
+// and frames it shares: C++17. The library is proved. This file and clearmap_field.hpp, which it
+// includes, are not (test_map.cpp and test_field.cpp try them).
 //
 //     auto map = clearmap::Map::of_bytes(costmap, {640, 480}, {253, 254});
 //     double cells;
@@ -8,17 +9,18 @@
 //     if (!map.clear_of(9, {{0, 0}, {30, 0}})) ..      // each cell keeps 3 cells or more
 //     clearmap::Field field(map);                      // all distances, made by several threads
 //     double nearest = field.clearance({3, 4});        // a look-up
+//     field.paint(8, 0, 16, 8);                        // the field's own map, and its distances
 //
 // Columns x and rows y count from 0. A distance is in cells: euclid2 is the square of the straight
 // one, city and chess count steps.
 //
 // Threads. Any threads may ask one map or field at the same time, without a lock. While a thread
-// paints, clears, assigns to, moves or destroys one, no other uses it.
+// paints, clears, updates, assigns to, moves or destroys one, no other uses it.
 //
 // Errors. What is wrong with a call is thrown with the text of its status: std::out_of_range for a
 // cell, rectangle or point that isn't in the map, std::invalid_argument for all else. A call that
 // throws has changed nothing. A query whose arguments are good throws nothing and takes no memory.
-// What makes a map or a field may throw std::bad_alloc.
+// What makes a map or a field, or changes a field, may throw std::bad_alloc.
 #ifndef CLEARMAP_MAP_HPP
 #define CLEARMAP_MAP_HPP
 

@@ -77,11 +77,10 @@ private:
         x = x / side * side, y = y / side * side;
         return {x, y, std::min(x + side, width_), std::min(y + side, height_)};
     }
-    std::uint32_t& top(int x, int y) noexcept {
-        return tops_[static_cast<std::size_t>(y / side) * tiles(width_) +
-                     static_cast<std::size_t>(x / side)];
+    std::size_t tile_index(int x, int y) const noexcept {
+        return static_cast<std::size_t>(y / side) * tiles(width_) +
+               static_cast<std::size_t>(x / side);
     }
-    std::uint32_t top(int x, int y) const noexcept { return const_cast<Table*>(this)->top(x, y); }
 
     std::uint32_t most(const Box& box) const noexcept {
         std::uint32_t found = 0;
@@ -90,16 +89,17 @@ private:
         return found;
     }
     void raise(int x, int y, std::uint32_t dist) noexcept {
+        std::uint32_t& of_tile = tops_[tile_index(x, y)];
         std::uint32_t& of_row = row_tops_[static_cast<std::size_t>(y / side)];
-        top(x, y) = std::max(top(x, y), dist);
+        of_tile = std::max(of_tile, dist);
         of_row = std::max(of_row, dist);
     }
     /// Lowers the numbers of a tile and its row to what the table has.
     void tighten(int x, int y) noexcept {
         std::uint32_t& of_row = row_tops_[static_cast<std::size_t>(y / side)];
-        const std::uint32_t old = std::exchange(top(x, y), most(tile(x, y)));
+        const std::uint32_t old = std::exchange(tops_[tile_index(x, y)], most(tile(x, y)));
         if (old < of_row) return;
-        const std::uint32_t* first = &top(0, y);
+        const std::uint32_t* first = &tops_[tile_index(0, y)];
         of_row = *std::max_element(first, first + tiles(width_));
     }
 
@@ -115,8 +115,10 @@ private:
             int begin = box.x0 / side * side, end = begin;
             while (begin >= side && away(begin - side) <= most_of_row) begin -= side;
             while (end < width_ && away(end) <= most_of_row) end += side;
-            for (int x = begin; x < end; x += side)
-                if (away(x) <= top(x, y)) visit(meet(tile(x, y), grown(box, top(x, y))));
+            for (int x = begin; x < end; x += side) {
+                const std::uint32_t most_of_tile = tops_[tile_index(x, y)];
+                if (away(x) <= most_of_tile) visit(meet(tile(x, y), grown(box, most_of_tile)));
+            }
         }
     }
 

@@ -75,7 +75,7 @@ static Map other_map(Map map) {
 /// A field stays as it is when its map is changed, and follows when it is told to.
 static void updated(int maps) {
     for (int i = 0; i < maps; ++i) {
-        Map map = random_map(200, 60);
+        Map map = random_map(300, 100);
         Field field(map, random_metric(), 1);
         for (int k = 0; k < 6; ++k) {
             const Map before = map;
@@ -91,8 +91,8 @@ static void updated(int maps) {
 }
 
 /// One obstacle between others a long way off: many cells lose it, and windows grow.
-static void far_obstacles() {
-    for (int i = 0; i < 60; ++i) {
+static void far_obstacles(int maps) {
+    for (int i = 0; i < maps; ++i) {
         Map map({150 + below(300), 150 + below(300)}, i % 2 ? Edge::wall : Edge::open);
         const Size size = map.size();
         for (int k = below(30); k > 0; --k) draw(map, random_box(size, 2), true);
@@ -112,8 +112,8 @@ static void far_obstacles() {
 /// Obstacles on a lattice, most of which go at once: what is left is far from the cells round each.
 static void gone_together(int maps) {
     for (int i = 0; i < maps; ++i) {
-        Map map({100 + below(200), 100 + below(200)}, i % 2 ? Edge::wall : Edge::open);
-        const int step = 18 + below(20), left = below(4);
+        Map map({300 + below(200), 300 + below(200)}, i % 2 ? Edge::wall : Edge::open);
+        const int step = 55 + below(20), left = below(4);
         Map rest = map;
         for (int y = step / 2; y < map.size().height; y += step)
             for (int x = step / 2; x < map.size().width; x += step) {
@@ -126,21 +126,31 @@ static void gone_together(int maps) {
     }
 }
 
-/// The window round the cells of the obstacle at (97, 97), 15 by 15 of them, begins in row 75. A
-/// cell has one obstacle in it, and another as near that lies one row over it and goes first.
-static void tie_outside() {
-    Map rest({200, 200});
-    draw(rest, {97, 74, 98, 75}, true);
-    draw(rest, {113, 90, 114, 91}, true);
-    Map map = rest;
-    for (int y : {82, 97, 112})
-        for (int x : {82, 97, 112}) draw(map, {x, y, x + 1, y + 1}, true);
-    for (Metric metric : {Metric::euclid2, Metric::city, Metric::chess}) {
-        Field field(map, metric);
-        CHECK(field.obstacle({97, 90}) == (Cell{97, 97}));
-        field.update(rest);
-        CHECK(field.obstacle({97, 90}) == (Cell{97, 74}) && shows(field, rest));
-    }
+/// The obstacle at (150, 150) goes with its neighbours. The first window round its 15 by 15 cells
+/// has the columns and rows 128 to 172: one nearest obstacle is a step outside of it, and the
+/// other, inside, is farther, or as near and goes second. The last is in the second window: some
+/// cells know of it, and some don't.
+static void outside_windows() {
+    struct Row {
+        Cell cell, nearest, other;
+    };
+    const Row rows[] = {
+        {{150, 143}, {150, 127}, {166, 143}}, {{143, 150}, {127, 150}, {143, 167}},
+        {{157, 150}, {173, 150}, {157, 133}}, {{150, 157}, {150, 173}, {133, 157}},
+        {{150, 157}, {150, 120}, {150, 120}},
+    };
+    for (const Row& row : rows)
+        for (Metric metric : {Metric::euclid2, Metric::city, Metric::chess}) {
+            Map rest({300, 300});
+            for (Cell c : {row.nearest, row.other}) draw(rest, {c.x, c.y, c.x + 1, c.y + 1}, true);
+            Map map = rest;
+            for (int y : {135, 150, 165})
+                for (int x : {135, 150, 165}) draw(map, {x, y, x + 1, y + 1}, true);
+            Field field(map, metric);
+            CHECK(field.obstacle(row.cell) == (Cell{150, 150}));
+            field.update(rest);
+            CHECK(field.obstacle(row.cell) == row.nearest && shows(field, rest));
+        }
 }
 
 /// Makes a change of a field while a request for memory is refused. It is done all the same, or it
@@ -217,9 +227,9 @@ int main(int count, char** words) {
     drawn(60 * maps, 30, 24, 9);
     drawn(maps, 150, 90, 20);
     updated(5 * maps);
-    far_obstacles();
+    far_obstacles(2 * maps);
     gone_together(2 * maps);
-    tie_outside();
+    outside_windows();
     Map map({200, 100}, Edge::wall);
     map.paint(90, 40, 98, 48), map.paint(5, 5, 6, 6), map.paint(150, 90, 151, 91);
     without_memory(map, 5, [](auto& drawn) { drawn.clear(90, 40, 98, 48); });
