@@ -33,14 +33,15 @@ done
 library=${CLEARMAP_LIBRARY:-crates/libclearmap/out/libclearmap.so.0}
 arrays=$(tools/python_with numpy)
 if [ -n "$arrays" ] && [ -e "$library" ]; then
-    for test in clients/python/test_library.py clients/python/test_maps.py; do
+    for test in clients/python/test_library.py clients/python/test_maps.py \
+        clients/python/test_tiles.py; do
         tried "$arrays" "$test"
     done
     for peer in scipy cv2; do
         "$arrays" -c "import $peer" 2> /dev/null || echo "  not compared with $peer: there is none"
     done
 else
-    echo 'test_library.py and test_maps.py left out: there is no python3 with numpy, or no' "$library"
+    echo 'the tests in process left out: there is no python3 with numpy, or no' "$library"
 fi
 if command -v mypy > /dev/null && [ -n "$arrays" ]; then
     (cd clients/python && timeout 300 mypy --strict --cache-dir "$scratch/mypy" \

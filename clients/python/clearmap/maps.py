@@ -20,13 +20,13 @@ from .errors import BadArguments, BadPath, Crooked, OutOfRange, Refused, Size
 from .grids import EDGES, OPEN, Memory, edge_of, map_of, number_of
 from .library import CROOKED, NO_OBSTACLE, Bits, CFound, CNear, check, library, numpy
 from .requests import EUCLID2, LARGEST_SIDE, LONGEST_PATH, Cell, Near, Request, Tightest, whole
-from .transforms import distances_of
+from .rows import distances_of
 
 if TYPE_CHECKING:
     import numpy as np
     from numpy.typing import NDArray
 
-    from .transforms import Distances, Obstacles
+    from .rows import Distances, Obstacles
 
 END = 1 << 32  # what is less can be asked for
 ROWS = 64  # rows of a band
