@@ -6,6 +6,7 @@ from .requests import LARGEST_SIDE, METRICS, metric_of, whole
 
 OPEN, WALL = "open", "wall"
 EDGES = (OPEN, WALL)
+NUMBERS = {metric: number for number, metric in enumerate(METRICS)}
 
 
 class Memory(NamedTuple):
@@ -27,7 +28,8 @@ def edge_of(edge: str) -> int:
 
 def number_of(metric: str) -> int:
     """A metric's number."""
-    return METRICS.index(metric_of(metric))
+    number = NUMBERS.get(metric) if isinstance(metric, str) else None
+    return METRICS.index(metric_of(metric)) if number is None else number
 
 
 # ---- arrays as maps

@@ -10,7 +10,7 @@ from .requests import CHESS, CITY, EUCLID2
 from .rows import fill, in_bands, near_type
 
 CHAMFERS = {"chessboard": CHESS, "taxicab": CITY, "cityblock": CITY, "manhattan": CITY}
-PIECE = 1 << 14  # cells that are converted at once, by arrays that the processor's cache holds
+PIECE = 1 << 15  # cells that are converted at once, by arrays that the processor's cache holds
 
 
 def distance_transform_edt(
