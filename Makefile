@@ -11,9 +11,10 @@ to = $(DESTDIR)$(PREFIX)
 program = crates/clearmap/out/clearmap
 version = $(shell sed -n 's/^version = "\(.*\)"/\1/p' clients/python/pyproject.toml)
 filled = sed 's|@PREFIX@|$(PREFIX)|; s|@VERSION@|$(version)|'
-pages = clearmap.1 clearmap-backup.1 clearmap-ros.1 clearmap-ros-node.1 clearmap-view.1
+pages = clearmap.1 clearmap-backup.1 clearmap-gateway.1 clearmap-ros.1 clearmap-ros-node.1 clearmap-view.1
 client = $(notdir $(wildcard clients/python/clearmap/*.py)) py.typed
 view = asking.py draft.py picture.py site_of_map.py watched.py page/ask.js page/index.html page/map.js page/view.css page/view.js
+gateway = clients.py dumps.py limits.py lines.py links.py queries.py streams.py versions.py watch.py
 
 # The library: what is proved comes from rt, and clients/c/clearmap.c goes with it.
 library = crates/libclearmap/out
@@ -51,6 +52,12 @@ install: all
 	$(INSTALL) -D -m 755 tools/ros/clearmap_node.py '$(to)/share/clearmap/python/clearmap_node.py'
 	$(INSTALL) -D -m 755 tools/view/clearmap_view.py '$(to)/share/clearmap/view/clearmap_view.py'
 	for part in $(view); do $(INSTALL) -D -m 644 tools/view/$$part '$(to)/share/clearmap/view/'$$part || exit 1; done
+	$(INSTALL) -D -m 755 tools/gateway/clearmap_gateway.py \
+	    '$(to)/share/clearmap/gateway/clearmap_gateway.py'
+	for part in $(gateway); do \
+	    $(INSTALL) -m 644 tools/gateway/$$part '$(to)/share/clearmap/gateway/'$$part || exit 1; \
+	done
+	ln -sf ../share/clearmap/gateway/clearmap_gateway.py '$(to)/bin/clearmap-gateway'
 	ln -sf ../share/clearmap/python/clearmap_ros.py '$(to)/bin/clearmap-ros'
 	ln -sf ../share/clearmap/python/clearmap_node.py '$(to)/bin/clearmap-ros-node'
 	ln -sf ../share/clearmap/view/clearmap_view.py '$(to)/bin/clearmap-view'
@@ -66,7 +73,9 @@ uninstall:
 	rm -f '$(to)/bin/clearmap' '$(to)/bin/clearmap-backup' '$(to)/bin/clearmap-ros' '$(to)/bin/clearmap-ros-node' '$(to)/bin/clearmap-view' '$(to)/share/man/man7/clearmap-protocol.7' \
 	    '$(to)/share/bash-completion/completions/clearmap' '$(to)/share/pkgconfig/clearmap.pc' '$(to)/lib/systemd/system/clearmap@.service'
 	for page in $(pages); do rm -f '$(to)/share/man/man1/'$$page; done
-	rm -rf '$(to)/share/clearmap/python' '$(to)/share/clearmap/view' '$(to)/share/doc/clearmap'
+	rm -f '$(to)/bin/clearmap-gateway'
+	rm -rf '$(to)/share/clearmap/python' '$(to)/share/clearmap/view' '$(to)/share/clearmap/gateway' \
+	    '$(to)/share/doc/clearmap'
 	[ -e '$(to)/include/clearmap.h' ] || rm -rf $(shared)
 
 deb: all

@@ -10,7 +10,8 @@ program=$top/crates/clearmap/out/clearmap
 scratch=$(mktemp -d)
 server=''
 view=''
-trap 'for started in $server $view; do kill "$started" 2> /dev/null; done; rm -rf "$scratch"' EXIT
+gateway=''
+trap 'for started in $server $view $gateway; do kill "$started" 2> /dev/null; done; rm -rf "$scratch"' EXIT
 trap 'exit 1' INT TERM
 export PYTHONDONTWRITEBYTECODE=1
 wrong=0
@@ -104,7 +105,7 @@ fi
 usr=$scratch/root/usr
 expect 'the installed program' "$("$usr/bin/clearmap" --version)" "$version"
 tried_scripts() { # tried_scripts PREFIX: the scripts and the client there
-    for script in clearmap-ros clearmap-ros-node clearmap-view; do
+    for script in clearmap-gateway clearmap-ros clearmap-ros-node clearmap-view; do
         expect "$1/bin/$script" "$(timeout 60 "$1/bin/$script" --help | sed -n "1s/^usage: \($script\) .*/\1/p")" "$script"
     done
     expect "$1/bin/clearmap-backup" "$("$1/bin/clearmap-backup" --help | sed -n "s/^Usage: \([a-z-]*\) .*/\1/p")" clearmap-backup
@@ -140,7 +141,7 @@ fi
 # The pages are what --help and docs/PROTOCOL.md say, and man has nothing to complain of.
 tools/make_man.py --check "$program" || wrong=$((wrong + 1))
 if command -v man > /dev/null; then
-    for page in man1/clearmap.1 man1/clearmap-backup.1 man1/clearmap-ros.1 man1/clearmap-ros-node.1 man1/clearmap-view.1 man7/clearmap-protocol.7; do
+    for page in man1/clearmap.1 man1/clearmap-backup.1 man1/clearmap-gateway.1 man1/clearmap-ros.1 man1/clearmap-ros-node.1 man1/clearmap-view.1 man7/clearmap-protocol.7; do
         expect "man $page" "$(man --warnings -l "$usr/share/man/$page" 2>&1 > /dev/null)" ''
     done
 else
@@ -210,6 +211,20 @@ if [ -n "$web" ]; then
     kill "$view" 2> /dev/null
 else
     echo 'the installed page left out: there is no python3 with aiohttp and numpy'
+fi
+
+# The installed gateway to this server, which finds the installed package and library.
+arrays=$(tools/python_with numpy)
+if [ -n "$arrays" ] && [ -e "$usr/lib/libclearmap.so.0" ]; then
+    : > "$scratch/gate"
+    timeout 300 "$arrays" "$usr/bin/clearmap-gateway" --port "$port" --links 2 > "$scratch/gate" &
+    gateway=$!
+    gate=$(told "$gateway" "$scratch/gate" LISTENING)
+    expect 'the installed gateway' "$(printf 'PIN\nAT city 2 1\nQUIT\n' | timeout 60 "$usr/bin/clearmap" ask --port "$gate")" \
+        "$(printf 'OK 0\nOK 3 0 0\nBYE')"
+    kill "$gateway" 2> /dev/null
+else
+    echo 'the installed gateway left out: there is no python3 with numpy, or no library (make lib)'
 fi
 kill "$server" 2> /dev/null
 

@@ -23,7 +23,8 @@ date=${SOURCE_DATE_EPOCH:-$(git log -1 --format=%ct 2> /dev/null || date +%s)}
 doc=$root/usr/share/doc/clearmap
 
 strip --strip-unneeded "$root/usr/bin/clearmap"
-for script in "$root"/usr/share/clearmap/python/*.py "$root"/usr/share/clearmap/view/*.py; do
+for script in "$root"/usr/share/clearmap/python/*.py "$root"/usr/share/clearmap/view/*.py \
+    "$root"/usr/share/clearmap/gateway/*.py; do
     sed -i '1s|^#!/usr/bin/env python3$|#!/usr/bin/python3|' "$script"
 done
 find "$root/usr/share/man" -type f -exec gzip -9n {} +
