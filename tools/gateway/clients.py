@@ -4,10 +4,10 @@ from typing import Dict, List, Optional
 
 import dumps
 from clearmap import Map, Refused
-from lines import NOT_PINNED, PINNED, Line, next_line
+from lines import NOT_PINNED, PINNED, Line, next_cells, next_line
 from limits import STAMPS, Room
 from links import Server, ServerLost
-from queries import Answer, refusal
+from queries import Answer, at_reply, refusal
 from streams import Gone, Stream
 from versions import Held, Said, Versions
 from watch import Watchers
@@ -68,7 +68,7 @@ class Client(Stream):
 
     def _do_lines(self) -> None:
         """Does some lines, up to one that takes time. Their replies go out together."""
-        said: List[bytes] = []
+        said = self._said_of_queries()
         while self._task is None and not self._is_full and not self._is_over:
             line = next_line(self._pending)
             if line is None:
@@ -78,7 +78,7 @@ class Client(Stream):
                 self._task = self._loop.create_task(self._do(line))
                 break
             said.append(reply)
-            if len(said) == TURN:
+            if len(said) >= TURN:
                 self._loop.call_soon(self._advance)
                 break
         else:
@@ -86,6 +86,13 @@ class Client(Stream):
         self._write(b"".join(said))
         if self._task is None and line is None:
             self._come_to_rest()
+
+    def _said_of_queries(self) -> List[bytes]:
+        """The replies to the queries of cells that come next, of a map that is there."""
+        area = None if self._held is None else self._held.map
+        if area is None or self._is_full or self._is_over:
+            return []
+        return [at_reply(area, *cell) for cell in next_cells(self._pending, TURN)]
 
     def _reply_now(self, line: Line) -> Optional[bytes]:
         """The reply to a line for which nobody has to be asked; None where somebody has."""

@@ -40,6 +40,14 @@ def near_text(near: Optional[Near]) -> bytes:
     return b"OK %d %d %d\n" % (distance, x, y)
 
 
+def at_reply(area: Map, metric: bytes, x: bytes, y: bytes) -> bytes:
+    """The reply to AT of these words. The map refuses a number that is too large for a line, too."""
+    try:
+        return near_text(area.at(int(x), int(y), METRICS[metric]))
+    except Refused as fault:
+        return refusal(fault)
+
+
 def tightest_text(found: Optional[Tightest], none: bytes = b"NONE\n") -> bytes:
     """The reply to RECT, PATH and CLEAROF."""
     if found is None:
@@ -60,13 +68,9 @@ def is_long_path(points: List[Tuple[int, int]]) -> bool:
 def at(words: Sequence[bytes]) -> Optional[Answer]:
     """AT."""
     numbers = numbers_of(words[1:])
-    return asked_at(*words) if numbers is not None and len(numbers) == 2 else None
-
-
-def asked_at(metric: bytes, x: bytes, y: bytes) -> Answer:
-    """AT of these words. A number that is too large for a line is refused by the map."""
-    cell = int(x), int(y), METRICS[metric]
-    return Answer(lambda area: near_text(area.at(*cell)))
+    if numbers is None or len(numbers) != 2:
+        return None
+    return Answer(lambda area: at_reply(area, *words))
 
 
 def rect(words: Sequence[bytes]) -> Optional[Answer]:

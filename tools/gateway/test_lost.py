@@ -81,6 +81,24 @@ class SlowClients(unittest.TestCase):
         return asked
 
 
+class LostGateway(unittest.TestCase):
+    """A gateway that ends, by a signal of each kind."""
+
+    def test_ends(self):
+        for number, status in ((signal.SIGTERM, 0), (signal.SIGINT, 0), (signal.SIGKILL, -9)):
+            with Served(post(), "--workers", "5") as server:
+                gate = Gate(server.port, "--links", "3")
+                with Line(gate.port) as one, Line(gate.port) as other, Line(server.port) as direct:
+                    self.assertEqual([one.ask("PIN"), other.ask("PIN")], ["OK 0", "OK 0"])
+                    self.assertEqual(direct.ask("PUBLISH"), "OK 1 1")
+                    self.assertEqual(direct.ask("COLLECT"), "OK 2 0 0")
+                    gate.process.send_signal(number)
+                    self.assertEqual(gate.process.wait(20), status)
+                    self.assertTrue(one.is_closed() and other.is_closed())
+                    self.assertTrue(until(lambda: direct.ask("COLLECT").split()[2] == "1"))
+                gate.end()
+
+
 class Lost(unittest.TestCase):
     """Servers that end, are others, or aren't there."""
 

@@ -3,6 +3,7 @@
 import random
 import socket
 import struct
+import threading
 import unittest
 
 from testing import Gate, Line, Served, post, until
@@ -74,6 +75,33 @@ class Pins(unittest.TestCase):
             self.assertEqual(planner.ask("PIN"), f"OK {newest}")
             self.assertEqual(planner.ask("UNPIN"), f"OK {newest}")
 
+    def test_own_change_is_pinned(self):
+        """Six threads, each of which alone changes one cell: its next pin has what it published."""
+        wrong = []
+
+        def work(x):
+            with Line(self.gate.port) as line:
+                for turn in range(40):
+                    name, near = (("PAINT", "OK 0"), ("CLEAR", "OK "))[turn % 2]
+                    line.ask(f"{name} {x} 20 {x + 1} 21")
+                    while not line.ask("PUBLISH").startswith("OK"):
+                        line.ask("COLLECT")
+                    line.send("PIN", f"AT city {x} 20", "UNPIN")
+                    said = [line.reply() for _ in range(3)]
+                    is_there = said[1] == f"OK 0 {x} 20"
+                    if not said[1].startswith(near) or is_there != (name == "PAINT"):
+                        wrong.append((name, said))
+
+        threads = [threading.Thread(target=work, args=(3 * x,)) for x in range(6)]
+        for thread in threads:
+            thread.start()
+        for thread in threads:
+            thread.join()
+        self.assertEqual(wrong, [])
+        painter = self.line()
+        newest = self.published(painter)
+        self.assertTrue(until(lambda: self.floor(painter) == newest))
+
     def test_each_answers_of_its_own_version(self):
         """Two versions at a time, of two clients; a third version waits for one to be left."""
         painter, first, second, third = (self.line() for _ in range(4))
@@ -117,6 +145,28 @@ class Pins(unittest.TestCase):
         self.assertEqual(watcher.reply(), "VERSION 2")
         self.assertEqual(watcher.ask("PIN"), "OK 2")
         self.assertTrue(watcher.is_silent(0.2))
+
+    def test_watch_between_dumps(self):
+        """News of versions come between dumps, and never in one."""
+        watcher, painter = self.line(), self.line()
+        self.assertEqual([watcher.ask("WATCH"), watcher.ask("PIN")], ["OK 0", "OK 0"])
+        versions, dumped = [], 0
+        while dumped < 60:
+            newest = self.published(painter)
+            self.floor(painter)
+            watcher.send("DUMP", "DUMP")
+            wanted = dumped + 2
+            while dumped < wanted:
+                words = watcher.reply().split()
+                if words[0] == "VERSION":
+                    versions.append(int(words[1]))
+                else:
+                    text = watcher.replies.read(int(words[1]))
+                    self.assertEqual(text[:9], b"P1\n64 48\n")
+                    dumped += 1
+        while newest not in versions:
+            versions.append(int(watcher.reply().split()[1]))
+        self.assertEqual(versions, sorted(set(versions)))
 
 
 if __name__ == "__main__":

@@ -135,6 +135,17 @@ class SameReplies(unittest.TestCase):
     def test_wall(self):
         self.run_lines("wall", 2, 1500)
 
+    def test_dumps(self):
+        """Rows of one line and of several, with what is left in the last one."""
+        for width in (1, 69, 70, 71, 140, 213):
+            image = post(width + 8, 20)
+            with Served(image) as server, Gate(server.port, "--links", "2") as gate:
+                twin = Twins(self, gate.port, server.port)
+                twin.ask("PIN")
+                twin.dump()
+                twin.ask("PATH chess 0 0 0 19 " + f"{width} 19")
+                twin.close()
+
     def test_ends(self):
         """Lines and stamps that end the connection, with their last reply."""
         with Served(post()) as server, Gate(server.port, "--links", "2") as gate:
