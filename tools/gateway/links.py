@@ -2,7 +2,7 @@
 import asyncio
 import re
 from collections import deque
-from typing import Callable, Deque, List, Optional, Tuple
+from typing import Callable, Deque, List, Optional, Tuple, cast
 
 LONGEST_REPLY = 128  # bytes of a reply line, with its line feed
 LARGEST_DUMP = 17_100_000  # bytes; the text of the largest map is below it
@@ -27,8 +27,7 @@ class Link(asyncio.Protocol):
     # ---- what asyncio calls
 
     def connection_made(self, transport: asyncio.BaseTransport) -> None:
-        assert isinstance(transport, asyncio.Transport)
-        self._transport = transport
+        self._transport = cast(asyncio.Transport, transport)
 
     def data_received(self, data: bytes) -> None:
         self._buffer += data

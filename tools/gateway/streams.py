@@ -1,6 +1,6 @@
 """A client's connection: what it sends waits to be taken, and what it is sent to be read by it."""
 import asyncio
-from typing import Optional
+from typing import Optional, cast
 
 from limits import LAST_READ, READ, READ_AWAY, UNREAD, UNTAKEN
 
@@ -34,9 +34,8 @@ class Stream(asyncio.BufferedProtocol):
     # ---- what asyncio calls
 
     def connection_made(self, transport: asyncio.BaseTransport) -> None:
-        assert isinstance(transport, asyncio.Transport)
-        self._transport = transport
-        transport.set_write_buffer_limits(UNTAKEN)
+        self._transport = cast(asyncio.Transport, transport)
+        self._transport.set_write_buffer_limits(UNTAKEN)
 
     def get_buffer(self, _: int) -> memoryview:
         return INPUT
