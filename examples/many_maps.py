@@ -40,7 +40,8 @@ def answers_of(client, paths):
     answers = client.gather(futures)
     client.wait_for_workers(PROCESSES)
     alive = client.run(os.getpid)
-    print(f"{PROCESSES} processes, {len(set(alive.values()) - set(processes.values()))} of them new")
+    new = set(alive.values()) - set(processes.values())
+    print(f"{PROCESSES} processes, {len(new)} of them new")
     return answers
 
 

@@ -1,6 +1,6 @@
 #!/usr/bin/env bash
-# Distances of a folder of maps by three processes of Dask. One is killed on the way, and what it had
-# to do is done by the others.
+# Distances of a folder of maps by three processes of Dask. One is killed on the way, and what it
+# had to do is done by the others.
 # Needs the modules: numpy, distributed
 # Needs the library: crates/libclearmap/out/libclearmap.so.0
 . "$(dirname "$0")/setup.bash"

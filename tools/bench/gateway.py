@@ -1,12 +1,12 @@
 #!/usr/bin/env python3
 """Measures `AT` through clearmap-gateway next to a server asked directly, and Redis' `GET`.
 
-A floor plan is served with 16 workers, and a gateway has 8 of them. 950 clients are connected to the
-gateway and idle; half of them have a pin. Then 1 and 50 connections ask, one line or 16 at a time,
-and each reply is compared with what `clearmap dist --nearest` writes of the cell; a server can have
-no more clients than workers, so it is asked by 1 and 8. Redis has 1,000 connections. Printed is a
-Markdown table: requests a second, percentiles of a write's latency in microseconds, and the
-gateway's resident memory.
+A floor plan is served with 16 workers, and a gateway has 8 of them. 950 clients are connected to
+the gateway and idle; half of them have a pin. Then 1 and 50 connections ask, one line or 16 at a
+time, and each reply is compared with what `clearmap dist --nearest` writes of the cell; a server
+can have no more clients than workers, so it is asked by 1 and 8. Redis has 1,000 connections.
+Printed is a Markdown table: requests a second, percentiles of a write's latency in microseconds,
+and the gateway's resident memory.
 
 The program and the library have to be built before; `rustc` builds the load generator (`load.rs`).
 """
@@ -52,9 +52,10 @@ def redis(requests):
         return print("Redis left out: it isn't installed")
     with tempfile.TemporaryDirectory() as folder:
         port = "17421"
-        words = ["redis-server", "--port", port, "--bind", "127.0.0.1", "--save", "", "--dir", folder]
-        server = subprocess.Popen(words, stdout=subprocess.DEVNULL)
-        words = ["redis-benchmark", "-p", port, "-c", "1000", "-n", str(requests), "-t", "get", "--csv"]
+        words = ["redis-server", "--port", port, "--bind", "127.0.0.1", "--save", ""]
+        server = subprocess.Popen([*words, "--dir", folder], stdout=subprocess.DEVNULL)
+        words = ["redis-benchmark", "-p", port, "-c", "1000", "-n", str(requests), "--csv"]
+        words += ["-t", "get"]
         for _ in range(20):
             told = subprocess.run(words, capture_output=True, text=True).stdout.splitlines()
             if told and told[-1].startswith('"GET"'):
@@ -62,7 +63,8 @@ def redis(requests):
         server.kill()
         server.wait()
         figures = [float(word.strip('"')) for word in told[-1].split(",")[1:]]
-        row("GET of Redis", 1000, 1, [int(figures[0]), int(1000 * figures[3]), int(1000 * figures[5])])
+        micros = [int(1000 * figures[k]) for k in (3, 5)]
+        row("GET of Redis", 1000, 1, [int(figures[0]), *micros])
 
 
 def main():
@@ -86,7 +88,8 @@ def main():
             idle = [Line(gate.port) for _ in range(IDLE)]
             for line in idle[::2]:
                 line.ask("PIN")
-            for what, port, counts in (("server", server.port, (1, 8)), ("gateway", gate.port, (1, 50))):
+            asked_by = (("server", server.port, (1, 8)), ("gateway", gate.port, (1, 50)))
+            for what, port, counts in asked_by:
                 for connections in counts:
                     for depth in (1, 16):
                         figures = best(options.rounds, load, port, connections, depth,

@@ -27,16 +27,17 @@ if TYPE_CHECKING:
 
 AGAIN = 1.0  # seconds between two looks for a server
 OTHERS = 64  # descriptors for all but clients
-NOTES = """A client speaks to it as to the server, and is answered as the server would answer it. \
-A change goes to the server. A version that clients have pinned is held there once for all of them, \
-and copied once; its queries are answered by the gateway.
+NOTES = """\
+A client speaks to it as to the server, and is answered as the server would answer it. A change \
+goes to the server. A version that clients have pinned is held there once for all of them, and \
+copied once; its queries are answered by the gateway.
 
-One line more is the gateway's own: WATCH. It is answered OK and the newest version's number. After \
-that a line VERSION and a number comes between two replies whenever there is a newer version. \
-Numbers that were jumped came too.
+One line more is the gateway's own: WATCH. It is answered OK and the newest version's number. \
+After that a line VERSION and a number comes between two replies whenever there is a newer \
+version. Numbers that were jumped came too.
 
-Where the server goes away, all clients are closed, and nobody can connect until there is a server \
-again.
+Where the server goes away, all clients are closed, and nobody can connect until there is a \
+server again.
 
 Example:
   clearmap-gateway --port 7400 --listen 7401 --links 12"""
@@ -67,7 +68,8 @@ def parser() -> argparse.ArgumentParser:
         help="connections to the server, each of which takes one of its workers (2 to 16, default "
         "4); one fewer is how many versions can be pinned at once")  # fmt: skip
     add("--clients", type=number(1, 100_000), default=2000,
-        help="clients at once, beyond which a connection is closed (1 to 100000, default 2000)")  # fmt: skip
+        help="clients at once, beyond which a connection is closed (1 to 100000, default "
+        "2000)")  # fmt: skip
     add("--patience", metavar="SECONDS", type=number(1, 86400), default=60,
         help="how long the server may take to answer first, a stamp's bytes to come, a pin to wait "
         "and 64 KiB of replies to be taken (1 to 86400, default 60)")  # fmt: skip
@@ -172,7 +174,7 @@ def as_many_as_descriptors(clients: int) -> int:
 
 
 def use_fast_loop() -> None:
-    """Takes the loop of uvloop where that is installed: a reply takes a quarter less of the time."""
+    """Takes the loop of uvloop where that is installed: replies come sooner."""
     with contextlib.suppress(ImportError):
         importlib.import_module("uvloop").install()
 

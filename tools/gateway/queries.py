@@ -41,7 +41,7 @@ def near_text(near: Optional[Near]) -> bytes:
 
 
 def at_reply(area: Map, metric: bytes, x: bytes, y: bytes) -> bytes:
-    """The reply to AT of these words. The map refuses a number that is too large for a line, too."""
+    """The reply to AT of these words. The map refuses a number too large for a line, too."""
     try:
         return near_text(area.at(int(x), int(y), METRICS[metric]))
     except Refused as fault:

@@ -34,7 +34,7 @@ class Pins(unittest.TestCase):
         return int(line.ask("COLLECT").split()[2])
 
     def test_many_share_one(self):
-        """Twenty clients of one version over three connections; the last that leaves gives it up."""
+        """Twenty clients of one version over three connections; the last one gives it up."""
         painter, planners = self.line(), [self.line() for _ in range(20)]
         self.assertEqual({planner.ask("PIN") for planner in planners}, {"OK 0"})
         newest = self.published(painter)

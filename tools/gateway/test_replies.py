@@ -35,7 +35,7 @@ def number(chance):
     return str(
         chance.choice((chance.randrange(66), chance.randrange(50), chance.randrange(50)))
         if chance.random() < 0.97
-        else chance.choice(("", "x", "-1", "4294967296", "4294967295", "00000000001", "65535", "1 "))
+        else chance.choice(("", "x", "-1", "4294967296", "4294967295", "00000000001", "1 "))
     )
 
 
@@ -173,7 +173,7 @@ class SameReplies(unittest.TestCase):
         with Served(post()) as server, Gate(server.port, "--links", "2") as gate:
             with Line(gate.port) as line, Line(server.port) as direct:
                 chance = random.Random(3)
-                lines = ["PIN", *(query(chance) for _ in range(300)), "UNPIN", "PIN", "DUMP", "QUIT"]
+                lines = ["PIN", *(query(chance) for _ in range(300)), "UNPIN", "PIN", "QUIT"]
                 for one in (line, direct):
                     one.send(*lines)
                 self.assertEqual(line.replies.read(), direct.replies.read())
