@@ -13,7 +13,8 @@ version = $(shell sed -n 's/^version = "\(.*\)"/\1/p' clients/python/pyproject.t
 filled = sed 's|@PREFIX@|$(PREFIX)|; s|@VERSION@|$(version)|'
 pages = clearmap.1 clearmap-backup.1 clearmap-ros.1 clearmap-ros-node.1 clearmap-view.1
 client = $(notdir $(wildcard clients/python/clearmap/*.py)) py.typed
-view = asking.py draft.py picture.py site_of_map.py watched.py page/ask.js page/index.html page/map.js page/view.css page/view.js
+view = asking.py bodies.py changing.py draft.py following.py picture.py site_of_map.py tables.py \
+    watched.py yaml_map.py $(wildcard tools/view/page/*)
 
 # The library: what is proved comes from rt, and clients/c/clearmap.c goes with it.
 library = crates/libclearmap/out
@@ -50,7 +51,9 @@ install: all
 	$(INSTALL) -D -m 644 tools/ros/clearmap_feed.py '$(to)/share/clearmap/python/clearmap_feed.py'
 	$(INSTALL) -D -m 755 tools/ros/clearmap_node.py '$(to)/share/clearmap/python/clearmap_node.py'
 	$(INSTALL) -D -m 755 tools/view/clearmap_view.py '$(to)/share/clearmap/view/clearmap_view.py'
-	for part in $(view); do $(INSTALL) -D -m 644 tools/view/$$part '$(to)/share/clearmap/view/'$$part || exit 1; done
+	for part in $(view:tools/view/%=%); do \
+	    $(INSTALL) -D -m 644 tools/view/$$part '$(to)/share/clearmap/view/'$$part || exit 1; \
+	done
 	ln -sf ../share/clearmap/python/clearmap_ros.py '$(to)/bin/clearmap-ros'
 	ln -sf ../share/clearmap/python/clearmap_node.py '$(to)/bin/clearmap-ros-node'
 	ln -sf ../share/clearmap/view/clearmap_view.py '$(to)/bin/clearmap-view'
