@@ -23,9 +23,11 @@ tried() { # tried PYTHON TEST
     timeout 300 "$1" "$2" > "$scratch/log" 2>&1 || { failed=1; cat "$scratch/log"; }
     echo "$2: $(sed -n 's/^Ran \([0-9]* tests\).*/\1/p' "$scratch/log"), $(tail -n 1 "$scratch/log")"
 }
-for test in tools/ros/test_clearmap_ros.py tools/ros/test_clearmap_grid.py \
-    clients/python/test_clearmap.py clients/python/test_in_step.py clients/python/test_values.py \
-    tools/test_clearmap_backup.py; do
+images=$(tools/python_with PIL.Image)
+[ -n "$images" ] || echo 'images other than PGM left out: there is no python3 with PIL'
+tried "${images:-python3}" tools/ros/test_clearmap_ros.py
+for test in tools/ros/test_clearmap_grid.py clients/python/test_clearmap.py \
+    clients/python/test_in_step.py clients/python/test_values.py tools/test_clearmap_backup.py; do
     tried python3 "$test"
 done
 
