@@ -160,7 +160,7 @@ def script_pages():
             "clearmap-ros-node", "a node of ROS over a clearance map server", clearmap_node.parser(), clearmap_node.TOPICS.split("\n\n"), (("clearmap", 1),)
         ),
         "clearmap-view.1": script_page(
-            "clearmap-view", "a page in the browser that shows a clearance map", clearmap_view.parser(), ("Example:\n  clearmap-view --port 7400 --map map.yaml",), (("clearmap", 1),)
+            "clearmap-view", "a page in the browser that shows a clearance map", clearmap_view.parser(), ("Example:\n  clearmap-view --port 7400 --map map.yaml --radius 0.22",), (("clearmap", 1),)
         ),
     }
 

@@ -165,7 +165,8 @@ class Following:
         cell = picture.telling_cell(image)
         if cell is None:
             return self.watched.ask(lambda _: None)[0], image, "open"
-        version, near = self.watched.ask(lambda pinned: pinned.at(*cell, "chess"))
+        x, y = cell
+        version, near = self.watched.ask(lambda pinned: pinned.at(x, y, "chess"))
         return version, image, "wall" if near is not None and near.distance == 1 else "open"
 
     async def take(self, version: int, image: bytes, edge: str) -> None:
@@ -218,6 +219,5 @@ class Following:
     def made(self, shown: Shown, metric: str) -> picture.Picture:
         """Makes a picture."""
         words = self.wanted.program, shown.area, shown.image, metric, shown.edge
-        distances = tables.table_of(*words)
-        fits = self.frame_of(shown) is not None and self.wanted.map is not None
-        return picture.Picture(distances, self.wanted.map.unknown if fits else None)
+        known = self.wanted.map if self.frame_of(shown) is not None else None
+        return picture.Picture(tables.table_of(*words), known.unknown if known else None)

@@ -129,7 +129,7 @@ def tight_runs(
     cells: List[Tuple[int, int]], distances: "Numbers", needed: int
 ) -> List[List[Tuple[int, int]]]:
     """The parts of a path, as runs of neighbouring cells, whose distance is less than needed."""
-    near = numpy.concatenate(([False], distances < needed, [False]))
+    near = numpy.pad(distances < needed, 1)
     starts = numpy.flatnonzero(near[1:] & ~near[:-1])
     ends = numpy.flatnonzero(~near[1:] & near[:-1])
     return [cells[start:end] for start, end in zip(starts, ends)]

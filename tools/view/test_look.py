@@ -179,6 +179,11 @@ class Look(InBrowser):
         shot = self.shot()
         tight = [x for x in range(11, 50) if self.is_red(self.pixel(shot, x, 20))]
         self.assertEqual(tight, [29, 30, 31])  # up to 17 from the door's end in row 24
+        field.clear()
+        field.send_keys("1.33\n")  # (2.66 + sqrt 2)^2 is 16.6: a single cell
+        self.until(lambda: not self.is_red(self.pixel(self.shot(), 31, 20)))
+        tight = [x for x in range(11, 50) if self.is_red(self.pixel(self.shot(), x, 20))]
+        self.assertEqual(tight, [30])
 
     @staticmethod
     def is_red(colour):

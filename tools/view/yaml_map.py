@@ -20,17 +20,20 @@ class YamlMap(NamedTuple):
 
 def unknown_cells(image: ros.Gray, settings: ros.Settings) -> "Cells":
     """Which cells are neither occupied nor free, by rows from the top."""
-    table = numpy.zeros(image.most + 1, bool)
-    for sample in set(image.samples):
-        table[sample] = is_unknown(sample, image.most, settings)
+    opaque = image.opaque or bytes([1])
+    table = numpy.zeros((2, image.most + 1), bool)
+    for seen in set(opaque):
+        for sample in set(image.samples):
+            table[seen, sample] = is_unknown(sample, seen, image.most, settings)
     given = image.samples
     samples = numpy.frombuffer(given, numpy.uint8) if isinstance(given, bytes) else given
-    return table[numpy.asarray(samples)].reshape(image.height, image.width)
+    cells = table[numpy.frombuffer(opaque, numpy.uint8), numpy.asarray(samples)]
+    return cells.reshape(image.height, image.width)
 
 
-def is_unknown(sample: int, most: int, settings: ros.Settings) -> bool:
+def is_unknown(sample: int, seen: int, most: int, settings: ros.Settings) -> bool:
     """Whether a sample is an obstacle for being unknown alone."""
-    one = ros.Gray(1, 1, most, [sample])
+    one = ros.Gray(1, 1, most, [sample], bytes([seen]))
     return ros.obstacles(one, settings) != ros.obstacles(one, settings, unknown_is_free=True)
 
 

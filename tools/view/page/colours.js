@@ -42,9 +42,9 @@ export const packed = ([red, green, blue]) =>
 
 /** How distances become colours: up to `end`, a distance in cells or steps, and beyond it. */
 export class Scale {
-  constructor({ end, square, needed, faded }) {
+  constructor({ end, square, needed, contour, faded }) {
     const { obstacle, unknown, beyond } = theme();
-    Object.assign(this, { end, square, needed, faded });
+    Object.assign(this, { end, square, needed, contour, faded });
     this.steps = Uint32Array.from(scaleColours(faded), packed);
     this.obstacle = packed(obstacle);
     this.hatch = [packed(unknown), packed(mix(unknown, obstacle, 0.8))];

@@ -72,6 +72,6 @@ export function drawLegend(picture, room, scale, position, resolution) {
   by("far").style.background = css(beyond);
   by("farther").hidden = farthest(picture) < scale.end && picture.most !== null;
   by("hatched").hidden = !picture.hasUnknown;
-  by("contour").hidden = !scale.needed;
+  by("contour").hidden = !scale.contour;
 }
 

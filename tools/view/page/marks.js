@@ -10,7 +10,7 @@ const EDGE = 6; // pixels between a label and the border
 function line(context, points, colour, width) {
   context.beginPath();
   points.forEach(([x, y], k) => (k ? context.lineTo(x, y) : context.moveTo(x, y)));
-  if (points.length === 1) context.lineTo(...points[0]); // a dot, by its round ends
+  if (points.length === 1) context.lineTo(points[0][0] + 0.01, points[0][1]); // a dot, by its ends
   Object.assign(context, { strokeStyle: colour, lineWidth: width, lineJoin: "round" });
   context.lineCap = "round";
   context.stroke();

@@ -102,6 +102,6 @@ export function drawPicture(canvas, picture, sight, scale, arrived) {
   const image = context.createImageData(size.width, size.height);
   const pixels = new Uint32Array(image.data.buffer);
   coloured(values, size.width, scale, pixels);
-  if (scale.needed) contoured(values, size.width, scale.needed, pixels);
+  if (scale.contour) contoured(values, size.width, scale.needed, pixels);
   context.putImageData(image, 0, 0);
 }

@@ -13,6 +13,7 @@ import { drawRulers, Frame } from "./rulers.js";
 import { Sight } from "./sight.js";
 
 const by = (id) => document.getElementById(id);
+const FINEST = 3; // pixels of a robot's radius at which the contour is drawn
 const sight = new Sight();
 const page = {
   state: {}, picture: null, room: { needed: null, radius: null }, frame: null, linked: false,
@@ -44,11 +45,15 @@ function draw() {
   drawRulers(context, sight, page.frame, page.picture.edge);
 }
 
+/** Whether the contour is far enough from the obstacles to be seen. */
+const showsContour = ({ needed, radius }) => Boolean(needed) && radius * sight.scale >= FINEST;
+
 function drawAll() {
   const { picture, room, position, state } = page;
   const scale = new Scale({
     end: endOf(picture, room, position), square: picture.metric === "euclid2",
-    needed: room.needed, faded: fading(sight.scale * devicePixelRatio),
+    needed: room.needed, contour: showsContour(room),
+    faded: fading(sight.scale * devicePixelRatio),
   });
   drawPicture(by("picture"), picture, sight, scale, redraw);
   drawLegend(picture, room, scale, position, state.resolution);
