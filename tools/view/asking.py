@@ -1,7 +1,7 @@
 """What the page asks of a version: a cell, a path, and how much room a robot needs."""
 import math
 from fractions import Fraction
-from typing import Callable, Dict, List, NamedTuple, Optional, Sequence, Tuple
+from typing import Callable, Dict, List, NamedTuple, Optional, Sequence
 
 from aiohttp import web
 

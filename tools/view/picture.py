@@ -42,30 +42,23 @@ def halved(numbers: "Numbers") -> "Numbers":
 
 class Picture:
     """The levels of one version by one metric. `most` is the farthest cell's distance, None where
-    the map has no obstacle. `distances` are used up."""
+    the map has no obstacle. `has_unknown` says whether a cell is an obstacle that the yaml's image
+    doesn't know. `distances` are used up."""
 
     def __init__(self, distances: "Numbers", unknown: "Optional[Cells]" = None) -> None:
         self.height, self.width = distances.shape
         most = int(distances.max())
         self.most = None if most == NO_OBSTACLE else most
         self.levels = [coded(distances, unknown)]
+        self.has_unknown = unknown is not None and bool((self.levels[0] == UNKNOWN)[unknown].any())
         while max(self.levels[-1].shape) > SIDE:
             self.levels.append(halved(self.levels[-1]))
-
-    @property
-    def has_unknown(self) -> bool:
-        """Whether a cell is an obstacle that the yaml's image doesn't know."""
-        return any(bool((level == UNKNOWN).any()) for level in self.levels[:1])
 
     def distance(self, cells: Sequence[Tuple[int, int]]) -> "Numbers":
         """The distances of cells."""
         columns, rows = numpy.array(cells).T
         found = self.levels[0][rows, columns]
         return numpy.where(found == NO_OBSTACLE, found, found - (found > 0))
-
-    def is_unknown(self, cell: Tuple[int, int]) -> bool:
-        """Whether a cell is an obstacle that the yaml's image doesn't know."""
-        return bool(self.levels[0][cell[1], cell[0]] == UNKNOWN)
 
     def piece(self, level: int, column: int, row: int) -> bytes:
         """A piece of a level: its numbers by rows, four bytes each, the low one first, deflated. An

@@ -82,8 +82,9 @@ class Pictures(unittest.TestCase):
         self.assertEqual(numbers(made.piece(0, 0, 0), 6)[1], [3, 2, 1, 2, 3, 4])
         self.assertEqual(numbers(made.piece(0, 0, 0), 6)[0][0], 4)
         self.assertEqual(made.distance([(2, 1), (3, 1)]).tolist(), [0, 1])
-        self.assertEqual((made.has_unknown, made.is_unknown((2, 1))), (True, True))
-        self.assertFalse(made.is_unknown((0, 0)))
+        self.assertTrue(made.has_unknown)
+        unknown[1, 2] = False
+        self.assertFalse(picture.Picture(table(POST, "city"), unknown).has_unknown)
 
     def test_levels(self):
         """No obstacle is lost from one level to the next, nor is it hidden by an unknown cell."""

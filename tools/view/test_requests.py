@@ -6,14 +6,12 @@ Each is done with pictures and answers of the library, where it is there, and ag
 import io
 import json
 import pathlib
-import socket
-import subprocess
 import sys
 import tempfile
 import unittest
 import zlib
 
-from testing import HERE, PATIENCE, POST, YAML, Viewed, Viewing, WithoutLibrary
+from testing import YAML, Viewing, WithoutLibrary
 
 import clearmap
 import numpy
@@ -135,53 +133,6 @@ class Requests(Viewing):
                 self.assertIn(text, json.loads(said)["fault"])
         self.assertEqual(viewed.ask("GET", "/clearmap_view.py")[0], 404)
 
-    def test_changes_want_the_token(self):
-        viewed, _ = self.view()
-        paint = json.dumps({"command": "paint", "rect": [0, 0, 1, 1]})
-        own = viewed.url.strip("/")
-        refused = (
-            {},
-            {"X_Clearmap_Token": "guess"},
-            {"X_Clearmap_Token": self.token, "Origin": "http://example.org"},
-            {"X_Clearmap_Token": self.token, "Origin": "null"},
-            {"X_Clearmap_Token": self.token, "Origin": f"http://127.0.0.1:{viewed.port + 1}"},
-            {"X_Clearmap_Token": self.token, "Host": "example.org"},
-            {"X_Clearmap_Token": self.token, "Host": f"example.org:{viewed.port}"},
-            {"X_Clearmap_Token": self.token, "Host": "127.0.0.1"},
-            {"X_Clearmap_Token": self.token, "Sec_Fetch_Site": "cross-site"},
-        )
-        for headers in refused:
-            with self.subTest(headers=headers):
-                self.assertEqual(viewed.ask("POST", "/change", paint, **headers)[0], 403)
-        self.assertEqual(viewed.ask("GET", "/", Host="example.org")[0], 403)
-        asked = viewed.ask("GET", "/at?metric=city&x=0&y=0", Sec_Fetch_Site="cross-site")
-        self.assertEqual(asked[0], 403)
-        with clearmap.Client(self.served.port) as other:
-            self.assertEqual(other.revert(), 1)  # none of these was a command
-        words = {"X_Clearmap_Token": self.token, "Origin": own}
-        status, said = viewed.ask("POST", "/change", paint, **words)
-        wanted = {"said": "1 cell of the draft painted, place 2 of the log."}
-        self.assertEqual((status, json.loads(said)), (200, wanted))
-
-    def test_refused_changes(self):
-        viewed, _ = self.view()
-        for body, text in (
-            ({"command": "paint", "rect": [0, 0, 7, 1]}, "isn't wholly on the map (ERR 1 OutOfRange)"),
-            ({"command": "paint", "rect": [0, 0, 0, 1]}, "one cell at least"),
-            ({"command": "paint", "rect": [0, 0, 1]}, "four whole numbers"),
-            ({"command": "quit"}, "no such command"),
-        ):
-            said = viewed.ask("POST", "/change", json.dumps(body), X_Clearmap_Token=self.token)[1]
-            self.assertIn(text, json.loads(said)["fault"])
-
-    def test_read_only(self):
-        viewed, state = self.view("--read-only")
-        self.assertEqual((state["readOnly"], self.token), (True, ""))
-        publish = viewed.ask("POST", "/change", '{"command": "publish"}', X_Clearmap_Token="")
-        self.assertEqual(publish[0], 403)
-        with clearmap.Client(self.served.port) as other:
-            self.assertEqual(other.revert(), 1)
-
     def test_follows(self):
         viewed, _ = self.view()
         with clearmap.Client(self.served.port) as other:
@@ -237,43 +188,6 @@ class Requests(Viewing):
 @unittest.skipIf(LACKING, "there is no library: the tests above are without it")
 class RequestsWithoutLibrary(WithoutLibrary, Requests):
     """The same, where each picture takes a run of the program, and the server is asked."""
-
-
-class CommandLine(unittest.TestCase):
-    def refused(self, *words):
-        """The status and what is said, on standard error alone."""
-        script = [sys.executable, str(HERE / "clearmap_view.py"), *words]
-        run = subprocess.run(script, capture_output=True, text=True, timeout=PATIENCE)
-        self.assertEqual(run.stdout, "")
-        return run.returncode, run.stderr
-
-    def test_refused(self):
-        with socket.create_server(("127.0.0.1", 0)) as taken:
-            web = str(taken.getsockname()[1])
-            status, said = self.refused("--port", "7400", "--web", web)
-        self.assertEqual((status, said.count("\n")), (1, 1))
-        self.assertIn("can't be had: Address already in use", said)
-        with tempfile.TemporaryDirectory() as folder:
-            yaml = pathlib.Path(folder, "map.yaml")
-            yaml.write_text(YAML.replace("image: map.pgm\n", ""))
-            status, said = self.refused("--port", "7400", "--web", "0", "--map", str(yaml))
-        self.assertEqual((status, said.count("\n")), (1, 1))
-        self.assertIn("no 'image'", said)
-        for words in (("--port", "0"), (), ("--port", "7400", "--radius", "wide")):
-            self.assertEqual(self.refused(*words)[0], 2)
-
-    def test_no_server_yet(self):
-        with socket.create_server(("127.0.0.1", 0)) as listener:
-            port = listener.getsockname()[1]
-        viewed = Viewed(port)
-        self.addCleanup(viewed.end)
-        states = viewed.events()
-        while "can't be asked" not in next(states)["fault"]:
-            pass
-        self.assertEqual(viewed.ask("GET", "/picture/city")[0], 503)
-        served = Served(POST, port=port)
-        self.addCleanup(served.end)
-        self.assertEqual(next(states)["version"], 0)
 
 
 if __name__ == "__main__":

@@ -38,6 +38,7 @@ negate: 0
 occupied_thresh: 0.65
 free_thresh: 0.196
 """
+OBSTACLE = [16, 18, 24, 255]  # its colour on the page, by light
 PATIENCE = 30  # seconds for what a busy machine takes its time for
 
 

@@ -6,7 +6,7 @@ import { read, written } from "./link.js";
 import { drawMarks } from "./marks.js";
 import { say, tellLost, tellState, wait } from "./panel.js";
 import { Picture } from "./pieces.js";
-import { choose, followKeys, followPointer } from "./pointer.js";
+import { choose, followKeys, followPointer, mode } from "./pointer.js";
 import { Questions } from "./questions.js";
 import { drawPicture } from "./raster.js";
 import { drawRulers, Frame } from "./rulers.js";
@@ -150,8 +150,8 @@ function take(state) {
   page.state = state;
   page.drafts = state.draft.drawn;
   tellState(state, page.picture);
-  if (state.fault) choose("look");
-  else showNewest();
+  if (state.fault && ["paint", "clear"].includes(mode())) choose("look");
+  if (!state.fault) showNewest();
   redraw("marks");
 }
 
