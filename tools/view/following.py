@@ -33,19 +33,30 @@ class NothingShown(Exception):
     """There is no version to ask; its text says why."""
 
 
+class Copy(NamedTuple):
+    """A version as a server dumps it, its cells, and what its border is."""
+
+    version: int
+    image: bytes
+    bits: "picture.Cells"
+    edge: str
+
+
 class Shown:
     """One version on the page, with its pictures by metric: each is made when a page first wants
     it. `area` is the version as a map of this process, where the library is there."""
 
-    def __init__(self, serial: int, version: int, image: bytes, edge: str, here: bool) -> None:
-        self.serial, self.version, self.image, self.edge = serial, version, image, edge
-        self.width, self.height = picture.size_of(image)
-        self.area = clearmap.Map(picture.bits_of(image), edge) if here else None
+    def __init__(self, serial: int, copy: Copy, here: bool) -> None:
+        self.serial, self.copy = serial, copy
+        self.version, self.edge = copy.version, copy.edge
+        self.height, self.width = copy.bits.shape
+        self.area = clearmap.Map(copy.bits, copy.edge) if here else None
         self.pictures: Dict[str, "asyncio.Task[picture.Picture]"] = {}
 
-    def is_as(self, version: int, image: bytes, edge: str) -> bool:
+    def is_as(self, copy: Copy) -> bool:
         """Whether another look found nothing new."""
-        return (self.version, self.edge) == (version, edge) and self.image == image
+        same = (self.version, self.edge) == (copy.version, copy.edge)
+        return same and self.copy.image == copy.image
 
 
 class Following:
@@ -148,7 +159,7 @@ class Following:
         try:
             pinned = await asyncio.to_thread(self.watched.renew, self.draft.saw)
             if pinned != self.pinned or not self.shown:
-                await self.take(*await asyncio.to_thread(self.copied))
+                await self.take(await asyncio.to_thread(self.copied))
                 self.pinned = pinned
             elif self.fault:
                 await self.tell("")
@@ -158,36 +169,39 @@ class Following:
             if said != self.fault:
                 await self.tell(said)
 
-    def copied(self) -> Tuple[int, bytes, str]:
+    def copied(self) -> Copy:
         """The pinned version, and whether its border is open or a wall, as it shows where its
         neighbours are free."""
         image = self.watched.dump()
-        cell = picture.telling_cell(image)
+        known = self.shown[0].copy if self.shown else None
+        bits = known.bits if known and known.image == image else picture.bits_of(image)
+        cell = picture.telling_cell(bits)
         if cell is None:
-            return self.watched.ask(lambda _: None)[0], image, "open"
+            return Copy(self.watched.ask(lambda _: None)[0], image, bits, "open")
         x, y = cell
         version, near = self.watched.ask(lambda pinned: pinned.at(x, y, "chess"))
-        return version, image, "wall" if near is not None and near.distance == 1 else "open"
+        is_wall = near is not None and near.distance == 1
+        return Copy(version, image, bits, "wall" if is_wall else "open")
 
-    async def take(self, version: int, image: bytes, edge: str) -> None:
+    async def take(self, copy: Copy) -> None:
         """Shows a version, where it is another one than is shown."""
-        if self.shown and self.shown[0].is_as(version, image, edge):
+        if self.shown and self.shown[0].is_as(copy):
             return await self.tell("") if self.fault else None
-        await asyncio.to_thread(self.compare, version, image)
+        await asyncio.to_thread(self.compare, copy)
         self.serial += 1
-        words = self.serial, version, image, edge, self.wanted.in_process
-        self.shown = [await asyncio.to_thread(Shown, *words), *self.shown[:1]]
+        made = await asyncio.to_thread(Shown, self.serial, copy, self.wanted.in_process)
+        self.shown = [made, *self.shown[:1]]
         await self.tell("")
 
-    def compare(self, version: int, image: bytes) -> None:
+    def compare(self, copy: Copy) -> None:
         """Looks for changes of others in a version that was published from here: the page showed it
         as the one before it, with what was drawn."""
-        drawn = self.draft.sent(version)
-        if drawn is None or not self.shown or self.shown[0].version + 1 != version:
+        drawn = self.draft.sent(copy.version)
+        if drawn is None or not self.shown or self.shown[0].version + 1 != copy.version:
             return
-        before = self.shown[0].image
-        if picture.size_of(before) == picture.size_of(image):
-            self.draft.found(version, picture.differing(before, drawn, image))
+        before = self.shown[0].copy.bits
+        if before.shape == copy.bits.shape:
+            self.draft.found(copy.version, picture.differing(before, drawn, copy.bits))
 
     # ---- questions
 
@@ -218,6 +232,6 @@ class Following:
 
     def made(self, shown: Shown, metric: str) -> picture.Picture:
         """Makes a picture."""
-        words = self.wanted.program, shown.area, shown.image, metric, shown.edge
+        words = self.wanted.program, shown.area, shown.copy.image, metric, shown.edge
         known = self.wanted.map if self.frame_of(shown) is not None else None
         return picture.Picture(tables.table_of(*words), known.unknown if known else None)

@@ -88,22 +88,20 @@ def bits_of(image: bytes) -> "Cells":
     return numpy.frombuffer(text, numpy.uint8).reshape(height, width) == ord("1")
 
 
-def differing(before: bytes, drawn: Iterable[Tuple[Sequence[int], bool]], after: bytes) -> int:
-    """In how many cells an image differs from the one before it with these rectangles drawn in
-    turn, each of obstacles or of free cells."""
-    cells = bits_of(before).copy()
+def differing(before: "Cells", drawn: Iterable[Tuple[Sequence[int], bool]], after: "Cells") -> int:
+    """In how many cells a map differs from the one before it with these rectangles drawn in turn,
+    each of obstacles or of free cells."""
+    cells = before.copy()
     for (x0, y0, x1, y1), obstacle in drawn:
         cells[y0:y1, x0:x1] = obstacle
-    return int((cells != bits_of(after)).sum())
+    return int((cells != after).sum())
 
 
-def telling_cell(image: bytes) -> Optional[Tuple[int, int]]:
-    """A cell on the border of a plain PBM image, as a server dumps it, all of whose neighbours are
-    free: its nearest obstacle is one step away by `chess` just where the border is a wall. None
-    where there is no such cell; then no cell of the border is farther than that from an obstacle
-    anyway."""
-    width, height = size_of(image)
-    bits = bits_of(image)
+def telling_cell(bits: "Cells") -> Optional[Tuple[int, int]]:
+    """A cell on the border of a map all of whose neighbours are free: its nearest obstacle is one
+    step away by `chess` just where the border is a wall. None where there is no such cell; then no
+    cell of the border is farther than that from an obstacle anyway."""
+    height, width = bits.shape
     sides = (
         (bits[:2].any(axis=0), lambda at: (at, 0)),
         (bits[-2:].any(axis=0), lambda at: (at, height - 1)),

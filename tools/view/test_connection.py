@@ -2,6 +2,7 @@
 """Tests of how long clearmap-view holds a worker of the server, and of what it knows afterwards.
 CLEARMAP names the built program."""
 import json
+import signal
 import sys
 import time
 import unittest
@@ -61,6 +62,22 @@ class Workers(Viewing):
         self.assertEqual(viewed.ask("GET", "/at?metric=city&x=0&y=0")[0], 200)
         with clearmap.Client(self.served.port, timeout=watched.AFTER_A_QUESTION + 8) as other:
             self.assertEqual(other.revert(), 1)
+
+    def test_a_server_that_hangs(self):
+        """While the server answers nothing, the version that is shown is asked all the same."""
+        if not self.in_process:
+            self.skipTest("there is no library")
+        viewed, _ = self.view()
+        viewed.ask("GET", "/at?metric=city&x=0&y=0")
+        self.served.process.send_signal(signal.SIGSTOP)
+        self.addCleanup(self.served.process.send_signal, signal.SIGCONT)
+        end = time.monotonic() + 3
+        while time.monotonic() < end:
+            start = time.monotonic()
+            told = json.loads(viewed.ask("GET", "/at?metric=city&x=5&y=3")[1])
+            self.assertEqual(told["distance"], 5)
+            self.assertLess(time.monotonic() - start, 1)
+            time.sleep(0.05)
 
     def test_what_is_drawn_holds_it(self):
         """A server that ends while rectangles wait for a publish is noticed: none is told then."""

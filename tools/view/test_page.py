@@ -43,8 +43,8 @@ class Page(InBrowser):
             self.assertEqual(answer[0], 200)
         self.to(100, 1000).perform()
         self.until(lambda: "from the obstacle at" in self.text("point"))
-        said = f"the first picture of {side} by {side} cells came {first:.2f} s after the server was"
-        print(f"{said} started, and an answer to pointing {1000 * max(took):.0f} ms after its request")
+        said = f"the first picture of {side} by {side} cells came {first:.2f} s after the server"
+        print(f"{said} was started, and an answer to pointing within {1000 * max(took):.0f} ms")
         self.assertLess(first, 15)
         self.assertLess(max(took), 0.5)
 
@@ -59,7 +59,7 @@ class Page(InBrowser):
             self.until(lambda: self.text("point") == said)
 
     def test_zoom_and_pan(self):
-        """By keys, also right after a click on a mode or a zoom button, by these and the pointer."""
+        """By keys, also right after a click on a mode or a zoom button, and by the pointer."""
         self.open()
         before, left = self.middle(2, 1), webdriver.Keys.ARROW_LEFT
         self.mode("path")

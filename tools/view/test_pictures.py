@@ -125,12 +125,15 @@ class Pictures(unittest.TestCase):
             (b"P1\n3 3\n000\n010\n000\n", None),
         )
         for image, wanted in rows:
-            self.assertEqual(picture.telling_cell(image), wanted, image)
+            self.assertEqual(picture.telling_cell(picture.bits_of(image)), wanted, image)
 
 
 class Yaml(unittest.TestCase):
     def test_unknown_cells(self):
-        for text, samples in (("negate: 0", b"\x00\xcd\xfe\x80"), ("negate: 1", b"\xff\x32\x00\x80")):
+        for text, samples in (
+            ("negate: 0", b"\x00\xcd\xfe\x80"),
+            ("negate: 1", b"\xff\x32\x00\x80"),
+        ):
             with tempfile.TemporaryDirectory() as folder:
                 yaml = pathlib.Path(folder, "house.yaml")
                 yaml.write_text(YAML.replace("negate: 0", text))

@@ -40,7 +40,7 @@ class Watched:
         self, port: int, lost: Callable[[], None], clock: Callable[[], float] = time.monotonic
     ) -> None:
         self._port, self._lost, self._clock = port, lost, clock
-        self._lock = threading.Lock()
+        self._lock, self._staying = threading.Lock(), threading.Lock()
         self._client: Optional[clearmap.Client] = None
         self._pinned: Optional[clearmap.Pinned] = None
         self._connections = 0
@@ -60,24 +60,23 @@ class Watched:
                     self._lost()
                 raise
 
-    # ---- how long the connection stays
+    # ---- how long the connection stays: these wait for no reply of the server
 
     def stay(self, seconds: float) -> None:
         """Keeps the connection for so long from now."""
-        with self._lock:
+        with self._staying:
             self._until = max(self._until, self._clock() + seconds)
 
     @property
     def stays(self) -> bool:
         """Whether something was asked or changed lately."""
-        with self._lock:
+        with self._staying:
             return self._clock() < self._until
 
     @property
     def is_pinned(self) -> bool:
         """Whether a version is pinned."""
-        with self._lock:
-            return self._pinned is not None
+        return self._pinned is not None
 
     def rest(self) -> None:
         """Ends the connection, so that neither a worker of the server nor a version is held."""
