@@ -19,6 +19,7 @@ if TYPE_CHECKING:
 
 SIDE = 512  # numbers of a piece's side
 OBSTACLE, UNKNOWN = 0, 1
+FAR = 2**31 - 1  # what a piece has for NO_OBSTACLE
 
 
 def coded(distances: "Numbers", unknown: "Optional[Cells]") -> "Numbers":
@@ -69,7 +70,7 @@ class Picture:
         numbers = self.levels[level][SIDE * row : SIDE * (row + 1), across]
         if numbers.size == 0:
             raise IndexError("the level has no such piece")
-        return zlib.compress(numbers.astype("<u4").tobytes(), 1)
+        return zlib.compress(numpy.minimum(numbers, FAR).astype("<i4").tobytes(), 1)
 
 
 # ---- images as a server dumps them

@@ -251,6 +251,18 @@ class Look(InBrowser):
         rounds = self.seen("sight.js", "[0.07, 1, 49, 0.2].map(it.roundBelow)")
         self.assertEqual(rounds, [0.05, 1, 20, 0.2])
 
+    def test_what_is_not_here_yet(self):
+        """Cells whose numbers haven't come are left blank, and aren't shown as free."""
+        self.show(house())
+        about = "{ width: 2, height: 1, levels: 1, side: 512, serial: 999, metric: 'city' }"
+        window = "{ level: 0, x0: 0, x1: 2, y0: 0, y1: 1 }"
+        numbers = f"Array.from(new it.Picture({about}).numbers({window}))"
+        self.assertEqual(self.seen("pieces.js", numbers), [2**31 - 2] * 2)
+        call = "new it.Scale({ end: 2, square: false, faded: 0 })"
+        colours = f"[2 ** 31 - 2, 2 ** 31 - 1, 9].map((number) => {call}.colour(number))"
+        nothing, far, beyond = self.seen("colours.js", colours)
+        self.assertEqual((nothing, far == beyond, far != 0), (0, True, True))
+
     def test_the_maps_name(self):
         self.show(house())
         self.assertEqual((self.text("name"), self.driver.title), ("house", "house – clearmap"))

@@ -21,7 +21,7 @@ LACKING = tables.no_library()
 
 def numbers(piece, width):
     """The numbers of a piece, by rows."""
-    return numpy.frombuffer(zlib.decompress(piece), "<u4").reshape(-1, width).tolist()
+    return numpy.frombuffer(zlib.decompress(piece), "<i4").reshape(-1, width).tolist()
 
 
 def table(image, metric, edge="open", program=PROGRAM):
@@ -71,7 +71,7 @@ class Pictures(unittest.TestCase):
     def test_no_obstacle(self):
         made = picture.Picture(table(b"P1\n2 1\n00\n", "chess"))
         self.assertEqual(made.most, None)
-        self.assertEqual(numbers(made.piece(0, 0, 0), 2), [[clearmap.NO_OBSTACLE] * 2])
+        self.assertEqual(numbers(made.piece(0, 0, 0), 2), [[picture.FAR] * 2])
         self.assertEqual(made.distance([(1, 0)]).tolist(), [clearmap.NO_OBSTACLE])
 
     def test_unknown(self):

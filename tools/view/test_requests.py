@@ -56,7 +56,7 @@ class Requests(Viewing):
         found = about["most"], about["levels"], about["hasUnknown"]
         self.assertEqual((status, found), (200, (5, 1, False)))
         status, data = viewed.ask("GET", f"/piece/{about['serial']}/city/0/0/0")
-        numbers = numpy.frombuffer(zlib.decompress(data), "<u4").reshape(4, 6)
+        numbers = numpy.frombuffer(zlib.decompress(data), "<i4").reshape(4, 6)
         self.assertEqual((status, numbers[1].tolist()), (200, [3, 2, 0, 2, 3, 4]))
 
     def test_cells(self):

@@ -1,11 +1,14 @@
 // The colours of the map: one scale from dark to light, and what stands for everything else.
 
+import { NOTHING } from "./pieces.js";
+
 // Even steps of lightness, from near to far; colour-blind people see them in this order too.
 const ANCHORS = [
   [40, 51, 128], [37, 78, 150], [32, 105, 170], [5, 136, 176], [49, 164, 175],
   [78, 191, 175], [125, 215, 168], [193, 231, 164], [250, 246, 179],
 ];
-export const STEPS = 256;
+const STEPS = 256;
+const LISTED = 2 ** 16; // numbers whose colours are worked out before they are wanted
 const FADED = 0.55; // how far the scale fades where many cells lie in a pixel
 
 const THEMES = {
@@ -36,19 +39,34 @@ export function scaleColours(faded) {
   return steps.map((colour) => mix(colour, beyond, faded));
 }
 
-/** A colour as a pixel of an image's data, opaque. */
-export const packed = ([red, green, blue]) =>
-  ((255 << 24) | (blue << 16) | (green << 8) | red) >>> 0;
+/** A colour as a pixel of an image's data, opaque, in a signed number of 32 bits. */
+export const packed = ([red, green, blue]) => (255 << 24) | (blue << 16) | (green << 8) | red;
 
-/** How distances become colours: up to `end`, a distance in cells or steps, and beyond it. */
+/** How numbers of a picture become colours: of distances up to `end`, in cells or steps. */
 export class Scale {
   constructor({ end, square, needed, contour, faded }) {
     const { obstacle, unknown, beyond } = theme();
     Object.assign(this, { end, square, needed, contour, faded });
-    this.steps = Uint32Array.from(scaleColours(faded), packed);
-    this.obstacle = packed(obstacle);
     this.hatch = [packed(unknown), packed(mix(unknown, obstacle, 0.8))];
     this.beyond = packed(beyond);
-    this.factor = end > 0 ? STEPS / end : 0;
+    this.steps = Int32Array.from(scaleColours(faded), packed);
+    this.known = new Int32Array(Math.min((square ? end * end : end) + 2, LISTED));
+    this.known.set([packed(obstacle), this.hatch[0]]);
+    for (let number = 2; number < this.known.length; number += 1)
+      this.known[number] = this.between(number);
+  }
+
+  /** The colour of a number that tells a distance, which it is one above. */
+  between(number) {
+    const distance = this.square ? Math.sqrt(number - 1) : number - 1;
+    if (distance >= this.end) return this.beyond;
+    return this.steps[Math.floor((distance * STEPS) / this.end)];
+  }
+
+  /** The colour of a number. */
+  colour(number) {
+    if (number < this.known.length) return this.known[number];
+    if (number >= NOTHING) return number === NOTHING ? 0 : this.beyond;
+    return this.between(number);
   }
 }

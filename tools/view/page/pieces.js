@@ -2,7 +2,8 @@
 
 export const OBSTACLE = 0;
 export const UNKNOWN = 1;
-export const NO_OBSTACLE = 0xffffffff;
+export const NO_OBSTACLE = 0x7fffffff;
+export const NOTHING = 0x7ffffffe; // off the map, or not here yet
 const KEPT = 160; // pieces at most, of a megabyte
 
 /** What the page knows of one picture: a number of it is 0, 1, or the distance plus 1. */
@@ -38,7 +39,7 @@ export class Picture {
     const piece = { across, numbers: null };
     piece.done = fetch(`piece/${this.serial}/${this.metric}/${key}`)
       .then((answer) => (answer.ok ? answer.arrayBuffer() : Promise.reject(new Error("no piece"))))
-      .then((data) => { piece.numbers = new Uint32Array(data); arrived?.(); })
+      .then((data) => { piece.numbers = new Int32Array(data); arrived?.(); })
       .catch(() => this.pieces.delete(key));
     return piece;
   }
@@ -83,7 +84,7 @@ export class Picture {
   /** The numbers of a window, by rows; those that aren't there yet are of the coarsest level. */
   numbers(window, arrived) {
     const width = window.x1 - window.x0;
-    const out = new Uint32Array(width * (window.y1 - window.y0));
+    const out = new Int32Array(width * (window.y1 - window.y0));
     for (const { column, row } of this.inside(window)) {
       const piece = this.piece(window.level, column, row, arrived);
       const place = { x: column * this.side, y: row * this.side };
@@ -103,7 +104,7 @@ export class Picture {
       for (let column = Math.max(x, window.x0); column < right; column += 1) {
         const at = (row - window.y0) * (window.x1 - window.x0) + column - window.x0;
         const from = (row >> shift) * piece.across + (column >> shift);
-        out[at] = piece.numbers ? piece.numbers[from] : NO_OBSTACLE;
+        out[at] = piece.numbers ? piece.numbers[from] : NOTHING;
       }
   }
 }
