@@ -104,7 +104,7 @@ class Asking:
         body = await body_of(request)
         metric, points = metric_of(body.get("metric")), points_of(body)
         corners = self.corners(points)
-        needed = self.needed(body.get("radius"), metric)
+        needed = self.needed(body.get("radius"), metric, body.get("unit"))
         shown = self.following.newest()
         version, found = await self.following.asked(way(corners, metric, needed))
         told = {"version": version, "corners": corners, **self.answer(found, needed, metric)}
@@ -153,16 +153,18 @@ class Asking:
         metric = metric_of(request.query.get("metric"))
         radius = request.query.get("radius", "")
         frame = self.following.frame_of(self.following.newest())
-        needed = self.needed(radius, metric)
+        needed = self.needed(radius, metric, request.query.get("unit"))
         cells = None if needed is None else float(radius) / float(frame.resolution if frame else 1)
         return web.json_response({"needed": needed, "cells": cells})
 
-    def needed(self, radius: object, metric: str) -> Optional[int]:
+    def needed(self, radius: object, metric: str, unit: object) -> Optional[int]:
         """The d of CLEAROF for a robot's radius, in metres where they are known and else in cells;
-        against whole cells, which is the safe one."""
+        against whole cells, which is the safe one. One in another unit than is meant is refused."""
         if radius in (None, ""):
             return None
         frame = self.following.frame_of(self.following.newest())
+        if unit not in (None, "m" if frame else "cells"):
+            raise BadRequest(f"the radius is told in {unit}, and the map isn't")
         resolution = frame.resolution if frame else Fraction(1)
         try:
             cells = float(str(radius)) / float(resolution)

@@ -86,7 +86,7 @@ class Following:
         """What each page is told when it changes."""
         wanted = self.wanted
         told: Dict[str, object] = {"fault": self.fault, "readOnly": wanted.read_only}
-        told.update(port=wanted.port, radius=wanted.radius, draft=self.draft.state())
+        told.update(port=wanted.port, draft=self.draft.state())
         told["name"] = wanted.map.name if wanted.map else f"port {wanted.port}"
         if self.shown:
             told.update(self.state_of(self.shown[0]))
@@ -99,6 +99,8 @@ class Following:
         told.update(width=shown.width, height=shown.height, edge=shown.edge)
         told["resolution"] = float(frame.resolution) if frame else None
         told["origin"] = [float(frame.origin_x), float(frame.origin_y)] if frame else None
+        in_its_unit = frame is not None or known is None
+        told["radius"] = self.wanted.radius if in_its_unit else ""
         if known is not None and frame is None:
             sizes = f"has {known.frame.width} by {known.frame.height} cells"
             sizes += f", and the served map {shown.width} by {shown.height}"

@@ -136,6 +136,11 @@ class Page(InBrowser):
         self.driver.get(link.replace("map=6x4", "map=60x40"))
         self.until(lambda: "isn't followed" in self.text("said"))
         self.assertTrue(self.text("path").startswith("No points yet"))
+        self.driver.get("about:blank")
+        self.driver.get(link.replace("unit=cells", "unit=m"))
+        self.until(lambda: self.text("version") == "version 0")
+        radius = self.driver.find_element(By.ID, "radius").get_attribute("value")
+        self.assertEqual(radius, "5")  # as without a link: metres aren't taken for cells
 
     def test_paint_and_publish(self):
         self.open(POST, "--versions", "2")

@@ -113,6 +113,7 @@ class Requests(Viewing):
             ("GET", "/at?metric=city&x=-1&y=0", None, 400, "two whole numbers"),
             ("GET", "/at?metric=city&x=6&y=0", None, 409, "isn't wholly on the map (ERR 1"),
             ("GET", "/room?metric=city&radius=wide", None, 400, "a radius is a number"),
+            ("GET", "/room?metric=city&radius=1&unit=m", None, 400, "told in m, and the map isn't"),
             ("GET", "/piece/99/city/0/0/0", None, 404, "no such picture"),
             ("POST", "/path", "[]", 400, "no JSON object"),
             ("POST", "/path", "\xff", 400, "no JSON object"),
@@ -178,8 +179,9 @@ class Requests(Viewing):
                 told = self.path(viewed, "euclid2", [[5, 1]], radius)
                 self.assertEqual((told["clear"], told["distance"]), (clear, 9))
             pathlib.Path(folder, "map.pgm").write_bytes(b"P5\n4 3\n255\n" + b"\xcd" * 12)
-            viewed, state = self.view("--map", str(yaml))
-            self.assertEqual((state["resolution"], state["origin"]), (None, None))
+            viewed, state = self.view("--map", str(yaml), "--radius", "0.3")
+            told = [state[name] for name in ("resolution", "origin", "radius")]
+            self.assertEqual(told, [None, None, ""])  # no metres are taken for cells
             sizes = "The yaml's image has 4 by 3 cells, and the served map 6 by 4"
             self.assertIn(sizes, state["notice"])
             about = json.loads(viewed.ask("GET", "/picture/city")[1])

@@ -24,9 +24,9 @@ const words = (named) => new URLSearchParams(named).toString();
 
 export const askPicture = (metric) => answer(`picture/${metric}`);
 export const askAt = (metric, { x, y }) => answer(`at?${words({ metric, x, y })}`);
-export const askRoom = (metric, radius) => answer(`room?${words({ metric, radius })}`);
-export const askPath = (metric, cells, radius) =>
-  post("path", { metric, radius, points: cells.map(({ x, y }) => [x, y]) });
+export const askRoom = (metric, radius, unit) => answer(`room?${words({ metric, radius, unit })}`);
+export const askPath = (metric, cells, radius, unit) =>
+  post("path", { metric, radius, unit, points: cells.map(({ x, y }) => [x, y]) });
 export const change = (command, rect, sure) => post("change", { command, rect, sure });
 
 /** Follows the state that the page is told, while the page is seen; `lost` is called where nothing

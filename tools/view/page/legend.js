@@ -17,9 +17,9 @@ export function told(distance, metric, resolution) {
 
 /** What a robot's radius asks of the scale: `needed` is a cell's distance with room, as CLEAROF
  * takes it, and `radius` the robot's in cells. */
-export async function roomOf(metric, radius) {
+export async function roomOf(metric, radius, unit) {
   if (radius === "") return { needed: null, radius: null };
-  const { needed, cells } = await askRoom(metric, radius);
+  const { needed, cells } = await askRoom(metric, radius, unit);
   return { needed, radius: cells };
 }
 

@@ -5,7 +5,7 @@ const points = (text) =>
 const whole = ({ x, y }) => Number.isInteger(x) && Number.isInteger(y);
 
 /** What a page shows, as words for its address. A view that shows all of the map isn't kept. */
-export function written(sight, { path, metric, radius, position }) {
+export function written(sight, { path, metric, radius, unit, position }) {
   const words = new URLSearchParams();
   words.set("map", `${sight.mapWidth}x${sight.mapHeight}`);
   if (!sight.fitted) {
@@ -15,14 +15,17 @@ export function written(sight, { path, metric, radius, position }) {
   if (path.points.length) words.set("path", path.points.map(({ x, y }) => `${x},${y}`).join(";"));
   words.set("metric", metric);
   words.set("radius", radius);
+  words.set("unit", unit);
   words.set("end", position);
   return words.toString().replaceAll("%2C", ",").replaceAll("%3B", ";");
 }
 
-/** What an address asks for. What isn't of this map's size, or isn't understood, is left out. */
-export function read(hash, { width, height }) {
+/** What an address asks for. What isn't of this map's size, or isn't understood, is left out; so is
+ * a radius in another unit. */
+export function read(hash, { width, height, unit }) {
   const words = new URLSearchParams(hash.replace(/^#/, ""));
-  const found = { metric: words.get("metric"), radius: words.get("radius") };
+  const found = { metric: words.get("metric"), radius: null };
+  if (words.get("unit") === unit) found.radius = words.get("radius");
   if (words.has("end")) found.position = Number(words.get("end"));
   if (words.has("map") && words.get("map") !== `${width}x${height}`) {
     return { ...found, radius: null, otherMap: words.get("map").replace("x", " by ").slice(0, 20) };

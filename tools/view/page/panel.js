@@ -41,6 +41,9 @@ function tellDraft({ drawn, said }) {
   by("draft").textContent = said;
 }
 
+/** What a radius is in. */
+export const unitOf = ({ resolution }) => (resolution ? "m" : "cells");
+
 /** Shows a state of the page's server. */
 export function tellState(state, picture) {
   by("name").textContent = state.name;
@@ -51,7 +54,7 @@ export function tellState(state, picture) {
   by("server").classList.toggle("lost", Boolean(state.fault));
   by("notice").textContent = state.notice ?? "";
   by("notice").hidden = !state.notice;
-  by("unit").textContent = state.resolution ? "m" : "cells";
+  by("unit").textContent = unitOf(state);
   tellDraft(state.draft);
   enable(Boolean(picture), Boolean(picture) && !state.fault);
 }

@@ -47,7 +47,8 @@ export class Questions {
     page.path = { points };
     if (points.length) {
       const fault = ({ message }) => ({ said: message });
-      const told = await askPath(page.metric, points, page.radius).catch(fault);
+      const { metric, radius, unit } = page;
+      const told = await askPath(metric, points, radius, unit).catch(fault);
       if (asked !== this.ways) return;
       page.path = { points, ...told };
     }

@@ -4,7 +4,7 @@ import { dark, fading, Scale } from "./colours.js";
 import { drawLegend, endOf, firstRadius, roomOf } from "./legend.js";
 import { read, written } from "./link.js";
 import { drawMarks } from "./marks.js";
-import { say, tellLost, tellState, wait } from "./panel.js";
+import { say, tellLost, tellState, unitOf, wait } from "./panel.js";
 import { Picture } from "./pieces.js";
 import { choose, followKeys, followPointer, mode } from "./pointer.js";
 import { Questions } from "./questions.js";
@@ -16,8 +16,8 @@ const by = (id) => document.getElementById(id);
 const FINEST = 3; // pixels of a robot's radius at which the contour is drawn
 const sight = new Sight();
 const page = {
-  state: {}, picture: null, room: { needed: null, radius: null }, frame: null, linked: false,
-  pointed: null, path: { points: [] }, drafts: [], dragged: null,
+  state: {}, unit: "", picture: null, room: { needed: null, radius: null }, frame: null,
+  linked: false, pointed: null, path: { points: [] }, drafts: [], dragged: null,
   get metric() { return by("metric").value; },
   get radius() { return by("radius").value.trim(); },
   get position() { return Number(by("position").value); },
@@ -72,13 +72,13 @@ function resize() {
 
 // ---- the newest version
 
-const asked = () => `${page.metric} ${page.radius}`;
+const asked = () => `${page.metric} ${page.radius} ${page.unit}`;
 
 /** The room that the robot needs; none where its radius is no number, which is said. */
 async function room() {
   const of = asked();
   try {
-    return { of, ...(await roomOf(page.metric, page.radius)) };
+    return { of, ...(await roomOf(page.metric, page.radius, page.unit)) };
   } catch (fault) {
     say(fault.message, true);
     return { of, needed: null, radius: null };
@@ -129,7 +129,8 @@ function put(picture, needed) {
 /** Does what the link asks for, once. */
 function takeLink() {
   page.linked = true;
-  const found = read(location.hash, { width: sight.mapWidth, height: sight.mapHeight });
+  const { mapWidth: width, mapHeight: height } = sight;
+  const found = read(location.hash, { width, height, unit: page.unit });
   const other = found.otherMap;
   if (other) say(`The link is of a map of ${other} cells: it isn't followed.`, true);
   if (found.at) sight.show(found.at, found.zoom);
@@ -138,7 +139,8 @@ function takeLink() {
 
 /** The fields as the link has them, or else as the command line does. */
 function fillFields({ radius, resolution, width, height }) {
-  const found = read(location.hash, { width, height });
+  page.unit = unitOf({ resolution });
+  const found = read(location.hash, { width, height, unit: page.unit });
   by("radius").value = found.radius ?? (radius || firstRadius(resolution));
   if (found.position >= 2 && found.position <= 21) by("position").value = found.position;
   const metrics = [...by("metric").options].map((it) => it.value);
@@ -146,7 +148,7 @@ function fillFields({ radius, resolution, width, height }) {
 }
 
 function take(state) {
-  if (page.state.serial === undefined && state.serial !== undefined) fillFields(state);
+  if (state.serial !== undefined && page.unit !== unitOf(state)) fillFields(state);
   page.state = state;
   page.drafts = state.draft.drawn;
   tellState(state, page.picture);
