@@ -237,7 +237,8 @@ class Look(InBrowser):
         for place in ((0, 0), (799, 0), (0, 599), (799, 599), (400, 300)):
             call = f"it.boxAt({list(place)}, 150, {{ width: 800, height: 600 }})"
             box = self.seen("marks.js", call)
-            self.assertTrue(0 <= box["x"] <= 650 and 0 <= box["y"] <= 578, (place, box))
+            inside = 44 <= box["x"] <= 650 and 50 <= box["y"] <= 600 - 24 - 22
+            self.assertTrue(inside, (place, box))
 
     def test_rulers(self):
         """The axes are in metres of the yaml's frame, whose y points upwards."""

@@ -1,11 +1,13 @@
 // What is drawn over the picture: rectangles of the draft, the path, and what is pointed at.
 import { NO_ROOM } from "./colours.js";
+import { BELOW, LEFT } from "./rulers.js";
 
 const DARK = "#12151c";
 const LIGHT = "#ffffff";
 const DRAWN = { paint: "#7b1fa2", clear: "#006a5f" };
 const FONT = "600 13px system-ui, sans-serif";
-const EDGE = 6; // pixels between a label and the border
+const HIGH = 22; // pixels of a label
+const WITHIN = { left: LEFT + 6, top: 52, right: 6, below: BELOW + 6 }; // where labels stand
 
 function line(context, points, colour, width) {
   context.beginPath();
@@ -30,11 +32,13 @@ function dot(context, [x, y], radius, colour, edge) {
   context.stroke();
 }
 
-/** Where a box of text stands next to a place, inside the window. */
-export function boxAt([x, y], width, sight, side = 1) {
-  const left = side > 0 ? x + 12 : x - 12 - width;
-  const within = (at, size, most) => Math.min(Math.max(at, EDGE), most - size - EDGE);
-  return { x: within(left, width, sight.width), y: within(y - 30, 22, sight.height) };
+/** Where a box of text stands next to a place: inside the window, and on none of its rulers. */
+export function boxAt([x, y], width, sight) {
+  const within = (at, least, most) => Math.max(Math.min(at, most), least);
+  return {
+    x: within(x + 12, WITHIN.left, sight.width - width - WITHIN.right),
+    y: within(y - 30, WITHIN.top, sight.height - HIGH - WITHIN.below),
+  };
 }
 
 function label(context, sight, place, text, colour = "rgba(18, 21, 28, 0.9)") {
@@ -44,7 +48,7 @@ function label(context, sight, place, text, colour = "rgba(18, 21, 28, 0.9)") {
   const box = boxAt(place, width, sight);
   context.fillStyle = colour;
   context.beginPath();
-  context.roundRect(box.x, box.y, width, 22, 4);
+  context.roundRect(box.x, box.y, width, HIGH, 4);
   context.fill();
   context.fillStyle = LIGHT;
   context.fillText(text, box.x + 7, box.y + 15.5);

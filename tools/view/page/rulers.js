@@ -2,8 +2,8 @@
 import { dark } from "./colours.js";
 import { inSteps, roundBelow } from "./sight.js";
 
-const LEFT = 44; // pixels of the axis at the left
-const BELOW = 24;
+export const LEFT = 44; // pixels of the axis at the left
+export const BELOW = 24;
 const APART = 80; // pixels from one tick to the next at least
 const FONT = "11px system-ui, sans-serif";
 const INKS = {
