@@ -147,9 +147,9 @@ class Following:
 
     async def look(self) -> None:
         """Moves to the newest version, where it is another one, and leaves the connection where
-        nothing is asked."""
+        nothing is asked. The first version is looked for before a page is open."""
         async with self.looking:
-            if self.listeners > 0:
+            if self.listeners > 0 or not self.shown:
                 await self.renew()
             if not self.holds:
                 if self.watched.is_pinned:

@@ -5,7 +5,7 @@ import sys
 import time
 import unittest
 
-from testing import OBSTACLE, POST, ActionChains, By, InBrowser, webdriver
+from testing import OBSTACLE, POST, ActionChains, By, InBrowser, Select, webdriver
 
 import clearmap
 import numpy
@@ -57,6 +57,18 @@ class Page(InBrowser):
         ):
             self.to(*cell).perform()
             self.until(lambda: self.text("point") == said)
+
+    def test_a_map_without_obstacles(self):
+        """All of it is beyond the scale, by each metric."""
+        self.open(b"P1\n6 4\n000000\n000000\n000000\n000000\n")
+        for name in ("chess", "city", "euclid2"):
+            Select(self.driver.find_element(By.ID, "metric")).select_by_value(name)
+            self.until(lambda: self.colour(5, 3) == [228, 230, 234, 255])
+        self.to(5, 3).perform()
+        self.until(lambda: self.text("point") == "cell 5, 3: the map has no obstacle")
+        self.mode("path")
+        self.to(5, 3).click().perform()
+        self.until(lambda: self.text("path") == "the map has no obstacle")
 
     def test_zoom_and_pan(self):
         """By keys, also right after a click on a mode or a zoom button, and by the pointer."""
