@@ -1,19 +1,25 @@
-# Installs what is built. `make install` proves and builds first where it has to; the program needs the C library alone.
+# Installs what is built. Each target proves and builds first where it has to; the program needs the C library alone.
 #   make install PREFIX=/usr/local DESTDIR=
-#   make lib                      (the library for C, in crates/libclearmap/out/)
-#   make install-lib PREFIX=/usr/local DESTDIR=
+#   make install-program          (the program, its clients and scripts without the library)
+#   make install-lib              (the library for C, C++ and Python without the program)
+#   make lib                      (the library, in crates/libclearmap/out/)
 #   make lib-arm                  (the library for ARM, in crates/libclearmap/out/aarch64/)
-#   make deb                      (a package for Debian, in the folder packages/)
+#   make deb                      (packages for Debian, in the folder packages/)
+#   make wheel                    (the package for Python with the library in it, in packages/)
 PREFIX = /usr/local
+LIBDIR = $(PREFIX)/lib
+PKGCONFIGDIR = $(PREFIX)/share/pkgconfig
 DESTDIR =
 INSTALL = install
 to = $(DESTDIR)$(PREFIX)
 program = crates/clearmap/out/clearmap
 version = $(shell sed -n 's/^version = "\(.*\)"/\1/p' clients/python/pyproject.toml)
-filled = sed 's|@PREFIX@|$(PREFIX)|; s|@VERSION@|$(version)|'
-pages = clearmap.1 clearmap-backup.1 clearmap-ros.1 clearmap-ros-node.1 clearmap-view.1
+filled = sed 's|@PREFIX@|$(PREFIX)|; s|@LIBDIR@|$(LIBDIR:$(PREFIX)/%=$${prefix}/%)|; s|@VERSION@|$(version)|'
+pages = clearmap.1 clearmap-backup.1 clearmap-gateway.1 clearmap-ros.1 clearmap-ros-node.1 clearmap-view.1
 client = $(notdir $(wildcard clients/python/clearmap/*.py)) py.typed
-view = asking.py draft.py picture.py site_of_map.py watched.py page/ask.js page/index.html page/map.js page/view.css page/view.js
+view = asking.py bodies.py changing.py draft.py following.py picture.py site_of_map.py tables.py \
+    watched.py yaml_map.py $(wildcard tools/view/page/*)
+gateway = clients.py dumps.py limits.py lines.py links.py queries.py streams.py versions.py watch.py
 
 # The library: what is proved comes from rt, and clients/c/clearmap.c goes with it.
 library = crates/libclearmap/out
@@ -24,18 +30,23 @@ lib_sources = $(shell find $(lib_crates:%=crates/%) -name out -prune -o -name '*
 CFLAGS = -O2
 lib_cflags = -std=c11 -fPIC $(CFLAGS)
 lib_links = -Wl,-soname,libclearmap.so.0 -Wl,--version-script=clients/c/clearmap.map -Wl,-z,defs
-libdir = $(to)/lib
+libdir = $(DESTDIR)$(LIBDIR)
 arm = $(library)/aarch64
+headers = $(notdir $(wildcard clients/cpp/clearmap*.hpp))
 
-# What both install and install-lib put in place: it goes with the last of the two.
+# What both install-program and install-lib put in place: it goes with the last of the two.
 shared = '$(to)/include/clearmap.hpp' '$(to)/share/clearmap'
 
-.PHONY: all install uninstall deb lib lib-arm install-lib uninstall-lib
+.PHONY: all lib lib-arm deb wheel install install-program install-lib uninstall uninstall-program uninstall-lib
 
 all:
 	./clearmap --version
 
-install: all
+install: install-program install-lib
+
+uninstall: uninstall-program uninstall-lib
+
+install-program: all
 	$(INSTALL) -D -m 755 $(program) '$(to)/bin/clearmap'
 	$(INSTALL) -m 755 tools/clearmap_backup.sh '$(to)/bin/clearmap-backup'
 	for page in $(pages); do $(INSTALL) -D -m 644 man/$$page '$(to)/share/man/man1/'$$page || exit 1; done
@@ -50,7 +61,15 @@ install: all
 	$(INSTALL) -D -m 644 tools/ros/clearmap_feed.py '$(to)/share/clearmap/python/clearmap_feed.py'
 	$(INSTALL) -D -m 755 tools/ros/clearmap_node.py '$(to)/share/clearmap/python/clearmap_node.py'
 	$(INSTALL) -D -m 755 tools/view/clearmap_view.py '$(to)/share/clearmap/view/clearmap_view.py'
-	for part in $(view); do $(INSTALL) -D -m 644 tools/view/$$part '$(to)/share/clearmap/view/'$$part || exit 1; done
+	for part in $(view:tools/view/%=%); do \
+	    $(INSTALL) -D -m 644 tools/view/$$part '$(to)/share/clearmap/view/'$$part || exit 1; \
+	done
+	$(INSTALL) -D -m 755 tools/gateway/clearmap_gateway.py \
+	    '$(to)/share/clearmap/gateway/clearmap_gateway.py'
+	for part in $(gateway); do \
+	    $(INSTALL) -m 644 tools/gateway/$$part '$(to)/share/clearmap/gateway/'$$part || exit 1; \
+	done
+	ln -sf ../share/clearmap/gateway/clearmap_gateway.py '$(to)/bin/clearmap-gateway'
 	ln -sf ../share/clearmap/python/clearmap_ros.py '$(to)/bin/clearmap-ros'
 	ln -sf ../share/clearmap/python/clearmap_node.py '$(to)/bin/clearmap-ros-node'
 	ln -sf ../share/clearmap/view/clearmap_view.py '$(to)/bin/clearmap-view'
@@ -62,15 +81,21 @@ install: all
 	$(filled) packaging/clearmap@.service > '$(to)/lib/systemd/system/clearmap@.service'
 	$(INSTALL) -D -m 644 LICENSE '$(to)/share/doc/clearmap/LICENSE'
 
-uninstall:
+uninstall-program:
 	rm -f '$(to)/bin/clearmap' '$(to)/bin/clearmap-backup' '$(to)/bin/clearmap-ros' '$(to)/bin/clearmap-ros-node' '$(to)/bin/clearmap-view' '$(to)/share/man/man7/clearmap-protocol.7' \
 	    '$(to)/share/bash-completion/completions/clearmap' '$(to)/share/pkgconfig/clearmap.pc' '$(to)/lib/systemd/system/clearmap@.service'
 	for page in $(pages); do rm -f '$(to)/share/man/man1/'$$page; done
-	rm -rf '$(to)/share/clearmap/python' '$(to)/share/clearmap/view' '$(to)/share/doc/clearmap'
+	rm -f '$(to)/bin/clearmap-gateway'
+	rm -rf '$(to)/share/clearmap/python' '$(to)/share/clearmap/view' '$(to)/share/clearmap/gateway' \
+	    '$(to)/share/doc/clearmap'
 	[ -e '$(to)/include/clearmap.h' ] || rm -rf $(shared)
 
-deb: all
+deb: all lib
 	tools/make_deb.sh packages
+
+# For this machine, and for ARM where that library is built too.
+wheel: lib
+	clients/python/build_wheel.py packages
 
 lib: $(library)/libclearmap.a $(library)/libclearmap.so.0
 
@@ -104,18 +129,20 @@ $(arm)/liblibclearmap.a: $(lib_sources)
 
 install-lib: lib
 	$(INSTALL) -D -m 644 clients/c/clearmap.h '$(to)/include/clearmap.h'
-	$(INSTALL) -m 644 clients/cpp/clearmap_map.hpp '$(to)/include/clearmap_map.hpp'
-	$(INSTALL) -m 644 clients/cpp/clearmap.hpp '$(to)/include/clearmap.hpp'
+	for header in $(headers); do \
+	    $(INSTALL) -m 644 clients/cpp/$$header '$(to)/include/'$$header || exit 1; \
+	done
 	$(INSTALL) -D -m 644 $(library)/libclearmap.a '$(libdir)/libclearmap.a'
 	$(INSTALL) -m 644 $(library)/libclearmap.so.0 '$(libdir)/libclearmap.so.0'
 	ln -sf libclearmap.so.0 '$(libdir)/libclearmap.so'
-	$(INSTALL) -d '$(to)/share/pkgconfig' '$(to)/share/clearmap/cmake'
-	$(filled) packaging/libclearmap.pc.in > '$(to)/share/pkgconfig/libclearmap.pc'
+	$(INSTALL) -d '$(DESTDIR)$(PKGCONFIGDIR)' '$(to)/share/clearmap/cmake'
+	$(filled) packaging/libclearmap.pc.in > '$(DESTDIR)$(PKGCONFIGDIR)/libclearmap.pc'
 	$(INSTALL) -m 644 packaging/clearmapConfig.cmake '$(to)/share/clearmap/cmake/clearmapConfig.cmake'
 	$(filled) packaging/clearmapConfigVersion.cmake.in \
 	    > '$(to)/share/clearmap/cmake/clearmapConfigVersion.cmake'
 
 uninstall-lib:
-	rm -f '$(to)/include/clearmap.h' '$(to)/include/clearmap_map.hpp' '$(libdir)/libclearmap.a' \
-	    '$(libdir)/libclearmap.so.0' '$(libdir)/libclearmap.so' '$(to)/share/pkgconfig/libclearmap.pc'
+	rm -f '$(to)/include/clearmap.h' '$(libdir)/libclearmap.a' '$(libdir)/libclearmap.so.0' \
+	    '$(libdir)/libclearmap.so' '$(DESTDIR)$(PKGCONFIGDIR)/libclearmap.pc'
+	for header in $(filter-out clearmap.hpp,$(headers)); do rm -f '$(to)/include/'$$header; done
 	[ -e '$(to)/bin/clearmap' ] || rm -rf $(shared)

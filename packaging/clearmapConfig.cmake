@@ -8,8 +8,11 @@ if(NOT TARGET clearmap::clearmap)
   if(CMAKE_CXX_COMPILER_LOADED)
     target_compile_features(clearmap::clearmap INTERFACE cxx_std_17)
   endif()
-  if(EXISTS "${clearmap_prefix}/lib/libclearmap.so")
-    set_target_properties(clearmap::clearmap PROPERTIES
-      INTERFACE_LINK_LIBRARIES "${clearmap_prefix}/lib/libclearmap.so")
-  endif()
+  # In lib, or in Debian's folder for the processor.
+  foreach(clearmap_folder IN ITEMS "lib" "lib/${CMAKE_LIBRARY_ARCHITECTURE}")
+    if(EXISTS "${clearmap_prefix}/${clearmap_folder}/libclearmap.so")
+      set_target_properties(clearmap::clearmap PROPERTIES
+        INTERFACE_LINK_LIBRARIES "${clearmap_prefix}/${clearmap_folder}/libclearmap.so")
+    endif()
+  endforeach()
 endif()

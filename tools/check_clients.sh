@@ -23,9 +23,11 @@ tried() { # tried PYTHON TEST
     timeout 300 "$1" "$2" > "$scratch/log" 2>&1 || { failed=1; cat "$scratch/log"; }
     echo "$2: $(sed -n 's/^Ran \([0-9]* tests\).*/\1/p' "$scratch/log"), $(tail -n 1 "$scratch/log")"
 }
-for test in tools/ros/test_clearmap_ros.py tools/ros/test_clearmap_grid.py \
-    clients/python/test_clearmap.py clients/python/test_in_step.py clients/python/test_values.py \
-    tools/test_clearmap_backup.py; do
+images=$(tools/python_with PIL.Image)
+[ -n "$images" ] || echo 'images other than PGM left out: there is no python3 with PIL'
+tried "${images:-python3}" tools/ros/test_clearmap_ros.py
+for test in tools/ros/test_clearmap_grid.py clients/python/test_clearmap.py \
+    clients/python/test_in_step.py clients/python/test_values.py tools/test_clearmap_backup.py; do
     tried python3 "$test"
 done
 
@@ -33,14 +35,15 @@ done
 library=${CLEARMAP_LIBRARY:-crates/libclearmap/out/libclearmap.so.0}
 arrays=$(tools/python_with numpy)
 if [ -n "$arrays" ] && [ -e "$library" ]; then
-    for test in clients/python/test_library.py clients/python/test_maps.py; do
+    for test in clients/python/test_library.py clients/python/test_maps.py \
+        clients/python/test_tiles.py; do
         tried "$arrays" "$test"
     done
     for peer in scipy cv2; do
         "$arrays" -c "import $peer" 2> /dev/null || echo "  not compared with $peer: there is none"
     done
 else
-    echo 'test_library.py and test_maps.py left out: there is no python3 with numpy, or no' "$library"
+    echo 'the tests in process left out: there is no python3 with numpy, or no' "$library"
 fi
 if command -v mypy > /dev/null && [ -n "$arrays" ]; then
     (cd clients/python && timeout 300 mypy --strict --cache-dir "$scratch/mypy" \

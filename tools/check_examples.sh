@@ -2,7 +2,8 @@
 # Runs each transcript of examples/ with the built program (or that of CLEARMAP), and compares what it prints with the file next to it.
 # With --write it writes those files instead: look at what changed before you commit it.
 # Each has a minute. A transcript that says "# Needs netpbm: TOOL .." or "# Needs the header: HEADER" is left out, and counted, where one of these isn't installed,
-# and one that says "# Needs the library: FILE" where that isn't built (make lib).
+# and one that says "# Needs the library: FILE" where that isn't built (make lib), or "# Needs the
+# modules: MODULE, .." where no python3 has them.
 set -u
 cd "$(dirname "$0")/.." || exit 1
 program=${CLEARMAP:-$PWD/crates/clearmap/out/clearmap}
@@ -24,6 +25,8 @@ has_tools() {
     for library in $(sed -n 's/^# Needs the library: //p' "$1"); do
         [ -e "$library" ] || return 1
     done
+    modules=$(sed -n 's/^# Needs the modules: //p' "$1")
+    [ -z "$modules" ] || [ -n "$(tools/python_with $modules)" ] || return 1
     for header in $(sed -n 's/^# Needs the header: //p' "$1"); do
         echo "#include <$header>" | g++ -std=c++17 -x c++ -fsyntax-only $(pkg-config --cflags-only-I ompl 2> /dev/null) - 2> /dev/null || return 1
     done

@@ -1,6 +1,6 @@
 #!/bin/sh
 # Installs what is built into a scratch folder, and tries it there: the program, the pages of the manual, completion, the unit, the clients, the scripts,
-# the package for Debian, and the wrapper ./clearmap through a symbolic link and without rt. Leaves out, with a word, what isn't installed here.
+# and the wrapper ./clearmap through a symbolic link and without rt. Leaves out, with a word, what isn't installed here.
 # What may wait has a time limit.
 set -u
 cd "$(dirname "$0")/.." || exit 1
@@ -10,7 +10,8 @@ program=$top/crates/clearmap/out/clearmap
 scratch=$(mktemp -d)
 server=''
 view=''
-trap 'for started in $server $view; do kill "$started" 2> /dev/null; done; rm -rf "$scratch"' EXIT
+gateway=''
+trap 'for started in $server $view $gateway; do kill "$started" 2> /dev/null; done; rm -rf "$scratch"' EXIT
 trap 'exit 1' INT TERM
 export PYTHONDONTWRITEBYTECODE=1
 wrong=0
@@ -96,7 +97,7 @@ fi
 
 # What make install puts in place; `all` is left to the program that stands.
 if command -v make > /dev/null; then
-    make -s -o all install DESTDIR="$scratch/root" PREFIX=/usr || wrong=$((wrong + 1))
+    make -s -o all install-program DESTDIR="$scratch/root" PREFIX=/usr || wrong=$((wrong + 1))
 else
     echo 'make install left out: there is no make'
     exit "$wrong"
@@ -104,7 +105,7 @@ fi
 usr=$scratch/root/usr
 expect 'the installed program' "$("$usr/bin/clearmap" --version)" "$version"
 tried_scripts() { # tried_scripts PREFIX: the scripts and the client there
-    for script in clearmap-ros clearmap-ros-node clearmap-view; do
+    for script in clearmap-gateway clearmap-ros clearmap-ros-node clearmap-view; do
         expect "$1/bin/$script" "$(timeout 60 "$1/bin/$script" --help | sed -n "1s/^usage: \($script\) .*/\1/p")" "$script"
     done
     expect "$1/bin/clearmap-backup" "$("$1/bin/clearmap-backup" --help | sed -n "s/^Usage: \([a-z-]*\) .*/\1/p")" clearmap-backup
@@ -140,7 +141,7 @@ fi
 # The pages are what --help and docs/PROTOCOL.md say, and man has nothing to complain of.
 tools/make_man.py --check "$program" || wrong=$((wrong + 1))
 if command -v man > /dev/null; then
-    for page in man1/clearmap.1 man1/clearmap-backup.1 man1/clearmap-ros.1 man1/clearmap-ros-node.1 man1/clearmap-view.1 man7/clearmap-protocol.7; do
+    for page in man1/clearmap.1 man1/clearmap-backup.1 man1/clearmap-gateway.1 man1/clearmap-ros.1 man1/clearmap-ros-node.1 man1/clearmap-view.1 man7/clearmap-protocol.7; do
         expect "man $page" "$(man --warnings -l "$usr/share/man/$page" 2>&1 > /dev/null)" ''
     done
 else
@@ -211,32 +212,22 @@ if [ -n "$web" ]; then
 else
     echo 'the installed page left out: there is no python3 with aiohttp and numpy'
 fi
+
+# The installed gateway to this server, which finds the installed package and library.
+arrays=$(tools/python_with numpy)
+if [ -n "$arrays" ] && [ -e "$usr/lib/libclearmap.so.0" ]; then
+    : > "$scratch/gate"
+    timeout 300 "$arrays" "$usr/bin/clearmap-gateway" --port "$port" --links 2 > "$scratch/gate" &
+    gateway=$!
+    gate=$(told "$gateway" "$scratch/gate" LISTENING)
+    expect 'the installed gateway' "$(printf 'PIN\nAT city 2 1\nQUIT\n' | timeout 60 "$usr/bin/clearmap" ask --port "$gate")" \
+        "$(printf 'OK 0\nOK 3 0 0\nBYE')"
+    kill "$gateway" 2> /dev/null
+else
+    echo 'the installed gateway left out: there is no python3 with numpy, or no library (make lib)'
+fi
 kill "$server" 2> /dev/null
 
-# The client by pip, without a network.
-if python3 -m pip --version > /dev/null 2>&1; then
-    PIP_NO_INDEX=1 PIP_DISABLE_PIP_VERSION_CHECK=1 timeout 120 python3 -m pip install --no-cache-dir --root-user-action ignore -q --target "$scratch/pip" clients/python || wrong=$((wrong + 1))
-    expect 'the client by pip' "clearmap $(PYTHONPATH=$scratch/pip python3 -c 'import clearmap, importlib.metadata as it; print(it.version("clearmap"))')" "$version"
-    expect 'its types' "$(ls "$scratch/pip/clearmap/py.typed")" "$scratch/pip/clearmap/py.typed"
-else
-    echo 'pip install ./clients/python left out: there is no pip'
-fi
-
-# The package for Debian, unpacked.
-if command -v dpkg-deb > /dev/null && command -v strip > /dev/null; then
-    deb=$(timeout 120 tools/make_deb.sh "$scratch/packages") && dpkg-deb -x "$deb" "$scratch/unpacked" || wrong=$((wrong + 1))
-    expect 'the unpacked program' "$(printf "$room" | "$scratch/unpacked/usr/bin/clearmap" dist)" "$(printf '0 1 4\n1 2 5')"
-    expect 'its version' "clearmap $(dpkg-deb -f "$deb" Version)" "$version"
-    tried_scripts "$scratch/unpacked/usr"
-    if command -v lintian > /dev/null; then
-        expect 'lintian' "$(timeout 120 lintian --allow-root "$deb" 2>&1 | grep '^E:')" ''
-    else
-        echo 'the package is not read by lintian: there is none'
-    fi
-else
-    echo 'the package for Debian left out: there is no dpkg-deb, or no strip'
-fi
-
-expect 'what is left' "$(make -s uninstall uninstall-lib DESTDIR="$scratch/root" PREFIX=/usr && find "$scratch/root" ! -type d)" ''
+expect 'what is left' "$(make -s uninstall DESTDIR="$scratch/root" PREFIX=/usr && find "$scratch/root" ! -type d)" ''
 echo "install: wrong $wrong"
 [ "$wrong" = 0 ]

@@ -72,8 +72,8 @@ for workers in 1 3 16; do
     clearmap dist --workers "$workers" < "$room/raw" | cmp -s - "$room/wanted"; expect "dist of the largest map by $workers workers" "${PIPESTATUS[*]}" '0 0'
 done
 
-# The maps of `0 1 4` and of `0/0/0 1/0/0 2/0/0 1/4/0 0/4/0` as the first rows of maps of 2^20 cells, which
-# several threads share: one obstacle in the corner, and another four columns from it.
+# The maps of `0 1 4` and of `0/0/0 1/0/0 2/0/0 1/4/0 0/4/0` as the first rows of maps of 2^20 cells,
+# which several threads share: one obstacle in the corner, and another four columns from it.
 python3 - "$room" << 'PYTHON'
 import sys
 room, side = sys.argv[1], 1024
@@ -111,21 +111,26 @@ write_table("two.city", nearest)
 PYTHON
 for workers in 1 2 16; do
     for metric in euclid2 city chess; do
-        clearmap dist --metric "$metric" --workers "$workers" < "$room/one" | cmp -s - "$room/one.$metric"
+        clearmap dist --metric "$metric" --workers "$workers" < "$room/one" \
+            | cmp -s - "$room/one.$metric"
         expect "dist of one obstacle by $metric and $workers workers" "${PIPESTATUS[*]}" '0 0'
     done
-    clearmap dist --metric city --nearest --workers "$workers" < "$room/two" | cmp -s - "$room/two.city"
+    clearmap dist --metric city --nearest --workers "$workers" < "$room/two" \
+        | cmp -s - "$room/two.city"
     expect "the nearest of two obstacles by city and $workers workers" "${PIPESTATUS[*]}" '0 0'
 done
-expect 'the first cells' "$(head -n 2 "$room/one.euclid2" | cut -d ' ' -f 1-3)" "$(printf '0 1 4\n1 2 5')"
-expect 'the first places' "$(head -n 1 "$room/two.city" | cut -d ' ' -f 1-5)" '0/0/0 1/0/0 2/0/0 1/4/0 0/4/0'
+expect 'the first cells' "$(head -n 2 "$room/one.euclid2" | cut -d ' ' -f 1-3)" \
+    "$(printf '0 1 4\n1 2 5')"
+expect 'the first places' "$(head -n 1 "$room/two.city" | cut -d ' ' -f 1-5)" \
+    '0/0/0 1/0/0 2/0/0 1/4/0 0/4/0'
 cat "$room/plain" | clearmap dist | cmp -s - "$room/wanted"; expect 'dist of the largest map, plain, through pipes' "${PIPESTATUS[*]}" '0 0 0'
 expect 'the last cell' "$(clearmap dist --query 'AT euclid2 4095 0' < "$room/plain")" 'OK 16769025 0 0'
 expect 'the longest walk' "$(clearmap dist --query "PATH chess$(printf ' 4095 0 4095 4095%.0s' $(seq 500))" < "$room/raw")" 'OK 2047 4095 2048 2048 4095'
 expect 'threads of dist by one worker' "$(threads 1 --workers 1)" 1
 expect 'threads of dist by four workers, while one more writes' "$(threads 5 --workers 4)" 5
 
-# How many instructions a server takes that answers so many queries of one pin, each near an obstacle.
+# How many instructions a server takes that answers so many queries of one pin, each near an
+# obstacle.
 instructions() { # instructions COUNT
     timeout 300 python3 - "$program" "$room/raw" "$1" << 'PYTHON'
 import re
@@ -133,9 +138,10 @@ import socket
 import subprocess
 import sys
 program, source, count = sys.argv[1], sys.argv[2], int(sys.argv[3])
-words = ["valgrind", "--tool=callgrind", "--callgrind-out-file=/dev/null", program, "serve", "--connections", "1"]
+valgrind = ["valgrind", "--tool=callgrind", "--callgrind-out-file=/dev/null"]
+pipes = {"stdout": subprocess.PIPE, "stderr": subprocess.PIPE, "text": True}
 with open(source, "rb") as image:
-    server = subprocess.Popen(words, stdin=image, stdout=subprocess.PIPE, stderr=subprocess.PIPE, text=True)
+    server = subprocess.Popen([*valgrind, program, "serve", "--connections", "1"], stdin=image, **pipes)
 port = int(server.stdout.readline().split()[1])
 with socket.create_connection(("127.0.0.1", port), 60) as client:
     client.sendall(b"PIN\n" + b"AT euclid2 5 5\n" * count + b"QUIT\n")

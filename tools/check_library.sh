@@ -80,8 +80,8 @@ if wants aarch64-linux-gnu-gcc 'the library for ARM' && wants qemu-aarch64 'the 
     fi
 fi
 
-# The header for C++, its test by both compilers and under the sanitizers; its answers against those
-# of two servers too.
+# The headers for C++, their tests by both compilers and under the sanitizers; the answers of a map
+# against those of two servers too.
 serve() { # serve FLAG ..: starts a server of a blank map, whose port is added to `ports`
     : > "$scratch/port"
     timeout 900 "$program" serve --connections 1000 "$@" < "$scratch/blank" > "$scratch/port" &
@@ -104,25 +104,32 @@ else
     echo 'maps of a server left out: the program is not built'
 fi
 
-map_test() { # map_test MAPS COMPILER FLAG ..: the test of clearmap_map.hpp, built so
-    count=$1
-    shift
-    wants "$1" "clearmap_map.hpp by $1" || return
+header_test() { # header_test NAME MAPS COMPILER FLAG ..: a test of the headers for C++, built so
+    name=$1 count=$2
+    shift 2
+    wants "$1" "test_$name.cpp by $1" || return
+    case $name in
+        map) links='' asked=$ports ;;
+        field) links='-Wl,--wrap=malloc' asked='' ;;
+    esac
     if ! "$@" -std=c++17 -Wall -Wextra -Wconversion -Wpedantic -Werror -g1 -pthread -Iclients/c \
-        -Iclients/cpp -c clients/cpp/test_map.cpp -o "$scratch/map.o"; then
+        -Iclients/cpp -c "clients/cpp/test_$name.cpp" -o "$scratch/test.o"; then
         failed=1
-    elif "$@" -pthread "$scratch/map.o" "$library/libclearmap.a" -o "$scratch/map" \
+    elif "$@" -pthread $links "$scratch/test.o" "$library/libclearmap.a" -o "$scratch/test" \
         2> "$scratch/log"; then
-        try "$*" "$scratch/map" "$count" $ports
+        try "$name by $*" "$scratch/test" "$count" $asked
     else
-        echo "$* left out: it does not link here"
+        echo "$name by $* left out: it does not link here"
     fi
 }
-map_test "${MAPS:-40}" g++ -O2
-map_test 5 clang++ -O1
-for compiler in g++ clang++; do
-    map_test 5 "$compiler" -fsanitize=address,undefined -fno-sanitize-recover=all
-    map_test 5 "$compiler" -fsanitize=thread
+for name in map field; do
+    header_test "$name" "${MAPS:-40}" g++ -O2
+    header_test "$name" 5 clang++ -O1
+    for compiler in g++ clang++; do
+        header_test "$name" 5 "$compiler" -O1 -fsanitize=address,undefined \
+            -fno-sanitize-recover=all
+        header_test "$name" 5 "$compiler" -O1 -fsanitize=thread
+    done
 done
 
 # Installed into an empty prefix: the page's programs by pkg-config and by CMake.
@@ -194,13 +201,13 @@ fi
 installed() { find "$prefix" ! -type d; }
 if [ -x crates/clearmap/out/clearmap ]; then
     alone=$(installed | sort)
-    try 'make install' make -s -o all install PREFIX="$prefix"
-    try 'make uninstall' make -s uninstall PREFIX="$prefix"
-    [ "$(installed | sort)" = "$alone" ] || { failed=1; echo 'make uninstall took of the library'; }
-    try 'make install' make -s -o all install PREFIX="$prefix"
+    try 'make install-program' make -s -o all install-program PREFIX="$prefix"
+    try 'make uninstall-program' make -s uninstall-program PREFIX="$prefix"
+    [ "$(installed | sort)" = "$alone" ] || { failed=1; echo 'make uninstall-program took of the library'; }
+    try 'make install-program' make -s -o all install-program PREFIX="$prefix"
     try 'make uninstall-lib' make -s uninstall-lib PREFIX="$prefix"
     [ -e "$prefix/include/clearmap.hpp" ] || { failed=1; echo 'the client is gone'; }
-    try 'make uninstall' make -s uninstall PREFIX="$prefix"
+    try 'make uninstall-program' make -s uninstall-program PREFIX="$prefix"
 else
     try 'make uninstall-lib' make -s uninstall-lib PREFIX="$prefix"
 fi

@@ -148,8 +148,9 @@ check_ask() {
     ended; expect 'a server of six clients, to which two others sent nothing' "$status" 0 "$text" 'SERVED 6 3'
 }
 
-# Where no descriptor is left nothing can be accepted: such a connection counts, and the server waits before it tries
-# again, twice as long each time, so that two seconds have room for eight of twenty. It has four for itself.
+# Where no descriptor is left nothing can be accepted: such a connection counts, and the server waits
+# before it tries again, twice as long each time, so that two seconds have room for eight of twenty. It
+# has four for itself.
 check_descriptors() {
     descriptors=4
     serve --connections 20; expect 'a server that may have no connection' $? 0 '' ''

@@ -135,7 +135,8 @@ def script_page(name, about, parser, notes, related):
     page += options(words_of(action) for action in parser._actions if action is not commands)
     for command, below in (commands.choices if commands else {}).items():
         page += [f".SH {command.upper()}", plain(below.description) + ".", *options(words_of(action) for action in below._actions if action.dest != "help")]
-    return page + paragraphs(notes) + [".SH SEE ALSO", *(f".BR {plain(page)} ({section})" for page, section in related)]
+    also = [f".BR {plain(page)} ({section})," for page, section in related]
+    return page + paragraphs(notes) + [".SH SEE ALSO", *also[:-1], also[-1].rstrip(",")]
 
 
 def backup_page():
@@ -149,18 +150,26 @@ def backup_page():
 
 def script_pages():
     """The pages of the scripts that are installed and written in Python."""
-    sys.path[:0] = [str(TOP / folder) for folder in ("clients/python", "tools/ros", "tools/view")]
+    sys.path[:0] = [str(TOP / folder) for folder in ("clients/python", "tools/gateway", "tools/ros", "tools/view")]
+    import clearmap_gateway
     import clearmap_node
     import clearmap_ros
     import clearmap_view
 
     return {
+        "clearmap-gateway.1": script_page(
+            "clearmap-gateway",
+            "any number of clients over a few connections to a clearance map server",
+            clearmap_gateway.parser(),
+            clearmap_gateway.NOTES.split("\n\n"),
+            (("clearmap", 1), ("clearmap-protocol", 7)),
+        ),
         "clearmap-ros.1": script_page("clearmap-ros", "maps, plans and radii of ROS for clearmap", clearmap_ros.parser(), (), (("clearmap", 1),)),
         "clearmap-ros-node.1": script_page(
             "clearmap-ros-node", "a node of ROS over a clearance map server", clearmap_node.parser(), clearmap_node.TOPICS.split("\n\n"), (("clearmap", 1),)
         ),
         "clearmap-view.1": script_page(
-            "clearmap-view", "a page in the browser that shows a clearance map", clearmap_view.parser(), ("Example:\n  clearmap-view --port 7400 --map map.yaml",), (("clearmap", 1),)
+            "clearmap-view", "a page in the browser that shows a clearance map", clearmap_view.parser(), ("Example:\n  clearmap-view --port 7400 --map map.yaml --radius 0.22",), (("clearmap", 1),)
         ),
     }
 

@@ -1,6 +1,7 @@
 // A map in process, for planners: queries and tables of distances without a server. One header over
 // clearmap.h, whose library is linked (-lclearmap -pthread), and clearmap.hpp, whose cells, answers
-// and frames it shares: C++17. The library is proved; this file is not (test_map.cpp tries it).
+// and frames it shares: C++17. The library is proved. This file and clearmap_field.hpp, which it
+// includes, are not (test_map.cpp and test_field.cpp try them).
 //
 //     auto map = clearmap::Map::of_bytes(costmap, {640, 480}, {253, 254});
 //     double cells;
@@ -8,17 +9,18 @@
 //     if (!map.clear_of(9, {{0, 0}, {30, 0}})) ..      // each cell keeps 3 cells or more
 //     clearmap::Field field(map);                      // all distances, made by several threads
 //     double nearest = field.clearance({3, 4});        // a look-up
+//     field.paint(8, 0, 16, 8);                        // the field's own map, and its distances
 //
 // Columns x and rows y count from 0. A distance is in cells: euclid2 is the square of the straight
 // one, city and chess count steps.
 //
 // Threads. Any threads may ask one map or field at the same time, without a lock. While a thread
-// paints, clears, assigns to, moves or destroys one, no other uses it.
+// paints, clears, updates, assigns to, moves or destroys one, no other uses it.
 //
 // Errors. What is wrong with a call is thrown with the text of its status: std::out_of_range for a
 // cell, rectangle or point that isn't in the map, std::invalid_argument for all else. A call that
 // throws has changed nothing. A query whose arguments are good throws nothing and takes no memory.
-// What makes a map or a field may throw std::bad_alloc.
+// What makes a map or a field, or changes a field, may throw std::bad_alloc.
 #ifndef CLEARMAP_MAP_HPP
 #define CLEARMAP_MAP_HPP
 
@@ -459,105 +461,8 @@ private:
 /// was started with (`serve --edge`), or the distances differ from its own.
 inline Map map_of(Pinned& pinned, Edge edge) { return Map::of_pbm(pinned.dump(), edge); }
 
-// ---- all distances
-
-/// The nearest obstacle of each cell of a map by one metric, as the map was when the field was
-/// made: 8 bytes a cell. A look-up reads one of them. It can be moved; one that was moved from has
-/// the size 0 by 0.
-class Field {
-public:
-    /// Shares the rows among so many threads, each of which takes 3.3 MB on the largest map; 0 is
-    /// as many as the machine runs at a time, and no more than one for each 2^18 cells. Throws
-    /// std::invalid_argument for a map that was moved from.
-    explicit Field(const Map& map, Metric metric = Metric::euclid2, unsigned threads = 0)
-        : size_(map.size()), metric_(metric) {
-        if (size_.width == 0) detail::check(CLEARMAP_SIZE);
-        std::size_t cells = width() * static_cast<std::size_t>(size_.height);
-        nears_.reset(new clearmap_near[cells]);  // not set to 0 first
-        fill(map, threads > 0 ? threads : chosen(cells));
-    }
-
-    Size size() const noexcept { return nears_ ? size_ : Size{0, 0}; }
-    Metric metric() const noexcept { return metric_; }
-
-    /// The nearest obstacle of a cell. Nothing where the map has none; throws std::out_of_range for
-    /// a cell that isn't in the map.
-    std::optional<Near> at(Cell c) const {
-        if (!inside(c)) detail::check(CLEARMAP_OUTSIDE);
-        return detail::answer(near(c));
-    }
-
-    // -- look-ups of a cell that IS in the map, which nothing checks but an assertion
-
-    /// The distance by the field's metric; CLEARMAP_NO_OBSTACLE where the map has no obstacle.
-    std::uint32_t distance(Cell c) const noexcept { return near(c).dist; }
-
-    /// The nearest obstacle; CLEARMAP_NOWHERE twice where the map has none.
-    Cell obstacle(Cell c) const noexcept { return {near(c).x, near(c).y}; }
-
-    /// The distance in cells, the straight one where the metric is euclid2; infinite where the map
-    /// has no obstacle.
-    double clearance(Cell c) const noexcept { return detail::in_cells(distance(c), metric_); }
-
-    /// The same in metres for a point in metres: 0 for one outside. The frame has the field's size.
-    double metres(const Frame& frame, double x, double y) const noexcept {
-        assert(frame.size() == size());
-        auto cell = frame.cell(x, y);
-        return cell ? frame.metres(clearance(*cell)) : 0;
-    }
-
-private:
-    std::size_t width() const noexcept { return static_cast<std::size_t>(size_.width); }
-    bool inside(Cell c) const noexcept {
-        return 0 <= c.x && c.x < size().width && 0 <= c.y && c.y < size().height;
-    }
-    const clearmap_near& near(Cell c) const noexcept {
-        assert(inside(c));
-        return nears_[static_cast<std::size_t>(c.y) * width() + static_cast<std::size_t>(c.x)];
-    }
-
-    /// How many threads are worth their start for so many cells.
-    static unsigned chosen(std::size_t cells) {
-        std::size_t most = std::max<std::size_t>(1, cells >> 18);
-        return static_cast<unsigned>(
-            std::min<std::size_t>(std::max(1u, std::thread::hardware_concurrency()), most));
-    }
-
-    /// Fills the table by threads; what one that can't be started had to do is done here.
-    void fill(const Map& map, unsigned threads) {
-        auto height = detail::numbered(size_.height);
-        threads = std::max(1u, std::min(threads, height));
-        std::vector<std::uint32_t> statuses(threads);
-        std::vector<std::thread> started;
-        started.reserve(threads);
-        auto work = [&](unsigned k) noexcept {
-            statuses[k] = rows(map, height * k / threads, height * (k + 1) / threads);
-        };
-        for (unsigned k = 1; k < threads; ++k) {
-            try {
-                started.emplace_back(work, k);
-            } catch (const std::exception&) {
-                work(k);
-            }
-        }
-        work(0);
-        for (std::thread& thread : started) thread.join();
-        for (std::uint32_t status : statuses) detail::check(status);
-    }
-
-    /// Fills the rows y0 up to y1 - 1, and answers the status.
-    std::uint32_t rows(const Map& map, std::uint32_t y0, std::uint32_t y1) const noexcept {
-        const clearmap_bits bits = map.bits();
-        return clearmap_bits_nearest(map.words().data(), map.words().size(), &bits,
-                                     detail::numbered(metric_), detail::numbered(map.edge()), y0,
-                                     y1, nears_.get() + y0 * width(), (y1 - y0) * width());
-    }
-
-    Size size_;
-    Metric metric_;
-    std::unique_ptr<clearmap_near[]> nears_;
-};
-
 }  // namespace clearmap
+
+#include "clearmap_field.hpp"
 
 #endif

@@ -452,8 +452,8 @@ static void without_memory() {
     CHECK(!done_with(0, [&] { Map other(map); }) && !done_with(0, [] { Map other({1, 1}); }));
     int refusals = 0;
     while (!done_with(refusals, [&] { Field field(map, Metric::city, 4); })) ++refusals;
-    CHECK(refusals == 3);
-    granted = 3;
+    CHECK(refusals == 4);
+    granted = 4;
     Field field(map, Metric::city, 4);
     granted = -1;
     for (Cell c : cells_of(0, 0, 200, 100)) CHECK(!field.at(c));

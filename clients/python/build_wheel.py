@@ -1,46 +1,98 @@
-"""Writes the client's wheel, with the standard library alone, so that `pip install ./clients/python` needs no network. pip calls these by pyproject.toml."""
+#!/usr/bin/env python3
+"""Writes the package's wheel, with the standard library alone, so that nothing is fetched.
+
+    build_wheel.py FOLDER
+
+writes one with the library in it for each processor that `make lib` and `make lib-arm` have built
+it for. `pip install ./clients/python` calls `build_wheel` by pyproject.toml: the wheel has the
+library of this machine where it is built, and else the modules alone.
+"""
 import base64
 import hashlib
 import io
 import pathlib
+import platform
 import re
+import sys
 import tarfile
 import zipfile
+from typing import Dict, Optional
 
 HERE = pathlib.Path(__file__).resolve().parent
 MODULES = sorted(f"clearmap/{path.name}" for path in HERE.glob("clearmap/*.py"))
 PARTS = (*MODULES, "clearmap/py.typed")
 SOURCES = (*PARTS, "build_wheel.py", "pyproject.toml")
+LIBRARY = "libclearmap.so.0"
+BUILT = HERE.parent.parent / "crates/libclearmap/out"
+PROCESSORS = {62: "x86_64", 183: "aarch64"}  # by the number in the head of an ELF file
 
 
-def settings():
+def settings() -> Dict[str, str]:
     """The words of the table [project]."""
-    return dict(re.findall(r'^([a-z-]+) = "(.*)"$', (HERE / "pyproject.toml").read_text(encoding="utf-8").partition("[project]")[2], re.MULTILINE))
+    text = (HERE / "pyproject.toml").read_text(encoding="utf-8").partition("[project]")[2]
+    return dict(re.findall(r'^([a-z-]+) = "(.*)"$', text, re.MULTILINE))
 
 
-def metadata():
+def metadata() -> str:
     """What METADATA and PKG-INFO say."""
     told = settings()
-    return f"Metadata-Version: 2.1\nName: {told['name']}\nVersion: {told['version']}\nSummary: {told['description']}\nLicense: MIT\nRequires-Python: {told['requires-python']}\n"
+    return (
+        f"Metadata-Version: 2.1\nName: {told['name']}\nVersion: {told['version']}\n"
+        f"Summary: {told['description']}\nLicense: MIT\n"
+        f"Requires-Python: {told['requires-python']}\n"
+    )
 
 
-def build_wheel(wheel_directory, config_settings=None, metadata_directory=None):
-    """Writes the wheel into a folder, and answers its file name."""
+def libraries() -> Dict[str, pathlib.Path]:
+    """The libraries that are built, by their processors, which each file itself tells."""
+    found = {}
+    for path in (BUILT / LIBRARY, BUILT / "aarch64" / LIBRARY):
+        if path.exists():
+            head = path.read_bytes()[:20]
+            processor = PROCESSORS.get(int.from_bytes(head[18:20], "little"))
+            if head.startswith(b"\x7fELF") and processor is not None:
+                found[processor] = path
+    return found
+
+
+def write_wheel(folder: str, processor: Optional[str] = None) -> str:
+    """Writes the wheel with the library of a processor, or with none, and answers its file name."""
     stem = "{name}-{version}".format(**settings())
+    tag = f"py3-none-linux_{processor}" if processor else "py3-none-any"
     files = {part: (HERE / part).read_bytes() for part in PARTS}
+    if processor:
+        files[f"clearmap/{LIBRARY}"] = libraries()[processor].read_bytes()
+    pure = str(processor is None).lower()
     files[f"{stem}.dist-info/METADATA"] = metadata().encode()
-    files[f"{stem}.dist-info/WHEEL"] = b"Wheel-Version: 1.0\nGenerator: clearmap\nRoot-Is-Purelib: true\nTag: py3-none-any\n"
-    hashes = {name: base64.urlsafe_b64encode(hashlib.sha256(data).digest()).rstrip(b"=").decode() for name, data in files.items()}
-    record = f"{stem}.dist-info/RECORD"
-    files[record] = ("".join(f"{name},sha256={hashes[name]},{len(data)}\n" for name, data in files.items()) + f"{record},,\n").encode()
-    name = f"{stem}-py3-none-any.whl"
-    with zipfile.ZipFile(pathlib.Path(wheel_directory, name), "w", zipfile.ZIP_DEFLATED) as wheel:
+    files[f"{stem}.dist-info/WHEEL"] = (
+        f"Wheel-Version: 1.0\nGenerator: clearmap\nRoot-Is-Purelib: {pure}\nTag: {tag}\n".encode()
+    )
+    files[f"{stem}.dist-info/RECORD"] = record(files, f"{stem}.dist-info/RECORD")
+    name = f"{stem}-{tag}.whl"
+    with zipfile.ZipFile(pathlib.Path(folder, name), "w", zipfile.ZIP_DEFLATED) as wheel:
         for path, data in files.items():
-            wheel.writestr(zipfile.ZipInfo(path), data)
+            wheel.writestr(zipfile.ZipInfo(path), data, zipfile.ZIP_DEFLATED)
     return name
 
 
-def build_sdist(sdist_directory, config_settings=None):
+def record(files: Dict[str, bytes], own_name: str) -> bytes:
+    """The list of a wheel's files, each with its hash and its length."""
+    lines = []
+    for name, data in files.items():
+        digest = base64.urlsafe_b64encode(hashlib.sha256(data).digest()).rstrip(b"=").decode()
+        lines.append(f"{name},sha256={digest},{len(data)}\n")
+    return "".join([*lines, f"{own_name},,\n"]).encode()
+
+
+def build_wheel(
+    wheel_directory: str, config_settings: object = None, metadata_directory: object = None
+) -> str:
+    """Writes the wheel for this machine into a folder, and answers its file name."""
+    here = platform.machine() if sys.platform == "linux" else None
+    return write_wheel(wheel_directory, here if here in libraries() else None)
+
+
+def build_sdist(sdist_directory: str, config_settings: object = None) -> str:
     """Writes the sources into a folder, and answers the file name."""
     stem = "{name}-{version}".format(**settings())
     name = f"{stem}.tar.gz"
@@ -51,3 +103,19 @@ def build_sdist(sdist_directory, config_settings=None):
         about.size = len(metadata().encode())
         sources.addfile(about, io.BytesIO(metadata().encode()))
     return name
+
+
+def main() -> None:
+    """Writes a wheel for each library that is built, and prints its path."""
+    if len(sys.argv) != 2:
+        sys.exit("build_wheel.py: name the folder for the wheels")
+    if not libraries():
+        sys.exit("build_wheel.py: the library isn't built: make lib")
+    folder = pathlib.Path(sys.argv[1])
+    folder.mkdir(parents=True, exist_ok=True)
+    for processor in libraries():
+        print(folder / write_wheel(str(folder), processor))
+
+
+if __name__ == "__main__":
+    main()

@@ -1,10 +1,11 @@
-// DynamicEDT3D beside clearmap_map.hpp on random maps: each cell's distance, before and after some
-// paints, and the time of a first build, of a look-up, and of a paint of 8 by 8 cells and 1,000
-// look-ups, which here are queries of the map.
+// DynamicEDT3D next to clearmap_map.hpp on random maps: each cell's distance, before and after some
+// paints and clears, and the time of a first build, of a look-up, and of a paint or a clear of 8 by
+// 8 cells with 1,000 look-ups, by `paint` and `clear` of a field and by `update` of its map.
 //     dynamic_edt SIDE PERCENT ROUNDS
 // Build: g++ -std=c++17 -O2 -pthread -I clients/c -I clients/cpp -o dynamic_edt
 //     tools/bench/dynamic_edt.cpp crates/libclearmap/out/libclearmap.a -ldynamicedt3d
-// (Debian's libdynamicedt3d-dev). Times are the least of the rounds, in nanoseconds, one thread.
+// (Debian's libdynamicedt3d-dev). One thread; nanoseconds, the least of the rounds, and of a paint
+// or a clear the median, since each is at another place, the same for both.
 #include "clearmap_map.hpp"
 
 #include <dynamicEDT3D/dynamicEDT3D.h>
@@ -15,16 +16,24 @@
 
 using Clock = std::chrono::steady_clock;
 
+/// How long a call takes.
+static double time_of(const std::function<void()>& call) {
+    auto start = Clock::now();
+    call();
+    return std::chrono::duration<double, std::nano>(Clock::now() - start).count();
+}
+
 /// The least time of some rounds of a call.
 static double least(int rounds, const std::function<void()>& call) {
     double best = std::numeric_limits<double>::infinity();
-    for (int i = 0; i < rounds; ++i) {
-        auto start = Clock::now();
-        call();
-        best =
-            std::min(best, std::chrono::duration<double, std::nano>(Clock::now() - start).count());
-    }
+    for (int i = 0; i < rounds; ++i) best = std::min(best, time_of(call));
     return best;
+}
+
+static double median(std::vector<double> times) {
+    auto middle = times.begin() + static_cast<std::ptrdiff_t>(times.size() / 2);
+    std::nth_element(times.begin(), middle, times.end());
+    return *middle;
 }
 
 /// A map of random obstacles, as both take it.
@@ -62,58 +71,111 @@ static void compare(DynamicEDT3D& theirs, const clearmap::Field& ours, int side)
                 differing, most);
 }
 
+/// Cells to look up, and what their distances add up to, so that no look-up is left out.
+struct LookUps {
+    std::vector<clearmap::Cell> cells = std::vector<clearmap::Cell>(1000);
+    volatile double sum = 0;
+
+    explicit LookUps(int side) {
+        std::mt19937 random(2);
+        std::uniform_int_distribution<int> at(0, side - 1);
+        for (clearmap::Cell& cell : cells) cell = {at(random), at(random)};
+    }
+    void of(const DynamicEDT3D& theirs) {
+        for (auto c : cells) sum = sum + theirs.getDistance(c.x, c.y, 0);
+    }
+    void of(const clearmap::Field& ours) {
+        for (auto c : cells) sum = sum + ours.clearance(c);
+    }
+};
+
+/// Makes a box of 8 by 8 cells obstacles or free, and looks up.
+static void draw(DynamicEDT3D& theirs, int x0, int y0, bool obstacles, LookUps& look_ups) {
+    for (int y = y0; y < y0 + 8; ++y)
+        for (int x = x0; x < x0 + 8; ++x)
+            obstacles ? theirs.occupyCell(x, y, 0) : theirs.clearCell(x, y, 0);
+    theirs.update();
+    look_ups.of(theirs);
+}
+
+template <class Drawn>
+static void draw(Drawn& drawn, int x0, int y0, bool obstacles) {
+    obstacles ? drawn.paint(x0, y0, x0 + 8, y0 + 8) : drawn.clear(x0, y0, x0 + 8, y0 + 8);
+}
+
+/// The times of paints, and of the clears that follow them: theirs, a field's own, and those of a
+/// field that follows its map.
+struct Draws {
+    std::vector<double> theirs[2], ours[2], updates[2];
+
+    void time(DynamicEDT3D& other, clearmap::Field& field, clearmap::Field& follower, int rounds) {
+        const int side = field.size().width;
+        LookUps look_ups(side);
+        clearmap::Map map = follower.map();
+        std::mt19937 random(3);
+        std::uniform_int_distribution<int> at(1, side - 10);
+        for (int i = 0; i < 2 * rounds; ++i) {
+            const bool paints = i % 2 == 0;
+            if (paints) x_ = at(random), y_ = at(random);
+            theirs[paints].push_back(time_of([&] { draw(other, x_, y_, paints, look_ups); }));
+            ours[paints].push_back(time_of([&] {
+                draw(field, x_, y_, paints);
+                look_ups.of(field);
+            }));
+            draw(map, x_, y_, paints);
+            updates[paints].push_back(time_of([&] {
+                follower.update(map);
+                look_ups.of(follower);
+            }));
+        }
+    }
+
+    void print(const char* name, bool paints) const {
+        const double other = median(theirs[paints]);
+        const double field = median(ours[paints]), update = median(updates[paints]);
+        std::printf("%s and 1,000 look-ups: theirs %.0f, ours %.0f: %.1f; by update %.0f: %.1f\n",
+                    name, other, field, other / field, update, other / update);
+    }
+
+private:
+    int x_ = 0, y_ = 0;
+};
+
 int main(int count, char** words) {
     if (count != 4) return 2;
     const int side = std::stoi(words[1]), rounds = std::stoi(words[3]);
     Grid grid(side, std::stod(words[2]));
     const int farthest = 2 * side * side;
     std::optional<DynamicEDT3D> theirs;
-    double build_theirs = least(rounds, [&] {
+    double build_theirs = least(std::min(rounds, 5), [&] {
         theirs.emplace(farthest);
         theirs->initializeEmpty(side, side, 1);
         grid.occupy(*theirs);
         theirs->update();
     });
-    std::optional<clearmap::Map> map;
     std::optional<clearmap::Field> field;
-    double build_ours = least(rounds, [&] {
-        map = clearmap::Map::of_bytes(grid.cells, {side, side}, {1, 255});
-        field.emplace(*map, clearmap::Metric::euclid2, 1);
+    double build_ours = least(std::min(rounds, 5), [&] {
+        field.emplace(clearmap::Map::of_bytes(grid.cells, {side, side}, {1, 255}),
+                      clearmap::Metric::euclid2, 1);
     });
-    compare(*theirs, *field, side);
-
-    std::mt19937 random(2);
-    std::vector<clearmap::Cell> cells(1000);
-    for (clearmap::Cell& cell : cells)
-        cell = {static_cast<int>(random() % static_cast<unsigned>(side)),
-                static_cast<int>(random() % static_cast<unsigned>(side))};
-    volatile double sum = 0;
-    double look_theirs = least(20 * rounds, [&] {
-        for (auto c : cells) sum = sum + theirs->getDistance(c.x, c.y, 0);
-    });
-    double look_ours = least(20 * rounds, [&] {
-        for (auto c : cells) sum = sum + field->clearance(c);
-    });
-
-    int at = side / 3;
-    double paint_theirs = least(rounds, [&] {
-        at = at + 8 < side - 8 ? at + 8 : 8;
-        for (int y = at; y < at + 8; ++y)
-            for (int x = at; x < at + 8; ++x) theirs->occupyCell(x, y, 0);
-        theirs->update();
-        for (auto c : cells) sum = sum + theirs->getDistance(c.x, c.y, 0);
-    });
-    at = side / 3;
-    double paint_ours = least(rounds, [&] {
-        at = at + 8 < side - 8 ? at + 8 : 8;
-        map->paint(at, at, at + 8, at + 8);
-        for (auto c : cells) sum = sum + std::sqrt(map->at(c)->distance);
-    });
-    field.emplace(*map, clearmap::Metric::euclid2, 1);
     compare(*theirs, *field, side);
     std::printf("build: theirs %.0f, ours %.0f: %.1f\n", build_theirs, build_ours,
                 build_theirs / build_ours);
+
+    LookUps look_ups(side);
+    double look_theirs = least(20 * rounds, [&] { look_ups.of(*theirs); });
+    double look_ours = least(20 * rounds, [&] { look_ups.of(*field); });
     std::printf("look-up: theirs %.1f, ours %.1f\n", look_theirs / 1000, look_ours / 1000);
-    std::printf("paint and 1,000 queries: theirs %.0f, ours %.0f: %.1f\n", paint_theirs, paint_ours,
-                paint_theirs / paint_ours);
+
+    clearmap::Field follower(field->map(), clearmap::Metric::euclid2, 1);
+    std::printf("the first change of a field: %.0f\n",
+                time_of([&] { field->paint(0, 0, 1, 1), field->clear(0, 0, 1, 1); }));
+    follower.update(field->map());
+    theirs->clearCell(0, 0, 0);
+    Draws draws;
+    draws.time(*theirs, *field, follower, rounds);
+    draws.print("paint", true);
+    draws.print("clear", false);
+    compare(*theirs, *field, side);
+    compare(*theirs, follower, side);
 }

@@ -1,18 +1,23 @@
 #!/usr/bin/env python3
-"""Maps, plans and radii of ROS for clearmap: metres to cells and back. Python 3.9 or later, standard library alone. Nothing here is proved.
+"""Maps, plans and radii of ROS for clearmap: metres to cells and back. Python 3.9 or later, standard library alone, but that an image which is no PGM
+wants Debian's python3-pil. Nothing here is proved.
 
-A map of ROS is a `map.yaml` and a PGM image, as `map_saver` writes them. It is in metres with y upwards; clearmap's cells are counted from the
+A map of ROS is a `map.yaml` and an image, as `map_saver` writes them. It is in metres with y upwards; clearmap's cells are counted from the
 upper left, y downwards. All is computed in fractions, of the decimals that numbers are written as, and what has to be rounded is rounded to the safe side:
 a cell that may be occupied is an obstacle, a least distance is rounded up, and a clearance in metres is rounded down.
 """
 import argparse
+import io
 import math
 import pathlib
 import re
 import sys
 from dataclasses import dataclass
 from fractions import Fraction
-from typing import Dict, Iterable, Iterator, List, Sequence, Tuple, Union
+from typing import TYPE_CHECKING, Dict, Iterable, Iterator, List, Sequence, Tuple, Union
+
+if TYPE_CHECKING:
+    from PIL import Image
 
 Number = Union[int, float, str, Fraction]
 Cell = Tuple[int, int]
@@ -20,8 +25,11 @@ Point = Tuple[Number, Number]
 
 LARGEST_SIDE = 4096  # cells
 LONGEST_PATH = 1000  # points of one line
+PGM = (b"P2", b"P5")  # plain and raw
 LONGEST_NUMBER = 400  # characters; what a float is written as is below it
 METRICS = ("euclid2", "city", "chess")
+MODES = ("trinary", "scale", "raw")
+UNKNOWN = 255  # what map_server publishes for an unknown cell, as a byte
 
 
 class RosError(Exception):
@@ -93,10 +101,11 @@ class Settings:
     negate: bool
     occupied_thresh: Fraction
     free_thresh: Fraction
+    mode: str = "trinary"
 
 
 def read_settings(text: str) -> Settings:
-    """The settings that a `map.yaml` gives. A turned origin and the modes `scale` and `raw` are refused."""
+    """The settings that a `map.yaml` gives. A turned origin is refused."""
     values = yaml_values(text)
 
     def word(key: str) -> str:
@@ -112,8 +121,8 @@ def read_settings(text: str) -> Settings:
     if yaw != 0:
         raise RosError(f"the origin's yaw is {origin[2]}, and a map that is turned isn't supported: turn the image, and set yaw to 0")
     mode = values.get("mode", "trinary")
-    if mode != "trinary":
-        raise RosError(f"the map's mode is '{mode}', and trinary alone is supported: save the map as trinary")
+    if not isinstance(mode, str) or mode not in MODES:
+        raise RosError(f"the map's mode is '{mode}', and there are trinary, scale and raw")
     negate = {"0": False, "false": False, "1": True, "true": True}.get(word("negate").lower())
     if negate is None:
         raise RosError("'negate' of the yaml is 0 or 1")
@@ -122,20 +131,22 @@ def read_settings(text: str) -> Settings:
         raise RosError("the thresholds aren't 0 <= free_thresh <= occupied_thresh <= 1")
     if resolution <= 0:
         raise RosError("the resolution isn't above 0")
-    return Settings(word("image"), resolution, x, y, negate, occupied, free)
+    return Settings(word("image"), resolution, x, y, negate, occupied, free, mode)
 
 
-# ---- the PGM image
+# ---- the image
 
 
 @dataclass(frozen=True)
 class Gray:
-    """A PGM image: its samples by rows from the top, each from 0 to `most`."""
+    """An image: its samples by rows from the top, each from 0 to `most`. `opaque` has 0 where one
+    can be seen through, and is empty where none can."""
 
     width: int
     height: int
     most: int
     samples: Sequence[int]
+    opaque: bytes = b""
 
 
 def header_number(data: bytes, at: int) -> Tuple[int, int]:
@@ -167,13 +178,12 @@ def plain_samples(data: bytes, count: int) -> List[int]:
 def read_pgm(data: bytes) -> Gray:
     """A PGM image, plain (P2) or raw (P5), of any maximum up to 65535; samples over 255 are two bytes, the high one first."""
     magic = data[:2]
-    if magic not in (b"P2", b"P5"):
+    if magic not in PGM:
         raise RosError("the image is no PGM: its first two bytes aren't P2 or P5")
     width, at = header_number(data, 2)
     height, at = header_number(data, at)
     most, at = header_number(data, at)
-    if not (1 <= width <= LARGEST_SIDE and 1 <= height <= LARGEST_SIDE):
-        raise RosError(f"the image has {width} by {height} pixels, and a map has 1 to {LARGEST_SIDE} a side: cut a part out, or make the cells larger")
+    check_sides(width, height)
     if not 1 <= most <= 65535:
         raise RosError(f"the image's largest sample is {most}, and PGM has 1 to 65535")
     samples: Sequence[int]
@@ -192,19 +202,90 @@ def read_pgm(data: bytes) -> Gray:
     return Gray(width, height, most, samples)
 
 
+def check_sides(width: int, height: int) -> None:
+    """Refuses an image that no map can have."""
+    if not (1 <= width <= LARGEST_SIDE and 1 <= height <= LARGEST_SIDE):
+        sides = f"the image has {width} by {height} pixels, and a map has 1 to {LARGEST_SIDE} a side"
+        raise RosError(f"{sides}: cut a part out, or make the cells larger")
+
+
+def read_image(data: bytes) -> Gray:
+    """An image of any kind: a PGM by this script, and others, as PNG, by Debian's python3-pil."""
+    if data[:2] in PGM:
+        return read_pgm(data)
+    try:
+        from PIL import Image
+    except ImportError:
+        raise RosError("the image is no PGM, and other kinds, as PNG, want python3-pil") from None
+    try:
+        with Image.open(io.BytesIO(data)) as image:
+            check_sides(*image.size)
+            return gray_of(image)
+    except RosError:
+        raise
+    except Exception as fault:  # python3-pil has many for what it can't read
+        said = f"the image is no PGM, and python3-pil can't read it: {fault}"
+        raise RosError(" ".join(said.split())[:200]) from None
+
+
+def gray_of(image: "Image.Image") -> Gray:
+    """An image of python3-pil. A colour is as bright as the mean of its three parts, of which the
+    sum is taken; what isn't wholly opaque can be seen through."""
+    width, height = image.size
+    if image.mode in ("1", "L"):
+        return Gray(width, height, 255, image.convert("L").tobytes())
+    if image.mode in ("I", "I;16"):
+        return Gray(width, height, 65535, list(image.getdata()))
+    pixels = image.convert("RGBA").tobytes()
+    opaque = bytes(part == 255 for part in pixels[3::4])
+    sums = [sum(parts) for parts in zip(pixels[::4], pixels[1::4], pixels[2::4])]
+    return Gray(width, height, 3 * 255, sums, b"" if all(opaque) else opaque)
+
+
+# ---- samples as obstacles
+
+
+def value_of(share: Fraction, settings: Settings) -> int:
+    """What map_server publishes in the modes `scale` and `raw` for a sample which is so much of the
+    whole dark, or with `negate` bright: 0 to 100, or in `raw` any byte."""
+    if settings.mode == "raw":
+        return math.floor(255 * (1 - share))
+    if share > settings.occupied_thresh:
+        return 100
+    if share < settings.free_thresh:
+        return 0
+    between = settings.occupied_thresh - settings.free_thresh
+    return 1 + math.floor(98 * (share - settings.free_thresh) / between if between else 0)
+
+
+def is_obstacle(share: Fraction, opaque: int, settings: Settings, unknown_is_free: bool) -> bool:
+    """Whether a sample is an obstacle. In `scale` and `raw` it is what the value that map_server
+    publishes is for clearmap's node: one above `occupied_thresh` of a hundred."""
+    known = bool(opaque)
+    if settings.mode != "trinary":
+        value = value_of(share, settings)
+        known = value != UNKNOWN and (known or settings.mode == "raw" or value in (0, 100))
+        share = Fraction(value, 100)
+    if not known:
+        return not unknown_is_free
+    blocked = share > settings.occupied_thresh
+    return blocked or (not unknown_is_free and share >= settings.free_thresh)
+
+
 def obstacles(image: Gray, settings: Settings, unknown_is_free: bool = False) -> List[List[bool]]:
     """Which cells are obstacles, by rows from the top. A sample is occupied by so much as it is dark, or with `negate` bright, of the whole.
 
     Above `occupied_thresh` it is occupied, below `free_thresh` free, and else unknown, which is an obstacle too unless it is asked otherwise.
     """
+    opaque = image.opaque or bytes([1]) * len(image.samples)
 
-    def blocked(sample: int) -> bool:
+    def blocked(sample: int, seen: int) -> bool:
         share = Fraction(sample if settings.negate else image.most - sample, image.most)
-        return share > settings.occupied_thresh or (not unknown_is_free and share >= settings.free_thresh)
+        return is_obstacle(share, seen, settings, unknown_is_free)
 
-    known = {sample: blocked(sample) for sample in set(image.samples)}
-    width = image.width
-    return [[known[sample] for sample in image.samples[row * width : (row + 1) * width]] for row in range(image.height)]
+    known = {pair: blocked(*pair) for pair in set(zip(image.samples, opaque))}
+    cells = [known[pair] for pair in zip(image.samples, opaque)]
+    return [cells[row * image.width : (row + 1) * image.width] for row in range(image.height)]
 
 
 def pbm(rows: Sequence[Sequence[bool]]) -> bytes:
@@ -368,7 +449,7 @@ def read_map(path: Union[str, pathlib.Path]) -> Map:
     yaml = pathlib.Path(path)
     try:
         settings = read_settings(yaml.read_text(encoding="utf-8"))
-        image = read_pgm((yaml.parent / settings.image).read_bytes())
+        image = read_image((yaml.parent / settings.image).read_bytes())
     except (OSError, UnicodeDecodeError) as fault:
         raise RosError(f"a file of the map can't be read: {fault}") from None
     return Map(settings, image, Frame(image.width, image.height, settings.resolution, settings.origin_x, settings.origin_y))
@@ -409,7 +490,7 @@ def answer(options: argparse.Namespace) -> Iterator[str]:
 
 def parser() -> argparse.ArgumentParser:
     """The command line."""
-    top = argparse.ArgumentParser(prog="clearmap-ros", description="Maps and plans of ROS for clearmap: map.yaml and PGM to PBM, metres to cells and back.")
+    top = argparse.ArgumentParser(prog="clearmap-ros", description="Maps and plans of ROS for clearmap: map.yaml and its image to PBM, metres to cells and back.")
     commands = top.add_subparsers(dest="command", required=True)
 
     def add(name: str, text: str) -> argparse.ArgumentParser:

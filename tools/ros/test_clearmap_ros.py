@@ -1,5 +1,6 @@
 #!/usr/bin/env python3
 """Tests of clearmap_ros.py against small maps made by hand, whose answers are known. Given the program as CLEARMAP, it reads what was written, too."""
+import io
 import math
 import os
 import pathlib
@@ -10,6 +11,11 @@ import unittest
 from fractions import Fraction
 
 import clearmap_ros as ros
+
+try:
+    from PIL import Image
+except ImportError:
+    Image = None
 
 YAML = """# a map of four by three cells
 image: map.pgm
@@ -97,6 +103,113 @@ class Images(unittest.TestCase):
                 ros.read_pgm(data)
 
 
+class Modes(unittest.TestCase):
+    """What map_server publishes in a mode, and which cells are obstacles, as the node has them."""
+
+    def test_scale(self):
+        settings = ros.read_settings(YAML + "mode: scale\n")
+        rows = (  # sample, value: (share - 0.196) / 0.454 of 98, and 1
+            (254, 0), (206, 0), (205, 1), (150, 47), (100, 89), (91, 97), (90, 98), (89, 100), (0, 100),
+        )  # fmt: skip
+        for sample, value in rows:
+            self.assertEqual(ros.value_of(Fraction(255 - sample, 255), settings), value, sample)
+        samples = [254, 205, 180, 140, 100, 89, 0, 206, 254, 254, 254, 254]
+        wanted = {
+            False: [[0, 0, 1, 1], [1, 1, 1, 0], [0] * 4],
+            True: [[0, 0, 0, 0], [1, 1, 1, 0], [0] * 4],
+        }
+        for free, rows in wanted.items():  # 22 of a hundred at 180, 56 at 140
+            self.assertEqual(rows_of(raw(samples), YAML + "mode: scale\n", free), rows)
+
+    def test_scale_of_one_threshold(self):
+        yaml = YAML.replace("0.65", "0.2").replace("0.196", "0.2") + "mode: scale\n"
+        settings = ros.read_settings(yaml)
+        values = [ros.value_of(Fraction(share, 10), settings) for share in (1, 2, 3)]
+        self.assertEqual(values, [0, 1, 100])
+
+    def test_raw(self):
+        samples = [0, 19, 20, 65, 66, 100, 101, 254, 255, 0, 0, 0]
+        wanted = {
+            False: [[0, 0, 1, 1], [1, 1, 1, 1], [1, 0, 0, 0]],
+            True: [[0, 0, 0, 0], [1, 1, 1, 1], [0, 0, 0, 0]],
+        }
+        for free, rows in wanted.items():
+            self.assertEqual(rows_of(raw(samples), YAML + "mode: raw\n", free), rows)
+            turned = YAML.replace("negate: 0", "negate: 1") + "mode: raw\n"
+            self.assertEqual(rows_of(raw([255 - it for it in samples]), turned, free), rows)
+
+
+@unittest.skipIf(Image is None, "other images than PGM aren't tried: install python3-pil")
+class OtherImages(unittest.TestCase):
+    def png(self, mode, pixels, size=(4, 3), kind="PNG"):
+        """The bytes of an image of python3-pil."""
+        image = Image.new(mode, size)
+        image.putdata(pixels)
+        data = io.BytesIO()
+        image.save(data, kind)
+        return data.getvalue()
+
+    def rows(self, data, yaml=YAML, unknown_is_free=False):
+        rows = ros.obstacles(ros.read_image(data), ros.read_settings(yaml), unknown_is_free)
+        return [[int(black) for black in row] for row in rows]
+
+    def test_kinds(self):
+        """Gray, in one byte and in two, in colours, opaque, and by a palette: as the same PGM."""
+        colours = [(it, it, it) for it in SAMPLES]
+        palette = Image.new("RGB", (4, 3))
+        palette.putdata(colours)
+        by_palette = io.BytesIO()
+        palette.quantize(16).save(by_palette, "PNG")
+        for data in (
+            self.png("L", SAMPLES),
+            self.png("I", [257 * it for it in SAMPLES]),
+            self.png("RGB", colours),
+            self.png("RGBA", [(*it, 255) for it in colours]),
+            self.png("RGB", colours, kind="BMP"),
+            by_palette.getvalue(),
+            raw(SAMPLES),
+        ):
+            self.assertEqual(self.rows(data), SAFE)
+            self.assertEqual(self.rows(data, unknown_is_free=True), UNKNOWN_FREE)
+
+    def test_the_mean_of_colours(self):
+        image = ros.read_image(self.png("RGB", [(255, 0, 255)] * 12))
+        self.assertEqual((image.most, image.samples[0]), (765, 510))
+
+    def test_what_can_be_seen_through(self):
+        """It is unknown; in `scale` where it lies between the thresholds, in `raw` not at all."""
+        pixels = [(0, 0, 0, 0), (254, 254, 254, 254), (140, 140, 140, 0), (140, 140, 140, 255)] * 3
+        for mode, safe, free in (
+            ("trinary", [1, 1, 1, 1], [0, 0, 0, 0]),
+            ("scale", [1, 0, 1, 1], [1, 0, 0, 0]),
+            ("raw", [0, 1, 1, 1], [0, 1, 1, 1]),
+        ):
+            yaml, data = YAML + f"mode: {mode}\n", self.png("RGBA", pixels)
+            self.assertEqual(self.rows(data, yaml), [safe] * 3, mode)
+            self.assertEqual(self.rows(data, yaml, True), [free] * 3, mode)
+
+    def test_refused(self):
+        large = self.png("L", [0] * 4097, (4097, 1))
+        rows = (
+            (b"not an image", "python3-pil can't read it"),
+            (self.png("L", SAMPLES)[:40], "python3-pil can't read it"),
+            (large, "4097 by 1 pixels"),
+        )
+        for data, text in rows:
+            with self.assertRaisesRegex(ros.RosError, text):
+                ros.read_image(data)
+
+    def test_the_house(self):
+        house = ros.read_map(pathlib.Path(__file__).resolve().parents[2] / "examples/house.yaml")
+        self.assertEqual(house.frame.size, (320, 220))
+        rows = ros.obstacles(house.image, house.settings)
+        free = ros.obstacles(house.image, house.settings, unknown_is_free=True)
+        for (x, y), blocked, known in (
+            ((160, 100), 0, 0), ((113, 40), 1, 1), ((5, 5), 1, 0), ((113, 72), 0, 0),
+        ):  # fmt: skip
+            self.assertEqual((rows[y][x], free[y][x]), (blocked, known), (x, y))
+
+
 class Settings(unittest.TestCase):
     def test_forms(self):
         listed = YAML.replace("origin: [-1.0, -2.0, 0.0]   # lower left", "origin:\n- -1.0\n- -2.0\n- 0.0").replace("image: map.pgm", 'image: "a map.pgm"')
@@ -108,8 +221,8 @@ class Settings(unittest.TestCase):
     def test_refused(self):
         rows = (
             (YAML.replace("-2.0, 0.0", "-2.0, 0.1"), "yaw is 0.1, and a map that is turned isn't supported"),
-            (YAML + "mode: scale\n", "mode is 'scale'"),
-            (YAML + "mode: raw\n", "mode is 'raw'"),
+            (YAML + "mode: fine\n", "mode is 'fine', and there are trinary, scale and raw"),
+            (YAML + "mode: [raw]\n", "there are trinary, scale and raw"),
             (YAML.replace("image: map.pgm\n", ""), "no 'image'"),
             (YAML.replace("0.050000", "0"), "resolution isn't above 0"),
             (YAML.replace("0.050000", "fine"), "'fine' is no number"),

@@ -1,9 +1,11 @@
 #!/usr/bin/env python3
-"""Shows the map of a running `clearmap serve` as a page in the browser: obstacles over a heat map of distances, which follows the newest version.
+"""Shows the map of a running `clearmap serve` as a page in the browser: obstacles over a map of
+distances, which follows the newest version.
 
-    clearmap-view --port 7400 [--web 7480] [--map map.yaml] [--read-only]
+    clearmap-view --port 7400 [--web 7480] [--map map.yaml] [--radius 0.22] [--read-only]
 
-Wants aiohttp and numpy (Debian's python3-aiohttp and python3-numpy). It listens on loopback alone. Nothing here is proved.
+Wants aiohttp and numpy (Debian's python3-aiohttp and python3-numpy), and libclearmap or the program
+clearmap. It listens on loopback alone. Nothing here is proved.
 """
 import argparse
 import os
@@ -11,23 +13,27 @@ import pathlib
 import shutil
 import socket
 import sys
-from typing import Optional
+from typing import Callable, Optional
 
 HERE = pathlib.Path(__file__).resolve().parent
 TOP = HERE.parent.parent
-sys.path[:0] = [str(HERE), *(str(folder) for folder in (TOP / "clients/python", TOP / "tools/ros", HERE.parent / "python") if folder.is_dir())]
+FOLDERS = (TOP / "clients/python", TOP / "tools/ros", HERE.parent / "python")
+sys.path[:0] = [str(HERE), *(str(folder) for folder in FOLDERS if folder.is_dir())]
 
 import clearmap_ros as ros
 
+LACKS = "isn't installed for {}: Debian has python3-aiohttp and python3-numpy"
+
 
 def program() -> Optional[str]:
-    """The program that works distances out: the one that CLEARMAP names, this repository's, the one next to an installed clearmap-view, or that on the path."""
+    """The program that works distances out where there is no library: the one that CLEARMAP names,
+    this repository's, the one next to an installed clearmap-view, or that on the path."""
     built = (TOP / "crates/clearmap/out/clearmap", HERE.parent.parent.parent / "bin/clearmap")
     found = [str(path) for path in built if os.access(path, os.X_OK)]
     return os.environ.get("CLEARMAP") or (found[0] if found else shutil.which("clearmap"))
 
 
-def port_number(least: int):
+def port_number(least: int) -> Callable[[str], int]:
     """A reader of a port from this number on."""
 
     def read(word: str) -> int:
@@ -38,43 +44,81 @@ def port_number(least: int):
     return read
 
 
+def radius(word: str) -> str:
+    """A robot's radius, as it is written."""
+    try:
+        if not 0 <= ros.exact(word) <= 10_000:
+            raise ros.RosError("out of range")
+    except ros.RosError:
+        raise argparse.ArgumentTypeError(f"'{word}' is no radius: 0 to 10000") from None
+    return word
+
+
+def listening(port: int) -> socket.socket:
+    """A socket that listens on the page's own port."""
+    try:
+        return socket.create_server(("127.0.0.1", port))
+    except OSError as fault:
+        raise ros.RosError(f"port {port} can't be had: {fault.strerror}") from None
+
+
 def parser() -> argparse.ArgumentParser:
     """The command line."""
-    words = argparse.ArgumentParser(prog="clearmap-view", description="A page in the browser that shows the map of a running server, and follows its versions.")
-    words.add_argument("--port", type=port_number(1), required=True, help="the port of clearmap serve")
-    words.add_argument("--web", type=port_number(0), default=7480, help="the page's own port on loopback (default 7480; 0: the system picks one)")
-    words.add_argument("--map", metavar="YAML", help="the map.yaml of ROS that the served map was made from: distances and places are in metres too")
+    about = "A page in the browser that shows the map of a running server, and follows its"
+    about += " versions."
+    words = argparse.ArgumentParser(prog="clearmap-view", description=about)
+    port, web = port_number(1), port_number(0)
+    words.add_argument("--port", type=port, required=True, help="the port of clearmap serve")
+    own = "the page's own port on loopback (default 7480; 0: the system picks one)"
+    words.add_argument("--web", type=web, default=7480, help=own)
+    yaml = "the map.yaml of ROS that the served map was made from: distances and places are in"
+    yaml += " metres too, and unknown cells are hatched"
+    words.add_argument("--map", metavar="YAML", help=yaml)
+    robot = "the robot's radius that the page starts with, in metres with --map and else in cells"
+    words.add_argument("--radius", type=radius, help=robot)
     words.add_argument("--read-only", action="store_true", help="the page can't change the map")
     return words
 
 
+def serve(options: argparse.Namespace) -> None:
+    """Serves the page until a signal ends it."""
+    from aiohttp import web
+
+    from following import Wanted
+    from site_of_map import Site
+    from tables import no_library
+    from yaml_map import read_yaml_map
+
+    known = read_yaml_map(options.map) if options.map else None
+    lacking, dist = no_library(), program()
+    if lacking and dist is None:
+        raise ros.RosError(f"{lacking}; and there is no program clearmap on the path")
+    with listening(options.web) as listener:
+        own = listener.getsockname()[1]
+        if lacking:
+            print(f"clearmap-view: each picture takes a run of {dist}: {lacking}", file=sys.stderr)
+        words = options.port, dist, not lacking, known, options.radius or "", options.read_only
+        site = Site(own, Wanted(*words))
+        print(f"VIEW http://127.0.0.1:{own}/", flush=True)
+        web.run_app(
+            site.application(), sock=listener, print=None, access_log=None, shutdown_timeout=1
+        )
+
+
 def main() -> int:
-    """Serves the page until a signal ends it. Status 1 where a file or a port can't be had, with one line on standard error."""
+    """Serves the page. Status 1 where a file or a port can't be had, with one line on standard
+    error."""
     options = parser().parse_args()
     try:
-        from aiohttp import web
-
-        from site_of_map import Site
+        serve(options)
     except ModuleNotFoundError as missing:
-        print(f"clearmap-view: {missing.name} isn't installed for {sys.executable}: Debian has python3-aiohttp and python3-numpy", file=sys.stderr)
-        return 1
-    try:
-        frame = ros.read_map(options.map).frame if options.map else None
-        dist = program()
-        if dist is None:
-            raise ros.RosError("the program clearmap isn't on the path, and CLEARMAP doesn't name it")
-        listener = socket.create_server(("127.0.0.1", options.web))
+        said = f"{missing.name} {LACKS.format(sys.executable)}"
     except ros.RosError as fault:
-        print(f"clearmap-view: {fault}", file=sys.stderr)
-        return 1
-    except OSError as fault:
-        print(f"clearmap-view: port {options.web} can't be had: {fault.strerror}", file=sys.stderr)
-        return 1
-    own = listener.getsockname()[1]
-    site = Site(options.port, own, dist, frame, options.read_only)
-    print(f"VIEW http://127.0.0.1:{own}/", flush=True)
-    web.run_app(site.application(), sock=listener, print=None, access_log=None, shutdown_timeout=1)
-    return 0
+        said = str(fault)
+    else:
+        return 0
+    print(f"clearmap-view: {said}", file=sys.stderr)
+    return 1
 
 
 if __name__ == "__main__":

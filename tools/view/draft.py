@@ -87,10 +87,22 @@ class Draft:
                 self._alone, self._overtaken = False, bool(self._drawn)
             self._version = version
 
+    def left(self) -> None:
+        """The connection was left: who changed the draft since then isn't known, nor whether it is
+        the same server's."""
+        with self._lock:
+            self._alone = False
+
     def lost(self) -> None:
         """The server went away, or a command's reply was lost: nothing is known of the draft."""
         with self._lock:
             self._forget()
+
+    @property
+    def is_drawn(self) -> bool:
+        """Whether there are changes from here that weren't published from here."""
+        with self._lock:
+            return bool(self._drawn)
 
     @property
     def asks(self) -> bool:

@@ -1,6 +1,7 @@
 """What the tests of clearmap-view share: a page's server, its answers, and headless Chromium."""
 import http.client
 import json
+import os
 import pathlib
 import re
 import shutil
@@ -17,6 +18,7 @@ sys.path[:0] = [
 ]
 
 from served import Served
+from tables import no_library
 
 try:
     from selenium import webdriver
@@ -29,14 +31,24 @@ except ImportError:
     webdriver = By = ActionChains = Select = alert_is_present = None
 
 POST = b"P1\n6 4\n000000\n001000\n000000\n000000\n"  # one obstacle, at column 2 of row 1
-YAML = "image: map.pgm\nresolution: 0.5\norigin: [-1.0, -2.0, 0.0]\nnegate: 0\noccupied_thresh: 0.65\nfree_thresh: 0.196\n"
+YAML = """image: map.pgm
+resolution: 0.5
+origin: [-1.0, -2.0, 0.0]
+negate: 0
+occupied_thresh: 0.65
+free_thresh: 0.196
+"""
+OBSTACLE = [16, 18, 24, 255]  # its colour on the page, by light
 PATIENCE = 30  # seconds for what a busy machine takes its time for
 
 
 class Viewed:
     """A clearmap-view of a port, with a page's port that the system picks."""
 
-    def __init__(self, port, *words):
+    def __init__(self, port, *words, library=True):
+        environment = dict(os.environ)
+        if not library:
+            environment["CLEARMAP_LIBRARY"] = "/no/such/library"
         words = [
             sys.executable,
             str(HERE / "clearmap_view.py"),
@@ -46,7 +58,10 @@ class Viewed:
             "0",
             *words,
         ]
-        self.process = subprocess.Popen(words, stdout=subprocess.PIPE, text=True)
+        errors = None if library else subprocess.DEVNULL
+        self.process = subprocess.Popen(
+            words, stdout=subprocess.PIPE, stderr=errors, text=True, env=environment
+        )
         self.url = self.process.stdout.readline().split()[1]
         self.port = int(self.url.rsplit(":", 1)[1].strip("/"))
 
@@ -84,7 +99,14 @@ class Viewed:
 
 
 class Viewing(unittest.TestCase):
-    """Tests of what a page's server answers."""
+    """Tests of what a page's server answers. `library` says whether it may use the library."""
+
+    library = True
+
+    @property
+    def in_process(self):
+        """Whether answers come from the library."""
+        return self.library and not no_library()
 
     def setUp(self):
         self.served = Served(POST)
@@ -92,7 +114,7 @@ class Viewing(unittest.TestCase):
 
     def view(self, *words):
         """A page's server that has a version, and the first state that tells it."""
-        viewed = Viewed(self.served.port, *words)
+        viewed = Viewed(self.served.port, *words, library=self.library)
         self.addCleanup(viewed.end)
         states = viewed.events()
         state = next(states)
@@ -103,6 +125,12 @@ class Viewing(unittest.TestCase):
             1
         ].decode()
         return viewed, state
+
+
+class WithoutLibrary:
+    """Makes tests of what a page's server answers without the library."""
+
+    library = False
 
 
 def browser():
@@ -140,10 +168,14 @@ class InBrowser(unittest.TestCase):
     def open(self, image=POST, *words, view=()):
         self.served = Served(image, *words)
         self.addCleanup(self.served.end)
-        self.viewed = Viewed(self.served.port, *view)
-        self.addCleanup(self.viewed.end)
+        self.serve_page(*view)
         self.driver.get(self.viewed.url)
         self.until(lambda: self.text("version") == "version 0")
+
+    def serve_page(self, *words):
+        """Starts the page's own server."""
+        self.viewed = Viewed(self.served.port, *words)
+        self.addCleanup(self.viewed.end)
 
     def until(self, holds):
         return WebDriverWait(self.driver, PATIENCE, poll_frequency=0.02).until(lambda _: holds())
@@ -161,9 +193,11 @@ class InBrowser(unittest.TestCase):
         """The picture's colour at a cell, which is waited for to be drawn."""
         return self.driver.execute_async_script(
             """const [x, y, done] = arguments;
-            const [px, py] = window.clearmapView.pixel(x + 0.5, y + 0.5).map((at) => Math.round(at * devicePixelRatio));
+            const place = window.clearmapView.pixel(x + 0.5, y + 0.5);
+            const [px, py] = place.map((at) => Math.round(at * devicePixelRatio));
             const context = document.getElementById("picture").getContext("2d");
-            requestAnimationFrame(() => setTimeout(() => done(Array.from(context.getImageData(px, py, 1, 1).data)), 0));""",
+            const read = () => done(Array.from(context.getImageData(px, py, 1, 1).data));
+            requestAnimationFrame(() => setTimeout(read, 0));""",
             x,
             y,
         )
@@ -179,10 +213,13 @@ class InBrowser(unittest.TestCase):
         )
 
     def mode(self, name):
-        self.driver.find_element(By.CSS_SELECTOR, f"input[value={name}]").click()
+        self.driver.find_element(By.CSS_SELECTOR, f"[data-mode={name}]").click()
+
+    def button(self, command):
+        return self.driver.find_element(By.CSS_SELECTOR, f"[data-command={command}]")
 
     def press(self, command):
-        self.driver.find_element(By.CSS_SELECTOR, f"[data-command={command}]").click()
+        self.button(command).click()
 
     def tearDown(self):
         faults = [

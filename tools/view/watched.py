@@ -1,12 +1,16 @@
-"""A running server as `clearmap-view` sees it: one connection, whose pin follows the newest version. Its calls may come from any thread."""
+"""A running server as `clearmap-view` sees it: one connection, whose pin follows the newest
+version, and which is left where nothing is asked. Its calls may come from any thread."""
 import contextlib
 import threading
-from typing import Callable, Iterator, List, Optional, Tuple, TypeVar
+import time
+from typing import Callable, Iterator, Optional, Tuple, TypeVar
 
 import clearmap
 
 T = TypeVar("T")
 PATIENCE = 5.0  # seconds for a reply
+AFTER_A_QUESTION = 5.0  # seconds for which the connection stays
+AFTER_A_CHANGE = 60.0
 
 WORDS = {
     1: "that isn't wholly on the map",
@@ -32,11 +36,15 @@ class Watched:
     `lost` is told where the server may have ended.
     """
 
-    def __init__(self, port: int, lost: Callable[[], None]) -> None:
-        self._port, self._lost, self._lock = port, lost, threading.Lock()
+    def __init__(
+        self, port: int, lost: Callable[[], None], clock: Callable[[], float] = time.monotonic
+    ) -> None:
+        self._port, self._lost, self._clock = port, lost, clock
+        self._lock, self._staying = threading.Lock(), threading.Lock()
         self._client: Optional[clearmap.Client] = None
         self._pinned: Optional[clearmap.Pinned] = None
         self._connections = 0
+        self._until = 0.0
 
     @contextlib.contextmanager
     def _connected(self) -> Iterator[clearmap.Client]:
@@ -52,6 +60,33 @@ class Watched:
                     self._lost()
                 raise
 
+    # ---- how long the connection stays: these wait for no reply of the server
+
+    def stay(self, seconds: float) -> None:
+        """Keeps the connection for so long from now."""
+        with self._staying:
+            self._until = max(self._until, self._clock() + seconds)
+
+    @property
+    def stays(self) -> bool:
+        """Whether something was asked or changed lately."""
+        with self._staying:
+            return self._clock() < self._until
+
+    @property
+    def is_pinned(self) -> bool:
+        """Whether a version is pinned."""
+        return self._pinned is not None
+
+    def rest(self) -> None:
+        """Ends the connection, so that neither a worker of the server nor a version is held."""
+        with self._lock:
+            if self._client is not None:
+                self._client.close()
+            self._client = self._pinned = None
+
+    # ---- what is asked
+
     def renew(self, saw: Callable[[int], None]) -> Tuple[int, int]:
         """Pins the newest version: which connection it is, counted from 1, and the version.
 
@@ -65,13 +100,6 @@ class Watched:
             saw(self._pinned.version)
             return self._connections, self._pinned.version
 
-    def rest(self) -> None:
-        """Ends the connection, so that neither a worker of the server nor a version is held."""
-        with self._lock:
-            if self._client is not None:
-                self._client.close()
-            self._client = self._pinned = None
-
     def _pin(self) -> clearmap.Pinned:
         if self._pinned is None:
             raise clearmap.ConnectionLost("no version is pinned")
@@ -82,17 +110,14 @@ class Watched:
         with self._connected():
             return self._pin().dump()
 
-    def ask(self, queries: clearmap.Queries) -> Tuple[int, List[object]]:
+    def ask(self, question: Callable[[clearmap.Pinned], T]) -> Tuple[int, T]:
         """The pinned version, and what it answers. A refused query is raised."""
         with self._connected():
             pinned = self._pin()
-            answers = pinned.ask(queries)
-        for answer in answers:
-            if isinstance(answer, clearmap.Refused):
-                raise answer
-        return pinned.version, answers
+            return pinned.version, question(pinned)
 
     def change(self, call: Callable[[clearmap.Client], T]) -> T:
         """What a command answers."""
+        self.stay(AFTER_A_CHANGE)
         with self._connected() as client:
             return call(client)

@@ -55,8 +55,10 @@ from .library import NO_OBSTACLE, NOWHERE
 from .maps import Map
 from .pinned import Pinned
 from .requests import CHESS, CITY, EUCLID2, Change, Collected, Near, Queries, Tightest
+from .rows import distances
 from .tables import Entry, read_distances
-from .transforms import distance_transform_cdt, distance_transform_edt, distances
+from .tiles import FARTHER, capped_distances
+from .transforms import distance_transform_cdt, distance_transform_edt
 
 __version__ = "0.1.0"
 __all__ = [
@@ -71,10 +73,12 @@ __all__ = [
     "read_distances",
     "Map",
     "distances",
+    "capped_distances",
     "distance_transform_edt",
     "distance_transform_cdt",
     "NO_OBSTACLE",
     "NOWHERE",
+    "FARTHER",
     "OPEN",
     "WALL",
     "ClearmapError",

@@ -1,6 +1,6 @@
 """What a pin copies of its server: the pinned version, as a map of this process."""
 import re
-from typing import Any, Callable, Iterator, Optional, Tuple, Union
+from typing import Any, Callable, Dict, Iterator, Optional, Tuple, Union
 
 from .errors import ClearmapError, Refused, WrongAnswer
 from .grids import OPEN, WALL, Memory, byte_map
@@ -35,40 +35,43 @@ def copied(
 
     Where no cell of the border tells it, no cell of the map does, until some are cleared: what is
     nearest to a cell, and not of the frame, is then nearer than the frame."""
-    memory = packed(read_dump(text))
     if edge is not None:
-        return Map._of(memory, edge)
-    by_edge = {name: Map._of(memory, name) for name in (OPEN, WALL)}
-    telling = _telling(by_edge[OPEN], by_edge[WALL])
-    if telling is None:
-        return ClearmapError(UNTOLD) if untold is None else by_edge[untold]
-    (x, y), metric = telling
+        return Map._of(packed(read_dump(text)), edge)
+    maps = maps_of(text)
+    asked = telling(maps)
+    if asked is None:
+        return ClearmapError(UNTOLD) if untold is None else maps[untold]
+    (x, y), metric = asked
     answer = ask(at(x, y, metric))
     if isinstance(answer, Refused):
         return answer
-    for told in by_edge.values():
+    for told in maps.values():
         if told.at(x, y, metric) == answer:
             return told
     raise WrongAnswer(f"the server answers {answer} for ({x}, {y}) of the map that it dumps")
 
 
-def _telling(one: Map, other: Map) -> Optional[Tuple[Cell, str]]:
-    """A cell of the border and a metric by which two maps, of the same cells, answer differently.
-    """
-    for x, y in _border(one):
+def maps_of(text: bytes) -> Dict[str, Map]:
+    """The dumped version as a map with each edge, over the same cells."""
+    memory = packed(read_dump(text))
+    return {edge: Map._of(memory, edge) for edge in (OPEN, WALL)}
+
+
+def telling(maps: Dict[str, Map]) -> Optional[Tuple[Cell, str]]:
+    """A cell of the border and a metric by which the maps answer differently."""
+    for x, y in _free_border(maps[OPEN]):
         for metric in METRICS:
-            if one.at(x, y, metric) != other.at(x, y, metric):
+            if maps[OPEN].at(x, y, metric) != maps[WALL].at(x, y, metric):
                 return (x, y), metric
     return None
 
 
-def _border(area: Map) -> Iterator[Cell]:
-    """The cells of the first and last columns and rows."""
+def _free_border(area: Map) -> Iterator[Cell]:
+    """The cells of the first and last columns and rows that are no obstacles. An obstacle is its
+    own nearest one by either edge."""
     width, height = area.size
-    for y in range(height):
-        yield 0, y
-    for x in range(1, width):
-        yield x, 0
-        yield x, height - 1
-    for y in range(height):
-        yield width - 1, y
+    free = ~area.grid()
+    for x in (0, width - 1):
+        yield from ((x, int(y)) for y in free[:, x].nonzero()[0])
+    for y in (0, height - 1):
+        yield from ((int(x), y) for x in free[y].nonzero()[0])

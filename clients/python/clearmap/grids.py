@@ -6,6 +6,7 @@ from .requests import LARGEST_SIDE, METRICS, metric_of, whole
 
 OPEN, WALL = "open", "wall"
 EDGES = (OPEN, WALL)
+NUMBERS = {metric: number for number, metric in enumerate(METRICS)}
 
 
 class Memory(NamedTuple):
@@ -27,14 +28,15 @@ def edge_of(edge: str) -> int:
 
 def number_of(metric: str) -> int:
     """A metric's number."""
-    return METRICS.index(metric_of(metric))
+    number = NUMBERS.get(metric) if isinstance(metric, str) else None
+    return METRICS.index(metric_of(metric)) if number is None else number
 
 
 # ---- arrays as maps
 
 
-def _array(grid: object) -> Any:
-    """An array of two dimensions, whose sides are those of a map."""
+def flat_array(grid: object) -> Any:
+    """An array of bools or numbers, of two dimensions."""
     np = numpy()
     if isinstance(grid, np.ma.MaskedArray):
         raise TypeError("a masked array is no map: fill it first, as by grid.filled(1)")
@@ -43,6 +45,12 @@ def _array(grid: object) -> Any:
         raise TypeError(f"an array of dtype {array.dtype} is no map: bools or numbers are wanted")
     if array.ndim != 2:
         raise ValueError(f"a map has 2 dimensions, and this array has {array.ndim}")
+    return array
+
+
+def _array(grid: object) -> Any:
+    """An array of two dimensions, whose sides are those of a map."""
+    array = flat_array(grid)
     height, width = array.shape
     if not (1 <= height <= LARGEST_SIDE and 1 <= width <= LARGEST_SIDE):
         sides = f"1 to {LARGEST_SIDE} rows and 1 to {LARGEST_SIDE} columns"

@@ -2,6 +2,7 @@
 from __future__ import annotations
 
 import ctypes
+import functools
 import threading
 from array import array
 from typing import (
@@ -20,16 +21,17 @@ from .errors import BadArguments, BadPath, Crooked, OutOfRange, Refused, Size
 from .grids import EDGES, OPEN, Memory, edge_of, map_of, number_of
 from .library import CROOKED, NO_OBSTACLE, Bits, CFound, CNear, check, library, numpy
 from .requests import EUCLID2, LARGEST_SIDE, LONGEST_PATH, Cell, Near, Request, Tightest, whole
-from .transforms import distances_of
+from .rows import distances_of
 
 if TYPE_CHECKING:
     import numpy as np
     from numpy.typing import NDArray
 
-    from .transforms import Distances, Obstacles
+    from .rows import Distances, Obstacles
 
 END = 1 << 32  # what is less can be asked for
 ROWS = 64  # rows of a band
+ALL_BANDS = 2**64 - 1  # as if each had an obstacle: it is right for words that have none too
 
 
 def packed(memory: Memory) -> Memory:
@@ -41,6 +43,12 @@ def packed(memory: Memory) -> Memory:
     source = cells.ctypes.data, length, ctypes.byref(layout)
     check(library().clearmap_pack(*source, words.ctypes.data, words.size, ctypes.byref(bits)))
     return Memory("bits", words, words.size, bits)
+
+
+@functools.lru_cache(maxsize=None)
+def _call(name: str) -> Any:
+    """A query of the library, over bits."""
+    return getattr(library(), f"clearmap_bits_{name}")
 
 
 class _Held:
@@ -111,8 +119,7 @@ class Map:
     def _asked(self, name: str, metric: str, *rest: Any) -> int:
         """The status of a call about the cells as they are now."""
         held = self._held  # not given back before the call is done
-        call = getattr(library(), f"clearmap_bits_{name}")
-        return int(call(*held.where, number_of(metric), self._edge, *rest))
+        return int(_call(name)(*held.where, number_of(metric), self._edge, *rest))
 
     def at(self, x: int, y: int, metric: str = EUCLID2) -> Optional[Near]:
         """As `Pinned.at`."""
@@ -208,12 +215,16 @@ class Map:
         """As the package's `distances`, of this map and its edge."""
         return distances_of(self._held.memory, metric, self.edge, nearest, threads)
 
-    def grid(self) -> NDArray[np.bool_]:
-        """The cells as an array of bools by rows, True where an obstacle is."""
-        np = numpy()
-        out = np.empty((self.height, self.width), np.uint8)
-        held = self._held
-        check(library().clearmap_unpack(*held.where, 0, 1, out.ctypes.data, out.size))
+    def grid(self, y0: int = 0, y1: Optional[int] = None) -> NDArray[np.bool_]:
+        """The cells as an array of bools by rows, True where an obstacle is: of rows y0 up to
+        y1 - 1, which are on the map, else OutOfRange; without y1 of those up to the last."""
+        end = self.height if y1 is None else whole(y1)
+        _, y0, _, end = self._corners("the rows of", 0, y0, self.width, end)
+        cells = self._held.memory.cells[y0:end]
+        out = numpy().empty((end - y0, self.width), numpy().uint8)
+        bits = Bits(self.width, end - y0, cells.shape[1], ALL_BANDS)
+        where = cells.ctypes.data, cells.size, ctypes.byref(bits)
+        check(library().clearmap_unpack(*where, 0, 1, out.ctypes.data, out.size))
         return out.view(bool)  # type: ignore[no-any-return]
 
     # ---- changes

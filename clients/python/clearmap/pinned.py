@@ -38,7 +38,7 @@ from .requests import (
 
 if TYPE_CHECKING:
     from .client import Client
-    from .transforms import Distances, Obstacles
+    from .rows import Distances, Obstacles
 
 BATCH = 64  # requests that are sent before their replies are read
 

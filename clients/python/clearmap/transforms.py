@@ -1,140 +1,16 @@
-"""Distances of all cells of an array by libclearmap, in this process, and scipy's calls by it."""
+"""scipy's distance transforms of an array of two dimensions, by libclearmap."""
 from __future__ import annotations
 
-import ctypes
 import math
-from typing import (
-    TYPE_CHECKING,
-    Any,
-    Callable,
-    List,
-    Literal,
-    Optional,
-    Sequence,
-    Tuple,
-    Union,
-    overload,
-)
+from typing import Any, Callable, Iterator, List, NamedTuple, Optional, Sequence, Tuple, Union
 
-from .grids import OPEN, Memory, edge_of, map_of, number_of, zeros_of
-from .library import NO_OBSTACLE, check, library, numpy
-from .requests import CHESS, CITY, EUCLID2, whole
-
-if TYPE_CHECKING:
-    import numpy as np
-    from numpy.typing import NDArray
-
-    Distances = NDArray[np.uint32]
-    Obstacles = NDArray[np.int16]
+from .grids import OPEN, edge_of, number_of, zeros_of
+from .library import NO_OBSTACLE, numpy
+from .requests import CHESS, CITY, EUCLID2
+from .rows import fill, in_bands, near_type
 
 CHAMFERS = {"chessboard": CHESS, "taxicab": CITY, "cityblock": CITY, "manhattan": CITY}
-
-
-# ---- rows, shared among threads
-
-
-def in_bands(height: int, threads: int, work: Callable[[int, int], None]) -> None:
-    """Does work(y0, y1) for bands of rows, each by a thread of its own."""
-    count = whole(threads)
-    if count < 1:
-        raise ValueError(f"{count} threads, where 1 or more are wanted")
-    count = min(count, height)
-    if count == 1:
-        return work(0, height)
-    from concurrent.futures import ThreadPoolExecutor
-
-    starts = [height * band // count for band in range(count + 1)]
-    with ThreadPoolExecutor(count) as pool:
-        for _ in pool.map(work, starts[:-1], starts[1:]):
-            pass
-    return None
-
-
-def fill(memory: Memory, metric: int, edge: int, y0: int, y1: int, out: Any) -> None:
-    """Writes the answers of rows y0 to y1 - 1 to a contiguous array of these rows: of distances, or
-    of distances with obstacles."""
-    name = "distances" if out.dtype.names is None else "nearest"
-    kind, cells, length, layout = memory
-    call = getattr(library(), f"clearmap_{kind}_{name}")
-    where = cells.ctypes.data, length, ctypes.byref(layout)
-    check(call(*where, metric, edge, y0, y1, out.ctypes.data, out.size))
-
-
-def near_type() -> Any:
-    """clearmap_near, as numpy has it."""
-    return numpy().dtype([("dist", "u4"), ("x", "i2"), ("y", "i2")])
-
-
-def distances_of(memory: Memory, metric: str, edge: str, nearest: bool, threads: int) -> Any:
-    """What `distances` answers, of a map."""
-    np = numpy()
-    numbers = number_of(metric), edge_of(edge)
-    height, width = memory.layout.height, memory.layout.width
-    out = np.empty((height, width), near_type() if nearest else np.uint32)
-    in_bands(height, threads, lambda y0, y1: fill(memory, *numbers, y0, y1, out[y0:y1]))
-    if not nearest:
-        return out
-    return out["dist"], out.view(np.int16).reshape(height, width, 4)[:, :, 2:]
-
-
-@overload
-def distances(
-    grid: object,
-    metric: str = ...,
-    edge: str = ...,
-    nearest: Literal[False] = ...,
-    threads: int = ...,
-    *,
-    low: Optional[float] = ...,
-    high: Optional[float] = ...,
-) -> Distances: ...
-@overload
-def distances(
-    grid: object,
-    metric: str = ...,
-    edge: str = ...,
-    *,
-    nearest: Literal[True],
-    threads: int = ...,
-    low: Optional[float] = ...,
-    high: Optional[float] = ...,
-) -> Tuple[Distances, Obstacles]: ...
-def distances(
-    grid: object,
-    metric: str = EUCLID2,
-    edge: str = OPEN,
-    nearest: bool = False,
-    threads: int = 1,
-    *,
-    low: Optional[float] = None,
-    high: Optional[float] = None,
-) -> Any:
-    """The distance of each cell of a grid to its nearest obstacle, as an array of uint32:
-    `euclid2` is the square of the straight distance in cells, `city` and `chess` count steps.
-    NO_OBSTACLE stands in each cell where there is no obstacle at all.
-
-    A grid is an array of 2 dimensions with 1 to 4096 rows and as many columns, of any memory order.
-    Of bools, True is an obstacle. Of numbers, a cell is one where low <= cell <= high; a limit that
-    isn't given is none, and one of them has to be given. Limits of whole numbers are whole; floats
-    are compared as numpy compares them, and a NaN is a ValueError. By `edge="wall"` each cell of
-    the frame round the grid is an obstacle too.
-
-    With `nearest=True` the answer is (distances, obstacles), two views of one array: obstacles has
-    the shape (rows, columns, 2) and the dtype int16, and obstacles[y, x] is the column and the row
-    of the nearest obstacle of cell (x, y); on the frame of a wall it is -1, or one after the last;
-    NOWHERE, twice, where there is none. Of several it is the one of the least column; of those the
-    one in the fewest rows away, and of two such the upper.
-
-    `threads` share the rows. A grid of bool, uint8 or int8 whose rows lie one after another, also
-    with gaps between them, is read in place: nobody writes it meanwhile. int8 limits that go from
-    below 0 to 0 or more cost a copy, as other dtypes and orders do, of one byte a cell.
-
-    ValueError and TypeError for what is no grid, and MemoryError.
-    """
-    return distances_of(map_of(grid, low, high), metric, edge, nearest, threads)
-
-
-# ---- scipy's calls
+PIECE = 1 << 15  # cells that are converted at once, by arrays that the processor's cache holds
 
 
 def distance_transform_edt(
@@ -163,9 +39,8 @@ def distance_transform_edt(
         if size != 1.0:
             out *= size
 
-    return _transformed(
-        zeros_of(input), EUCLID2, (return_distances, return_indices), threads, "f8", roots
-    )
+    wanted = _Wanted(return_distances, return_indices)
+    return _transformed(input, EUCLID2, wanted, threads, "f8", roots)
 
 
 def distance_transform_cdt(
@@ -188,9 +63,8 @@ def distance_transform_cdt(
     def copied(steps: Any, out: Any) -> None:
         out[...] = steps
 
-    return _transformed(
-        zeros_of(input), name, (return_distances, return_indices), threads, "i4", copied
-    )
+    wanted = _Wanted(return_distances, return_indices)
+    return _transformed(input, name, wanted, threads, "i4", copied)
 
 
 def _size_of(sampling: Union[None, float, Sequence[float]]) -> float:
@@ -208,34 +82,76 @@ def _size_of(sampling: Union[None, float, Sequence[float]]) -> float:
     return size
 
 
+class _Wanted(NamedTuple):
+    """Which answers are asked for."""
+
+    distances: bool
+    indices: bool
+
+
 def _transformed(
-    memory: Memory,
+    grid: object,
     metric: str,
-    wanted: Tuple[bool, bool],
+    wanted: _Wanted,
     threads: int,
     dtype: str,
     convert: Callable[[Any, Any], None],
 ) -> Any:
-    """Distances of this dtype, indices or both, each band of rows converted by its own thread."""
-    np = numpy()
+    """Distances of this dtype, indices or both, each band of rows by a thread of its own."""
     if not any(wanted):
         raise ValueError("at least one of return_distances and return_indices must be True")
-    height, width = memory.layout.height, memory.layout.width
-    found = np.empty((height, width), dtype) if wanted[0] else None
-    indices = np.empty((2, height, width), np.int32) if wanted[1] else None
-    number, open_edge = number_of(metric), edge_of(OPEN)
+    np = numpy()
+    memory = zeros_of(grid)
+    shape = memory.layout.height, memory.layout.width
+    found = np.empty(shape, dtype) if wanted.distances else None
+    indices = np.empty((2, *shape), np.int32) if wanted.indices else None
 
     def work(y0: int, y1: int) -> None:
-        out = np.empty((y1 - y0, width), np.uint32 if indices is None else near_type())
-        fill(memory, number, open_edge, y0, y1, out)
-        told = out if indices is None else out["dist"]
-        if told[0, 0] == NO_OBSTACLE:
-            raise ValueError("the input has no zero: there is no distance to one")
-        if found is not None:
-            convert(told, found[y0:y1])
-        if indices is not None:
-            indices[0, y0:y1], indices[1, y0:y1] = out["y"], out["x"]
+        own = None if found is None else found[y0:y1]
+        out = _room((y1 - y0, shape[1]), own, wanted.indices)
+        fill(memory, number_of(metric), edge_of(OPEN), y0, y1, out)
+        _check_any(out)
+        words = out.view(np.int32).reshape(*out.shape, -1)
+        for part in _pieces(words):
+            if indices is not None:
+                _split(words[part, :, 1], indices[:, y0:y1][:, part])
+            if own is not None:
+                convert(words[part, :, 0].astype(dtype), own[part])
 
-    in_bands(height, threads, work)
+    in_bands(shape[0], threads, work)
     answers: List[Any] = [answer for answer in (found, indices) if answer is not None]
     return answers[0] if len(answers) == 1 else tuple(answers)
+
+
+def _room(shape: Tuple[int, int], found: Any, indices: bool) -> Any:
+    """Memory for what the library answers of some rows. Where the answer of a cell takes as many
+    bytes as its distance in the end, it is the memory of these: each piece of rows is copied before
+    it is written over."""
+    np = numpy()
+    if not indices:
+        return np.empty(shape, np.uint32)
+    if found is not None and found.itemsize == near_type().itemsize:
+        return found.view(near_type())
+    return np.empty(shape, near_type())
+
+
+def _check_any(out: Any) -> None:
+    """Whether there is a zero: where there is one, each cell has a distance."""
+    first = out[0, 0] if out.dtype.names is None else out["dist"][0, 0]
+    if first == NO_OBSTACLE:
+        raise ValueError("the input has no zero: there is no distance to one")
+
+
+def _pieces(words: Any) -> Iterator[slice]:
+    """Rows that are converted at once."""
+    count = max(PIECE // words.shape[1], 1)
+    return (slice(y, y + count) for y in range(0, len(words), count))
+
+
+def _split(places: Any, indices: Any) -> None:
+    """Writes rows and columns of nearest zeros. The column is the lower half of a word, the row the
+    upper: to cut whole words takes half the time of two fields."""
+    np = numpy()
+    words = places.copy()
+    np.right_shift(words, 16, out=indices[0])
+    np.bitwise_and(words, 0xFFFF, out=indices[1])

@@ -1,5 +1,6 @@
 // What the page asks of its own server, and the commands that it sends.
 const token = document.querySelector("meta[name=token]").content;
+const NO_ANSWER = "clearmap-view answered something else.";
 
 /** The JSON that answers a request. A refusal or a fault is thrown with its sentence. */
 async function answer(path, options) {
@@ -9,16 +10,42 @@ async function answer(path, options) {
   } catch {
     throw new Error("clearmap-view can't be reached.");
   }
-  const told = await response.json().catch(() => ({ fault: "clearmap-view answered something else." }));
-  if (!response.ok) throw new Error(told.fault ?? "clearmap-view answered something else.");
+  const told = await response.json().catch(() => ({ fault: NO_ANSWER }));
+  if (!response.ok) throw new Error(told.fault ?? NO_ANSWER);
   return told;
 }
 
 function post(path, body) {
-  return answer(path, { method: "POST", headers: { "Content-Type": "application/json", "X-Clearmap-Token": token }, body: JSON.stringify(body) });
+  const headers = { "Content-Type": "application/json", "X-Clearmap-Token": token };
+  return answer(path, { method: "POST", headers, body: JSON.stringify(body) });
 }
 
+const words = (named) => new URLSearchParams(named).toString();
+
 export const askPicture = (metric) => answer(`picture/${metric}`);
-export const askAt = (metric, cell) => answer(`at?metric=${metric}&x=${cell.x}&y=${cell.y}`);
-export const askPath = (metric, points, radius) => post("path", { metric, radius, points: points.map((cell) => [cell.x, cell.y]) });
+export const askAt = (metric, { x, y }) => answer(`at?${words({ metric, x, y })}`);
+export const askRoom = (metric, radius, unit) => answer(`room?${words({ metric, radius, unit })}`);
+export const askPath = (metric, cells, radius, unit) =>
+  post("path", { metric, radius, unit, points: cells.map(({ x, y }) => [x, y]) });
 export const change = (command, rect, sure) => post("change", { command, rect, sure });
+
+/** Follows the state that the page is told, while the page is seen; `lost` is called where nothing
+ * can be told. A page that is hidden asks for nothing. */
+export function follow(take, lost) {
+  let events = null;
+  const open = () => {
+    events = new EventSource("events");
+    events.onmessage = (event) => take(JSON.parse(event.data));
+    events.onerror = () => {
+      lost();
+      if (events?.readyState === EventSource.CLOSED) setTimeout(start, 1000);
+    };
+  };
+  const start = () => {
+    events?.close();
+    events = null;
+    if (!document.hidden) open();
+  };
+  document.addEventListener("visibilitychange", start);
+  start();
+}

@@ -1,157 +1,173 @@
-// The page: it follows the server's versions, and does what the pointer, the keys and the buttons say.
-import { askAt, askPath, askPicture, change } from "./ask.js";
-import { drawMarks, Picture, Sight } from "./map.js";
+// The page: it follows the versions of a server, and does what pointer, keys and buttons say.
+import { askPicture, change, follow } from "./ask.js";
+import { dark, fading, Scale } from "./colours.js";
+import { drawLegend, endOf, firstRadius, roomOf } from "./legend.js";
+import { read, written } from "./link.js";
+import { drawMarks } from "./marks.js";
+import { say, tellLost, tellState, unitOf, wait } from "./panel.js";
+import { Picture } from "./pieces.js";
+import { choose, followKeys, followPointer, mode } from "./pointer.js";
+import { Questions } from "./questions.js";
+import { drawPicture } from "./raster.js";
+import { drawRulers, Frame } from "./rulers.js";
+import { Sight } from "./sight.js";
 
 const by = (id) => document.getElementById(id);
-const canvases = [by("picture"), by("marks")];
+const FINEST = 3; // pixels of a robot's radius at which the contour is drawn
 const sight = new Sight();
-const page = { state: {}, picture: null, pointed: null, path: { points: [] }, drafts: [], dragged: null };
+const page = {
+  state: {}, unit: "", picture: null, room: { needed: null, radius: null }, frame: null,
+  linked: false, pointed: null, path: { points: [] }, drafts: [], dragged: null,
+  get metric() { return by("metric").value; },
+  get radius() { return by("radius").value.trim(); },
+  get position() { return Number(by("position").value); },
+};
+const questions = new Questions(page, () => redraw("marks"));
 
 // ---- drawing
 
-let asked = false;
-function redraw() {
-  if (asked) return;
-  asked = true;
-  requestAnimationFrame(() => {
-    asked = false;
-    const [pictures, marks] = canvases.map((canvas) => canvas.getContext("2d"));
-    for (const context of [pictures, marks]) {
-      context.setTransform(devicePixelRatio, 0, 0, devicePixelRatio, 0, 0);
-      context.clearRect(0, 0, sight.width, sight.height);
-    }
-    page.picture?.draw(pictures, sight, redraw);
-    if (page.picture) drawMarks(marks, sight, page);
+const due = new Set();
+/** Draws all again, or the marks alone, at the next frame. */
+function redraw(what = "all") {
+  if (due.size === 0) requestAnimationFrame(draw);
+  due.add(what);
+}
+
+function draw() {
+  const all = due.has("all");
+  due.clear();
+  if (!page.picture) return;
+  if (all) drawAll();
+  const context = by("marks").getContext("2d");
+  context.setTransform(devicePixelRatio, 0, 0, devicePixelRatio, 0, 0);
+  context.clearRect(0, 0, sight.width, sight.height);
+  drawMarks(context, sight, page);
+  drawRulers(context, sight, page.frame, page.picture.edge);
+}
+
+/** Whether the contour is far enough from the obstacles to be seen. */
+const showsContour = ({ needed, radius }) => Boolean(needed) && radius * sight.scale >= FINEST;
+
+function drawAll() {
+  const { picture, room, position, state } = page;
+  const scale = new Scale({
+    end: endOf(picture, room, position), square: picture.metric === "euclid2",
+    needed: room.needed, contour: showsContour(room),
+    faded: fading(sight.scale * devicePixelRatio),
   });
+  drawPicture(by("picture"), picture, sight, scale, redraw);
+  drawLegend(picture, room, scale, position, state.resolution);
 }
 
 function resize() {
-  const { clientWidth, clientHeight } = by("marks");
-  Object.assign(sight, { width: clientWidth, height: clientHeight });
-  for (const canvas of canvases) Object.assign(canvas, { width: clientWidth * devicePixelRatio, height: clientHeight * devicePixelRatio });
+  const { clientWidth: width, clientHeight: height } = by("marks");
+  Object.assign(sight, { width, height });
+  for (const canvas of [by("picture"), by("marks")]) {
+    canvas.width = Math.round(width * devicePixelRatio);
+    canvas.height = Math.round(height * devicePixelRatio);
+  }
   if (sight.fitted) sight.fit();
   redraw();
 }
 
-function say(text, refused = false) {
-  by("said").textContent = text;
-  by("said").classList.toggle("refused", refused);
-}
-
 // ---- the newest version
 
-const metric = () => by("metric").value;
+const asked = () => `${page.metric} ${page.radius} ${page.unit}`;
 
-function drawLegend({ colours, most }) {
-  const context = by("scale").getContext("2d");
-  colours.slice(1).forEach((colour, i) => {
-    context.fillStyle = `rgb(${colour})`;
-    context.fillRect(i, 0, 1, 12);
-  });
-  by("black").style.background = `rgb(${colours[0]})`;
-  const unit = metric() === "euclid2" ? "cells" : "steps";
-  const said = (part) => (page.state.resolution ? `${(part * page.state.resolution).toFixed(2)} m` : part.toFixed(1));
-  const ticks = most === null ? ["no obstacle"] : [0, 0.5, 1].map((share) => said(share * most));
-  if (most !== null) ticks[2] += page.state.resolution ? ` (${most.toFixed(1)} ${unit})` : ` ${unit}`;
-  by("ticks").replaceChildren(...ticks.map((text) => Object.assign(document.createElement("span"), { textContent: text })));
+/** The room that the robot needs; none where its radius is no number, which is said. */
+async function room() {
+  const of = asked();
+  try {
+    return { of, ...(await roomOf(page.metric, page.radius, page.unit)) };
+  } catch (fault) {
+    say(fault.message, true);
+    return { of, needed: null, radius: null };
+  }
 }
 
 let wanted = "";
-/** Shows the newest version by the chosen metric, once what is seen of it has arrived; until then the one before stays. */
+/** Shows the newest version by the chosen metric, once what is seen of it has arrived; until then
+ * the one before stays. */
 async function showNewest() {
-  const key = `${page.state.serial} ${metric()}`;
+  const key = `${page.state.serial} ${page.metric}`;
   if (page.state.serial === undefined || wanted === key) return;
   wanted = key;
-  by("busy").textContent = `The picture of version ${page.state.version} is being made ..`;
-  by("busy").hidden = false;
+  wait(`The picture of version ${page.state.version} is being made ..`);
   try {
-    const picture = new Picture(await askPicture(metric()));
+    const [about, needed] = await Promise.all([askPicture(page.metric), room()]);
+    const picture = new Picture(about);
+    if (wanted === key) fitTo(picture);
+    if (wanted === key) await picture.load(sight, devicePixelRatio);
     if (wanted !== key) return;
-    const other = sight.mapWidth !== picture.width || sight.mapHeight !== picture.height;
-    Object.assign(sight, { mapWidth: picture.width, mapHeight: picture.height });
-    if (other || !page.picture) sight.fit();
-    await picture.load(sight);
-    if (wanted !== key) return;
-    page.picture = picture;
-    by("version").textContent = `version ${picture.version}`;
-    drawLegend(picture);
-    askPointed();
-    askWay();
+    put(picture, needed);
   } catch (fault) {
     wanted = "";
     say(fault.message, true);
   }
-  by("busy").hidden = true;
+  wait("");
+}
+
+/** Makes the sight one of this picture's map. */
+function fitTo({ width, height }) {
+  const other = sight.mapWidth !== width || sight.mapHeight !== height;
+  Object.assign(sight, { mapWidth: width, mapHeight: height });
+  if (other) sight.fit();
+  if (other && page.picture) page.path = { points: [] };
+  if (!page.linked) takeLink();
+}
+
+function put(picture, needed) {
+  Object.assign(page, { picture, room: needed, frame: new Frame(page.state) });
+  by("version").textContent = `version ${picture.version}`;
+  tellState(page.state, picture);
   redraw();
+  questions.point();
+  questions.way();
+  if (needed.of !== asked()) fieldsChanged();
+}
+
+/** Does what the link asks for, once. */
+function takeLink() {
+  page.linked = true;
+  const { mapWidth: width, mapHeight: height } = sight;
+  const found = read(location.hash, { width, height, unit: page.unit });
+  const other = found.otherMap;
+  if (other) say(`The link is of a map of ${other} cells: it isn't followed.`, true);
+  if (found.at) sight.show(found.at, found.zoom);
+  if (found.points) page.path = { points: found.points };
+}
+
+/** The fields as the link has them, or else as the command line does. */
+function fillFields({ radius, resolution, width, height }) {
+  page.unit = unitOf({ resolution });
+  const found = read(location.hash, { width, height, unit: page.unit });
+  by("radius").value = found.radius ?? (radius || firstRadius(resolution));
+  if (found.position >= 2 && found.position <= 21) by("position").value = found.position;
+  const metrics = [...by("metric").options].map((it) => it.value);
+  if (metrics.includes(found.metric)) by("metric").value = found.metric;
 }
 
 function take(state) {
+  if (state.serial !== undefined && page.unit !== unitOf(state)) fillFields(state);
   page.state = state;
   page.drafts = state.draft.drawn;
-  by("draft").textContent = state.draft.said;
-  document.body.classList.toggle("read-only", state.readOnly);
-  by("server").textContent = state.fault || `Server at port ${state.port}, ${state.width} by ${state.height} cells`;
-  by("server").classList.toggle("lost", Boolean(state.fault));
-  by("notice").textContent = state.notice ?? "";
-  by("notice").hidden = !state.notice;
-  by("unit").textContent = state.resolution ? "metres" : "cells";
+  tellState(state, page.picture);
+  if (state.fault && ["paint", "clear"].includes(mode())) choose("look");
   if (!state.fault) showNewest();
-  redraw();
+  redraw("marks");
 }
 
-function follow() {
-  const events = new EventSource("events");
-  events.onmessage = (event) => take(JSON.parse(event.data));
-  events.onerror = () => {
-    by("server").textContent = "clearmap-view has ended, or can't be reached.";
-    by("server").classList.add("lost");
-    if (events.readyState === EventSource.CLOSED) setTimeout(follow, 1000);
-  };
+let saving = 0;
+/** Keeps what is seen in the page's address. */
+function keep() {
+  clearTimeout(saving);
+  saving = setTimeout(() => history.replaceState(null, "", `#${written(sight, page)}`), 200);
 }
 
-// ---- pointing, paths and changes
-
-let pointing = false;
-/** Asks for the cell under the pointer; while an answer is on its way, only the last cell is kept. */
-async function askPointed() {
-  const cell = page.pointed?.cell;
-  if (pointing || !cell) return;
-  pointing = true;
-  try {
-    const told = await askAt(metric(), cell);
-    if (page.pointed) page.pointed = { cell: page.pointed.cell, ...(page.pointed.cell === cell ? told : {}) };
-    by("point").textContent = told.said + (told.version === page.picture?.version ? "" : `, in version ${told.version}`);
-  } catch (fault) {
-    by("point").textContent = fault.message;
-  }
-  pointing = false;
-  redraw();
-  if (page.pointed && page.pointed.cell !== cell) askPointed();
-}
-
-async function askWay() {
-  const { points } = page.path;
-  page.path = { points };
-  const shown = by("path");
-  shown.className = "";
-  if (points.length === 0) {
-    shown.textContent = "No points yet.";
-    return redraw();
-  }
-  try {
-    const told = await askPath(metric(), points, by("radius").value.trim());
-    if (page.path.points !== points) return;
-    page.path = { points, ...told };
-    shown.textContent = told.said;
-    if (told.clear !== undefined) shown.className = told.clear ? "clear" : "near";
-  } catch (fault) {
-    shown.textContent = fault.message;
-  }
-  redraw();
-}
+// ---- what one does
 
 /** Gives a command. What the page's server asks before it does so, the page asks once. */
-async function doChange(command, rect) {
+async function give(command, rect) {
   try {
     let told = await change(command, rect);
     if (told.asks && confirm(told.asks)) told = await change(command, rect, true);
@@ -161,73 +177,57 @@ async function doChange(command, rect) {
   }
 }
 
-// ---- the pointer and the keys
-
-const mode = () => document.querySelector("input[name=mode]:checked").value;
-const rectOf = (a, b) => [Math.min(a.x, b.x), Math.min(a.y, b.y), Math.max(a.x, b.x) + 1, Math.max(a.y, b.y) + 1];
-let press = null;
-
-function pressed(event) {
-  event.target.setPointerCapture(event.pointerId);
-  press = { x: event.offsetX, y: event.offsetY, cell: sight.cell(event.offsetX, event.offsetY), moved: false };
+function walk(points) {
+  page.path = { points };
+  questions.way();
+  keep();
 }
 
-function moved(event) {
-  const cell = sight.cell(event.offsetX, event.offsetY);
-  if (press && (mode() === "look" || mode() === "path")) {
-    press.moved ||= Math.hypot(event.offsetX - press.x, event.offsetY - press.y) > 4;
-    if (press.moved) {
-      sight.move(event.movementX, event.movementY);
-      redraw();
-    }
-  } else if (press?.cell && cell) {
-    page.dragged = { command: mode(), rect: rectOf(press.cell, cell) };
-    redraw();
-  }
-  if (cell?.x !== page.pointed?.cell.x || cell?.y !== page.pointed?.cell.y) {
+function seen() {
+  redraw();
+  keep();
+}
+
+async function fieldsChanged() {
+  const needed = await room();
+  if (needed.of !== asked() || page.metric !== page.picture?.metric) return;
+  page.room = needed;
+  questions.way();
+  seen();
+}
+
+async function copyLink() {
+  keep();
+  await new Promise((settle) => setTimeout(settle, 250));
+  const copied = await navigator.clipboard.writeText(location.href).then(() => true, () => false);
+  const what = "it keeps the view and the path.";
+  say(copied ? `The link is copied: ${what}` : `Copy the page's address: ${what}`);
+}
+
+const stop = followPointer(by("marks"), sight, {
+  moved: seen,
+  pointed(cell) {
+    if (cell?.x === page.pointed?.cell.x && cell?.y === page.pointed?.cell.y) return;
     page.pointed = cell && { cell };
-    redraw();
-    askPointed();
-  }
-}
-
-function released(event) {
-  const { dragged } = page;
-  if (press?.cell && mode() === "path" && !press.moved) {
-    page.path = { points: [...page.path.points, press.cell] };
-    askWay();
-  } else if (press?.cell && (mode() === "paint" || mode() === "clear")) {
-    doChange(mode(), dragged?.rect ?? rectOf(press.cell, press.cell));
-  }
-  press = page.dragged = null;
-  if (event.type === "pointercancel") redraw();
-}
-
-const KEYS = {
-  ArrowLeft: () => sight.move(80, 0), ArrowRight: () => sight.move(-80, 0), ArrowUp: () => sight.move(0, 80), ArrowDown: () => sight.move(0, -80),
-  "+": () => sight.zoom(1.5), "=": () => sight.zoom(1.5), "-": () => sight.zoom(1 / 1.5), 0: () => sight.fit(),
-};
-
-document.addEventListener("keydown", (event) => {
-  if (event.target.matches("input, select, button") || !KEYS[event.key]) return;
-  event.preventDefault();
-  KEYS[event.key]();
-  redraw();
+    redraw("marks");
+    questions.point();
+  },
+  clicked: (cell) => walk([...page.path.points, cell]),
+  dragged(rectangle) {
+    page.dragged = rectangle;
+    redraw("marks");
+  },
+  drawn: ({ command, rect }) => give(command, rect),
 });
-by("marks").addEventListener("wheel", (event) => {
-  event.preventDefault();
-  sight.zoom(2 ** (-event.deltaY / 300), event.offsetX, event.offsetY);
-  redraw();
-}, { passive: false });
-by("marks").addEventListener("pointerdown", pressed);
-by("marks").addEventListener("pointermove", moved);
-by("marks").addEventListener("pointerup", released);
-by("marks").addEventListener("pointercancel", released);
-by("marks").addEventListener("pointerleave", () => { page.pointed = null; redraw(); });
-by("metric").addEventListener("change", () => showNewest());
-by("radius").addEventListener("change", askWay);
-by("forget").addEventListener("click", () => { page.path = { points: [] }; askWay(); });
-for (const button of document.querySelectorAll("[data-command]")) button.addEventListener("click", () => doChange(button.dataset.command));
+followKeys(sight, seen, { Escape: stop, Backspace: () => walk(page.path.points.slice(0, -1)) });
+by("metric").addEventListener("change", () => { showNewest(); keep(); });
+by("radius").addEventListener("change", fieldsChanged);
+by("position").addEventListener("input", seen);
+by("forget").addEventListener("click", () => walk([]));
+by("link").addEventListener("click", copyLink);
+for (const button of document.querySelectorAll("[data-command]"))
+  button.addEventListener("click", () => give(button.dataset.command));
+dark.addEventListener("change", () => redraw());
 new ResizeObserver(resize).observe(by("marks"));
-window.clearmapView = { pixel: (x, y) => sight.pixel(x, y) }; // where a cell is on the canvas, for tests
-follow();
+window.clearmapView = { pixel: (x, y) => sight.pixel(x, y) }; // where a cell is, for tests
+follow(take, tellLost);

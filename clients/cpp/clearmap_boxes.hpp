@@ -1,0 +1,159 @@
+// Boxes of cells, for clearmap_field.hpp: which obstacle of a full box is the nearest one of a
+// cell, and which boxes differ between two maps. Include clearmap_map.hpp instead.
+#ifndef CLEARMAP_BOXES_HPP
+#define CLEARMAP_BOXES_HPP
+
+#include "clearmap_map.hpp"
+
+namespace clearmap::detail {
+
+/// Columns x0 up to x1 - 1 of rows y0 up to y1 - 1.
+struct Box {
+    int x0, y0, x1, y1;
+
+    int longer_side() const noexcept { return std::max(x1 - x0, y1 - y0); }
+    bool has(int x, int y) const noexcept { return x0 <= x && x < x1 && y0 <= y && y < y1; }
+};
+
+/// The cells that are in both of two boxes.
+inline Box meet(const Box& a, const Box& b) noexcept {
+    return {std::max(a.x0, b.x0), std::max(a.y0, b.y0), std::min(a.x1, b.x1), std::min(a.y1, b.y1)};
+}
+
+/// The least box that has all of some cells.
+inline Box box_of(const std::vector<Cell>& cells) noexcept {
+    Box box{largest_side, largest_side, 0, 0};
+    for (Cell c : cells)
+        box = {std::min(box.x0, c.x), std::min(box.y0, c.y), std::max(box.x1, c.x + 1),
+               std::max(box.y1, c.y + 1)};
+    return box;
+}
+
+/// The distance of two cells so many columns and rows from one another.
+inline std::uint32_t distance(Metric metric, int columns, int rows) noexcept {
+    switch (metric) {
+        case Metric::euclid2: return numbered(columns * columns + rows * rows);
+        case Metric::city: return numbered(columns + rows);
+        default: return numbered(std::max(columns, rows));
+    }
+}
+
+/// How many columns, or rows, a cell of this distance may be away at most.
+inline int reach(Metric metric, std::uint32_t dist) noexcept {
+    const double steps = metric == Metric::euclid2 ? std::sqrt(static_cast<double>(dist)) : dist;
+    return static_cast<int>(std::min(steps, 2.0 * largest_side));
+}
+
+/// How many columns, or rows, lie from one span of them to another: 0 where they meet.
+inline int gap(int begin, int end, int other_begin, int other_end) noexcept {
+    return std::max({0, other_begin - (end - 1), begin - (other_end - 1)});
+}
+
+/// The nearest obstacle of a cell where each cell of a box is one and no other is, by the rule of
+/// clearmap.h: the least distance, of several the least column, then the fewest rows away. It is
+/// the only one at this distance by euclid2 and city. By chess a whole side of the box may be.
+inline clearmap_near nearest_in(const Box& box, Cell c, Metric metric) noexcept {
+    int x = std::clamp(c.x, box.x0, box.x1 - 1), y = std::clamp(c.y, box.y0, box.y1 - 1);
+    std::uint32_t dist = distance(metric, std::abs(x - c.x), std::abs(y - c.y));
+    if (metric == Metric::chess) x = std::max(box.x0, c.x - static_cast<int>(dist));
+    return {dist, static_cast<std::int16_t>(x), static_cast<std::int16_t>(y)};
+}
+
+/// Whether one of two obstacles is the nearer one of a cell in row y, by the same rule.
+inline bool nearer(const clearmap_near& a, const clearmap_near& b, int y) noexcept {
+    if (a.dist != b.dist) return a.dist < b.dist;
+    if (a.x != b.x) return a.x < b.x;
+    int rows_a = std::abs(a.y - y), rows_b = std::abs(b.y - y);
+    return rows_a != rows_b ? rows_a < rows_b : a.y < b.y;
+}
+
+/// The nearest obstacle of a cell in the frame round a map.
+inline clearmap_near nearest_in_frame(Size size, Cell c, Metric metric) noexcept {
+    const int right = size.width, below = size.height;
+    const Box sides[] = {{-1, -1, 0, below + 1},
+                         {-1, -1, right + 1, 0},
+                         {-1, below, right + 1, below + 1},
+                         {right, -1, right + 1, below + 1}};
+    clearmap_near best = nearest_in(sides[0], c, metric);
+    for (const Box& side : sides) {
+        clearmap_near other = nearest_in(side, c, metric);
+        if (nearer(other, best, c.y)) best = other;
+    }
+    return best;
+}
+
+// ---- what differs between two maps
+
+/// Boxes that have all of some cells, which come by rows: runs of a row, and one box of equal runs
+/// in rows that follow one another.
+class Runs {
+public:
+    /// Takes the cells of a row whose bits are set in `with` and not in `without`.
+    void row(int y, const std::uint64_t* with, const std::uint64_t* without, std::size_t words) {
+        int begin = -1, x = 0;
+        for (std::size_t word = 0; word < words; ++word) {
+            std::uint64_t bits = with[word] & ~without[word];
+            if (bits == 0 && begin < 0) {
+                x += 64;
+                continue;
+            }
+            for (int end = x + 64; x < end; ++x, bits >>= 1) {
+                bool in = (bits & 1) != 0;
+                if (in == (begin >= 0)) continue;
+                if (!in) take(y, begin, x);
+                begin = in ? x : -1;
+            }
+        }
+        if (begin >= 0) take(y, begin, x);
+        end_row();
+    }
+
+    /// Ends a row without cells, or the last row.
+    void end_row() {
+        if (above_.empty() && here_.empty()) return;
+        for (const Box& box : above_)
+            if (box.y0 < box.y1) boxes.push_back(box);
+        above_.swap(here_);
+        here_.clear();
+    }
+
+    std::vector<Box> boxes;
+
+private:
+    /// Takes a run: as one row more of the box over it, where that has the same columns.
+    void take(int y, int x0, int x1) {
+        auto over = std::lower_bound(above_.begin(), above_.end(), x0,
+                                     [](const Box& box, int x) { return box.x0 < x; });
+        bool same = over != above_.end() && over->x0 == x0 && over->x1 == x1;
+        here_.push_back({x0, same ? over->y0 : y, x1, y + 1});
+        if (same) over->y1 = over->y0;  // it is empty now
+    }
+
+    std::vector<Box> above_, here_;  // the boxes that end with the row before, and with this one
+};
+
+/// What became free and what became an obstacle from one map to another of the same size.
+struct Changes {
+    Runs cleared, painted;
+
+    Changes(const Map& from, const Map& to) {
+        const std::size_t words = from.bits().stride;
+        const std::uint64_t *old = from.words().data(), *now = to.words().data();
+        for (int y = 0; y < from.size().height; ++y, old += words, now += words)
+            if (std::equal(old, old + words, now)) {
+                cleared.end_row();
+                painted.end_row();
+            } else {
+                cleared.row(y, old, now, words);
+                painted.row(y, now, old, words);
+            }
+        cleared.end_row();
+        painted.end_row();
+    }
+
+    std::size_t count() const noexcept { return cleared.boxes.size() + painted.boxes.size(); }
+};
+
+}  // namespace clearmap::detail
+
+#endif

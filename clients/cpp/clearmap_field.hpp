@@ -1,0 +1,237 @@
+// Tables of all distances of a map, for clearmap_map.hpp, which includes this file: include that.
+// What follows a change of the map is not proved; test_field.cpp compares it with fields built
+// anew.
+#ifndef CLEARMAP_FIELD_HPP
+#define CLEARMAP_FIELD_HPP
+
+#include "clearmap_map.hpp"
+#include "clearmap_table.hpp"
+#include "clearmap_window.hpp"
+
+namespace clearmap {
+
+/// The nearest obstacle of each cell of a map by one metric: 8 bytes a cell, and a look-up reads
+/// one of them. It can be moved; one that was moved from has the size 0 by 0.
+///
+/// A field has a copy of its map, and answers for that copy alone: where the map that it was made
+/// from is painted, the field stays as it is. `paint`, `clear` and `update` change the copy and
+/// work the cells that this can change, and no others; then each cell has the answer of a field
+/// that is made anew. The first of them reads the table once more, and takes a bit more memory. A
+/// call may take as much as another field meanwhile; where `clear` finds none it is slower.
+class Field {
+public:
+    /// Shares the rows among so many threads, each of which takes 3.3 MB on the largest map; 0 is
+    /// as many as the machine runs at a time, and no more than one for each 2^18 cells. Throws
+    /// std::invalid_argument for a map that was moved from.
+    explicit Field(Map map, Metric metric = Metric::euclid2, unsigned threads = 0)
+        : map_(std::move(map)), table_(checked(map_.size()), metric), threads_(threads) {
+        detail::check(fill());
+    }
+
+    /// The map that the field answers for.
+    const Map& map() const noexcept { return map_; }
+    Size size() const noexcept { return map_.size(); }
+    Metric metric() const noexcept { return table_.metric(); }
+
+    /// The nearest obstacle of a cell. Nothing where the map has none; throws std::out_of_range for
+    /// a cell that isn't in the map.
+    std::optional<Near> at(Cell c) const {
+        if (!inside(c)) detail::check(CLEARMAP_OUTSIDE);
+        return detail::answer(near(c));
+    }
+
+    // -- look-ups of a cell that IS in the map, which nothing checks but an assertion
+
+    /// The distance by the field's metric; CLEARMAP_NO_OBSTACLE where the map has no obstacle.
+    std::uint32_t distance(Cell c) const noexcept { return near(c).dist; }
+
+    /// The nearest obstacle; CLEARMAP_NOWHERE twice where the map has none.
+    Cell obstacle(Cell c) const noexcept { return {near(c).x, near(c).y}; }
+
+    /// The distance in cells, the straight one where the metric is euclid2; infinite where the map
+    /// has no obstacle.
+    double clearance(Cell c) const noexcept { return detail::in_cells(distance(c), metric()); }
+
+    /// The same in metres for a point in metres: 0 for one outside. The frame has the field's size.
+    double metres(const Frame& frame, double x, double y) const noexcept {
+        assert(frame.size() == size());
+        auto cell = frame.cell(x, y);
+        return cell ? frame.metres(clearance(*cell)) : 0;
+    }
+
+    // -- changes
+
+    /// Makes columns x0 up to x1 - 1 of rows y0 up to y1 - 1 obstacles, and answers how many cells
+    /// changed.
+    std::uint32_t paint(int x0, int y0, int x1, int y1) {
+        ready();
+        std::uint32_t changed = map_.paint(x0, y0, x1, y1);
+        if (changed > 0) table_.paint({x0, y0, x1, y1});
+        return changed;
+    }
+    template <class A, class B, class C, class D, class = detail::IfReal<A, B, C, D>>
+    std::uint32_t paint(A x0, B y0, C x1, D y1) = delete;
+
+    /// Makes these cells free, and answers how many changed.
+    std::uint32_t clear(int x0, int y0, int x1, int y1) {
+        ready();
+        std::uint32_t changed = map_.clear(x0, y0, x1, y1);
+        const detail::Box box{x0, y0, x1, y1};
+        if (changed > 0) rework(&box, &box + 1);
+        return changed;
+    }
+    template <class A, class B, class C, class D, class = detail::IfReal<A, B, C, D>>
+    std::uint32_t clear(A x0, B y0, C x1, D y1) = delete;
+
+    /// Makes this the field of another map, or of its own as it is now: compares the bits of both,
+    /// and works what they change. A map of another size or edge is worked whole, and so is one
+    /// with many changes. Throws std::invalid_argument for a map that was moved from.
+    void update(const Map& map) {
+        if (!(checked(map.size()) == size() && map.edge() == map_.edge())) return remake(map);
+        const detail::Changes changes(map_, map);
+        if (changes.count() > table_.cells() / cells_a_change) return remake(map);
+        ready();
+        map_ = map;  // takes no memory: the sizes are the same
+        const std::vector<detail::Box>& cleared = changes.cleared.boxes;
+        rework(cleared.data(), cleared.data() + cleared.size());
+        for (const detail::Box& box : changes.painted.boxes) table_.paint(box);
+    }
+
+private:
+    static constexpr std::size_t few_cells = 128;        // which are asked for one by one
+    static constexpr std::size_t cells_a_change = 2048;  // a field of fewer is made anew
+
+    static Size checked(Size size) {
+        if (size.width == 0) detail::check(CLEARMAP_SIZE);
+        return size;
+    }
+    bool inside(Cell c) const noexcept {
+        return 0 <= c.x && c.x < size().width && 0 <= c.y && c.y < size().height;
+    }
+    const clearmap_near& near(Cell c) const noexcept {
+        assert(inside(c));
+        return table_[c];
+    }
+
+    /// Makes what changes want of the table, before the first one. One that was moved from has
+    /// none.
+    void ready() {
+        if (size().width > 0 && !table_.is_bounded()) table_.bound();
+    }
+    void remake(const Map& map) { *this = Field(map, metric(), threads_); }
+
+    // -- all rows
+
+    /// How many threads are worth their start for so many cells.
+    static unsigned chosen(std::size_t cells) {
+        std::size_t most = std::max<std::size_t>(1, cells >> 18);
+        return static_cast<unsigned>(
+            std::min<std::size_t>(std::max(1u, std::thread::hardware_concurrency()), most));
+    }
+
+    /// Fills the table by threads, and answers the first status that isn't DONE; what a thread that
+    /// can't be started had to do is done here.
+    std::uint32_t fill() {
+        const auto height = detail::numbered(size().height);
+        const unsigned wanted = threads_ > 0 ? threads_ : chosen(table_.cells());
+        const unsigned threads = std::max(1u, std::min(wanted, height));
+        std::vector<std::uint32_t> statuses(threads);
+        std::vector<std::thread> started;
+        started.reserve(threads);
+        auto work = [&](unsigned k) noexcept {
+            statuses[k] = rows(height * k / threads, height * (k + 1) / threads);
+        };
+        for (unsigned k = 1; k < threads; ++k) {
+            try {
+                started.emplace_back(work, k);
+            } catch (const std::exception&) {
+                work(k);
+            }
+        }
+        work(0);
+        for (std::thread& thread : started) thread.join();
+        return *std::max_element(statuses.begin(), statuses.end());
+    }
+
+    /// Fills the rows y0 up to y1 - 1, and answers the status.
+    std::uint32_t rows(std::uint32_t y0, std::uint32_t y1) noexcept {
+        const clearmap_bits bits = map_.bits();
+        return clearmap_bits_nearest(map_.words().data(), map_.words().size(), &bits,
+                                     detail::numbered(metric()), detail::numbered(map_.edge()), y0,
+                                     y1, table_.row(static_cast<int>(y0)),
+                                     (y1 - y0) * std::size_t{bits.width});
+    }
+
+    // -- the cells whose obstacle is gone
+
+    /// Works the cells anew whose nearest obstacle was in one of some boxes, which are free now.
+    /// The others keep theirs: what was the nearest of all obstacles is the nearest of those left.
+    void rework(const detail::Box* first, const detail::Box* last) noexcept {
+        try {
+            if (by_windows(first, last)) return;
+        } catch (const std::bad_alloc&) {
+        }
+        for (; first != last; ++first)  // which takes no memory
+            table_.held_by(*first, [&](Cell c) { by_query(c); });
+    }
+
+    /// The same by windows, and whether it is done. The first window round the cells of a box tells
+    /// most answers; what is left of all boxes is worked together by larger and larger ones.
+    bool by_windows(const detail::Box* first, const detail::Box* last) {
+        const std::size_t most = table_.cells() / 4;
+        std::vector<Cell> left;
+        for (; first != last; ++first) {
+            std::vector<Cell> cells;
+            table_.held_by(*first, [&](Cell c) {
+                if (cells.size() <= most) cells.push_back(c);
+            });
+            if (cells.size() > most) return refill();
+            if (cells.size() > few_cells) by_window(cells, detail::box_of(cells).longer_side());
+            if (cells.size() > few_cells)
+                left.insert(left.end(), cells.begin(), cells.end());
+            else
+                by_queries(cells);
+        }
+        int margin = detail::box_of(left).longer_side();
+        while (left.size() > few_cells) by_window(left, margin *= 2);
+        by_queries(left);
+        return true;
+    }
+
+    /// Makes the table anew, and answers whether there was memory for it.
+    bool refill() {
+        const std::uint32_t status = fill();
+        table_.bound();
+        return status == CLEARMAP_DONE;
+    }
+
+    void by_window(std::vector<Cell>& cells, int margin) {
+        const detail::Window window(map_, metric(), detail::box_of(cells), margin);
+        auto is_done = [&](Cell c) {
+            auto near = window.at(c);
+            if (near) table_.set(c, *near);
+            return near.has_value();
+        };
+        cells.erase(std::remove_if(cells.begin(), cells.end(), is_done), cells.end());
+    }
+
+    void by_queries(const std::vector<Cell>& cells) noexcept {
+        for (Cell c : cells) by_query(c);
+    }
+    void by_query(Cell c) noexcept {
+        clearmap_near found{};
+        const clearmap_bits bits = map_.bits();
+        clearmap_bits_at(map_.words().data(), map_.words().size(), &bits,
+                         detail::numbered(metric()), detail::numbered(map_.edge()),
+                         detail::numbered(c.x), detail::numbered(c.y), &found);
+        table_.set(c, found);
+    }
+
+    Map map_;
+    detail::Table table_;
+    unsigned threads_;
+};
+
+}  // namespace clearmap
+
+#endif

@@ -1,0 +1,120 @@
+"""Distances of all cells of an array by libclearmap, in this process, by bands of rows."""
+from __future__ import annotations
+
+import ctypes
+from typing import TYPE_CHECKING, Any, Callable, Literal, Optional, Tuple, overload
+
+from .grids import OPEN, Memory, edge_of, map_of, number_of
+from .library import check, library, numpy
+from .requests import EUCLID2, whole
+
+if TYPE_CHECKING:
+    import numpy as np
+    from numpy.typing import NDArray
+
+    Distances = NDArray[np.uint32]
+    Obstacles = NDArray[np.int16]
+
+
+# ---- rows, shared among threads
+
+
+def in_bands(height: int, threads: int, work: Callable[[int, int], None]) -> None:
+    """Does work(y0, y1) for bands of rows, each by a thread of its own."""
+    count = whole(threads)
+    if count < 1:
+        raise ValueError(f"{count} threads, where 1 or more are wanted")
+    count = min(count, height)
+    if count == 1:
+        return work(0, height)
+    from concurrent.futures import ThreadPoolExecutor
+
+    starts = [height * band // count for band in range(count + 1)]
+    with ThreadPoolExecutor(count) as pool:
+        for _ in pool.map(work, starts[:-1], starts[1:]):
+            pass
+    return None
+
+
+def fill(memory: Memory, metric: int, edge: int, y0: int, y1: int, out: Any) -> None:
+    """Writes the answers of rows y0 to y1 - 1 to a contiguous array of these rows: of distances, or
+    of distances with obstacles."""
+    name = "distances" if out.dtype.names is None else "nearest"
+    kind, cells, length, layout = memory
+    call = getattr(library(), f"clearmap_{kind}_{name}")
+    where = cells.ctypes.data, length, ctypes.byref(layout)
+    check(call(*where, metric, edge, y0, y1, out.ctypes.data, out.size))
+
+
+def near_type() -> Any:
+    """clearmap_near, as numpy has it."""
+    return numpy().dtype([("dist", "u4"), ("x", "i2"), ("y", "i2")])
+
+
+def distances_of(memory: Memory, metric: str, edge: str, nearest: bool, threads: int) -> Any:
+    """What `distances` answers, of a map."""
+    np = numpy()
+    numbers = number_of(metric), edge_of(edge)
+    height, width = memory.layout.height, memory.layout.width
+    out = np.empty((height, width), near_type() if nearest else np.uint32)
+    in_bands(height, threads, lambda y0, y1: fill(memory, *numbers, y0, y1, out[y0:y1]))
+    if not nearest:
+        return out
+    return out["dist"], out.view(np.int16).reshape(height, width, 4)[:, :, 2:]
+
+
+@overload
+def distances(
+    grid: object,
+    metric: str = ...,
+    edge: str = ...,
+    nearest: Literal[False] = ...,
+    threads: int = ...,
+    *,
+    low: Optional[float] = ...,
+    high: Optional[float] = ...,
+) -> Distances: ...
+@overload
+def distances(
+    grid: object,
+    metric: str = ...,
+    edge: str = ...,
+    *,
+    nearest: Literal[True],
+    threads: int = ...,
+    low: Optional[float] = ...,
+    high: Optional[float] = ...,
+) -> Tuple[Distances, Obstacles]: ...
+def distances(
+    grid: object,
+    metric: str = EUCLID2,
+    edge: str = OPEN,
+    nearest: bool = False,
+    threads: int = 1,
+    *,
+    low: Optional[float] = None,
+    high: Optional[float] = None,
+) -> Any:
+    """The distance of each cell of a grid to its nearest obstacle, as an array of uint32:
+    `euclid2` is the square of the straight distance in cells, `city` and `chess` count steps.
+    NO_OBSTACLE stands in each cell where there is no obstacle at all.
+
+    A grid is an array of 2 dimensions with 1 to 4096 rows and as many columns, of any memory order.
+    Of bools, True is an obstacle. Of numbers, a cell is one where low <= cell <= high; a limit that
+    isn't given is none, and one of them has to be given. Limits of whole numbers are whole; floats
+    are compared as numpy compares them, and a NaN is a ValueError. By `edge="wall"` each cell of
+    the frame round the grid is an obstacle too.
+
+    With `nearest=True` the answer is (distances, obstacles), two views of one array: obstacles has
+    the shape (rows, columns, 2) and the dtype int16, and obstacles[y, x] is the column and the row
+    of the nearest obstacle of cell (x, y); on the frame of a wall it is -1, or one after the last;
+    NOWHERE, twice, where there is none. Of several it is the one of the least column; of those the
+    one in the fewest rows away, and of two such the upper.
+
+    `threads` share the rows. A grid of bool, uint8 or int8 whose rows lie one after another, also
+    with gaps between them, is read in place: nobody writes it meanwhile. int8 limits that go from
+    below 0 to 0 or more cost a copy, as other dtypes and orders do, of one byte a cell.
+
+    ValueError and TypeError for what is no grid, and MemoryError.
+    """
+    return distances_of(map_of(grid, low, high), metric, edge, nearest, threads)

@@ -1,0 +1,211 @@
+#!/usr/bin/env python3
+"""A gateway to a running `clearmap serve`: any number of clients over a few connections to it.
+
+    clearmap-gateway --port 7400 [--listen 7401] [--links 4]
+
+Wants numpy and libclearmap. It listens on loopback alone. Nothing here is proved.
+"""
+import argparse
+import asyncio
+import contextlib
+import importlib
+import pathlib
+import resource
+import signal
+import socket
+import sys
+from typing import TYPE_CHECKING, Callable
+
+HERE = pathlib.Path(__file__).resolve().parent
+TOP = HERE.parent.parent
+PACKAGES = (TOP / "clients/python", HERE.parent / "python")
+sys.path[:0] = [str(HERE), *(str(folder) for folder in PACKAGES if folder.is_dir())]
+
+if TYPE_CHECKING:
+    from clients import Desk
+    from links import Server
+
+AGAIN = 1.0  # seconds between two looks for a server
+OTHERS = 64  # descriptors for all but clients
+NOTES = """\
+A client speaks to it as to the server, and is answered as the server would answer it. A change \
+goes to the server. A version that clients have pinned is held there once for all of them, and \
+copied once; its queries are answered by the gateway.
+
+One line more is the gateway's own: WATCH. It is answered OK and the newest version's number. \
+After that a line VERSION and a number comes between two replies whenever there is a newer \
+version. Numbers that were jumped came too.
+
+Where the server goes away, all clients are closed, and nobody can connect until there is a \
+server again.
+
+Example:
+  clearmap-gateway --port 7400 --listen 7401 --links 12"""
+
+
+def number(least: int, most: int) -> Callable[[str], int]:
+    """A reader of a number of these limits."""
+
+    def read(word: str) -> int:
+        if not word.isdecimal() or not least <= int(word) <= most:
+            raise argparse.ArgumentTypeError(f"'{word}' isn't {least} to {most}")
+        return int(word)
+
+    return read
+
+
+def parser() -> argparse.ArgumentParser:
+    """The command line."""
+    words = argparse.ArgumentParser(
+        prog="clearmap-gateway",
+        description="Lets any number of clients share a few connections to a running server.",
+    )
+    add = words.add_argument
+    add("--port", type=number(1, 65535), required=True, help="the port of clearmap serve")
+    add("--listen", metavar="PORT", type=number(0, 65535), default=0,
+        help="the gateway's own port on loopback (default 0: the system picks one)")  # fmt: skip
+    add("--links", type=number(2, 16), default=4,
+        help="connections to the server, each of which takes one of its workers (2 to 16, default "
+        "4); one fewer is how many versions can be pinned at once")  # fmt: skip
+    add("--clients", type=number(1, 100_000), default=2000,
+        help="clients at once, beyond which a connection is closed (1 to 100000, default "
+        "2000)")  # fmt: skip
+    add("--patience", metavar="SECONDS", type=number(1, 86400), default=60,
+        help="how long the server may take to answer first, a stamp's bytes to come, a pin to wait "
+        "and 64 KiB of replies to be taken (1 to 86400, default 60)")  # fmt: skip
+    return words
+
+
+def say(text: str) -> None:
+    """One line on standard error."""
+    print(f"clearmap-gateway: {text}", file=sys.stderr, flush=True)
+
+
+class Gateway:
+    """Serves clients on a port, for one run of the server after another."""
+
+    def __init__(self, options: argparse.Namespace) -> None:
+        self._options = options
+        self._port: int = options.listen
+
+    async def run(self) -> None:
+        """Goes on until it is cancelled. Where there is no server at first, it raises."""
+        from links import Server, ServerLost
+
+        is_first = True
+        while True:
+            server = Server()
+            try:
+                await self._open(server)
+                await self._serve(server, is_first)
+                is_first = False
+            except (OSError, ServerLost, asyncio.TimeoutError):
+                if is_first:
+                    raise
+            finally:
+                server.lose("the gateway ends")
+            await asyncio.sleep(AGAIN)
+
+    async def _open(self, server: "Server") -> None:
+        """Connects to the server, whose workers answer within the patience."""
+        opening = server.open(self._options.port, self._options.links)
+        await asyncio.wait_for(opening, self._options.patience)
+
+    async def _serve(self, server: "Server", is_first: bool) -> None:
+        """Serves clients as long as the server is there."""
+        from clients import Desk
+
+        desk = Desk(server, self._options.patience)
+        listener = await self._listen(desk)
+        if is_first:
+            print(f"LISTENING {self._port}", flush=True)
+        else:
+            say("there is a server again")
+        try:
+            why = await asyncio.shield(server.lost)
+            say(f"{why}: all clients are closed")
+        finally:
+            listener.close()
+            server.lose("the gateway ends")
+            desk.versions.wake()
+            for client in list(desk.clients):
+                client.lose()
+
+    async def _listen(self, desk: "Desk") -> asyncio.AbstractServer:
+        """Takes connections, on the port that the first run had."""
+        from clients import Client
+
+        class Refusing(asyncio.Protocol):
+            """A connection beyond the limit."""
+
+            def connection_made(self, transport: asyncio.BaseTransport) -> None:
+                transport.close()
+
+        def accepted() -> asyncio.BaseProtocol:
+            return Client(desk) if len(desk.clients) < self._options.clients else Refusing()
+
+        made = asyncio.get_running_loop().create_server(
+            accepted, "127.0.0.1", self._port, backlog=1024
+        )
+        listener = await made
+        self._port = listener.sockets[0].getsockname()[1]
+        return listener
+
+
+async def serve(options: argparse.Namespace) -> None:
+    """Runs until a signal ends it."""
+    loop = asyncio.get_running_loop()
+    task = loop.create_task(Gateway(options).run())
+    for ending in (signal.SIGINT, signal.SIGTERM):
+        loop.add_signal_handler(ending, task.cancel)
+    with contextlib.suppress(asyncio.CancelledError):
+        await task
+
+
+def as_many_as_descriptors(clients: int) -> int:
+    """Lets the process have as many descriptors as clients; how many clients the system allows."""
+    soft, hard = resource.getrlimit(resource.RLIMIT_NOFILE)
+    wanted = clients + OTHERS
+    most = wanted if hard == resource.RLIM_INFINITY else min(wanted, hard)
+    resource.setrlimit(resource.RLIMIT_NOFILE, (max(soft, most), hard))
+    if most < wanted:
+        say(f"{most - OTHERS} clients at once, as the system allows {hard} descriptors")
+    return most - OTHERS
+
+
+def use_fast_loop() -> None:
+    """Takes the loop of uvloop where that is installed: replies come sooner."""
+    with contextlib.suppress(ImportError):
+        importlib.import_module("uvloop").install()
+
+
+def main() -> int:
+    """Status 1 where the server isn't there, a port can't be had, or something isn't installed."""
+    options = parser().parse_args()
+    try:
+        from clearmap.library import library, numpy
+        from links import ServerLost
+
+        library(), numpy()
+    except ImportError as missing:
+        say(str(missing))
+        return 1
+    options.clients = as_many_as_descriptors(options.clients)
+    use_fast_loop()
+    try:
+        asyncio.run(serve(options))
+    except asyncio.TimeoutError:
+        say(f"no worker of the server has answered within {options.patience} s: it has fewer than "
+            f"{options.links} that are free")  # fmt: skip
+        return 1
+    except OSError as fault:
+        say(f"port {options.listen} can't be had: {fault.strerror}")
+        return 1
+    except ServerLost as fault:
+        say(str(fault))
+        return 1
+    return 0
+
+
+if __name__ == "__main__":
+    sys.exit(main())

@@ -1,0 +1,240 @@
+"""Follows the newest version of a server: what each page shows, and what it is told."""
+import asyncio
+import time
+from typing import Callable, Dict, List, NamedTuple, Optional, Tuple, TypeVar, Union
+
+import clearmap
+import clearmap_ros as ros
+import picture
+import tables
+from draft import Draft
+from watched import AFTER_A_QUESTION, Watched
+from yaml_map import YamlMap
+
+T = TypeVar("T")
+Answers = Union[clearmap.Map, clearmap.Pinned]  # both answer the same questions
+PAUSE = 0.15  # seconds from one look at the newest version to the next
+SLOW_PAUSE = 2.0  # seconds, where each look is a connection of its own
+SHARE = 20  # such a look takes at most this part of the time
+
+
+class Wanted(NamedTuple):
+    """What the command line asks for."""
+
+    port: int
+    program: Optional[str]
+    in_process: bool
+    map: Optional[YamlMap] = None
+    radius: str = ""
+    read_only: bool = False
+
+
+class NothingShown(Exception):
+    """There is no version to ask; its text says why."""
+
+
+class Copy(NamedTuple):
+    """A version as a server dumps it, its cells, and what its border is."""
+
+    version: int
+    image: bytes
+    bits: "picture.Cells"
+    edge: str
+
+
+class Shown:
+    """One version on the page, with its pictures by metric: each is made when a page first wants
+    it. `area` is the version as a map of this process, where the library is there."""
+
+    def __init__(self, serial: int, copy: Copy, here: bool) -> None:
+        self.serial, self.copy = serial, copy
+        self.version, self.edge = copy.version, copy.edge
+        self.height, self.width = copy.bits.shape
+        self.area = clearmap.Map(copy.bits, copy.edge) if here else None
+        self.pictures: Dict[str, "asyncio.Task[picture.Picture]"] = {}
+
+    def is_as(self, copy: Copy) -> bool:
+        """Whether another look found nothing new."""
+        same = (self.version, self.edge) == (copy.version, copy.edge)
+        return same and self.copy.image == copy.image
+
+
+class Following:
+    """What is shown, and whether the server is there. `turn` counts its changes."""
+
+    def __init__(self, wanted: Wanted) -> None:
+        self.wanted = wanted
+        self.draft = Draft()
+        self.watched = Watched(wanted.port, self.draft.lost)
+        self.shown: List[Shown] = []  # the newest, and the one before it
+        self.pinned = (0, 0)
+        self.serial = 0
+        self.fault = f"The server at port {wanted.port} is being asked."
+        self.turn, self.listeners = 0, 0
+        self.news = asyncio.Condition()
+        self.looking = asyncio.Lock()
+
+    # ---- what each page is told
+
+    def frame_of(self, shown: Shown) -> Optional[ros.Frame]:
+        """Where the map lies, unless the yaml is of a map of another size."""
+        known = self.wanted.map
+        fits = known is not None and known.frame.size == (shown.width, shown.height)
+        return known.frame if known is not None and fits else None
+
+    def state(self) -> Dict[str, object]:
+        """What each page is told when it changes."""
+        wanted = self.wanted
+        told: Dict[str, object] = {"fault": self.fault, "readOnly": wanted.read_only}
+        told.update(port=wanted.port, draft=self.draft.state())
+        told["name"] = wanted.map.name if wanted.map else f"port {wanted.port}"
+        if self.shown:
+            told.update(self.state_of(self.shown[0]))
+        return told
+
+    def state_of(self, shown: Shown) -> Dict[str, object]:
+        """What is told of the newest version."""
+        frame, known = self.frame_of(shown), self.wanted.map
+        told: Dict[str, object] = {"serial": shown.serial, "version": shown.version}
+        told.update(width=shown.width, height=shown.height, edge=shown.edge)
+        told["resolution"] = float(frame.resolution) if frame else None
+        told["origin"] = [float(frame.origin_x), float(frame.origin_y)] if frame else None
+        in_its_unit = frame is not None or known is None
+        told["radius"] = self.wanted.radius if in_its_unit else ""
+        if known is not None and frame is None:
+            sizes = f"has {known.frame.width} by {known.frame.height} cells"
+            sizes += f", and the served map {shown.width} by {shown.height}"
+            told["notice"] = f"The yaml's image {sizes}: no metres are shown."
+        return told
+
+    async def tell(self, fault: str) -> None:
+        """Tells each page what has changed."""
+        async with self.news:
+            self.fault = fault
+            self.turn += 1
+            self.news.notify_all()
+
+    # ---- looks
+
+    async def watch(self) -> None:
+        """Looks again and again, but never while a picture is being made: so the pin stays on what
+        the page is about to show."""
+        while True:
+            start = time.monotonic()
+            await self.look()
+            spent = time.monotonic() - start
+            made = [it for shown in self.shown for it in shown.pictures.values() if not it.done()]
+            if made:
+                await asyncio.wait(made)
+            await self.pause(spent)
+
+    async def pause(self, spent: float) -> None:
+        """Waits until the next look. Where each takes a connection they come seldom, but what is
+        asked, changed or opened meanwhile ends the wait."""
+        until = time.monotonic() + max(SLOW_PAUSE, SHARE * spent)
+        opened = self.listeners
+        await asyncio.sleep(PAUSE)
+        while time.monotonic() < until and not self.watched.is_pinned:
+            if self.holds or self.fault or self.listeners != opened:
+                return
+            await asyncio.sleep(PAUSE)
+
+    @property
+    def holds(self) -> bool:
+        """Whether the connection stays: for what is asked and changed, and for what was drawn, so
+        that a server that ends is noticed."""
+        return self.watched.stays or (self.listeners > 0 and bool(self.draft.is_drawn))
+
+    async def look(self) -> None:
+        """Moves to the newest version, where it is another one, and leaves the connection where
+        nothing is asked. The first version is looked for before a page is open."""
+        async with self.looking:
+            if self.listeners > 0 or not self.shown:
+                await self.renew()
+            if not self.holds:
+                if self.watched.is_pinned:
+                    self.draft.left()
+                await asyncio.to_thread(self.watched.rest)
+
+    async def renew(self) -> None:
+        """Moves to the newest version, and tells a server that is lost."""
+        try:
+            pinned = await asyncio.to_thread(self.watched.renew, self.draft.saw)
+            if pinned != self.pinned or not self.shown:
+                await self.take(await asyncio.to_thread(self.copied))
+                self.pinned = pinned
+            elif self.fault:
+                await self.tell("")
+        except clearmap.ClearmapError as fault:
+            said = f"The server at port {self.wanted.port} can't be asked: {fault}."
+            said += " It is tried again."
+            if said != self.fault:
+                await self.tell(said)
+
+    def copied(self) -> Copy:
+        """The pinned version, and whether its border is open or a wall, as it shows where its
+        neighbours are free."""
+        image = self.watched.dump()
+        known = self.shown[0].copy if self.shown else None
+        bits = known.bits if known and known.image == image else picture.bits_of(image)
+        cell = picture.telling_cell(bits)
+        if cell is None:
+            return Copy(self.watched.ask(lambda _: None)[0], image, bits, "open")
+        x, y = cell
+        version, near = self.watched.ask(lambda pinned: pinned.at(x, y, "chess"))
+        is_wall = near is not None and near.distance == 1
+        return Copy(version, image, bits, "wall" if is_wall else "open")
+
+    async def take(self, copy: Copy) -> None:
+        """Shows a version, where it is another one than is shown."""
+        if self.shown and self.shown[0].is_as(copy):
+            return await self.tell("") if self.fault else None
+        await asyncio.to_thread(self.compare, copy)
+        self.serial += 1
+        made = await asyncio.to_thread(Shown, self.serial, copy, self.wanted.in_process)
+        self.shown = [made, *self.shown[:1]]
+        await self.tell("")
+
+    def compare(self, copy: Copy) -> None:
+        """Looks for changes of others in a version that was published from here: the page showed it
+        as the one before it, with what was drawn."""
+        drawn = self.draft.sent(copy.version)
+        if drawn is None or not self.shown or self.shown[0].version + 1 != copy.version:
+            return
+        before = self.shown[0].copy.bits
+        if before.shape == copy.bits.shape:
+            self.draft.found(copy.version, picture.differing(before, drawn, copy.bits))
+
+    # ---- questions
+
+    def newest(self) -> Shown:
+        """What is shown."""
+        if not self.shown:
+            raise NothingShown(self.fault or "no version is known yet")
+        return self.shown[0]
+
+    async def asked(self, question: Callable[[Answers], T]) -> Tuple[int, T]:
+        """A version, and what it answers: the one that is shown, in this process, or where there
+        is no library the one that the connection pins."""
+        self.watched.stay(AFTER_A_QUESTION)
+        shown = self.newest()
+        if shown.area is not None:
+            return shown.version, await asyncio.to_thread(question, shown.area)
+        async with self.looking:  # so that no look leaves the connection meanwhile
+            if not self.watched.is_pinned:
+                await self.renew()
+            return await asyncio.to_thread(self.watched.ask, question)
+
+    async def picture_of(self, shown: Shown, metric: str) -> picture.Picture:
+        """A version's picture by a metric, once it is made."""
+        known = shown.pictures.get(metric)
+        if known is None or (known.done() and known.exception() is not None):
+            work = asyncio.to_thread(self.made, shown, metric)
+            shown.pictures[metric] = asyncio.create_task(work)
+        return await asyncio.shield(shown.pictures[metric])
+
+    def made(self, shown: Shown, metric: str) -> picture.Picture:
+        """Makes a picture."""
+        words = self.wanted.program, shown.area, shown.copy.image, metric, shown.edge
+        known = self.wanted.map if self.frame_of(shown) is not None else None
+        return picture.Picture(tables.table_of(*words), known.unknown if known else None)

@@ -1,0 +1,98 @@
+// What is drawn over the picture: rectangles of the draft, the path, and what is pointed at.
+import { NO_ROOM } from "./colours.js";
+import { BELOW, LEFT } from "./rulers.js";
+
+const DARK = "#12151c";
+const LIGHT = "#ffffff";
+const DRAWN = { paint: "#7b1fa2", clear: "#006a5f" };
+const FONT = "600 13px system-ui, sans-serif";
+const HIGH = 22; // pixels of a label
+const WITHIN = { left: LEFT + 6, top: 52, right: 6, below: BELOW + 6 }; // where labels stand
+
+function line(context, points, colour, width) {
+  context.beginPath();
+  points.forEach(([x, y], k) => (k ? context.lineTo(x, y) : context.moveTo(x, y)));
+  if (points.length === 1) context.lineTo(points[0][0] + 0.01, points[0][1]); // a dot, by its ends
+  Object.assign(context, { strokeStyle: colour, lineWidth: width, lineJoin: "round" });
+  context.lineCap = "round";
+  context.stroke();
+}
+
+/** A line that is seen on every colour. */
+function edged(context, points, colour, edge, width) {
+  line(context, points, edge, width + 2.5);
+  line(context, points, colour, width);
+}
+
+function dot(context, [x, y], radius, colour, edge) {
+  context.beginPath();
+  context.arc(x, y, radius, 0, 2 * Math.PI);
+  Object.assign(context, { fillStyle: colour, strokeStyle: edge, lineWidth: 2 });
+  context.fill();
+  context.stroke();
+}
+
+/** Where a box of text stands next to a place: inside the window, and on none of its rulers. */
+export function boxAt([x, y], width, sight) {
+  const within = (at, least, most) => Math.max(Math.min(at, most), least);
+  return {
+    x: within(x + 12, WITHIN.left, sight.width - width - WITHIN.right),
+    y: within(y - 30, WITHIN.top, sight.height - HIGH - WITHIN.below),
+  };
+}
+
+function label(context, sight, place, text, colour = "rgba(18, 21, 28, 0.9)") {
+  if (!text || off(sight, place)) return;
+  context.font = FONT;
+  const width = context.measureText(text).width + 14;
+  const box = boxAt(place, width, sight);
+  context.fillStyle = colour;
+  context.beginPath();
+  context.roundRect(box.x, box.y, width, HIGH, 4);
+  context.fill();
+  context.fillStyle = LIGHT;
+  context.fillText(text, box.x + 7, box.y + 15.5);
+}
+
+const off = (sight, [x, y]) => x < 0 || y < 0 || x > sight.width || y > sight.height;
+
+function rectangle(context, sight, { rect: [x0, y0, x1, y1], command }) {
+  const [x, y] = sight.pixel(x0, y0);
+  const size = [(x1 - x0) * sight.scale, (y1 - y0) * sight.scale];
+  context.fillStyle = `${DRAWN[command]}66`;
+  context.fillRect(x, y, ...size);
+  Object.assign(context, { strokeStyle: LIGHT, lineWidth: 4 });
+  context.strokeRect(x, y, ...size);
+  Object.assign(context, { strokeStyle: DRAWN[command], lineWidth: 2 });
+  context.strokeRect(x, y, ...size);
+}
+
+/** A path: red just where the robot has no room. */
+function drawPath(context, sight, middle, path) {
+  if (path.corners) edged(context, path.corners.map(middle), LIGHT, DARK, 2.5);
+  const without = path.tight ?? (path.clear === false ? [path.corners] : []);
+  for (const cells of without) edged(context, cells.map(middle), NO_ROOM, LIGHT, 5);
+  for (const cell of path.points) dot(context, middle([cell.x, cell.y]), 4.5, LIGHT, DARK);
+  if (!path.tightest) return;
+  const [cell, obstacle] = [middle(path.tightest), middle(path.obstacle)];
+  edged(context, [cell, obstacle], DARK, LIGHT, 2);
+  const colour = path.clear === false ? NO_ROOM : DARK;
+  dot(context, cell, 5.5, colour, LIGHT);
+  label(context, sight, cell, path.length, path.clear === false ? NO_ROOM : undefined);
+}
+
+function drawPointed(context, sight, middle, { cell, obstacle, length }) {
+  if (!obstacle) return;
+  const ends = [middle([cell.x, cell.y]), middle(obstacle)];
+  edged(context, ends, DARK, LIGHT, 2);
+  dot(context, ends[1], 4.5, "#ffc233", DARK);
+  label(context, sight, ends[0], length);
+}
+
+/** Draws what lies over the picture. */
+export function drawMarks(context, sight, { drafts, dragged, path, pointed }) {
+  const middle = ([x, y]) => sight.pixel(x + 0.5, y + 0.5);
+  for (const drawn of dragged ? [...drafts, dragged] : drafts) rectangle(context, sight, drawn);
+  drawPath(context, sight, middle, path);
+  if (pointed) drawPointed(context, sight, middle, pointed);
+}

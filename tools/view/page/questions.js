@@ -1,0 +1,58 @@
+// What the page asks while one looks at it: the cell that is pointed at, and the path.
+import { askAt, askPath } from "./ask.js";
+import { tellPath, tellPointed } from "./panel.js";
+
+/** The questions of a page. An answer to a question that isn't the last one is dropped. */
+export class Questions {
+  constructor(page, redraw) {
+    Object.assign(this, { page, redraw, pointing: false, again: false, ways: 0 });
+  }
+
+  /** Asks for the cell under the pointer; while an answer is on its way, only that one is asked
+   * about which is the last. */
+  async point() {
+    this.again = this.pointing;
+    const cell = this.page.pointed?.cell;
+    if (this.pointing || !cell) return;
+    this.pointing = true;
+    await this.pointAt(cell);
+    this.pointing = false;
+    this.redraw();
+    if (this.again) this.point();
+  }
+
+  async pointAt(cell) {
+    const { page } = this;
+    try {
+      const told = await askAt(page.metric, cell);
+      if (this.again) return;
+      page.pointed = { cell, ...told };
+      tellPointed(told.said + this.another(told.version));
+    } catch (fault) {
+      tellPointed(fault.message);
+    }
+  }
+
+  /** Says of which version an answer is, where it isn't the one that is shown. */
+  another(version) {
+    return version === this.page.picture?.version ? "" : `, in version ${version}`;
+  }
+
+  /** Asks about the path, and forgets what was known of it. */
+  async way() {
+    const { page } = this;
+    const { points } = page.path;
+    this.ways += 1;
+    const asked = this.ways;
+    page.path = { points };
+    if (points.length) {
+      const fault = ({ message }) => ({ said: message });
+      const { metric, radius, unit } = page;
+      const told = await askPath(metric, points, radius, unit).catch(fault);
+      if (asked !== this.ways) return;
+      page.path = { points, ...told };
+    }
+    tellPath(page.path);
+    this.redraw();
+  }
+}
