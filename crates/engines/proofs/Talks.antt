@@ -1,5 +1,5 @@
 -- Exchanges of `ask`, one after another, and one that is cut off.
-use Rattle.std.proofs.Common.{◌≡◌, ℕ, List, [], ◌∷◌, ◌++◌, Option, inl, inr, refl, sym, ap, subst, ◌∙◌}
+use Rattle.std.proofs.Common.{◌≡◌, ℕ, List, [], ◌∷◌, ◌++◌, inl, inr, refl, sym, ap, subst, ◌∙◌}
 use Rattle.std.specs.Prelude.{◌⊎◌, map}
 use Rattle.std.specs.List.{concat}
 use Rattle.std.proofs.lemmas.List.{append-nil, map-append}
@@ -9,7 +9,7 @@ use Rattle.metric.specs.Stream.{Appends, AppendsFront, Takes}
 use Rattle.metric.proofs.Appending.{Appends-more, Appends-nothing}
 use Rattle.metric.proofs.Taking.{Takes-nothing, Takes-behind}
 use Rattle.engines.specs.ask.Asking.{IsRequest}
-use Rattle.engines.specs.ask.Talking.{Breaks, Converses, Exchange, Exchanges, IsCutHearing, IsCutOff, IsCutPrinting, IsCutReading, IsCutSending, IsExchange, IsLastLine, IsReplyTo, Talk, replies_of, requests_of}
+use Rattle.engines.specs.ask.Talking.{Breaks, Converses, Exchange, Exchanges, IsCutOff, IsExchange, IsLastLine, IsReplyTo, Talk}
 use Rattle.engines.specs.streams.Passing.{stop_text}
 use Rattle.engines.specs.declared.ask.Stop.{Stop}
 use Rattle.engines.specs.declared.ask.Stop.TheVariants as stops

@@ -1,5 +1,5 @@
 -- A conversation of `ask`: each request is sent once the reply to the one before it was received and printed. This project's own rule.
-use Rattle.std.specs.Prelude.{◌≡◌, ℕ, ◌⊎◌, All, Bool, false, true, List, [], ◌∷◌, ◌++◌, map, Option, Some, None, bytes_eq, codes, unwrap_or, if◌then◌else◌}
+use Rattle.std.specs.Prelude.{◌≡◌, ℕ, ◌⊎◌, All, Bool, false, true, List, [], ◌∷◌, map, Option, Some, bytes_eq, codes, unwrap_or, if◌then◌else◌}
 use Rattle.std.specs.List.{concat}
 use Rattle.metric.specs.Stream.{Appends, AppendsFront, Takes}
 use Rattle.proto.specs.Numbers.{numbers, only_number}
