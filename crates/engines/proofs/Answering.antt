@@ -22,12 +22,12 @@ use Rattle.pbm.proofs.Images.{reads-image}
 use Rattle.pbm.specs.Windows.{HasFault, HasImage}
 use Rattle.engines.specs.declared.dist.reply.QueryReply.{QueryReply}
 use Rattle.engines.specs.dist.Replied.{IsReplyOf}
-use Rattle.engines.specs.dist.Dist.{IsImageAnswer, IsMapAnswer, IsBadImage, AnswersImage, BeginsToAnswerImage}
+use Rattle.engines.specs.dist.Dist.{IsImageAnswer, IsMapAnswer, IsBadImage, AnswersImage, AnswersMap, BeginsToAnswerImage, BeginsToAnswerMap}
 
 -- where no write failed, an answer to the image that a reader had is written whole
 pub answered : (options : DistOptions) (unread before after : Option (List ℕ)) (cells : Cells) (written : Result ℕ WriteFault) (old new : ℕ)
     → HasImage unread cells
-    → IfOk written (λ status. (text : List ℕ) × IsMapAnswer options cells text status × Appends before text after)
+    → IfOk written (AnswersMap options cells before after)
     → Counts old written new → new ≡ old → AnswersImage options unread before after (result_unwrap_or written 1)
 answered options unread before after cells (Ok status) old new has (text, answer, whole) counts same =
     record { bytes = has.bytes; text = text; all = has.all; answer = inl (answer has.bytes has.taken has.reads); written = whole }
@@ -36,7 +36,7 @@ answered options unread before after cells (Err fault) old new has whole counts 
 -- where a write failed, a beginning of the answer is written, and the status is 1
 pub begun : (options : DistOptions) (unread before after : Option (List ℕ)) (cells : Cells) (written : Result ℕ WriteFault) (old new : ℕ)
     → HasImage unread cells
-    → OnErr written ((text : List ℕ) × (status : ℕ) × IsMapAnswer options cells text status × AppendsFront before text after)
+    → OnErr written (BeginsToAnswerMap options cells before after)
     → Counts old written new → new ≢ old → BeginsToAnswerImage options unread before after × (result_unwrap_or written 1 ≡ 1)
 begun options unread before after cells (Ok status) old new has front counts other = absurd (other counts)
 begun options unread before after cells (Err fault) old new has (text, status, answer, front) counts other =
@@ -96,7 +96,7 @@ unfolding image
 reads-header bytes n cells found = let is : image bytes ≡ Ok (cells, found.rest) = reads-image bytes n cells found in first_part (header bytes) _ (cells, found.rest) is
 
 -- the line that says that there is no memory is an answer to any bytes that read as an image
-pub map_wants_memory : (options : DistOptions) (cells : Cells) (refusal : Refusal) (status : ℕ) → refusal ≡ refusals.Memory → status ≡ 1
+map_wants_memory : (options : DistOptions) (cells : Cells) (refusal : Refusal) (status : ℕ) → refusal ≡ refusals.Memory → status ≡ 1
     → IsMapAnswer options cells (refusal_text refusal ++ 10 ∷ []) status
 map_wants_memory options cells refusal status none one = rw none (λ bytes taken reads.
     answer_of_fault options bytes faults.Memory status (λ real. absurd (real refl)) (λ e. reads-header bytes taken cells reads) one)
@@ -104,9 +104,16 @@ map_wants_memory options cells refusal status none one = rw none (λ bytes taken
 -- where that line is written whole, an answer to any image of the map is
 pub map_wanting_whole : (options : DistOptions) (cells : Cells) (refusal : Refusal) (before after : Option (List ℕ)) (written : Result ℕ WriteFault)
     → refusal ≡ refusals.Memory → IfOk written (λ status. status ≡ 1) → OnOk written (Appends before (refusal_text refusal ++ 10 ∷ []) after)
-    → IfOk written (λ status. (text : List ℕ) × IsMapAnswer options cells text status × Appends before text after)
+    → IfOk written (AnswersMap options cells before after)
 map_wanting_whole options cells refusal before after (Ok status) none one whole = (refusal_text refusal ++ 10 ∷ [], map_wants_memory options cells refusal status none one, whole)
 map_wanting_whole options cells refusal before after (Err failed) none one whole = tt
+
+-- where that line is written in part, a beginning of an answer is
+pub map_wanting_front : (options : DistOptions) (cells : Cells) (refusal : Refusal) (before after : Option (List ℕ)) (written : Result ℕ WriteFault)
+    → refusal ≡ refusals.Memory → OnErr written (AppendsFront before (refusal_text refusal ++ 10 ∷ []) after)
+    → OnErr written (BeginsToAnswerMap options cells before after)
+map_wanting_front options cells refusal before after (Ok status) none front = tt
+map_wanting_front options cells refusal before after (Err failed) none front = (refusal_text refusal ++ 10 ∷ [], 1, map_wants_memory options cells refusal 1 none refl, front)
 
 -- where no query is asked, the lines of the map's table are an answer to an image of it
 pub asked_of_table : (options : DistOptions) (cells : Cells) (distance : ℕ → ℕ → ℕ) (table : TableView) → options.query ≡ None → distance ≡ distance_of options.metric → IsTableOf distance options.edge cells table

@@ -2,7 +2,7 @@
 
 ghost use Rattle.std.specs.Prelude.{◌≡◌, ◌≢◌, ◌≤◌, ◌+◌, ◌++◌, ◌∷◌, [], IfOk, OnOk, OnErr, IfErr, Err, Ok, true, false, bytes_eq, codes};
 ghost use Rattle.metric.specs.Stream.{Appends, AppendsFront, CanFail, Counts};
-ghost use Rattle.engines.specs.ask.Talking.{Breaks, Converses, Exchanges};
+ghost use Rattle.engines.specs.ask.Talking.{Breaks, Converses, Exchanges, talk_at};
 ghost use Rattle.engines.specs.streams.Passing.{Asks, AsksAll, BreaksOff, EndsEarly, PassesFront, PassesOn, stop_text};
 ghost use Rattle.engines.specs.declared.ask.Stop.TheVariants.{Net, Standard};
 
@@ -70,8 +70,8 @@ pub fn ask_run<S: Stream, R: Source, W: Sink>(
         (S.rest stream.old) (S.rest stream.new) (W.held writer.old) (W.held writer.new) × (result ≡ 1) }
     // Each request was sent once the reply to the one before it was received and printed.
     ensures order { Converses
-        record { unread = R.rest reader.old; sent = S.held stream.old; unheard = S.rest stream.old; printed = W.held writer.old }
-        record { unread = R.rest reader.new; sent = S.held stream.new; unheard = S.rest stream.new; printed = W.held writer.new } }
+        (talk_at (R.rest reader.old) (S.held stream.old) (S.rest stream.old) (W.held writer.old))
+        (talk_at (R.rest reader.new) (S.held stream.new) (S.rest stream.new) (W.held writer.new)) }
     ensures one_failure { R.failed_reads reader.new + W.failed_writes writer.new
         ≤ R.failed_reads reader.old + W.failed_writes writer.old + 1 }
 {
@@ -150,8 +150,8 @@ fn ask_lines<S: Stream, R: Source, W: Sink>(
     ensures asked { OnOk result (AsksAll (R.rest reader.old) (R.rest reader.new) (S.held stream.old) (S.held stream.new)
         (W.held writer.old) (W.held writer.new)) }
     ensures order { Breaks
-        record { unread = R.rest reader.old; sent = S.held stream.old; unheard = S.rest stream.old; printed = W.held writer.old }
-        record { unread = R.rest reader.new; sent = S.held stream.new; unheard = S.rest stream.new; printed = W.held writer.new } }
+        (talk_at (R.rest reader.old) (S.held stream.old) (S.rest stream.old) (W.held writer.old))
+        (talk_at (R.rest reader.new) (S.held stream.new) (S.rest stream.new) (W.held writer.new)) }
 {
     'lines: for _ in 0..u64::MAX {
         if !ask_line(stream, reader, writer, request, reply)? {
@@ -186,11 +186,11 @@ fn ask_line<S: Stream, R: Source, W: Sink>(
     ensures failed { result ≡ Err Standard → R.failed_reads reader.new + W.failed_writes writer.new
         ≡ R.failed_reads reader.old + W.failed_writes writer.old + 1 }
     ensures exchanged { result ≡ Ok true → Exchanges
-        record { unread = R.rest reader.old; sent = S.held stream.old; unheard = S.rest stream.old; printed = W.held writer.old }
-        record { unread = R.rest reader.new; sent = S.held stream.new; unheard = S.rest stream.new; printed = W.held writer.new } }
+        (talk_at (R.rest reader.old) (S.held stream.old) (S.rest stream.old) (W.held writer.old))
+        (talk_at (R.rest reader.new) (S.held stream.new) (S.rest stream.new) (W.held writer.new)) }
     ensures order { result ≢ Ok true → Breaks
-        record { unread = R.rest reader.old; sent = S.held stream.old; unheard = S.rest stream.old; printed = W.held writer.old }
-        record { unread = R.rest reader.new; sent = S.held stream.new; unheard = S.rest stream.new; printed = W.held writer.new } }
+        (talk_at (R.rest reader.old) (S.held stream.old) (S.rest stream.old) (W.held writer.old))
+        (talk_at (R.rest reader.new) (S.held stream.new) (S.rest stream.new) (W.held writer.new)) }
 {
     if !read_request(reader, request)? {
         return Ok(false);

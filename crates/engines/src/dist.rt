@@ -1,10 +1,10 @@
 //! The command `dist`: from the bytes of an image to the text of its distances.
 
-ghost use Rattle.std.specs.Prelude.{◌≡◌, ◌≢◌, ℕ, ◌+◌, ◌≤◌, ◌∷◌, ◌++◌, [], List, None, IfOk, OnOk, OnErr};
+ghost use Rattle.std.specs.Prelude.{◌≡◌, ◌≢◌, ℕ, ◌+◌, ◌≤◌, ◌∷◌, ◌++◌, [], None, IfOk, OnOk, OnErr};
 ghost use Rattle.metric.specs.Kind.{distance_of};
 ghost use Rattle.metric.specs.Refusal.{image_text};
 ghost use Rattle.metric.specs.Stream.{Appends, AppendsFront, Counts, CanFail};
-ghost use Rattle.engines.specs.dist.Dist.{AnswersImage, BeginsToAnswerImage, IsMapAnswer};
+ghost use Rattle.engines.specs.dist.Dist.{AnswersImage, AnswersMap, BeginsToAnswerImage, BeginsToAnswerMap};
 ghost use Rattle.engines.specs.dist.Table.{table_text};
 
 mod decimals;
@@ -74,8 +74,8 @@ fn write_answer<W: Sink, T: Threads + Sync>(
     writer: &mut W,
 ) -> Result<u8, WriteFault>
     requires { CanFail (W.failed_writes writer.old) }
-    ensures whole { IfOk result (λ status. (text : List ℕ) × IsMapAnswer options.now map.now text status × Appends (W.held writer.old) text (W.held writer.new)) }
-    ensures front { OnErr result ((text : List ℕ) × (status : ℕ) × IsMapAnswer options.now map.now text status × AppendsFront (W.held writer.old) text (W.held writer.new)) }
+    ensures whole { IfOk result (AnswersMap options.now map.now (W.held writer.old) (W.held writer.new)) }
+    ensures front { OnErr result (BeginsToAnswerMap options.now map.now (W.held writer.old) (W.held writer.new)) }
     ensures counts { Counts (W.failed_writes writer.old) result (W.failed_writes writer.new) }
 {
     match options.query {
@@ -102,8 +102,8 @@ fn write_map<M: Metric + Sync, W: Sink, T: Threads + Sync>(
     requires writer { CanFail (W.failed_writes writer.old) }
     requires table { options.now.query ≡ None }
     requires metric { M.distance ≡ distance_of options.now.metric }
-    ensures whole { IfOk result (λ status. (text : List ℕ) × IsMapAnswer options.now map.now text status × Appends (W.held writer.old) text (W.held writer.new)) }
-    ensures front { OnErr result ((text : List ℕ) × (status : ℕ) × IsMapAnswer options.now map.now text status × AppendsFront (W.held writer.old) text (W.held writer.new)) }
+    ensures whole { IfOk result (AnswersMap options.now map.now (W.held writer.old) (W.held writer.new)) }
+    ensures front { OnErr result (BeginsToAnswerMap options.now map.now (W.held writer.old) (W.held writer.new)) }
     ensures counts { Counts (W.failed_writes writer.old) result (W.failed_writes writer.new) }
 {
     let (nearest, workers) = (options.nearest, options.workers);

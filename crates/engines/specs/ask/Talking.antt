@@ -60,6 +60,11 @@ pub record Talk : Type 0 where
   pub unheard : Option (List ℕ)
   pub printed : Option (List ℕ)
 
+-- a conversation stands so at its four ends
+abbrev pub talk_at : Option (List ℕ) → Option (List ℕ) → Option (List ℕ) → Option (List ℕ) → Talk
+talk_at unread sent unheard printed =
+    record { unread = unread; sent = sent; unheard = unheard; printed = printed }
+
 -- requests were read and sent, and their replies received and printed, all of them whole
 pub record Exchanges (before after : Talk) : Type 0 where
   pub exchanges : List Exchange

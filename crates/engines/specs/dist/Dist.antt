@@ -63,6 +63,17 @@ IsImageAnswer options bytes text status = IsAsked options bytes text status ⊎ 
 abbrev pub IsMapAnswer : DistOptions → Cells → List ℕ → ℕ → Type 0
 IsMapAnswer options cells text status = (bytes : List ℕ) (taken : ℕ) → Reads bytes taken cells → IsImageAnswer options bytes text status
 
+-- such an answer was written whole, with its status
+abbrev pub AnswersMap : DistOptions → Cells → Option (List ℕ) → Option (List ℕ) → ℕ → Type 0
+AnswersMap options cells held_before held_after status =
+    (text : List ℕ) × IsMapAnswer options cells text status × Appends held_before text held_after
+
+-- a beginning of such an answer was written
+abbrev pub BeginsToAnswerMap : DistOptions → Cells → Option (List ℕ) → Option (List ℕ) → Type 0
+BeginsToAnswerMap options cells held_before held_after =
+    (text : List ℕ) × (status : ℕ) × IsMapAnswer options cells text status
+    × AppendsFront held_before text held_after
+
 -- this text is the line of want of memory, with its status
 abbrev pub IsMemoryLine : List ℕ → ℕ → Type 0
 IsMemoryLine text status = (text ≡ image_text faults.Memory ++ 10 ∷ []) × (status ≡ 1)

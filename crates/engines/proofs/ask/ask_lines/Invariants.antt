@@ -1,6 +1,6 @@
 -- Each request so far went out whole, and its reply was written.
 use Rattle.std.proofs.Common.{◌≡◌}
-use Rattle.engines.specs.ask.Talking.{Exchanges}
+use Rattle.engines.specs.ask.Talking.{Exchanges, talk_at}
 use Rattle.engines.specs.streams.Passing.{Asks, PassesOn}
 use Rattle.engines.proofs.ask.ask_lines.Given as goal
 
@@ -10,8 +10,8 @@ invariant-lines g l = record {
   asked : Asks (g.R.Source.rest l.fn.reader) (g.R.Source.rest l.reader) (g.S.Sink.held l.fn.stream) (g.S.Sink.held l.stream);
   printed : PassesOn (g.S.Source.rest l.fn.stream) (g.S.Source.rest l.stream) (g.W.Sink.held l.fn.writer) (g.W.Sink.held l.writer);
   order : Exchanges
-      record { unread = g.R.Source.rest l.fn.reader; sent = g.S.Sink.held l.fn.stream; unheard = g.S.Source.rest l.fn.stream; printed = g.W.Sink.held l.fn.writer }
-      record { unread = g.R.Source.rest l.reader; sent = g.S.Sink.held l.stream; unheard = g.S.Source.rest l.stream; printed = g.W.Sink.held l.writer };
+      (talk_at (g.R.Source.rest l.fn.reader) (g.S.Sink.held l.fn.stream) (g.S.Source.rest l.fn.stream) (g.W.Sink.held l.fn.writer))
+      (talk_at (g.R.Source.rest l.reader) (g.S.Sink.held l.stream) (g.S.Source.rest l.stream) (g.W.Sink.held l.writer));
   stream_reads : g.S.Source.failed_reads l.stream ≡ g.S.Source.failed_reads l.fn.stream;
   stream_writes : g.S.Sink.failed_writes l.stream ≡ g.S.Sink.failed_writes l.fn.stream;
   reader : g.R.Source.failed_reads l.reader ≡ g.R.Source.failed_reads l.fn.reader;

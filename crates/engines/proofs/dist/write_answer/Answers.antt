@@ -1,8 +1,6 @@
 -- A write that failed leaves a beginning of the answer: a reply's text, or the line of a fault.
-use Rattle.std.proofs.Common.{◌∷◌, ◌++◌, [], refl}
 use Rattle.std.proofs.lemmas.Result.{on_err_weaker}
-use Rattle.metric.specs.Refusal.{refusal_text}
-use Rattle.engines.proofs.Answering.{asked_of_reply, map_wants_memory, map_wanting_whole}
+use Rattle.engines.proofs.Answering.{asked_of_reply, map_wanting_front, map_wanting_whole}
 use Rattle.engines.proofs.dist.write_answer.Goals as goal
 
 pub returns-in-Ok-clause-front : goal.returns-in-Ok-clause-front
@@ -14,9 +12,7 @@ returns-in-Ok-clause-front g c =
 
 pub returns-in-Err-clause-front : goal.returns-in-Err-clause-front
 returns-in-Err-clause-front g c =
-    on_err_weaker c.write_refusal.result
-    (λ front. (refusal_text c.in-Err.refusal ++ 10 ∷ [], 1, map_wants_memory c.args.options.now c.args.map.now c.in-Err.refusal 1 c.in-Err.ensures.memory refl, front))
-    c.write_refusal.ensures.front
+    map_wanting_front c.args.options.now c.args.map.now c.in-Err.refusal _ _ c.write_refusal.result c.in-Err.ensures.memory c.write_refusal.ensures.front
 
 pub returns-in-Err-clause-whole : goal.returns-in-Err-clause-whole
 returns-in-Err-clause-whole g c = map_wanting_whole c.args.options.now c.args.map.now c.in-Err.refusal _ _ c.write_refusal.result c.in-Err.ensures.memory c.write_refusal.ensures.status c.write_refusal.ensures.whole
