@@ -3,8 +3,9 @@ import asyncio
 from collections import deque
 from typing import Deque, Tuple
 
-LONGEST_LINE = 16_384  # bytes of a client's line, as of a server's
-LARGEST_STAMP = 17_100_000  # bytes of a stamp's image, as of a server's
+from clearmap.requests import LARGEST_DUMP
+
+LARGEST_STAMP = LARGEST_DUMP  # bytes of a stamp's image, as of a server's
 READ = 16_384  # bytes that are read at once
 UNREAD = 32_768  # bytes of a client that wait to be done, after which no more are read
 UNTAKEN = 65_536  # bytes of replies that a client hasn't taken, after which its lines wait

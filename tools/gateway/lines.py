@@ -2,7 +2,8 @@
 import re
 from typing import List, NamedTuple, Optional, Sequence, Tuple
 
-from limits import LARGEST_STAMP, LONGEST_LINE
+from clearmap.requests import LONGEST_LINE
+from limits import LARGEST_STAMP
 from queries import KINDS, Answer, asked_of, numbers_of
 
 UNKNOWN = b"ERR 11 UnknownCommand\n"

@@ -4,8 +4,9 @@ import re
 from collections import deque
 from typing import Callable, Deque, List, Optional, Tuple, cast
 
+from clearmap.requests import LARGEST_DUMP
+
 LONGEST_REPLY = 128  # bytes of a reply line, with its line feed
-LARGEST_DUMP = 17_100_000  # bytes; the text of the largest map is below it
 REPLY = re.compile(rb"(?:OK(?: -?\d{1,10})+|NONE|ERR (?!1[34] )\d{1,2} [A-Za-z]+(?: \w+)*)\n")
 
 

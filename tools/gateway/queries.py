@@ -2,11 +2,11 @@
 import re
 from typing import Callable, List, NamedTuple, Optional, Sequence, Tuple
 
-from clearmap import Map, Near, Refused, Tightest
+from clearmap import Map, Near, Refused, Tightest, requests
+from clearmap.requests import LARGEST_SIDE
 
-METRICS = {b"euclid2": "euclid2", b"city": "city", b"chess": "chess"}
+METRICS = {name.encode(): name for name in requests.METRICS}
 LARGEST = 4_294_967_295  # of a number in a line
-LARGEST_SIDE = 4096
 NUMBER = re.compile(rb"[0-9]{1,10}")
 SHORT = 4096  # cells of a rectangle or a path that are looked at at once
 
