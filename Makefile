@@ -19,6 +19,9 @@ pages = clearmap.1 clearmap-backup.1 clearmap-gateway.1 clearmap-ros.1 clearmap-
 client = $(notdir $(wildcard clients/python/clearmap/*.py)) py.typed
 view = asking.py bodies.py changing.py draft.py following.py picture.py site_of_map.py tables.py \
     watched.py yaml_map.py $(wildcard tools/view/page/*)
+ros = clearmap_costmap.py clearmap_feed.py clearmap_follow.py clearmap_grid.py \
+    clearmap_layers.py clearmap_messages.py
+ros_commands = clearmap_node.py clearmap_ros.py clearmap_ros2_node.py
 gateway = clients.py dumps.py limits.py lines.py links.py queries.py streams.py versions.py watch.py
 
 # The library: what is proved comes from rt, and clients/c/clearmap.c goes with it.
@@ -56,10 +59,19 @@ install-program: all
 	    $(INSTALL) -D -m 644 clients/python/clearmap/$$part \
 	        '$(to)/share/clearmap/python/clearmap/'$$part || exit 1; \
 	done
-	$(INSTALL) -D -m 755 tools/ros/clearmap_ros.py '$(to)/share/clearmap/python/clearmap_ros.py'
-	$(INSTALL) -D -m 644 tools/ros/clearmap_grid.py '$(to)/share/clearmap/python/clearmap_grid.py'
-	$(INSTALL) -D -m 644 tools/ros/clearmap_feed.py '$(to)/share/clearmap/python/clearmap_feed.py'
-	$(INSTALL) -D -m 755 tools/ros/clearmap_node.py '$(to)/share/clearmap/python/clearmap_node.py'
+	for part in $(ros); do \
+	    $(INSTALL) -m 644 tools/ros/$$part '$(to)/share/clearmap/python/'$$part || exit 1; \
+	done
+	for part in $(ros_commands); do \
+	    $(INSTALL) -m 755 tools/ros/$$part '$(to)/share/clearmap/python/'$$part || exit 1; \
+	done
+	$(INSTALL) -m 644 tools/ros/package.xml '$(to)/share/clearmap/package.xml'
+	for part in launch/clearmap.launch rviz/clearmap.rviz; do \
+	    $(INSTALL) -D -m 644 tools/ros/$$part '$(to)/share/clearmap/ros/'$$part || exit 1; \
+	done
+	for part in house.png house.yaml; do \
+	    $(INSTALL) -D -m 644 examples/$$part '$(to)/share/clearmap/examples/'$$part || exit 1; \
+	done
 	$(INSTALL) -D -m 755 tools/view/clearmap_view.py '$(to)/share/clearmap/view/clearmap_view.py'
 	for part in $(view:tools/view/%=%); do \
 	    $(INSTALL) -D -m 644 tools/view/$$part '$(to)/share/clearmap/view/'$$part || exit 1; \
@@ -86,8 +98,9 @@ uninstall-program:
 	    '$(to)/share/bash-completion/completions/clearmap' '$(to)/share/pkgconfig/clearmap.pc' '$(to)/lib/systemd/system/clearmap@.service'
 	for page in $(pages); do rm -f '$(to)/share/man/man1/'$$page; done
 	rm -f '$(to)/bin/clearmap-gateway'
-	rm -rf '$(to)/share/clearmap/python' '$(to)/share/clearmap/view' '$(to)/share/clearmap/gateway' \
-	    '$(to)/share/doc/clearmap'
+	rm -f '$(to)/share/clearmap/package.xml'
+	for part in python view gateway ros examples; do rm -rf '$(to)/share/clearmap/'$$part; done
+	rm -rf '$(to)/share/doc/clearmap'
 	[ -e '$(to)/include/clearmap.h' ] || rm -rf $(shared)
 
 deb: all lib

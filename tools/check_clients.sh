@@ -1,6 +1,6 @@
 #!/bin/bash
-# Runs the tests of tools/ros and of the clients against the built program; CLEARMAP names another one. Loopback alone, and nothing is left.
-# Each test file and each server has a time limit. Wants python3; for the client in C++ a compiler, as Debian's g++, and for the node of ROS a master. What isn't installed is left out with a word.
+# Runs the tests of the clients against the built program; CLEARMAP names another one. Loopback alone, and nothing is left.
+# Each test file and each server has a time limit. Wants python3, and for the client in C++ a compiler, as Debian's g++. What isn't installed is left out with a word.
 # With the argument `long` the client in C++ has 10,000 calls interrupted, 10,000 made under signals
 # and 100,000 by eight threads: ten minutes next to other work.
 set -u
@@ -23,11 +23,8 @@ tried() { # tried PYTHON TEST
     timeout 300 "$1" "$2" > "$scratch/log" 2>&1 || { failed=1; cat "$scratch/log"; }
     echo "$2: $(sed -n 's/^Ran \([0-9]* tests\).*/\1/p' "$scratch/log"), $(tail -n 1 "$scratch/log")"
 }
-images=$(tools/python_with PIL.Image)
-[ -n "$images" ] || echo 'images other than PGM left out: there is no python3 with PIL'
-tried "${images:-python3}" tools/ros/test_clearmap_ros.py
-for test in tools/ros/test_clearmap_grid.py clients/python/test_clearmap.py \
-    clients/python/test_in_step.py clients/python/test_values.py tools/test_clearmap_backup.py; do
+for test in clients/python/test_clearmap.py clients/python/test_in_step.py \
+    clients/python/test_values.py tools/test_clearmap_backup.py; do
     tried python3 "$test"
 done
 
@@ -52,15 +49,6 @@ if command -v mypy > /dev/null && [ -n "$arrays" ]; then
     echo "mypy --strict clients/python/clearmap: $(tail -n 1 "$scratch/log")"
 else
     echo 'the types of clients/python left out: there is no mypy, or no python3 with numpy'
-fi
-
-# Debian's packages of ROS are for its own python3.
-ros=$(tools/python_with rospy, nav_msgs.msg, map_msgs.msg, visualization_msgs.msg)
-if [ -n "$ros" ] && command -v roscore > /dev/null; then
-    tried "$ros" tools/ros/test_clearmap_node.py
-    sed -n '/^[.]*seconds for a map/s/^[.]*/  /p' "$scratch/log"
-else
-    echo 'tools/ros/test_clearmap_node.py left out: there is no roscore, or no python3 with rospy, nav_msgs, map_msgs and visualization_msgs'
 fi
 
 # A server of a map with these settings; its port comes into the variable `port`.

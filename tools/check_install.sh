@@ -110,6 +110,7 @@ tried_scripts() { # tried_scripts PREFIX: the scripts and the client there
     done
     expect "$1/bin/clearmap-backup" "$("$1/bin/clearmap-backup" --help | sed -n "s/^Usage: \([a-z-]*\) .*/\1/p")" clearmap-backup
     expect 'the client in Python' "$(PYTHONPATH=$1/share/clearmap/python python3 -c 'import clearmap, clearmap_feed, clearmap_grid, clearmap_ros; print(clearmap.CITY)')" city
+    expect 'the map to start with' "$(ls "$1/share/clearmap/examples" | tr '\n' ' ')" 'house.png house.yaml '
 }
 tried_scripts "$usr"
 
@@ -128,6 +129,18 @@ print(it._found(), clearmap.distances([[True, False, False]]).tolist())')" \
     fi
 else
     echo 'the library left out: it is not built (make lib)'
+fi
+# The parts of ROS: what the node imports, and the launch file, as roslaunch finds them.
+ros=$(tools/python_with rospy, roslaunch, sensor_msgs.msg, numpy)
+if [ -n "$ros" ]; then
+    expect 'what the node imports' "$(PYTHONPATH=$usr/share/clearmap/python "$ros" -c '
+import clearmap_layers, clearmap_node
+print(clearmap_layers.__file__)')" "$usr/share/clearmap/python/clearmap_layers.py"
+    expect 'the launch file' "$(ROS_PACKAGE_PATH=$usr/share/clearmap ROS_HOME=$scratch/ros \
+        timeout 60 roslaunch --args=/clearmap clearmap clearmap.launch rviz:=false |
+        sed 's/ .*//')" "$usr/share/clearmap/python/clearmap_node.py"
+else
+    echo 'the parts of ROS left out: there is no python3 with rospy, roslaunch and sensor_msgs'
 fi
 expect 'what it links' "$(ldd "$usr/bin/clearmap" | grep -v 'vdso\|libc.so\|ld-linux')" ''
 expect 'the unit' "$(grep '^ExecStart' "$usr/lib/systemd/system/clearmap@.service")" 'ExecStart=/usr/bin/clearmap serve --connections 1000000 --port %i'

@@ -5,14 +5,15 @@ The server is one that runs, by its port, or one that is started with the first 
 import math
 import subprocess
 import threading
-from dataclasses import dataclass
-from typing import Callable, List, Optional, Sequence, Tuple, TypeVar
+from dataclasses import dataclass, replace
+from typing import Callable, Generic, List, Optional, Sequence, Tuple, TypeVar
 
 import clearmap
 import clearmap_grid as grids
 from clearmap_ros import Frame, Point, RosError, pieces
 
 T = TypeVar("T")
+Finding = Callable[[clearmap.Pinned, Tuple[int, int]], T]  # of a pinned version of this size
 PATIENCE = 10.0  # seconds for a reply
 CONNECTIONS = "1000000"
 
@@ -28,6 +29,35 @@ class Clearance:
     obstacle: Optional[Tuple[float, float]] = None
 
 
+@dataclass(frozen=True)
+class Place:
+    """Where a map lies, in which frame, and which of its cells it doesn't know: those that have 1.
+    None where it knows all."""
+
+    frame: Frame
+    frame_id: str = ""
+    unknown: Optional[grids.Grid] = None
+
+    def updated(self, area: Tuple[int, int, int, int], unknown: bytes) -> "Place":
+        """The same with what an update of an area doesn't know."""
+        if self.unknown is None and not any(unknown):
+            return self
+        size = self.frame.size
+        before = self.unknown or grids.Grid(*size, bytes(math.prod(size)))
+        return replace(self, unknown=before.updated(*area, unknown))
+
+
+@dataclass(frozen=True)
+class Newest(Generic[T]):
+    """What was found of a version, and where its map lies. Versions of one connection alone can be
+    compared, as another server counts from 0 again."""
+
+    connection: int
+    version: int
+    place: Place
+    found: T
+
+
 class Feed:
     """A map's way to a server. Its calls may come from any thread, and wait for one another."""
 
@@ -39,10 +69,21 @@ class Feed:
         self._client: Optional[clearmap.Client] = None
         self._grid: Optional[grids.Grid] = None  # what the topic said last
         self._there = False  # whether this connection's server has it
-        self.frame: Optional[Frame] = None
+        self._kept: Optional[grids.Grid] = None  # what a server of one's own is started with
+        self._connections, self._is_closed = 0, False
+        self.place: Optional[Place] = None
+
+    @property
+    def frame(self) -> Optional[Frame]:
+        """Where the last map lies; None before there is one."""
+        return self.place.frame if self.place is not None else None
 
     def close(self) -> None:
-        """Ends the connection, and a server that was started here."""
+        """Ends the connection, and a server that was started here: at once, also while it is being
+        asked."""
+        self._is_closed, server = True, self._server
+        if server is not None:
+            server.kill()
         with self._lock:
             self._lose()
             if self._server is not None:
@@ -50,22 +91,40 @@ class Feed:
                 self._server.wait()
                 self._server = None
 
-    def put(self, grid: grids.Grid, frame: Frame) -> str:
+    def keep(self, grid: grids.Grid, place: Place) -> None:
+        """Takes a map that isn't put: a server that was given has it, with what painters did, and
+        one of the node's own is started with it, and anew where it ended."""
+        with self._lock:
+            self._kept, self.place = grid, place
+
+    def put(self, grid: grids.Grid, place: Place) -> str:
         """Puts a map, and says what was done."""
         with self._lock:
             said = self._tried(lambda: self._put(grid))
-            self._grid, self.frame = grid, frame
+            self._grid, self.place = grid, place
             return said
 
-    def update(self, left: int, low: int, width: int, height: int, cells: bytes) -> str:
-        """Puts an update of the last map; its lower left cell is at column `left` and row `low`, counted upwards."""
+    def update(
+        self, left: int, low: int, size: Tuple[int, int], cells: bytes, unknown: bytes
+    ) -> str:
+        """Puts an update of the last map, and which of its cells are unknown; its lower left cell
+        is at column `left` and row `low`, counted upwards."""
         with self._lock:
-            if self._grid is None:
+            if self._grid is None or self.place is None:
                 raise RosError("an update came before its map")
-            grid = self._grid.updated(left, low, width, height, cells)
+            area = left, low, *size
+            grid = self._grid.updated(*area, cells)
             said = self._tried(lambda: self._put(grid))
-            self._grid = grid
+            self._grid, self.place = grid, self.place.updated(area, unknown)
             return said
+
+    def newest(
+        self, known: Optional[Newest[T]], find: Finding[T]
+    ) -> Optional[Newest[T]]:
+        """What is found of the newest version, unless it is known and lies where it lay; None where
+        it is, or where no map has come yet."""
+        with self._lock:
+            return self._tried(lambda: self._newer(known, self.place, find))
 
     def clearance(self, plan: Sequence[Point]) -> Clearance:
         """How far a plan in metres keeps from the obstacles of the newest version; infinite where it has none."""
@@ -107,20 +166,21 @@ class Feed:
         self, size: Tuple[int, int], grid: Optional[grids.Grid] = None
     ) -> clearmap.Client:
         """The connection to a server whose map has this size. A server of one's own that has ended,
-        or wasn't started yet, is started with this map."""
+        or wasn't started yet, is started with this map, or with the one that is kept."""
         if not self._given and (self._server is None or self._server.poll() is not None):
             self._lose()
-            self._start(grid)
+            self._start(grid or self._kept)
         if self._client is None:
             self._client = clearmap.Client(
                 self.port, timeout=PATIENCE, checkpoints=self._checkpoints, size=size
             )
+            self._connections += 1
         elif self._client.size != size:
             raise clearmap.WrongMap(size, self._client.size)
         return self._client
 
     def _start(self, grid: Optional[grids.Grid]) -> None:
-        if grid is None:
+        if grid is None or self._is_closed:
             raise clearmap.ConnectionLost("the server has ended; the next map starts another")
         words = [self._program, "serve", "--connections", CONNECTIONS, "--port", "0", "--edge", self._edge]
         try:
@@ -156,7 +216,8 @@ class Feed:
             self._there = True
             return "nothing changed"
         image, self._there = grid.pbm(area), False
-        change = self._with_room(client, lambda: client.stamp(area.x0, area.y0, image))
+        corner = area.x0, area.y0
+        change = self._with_room(client, lambda: client.stamp(*corner, image))
         version = self._with_room(client, client.publish)
         self._there = True
         return f"version {version}: {change.changed} cells of columns {area.x0} to {area.x1 - 1}, rows {area.y0} to {area.y1 - 1}"
@@ -169,6 +230,22 @@ class Feed:
         except (clearmap.VersionsFull, clearmap.BlocksFull):
             client.collect()
         return call()
+
+    def _newer(
+        self, known: Optional[Newest[T]], place: Optional[Place], find: Finding[T]
+    ) -> Optional[Newest[T]]:
+        if place is None:
+            return None
+        with self._connected(place.frame.size).pin() as pinned:
+            found: Optional[T] = None
+            if known is not None and known.connection == self._connections:
+                if known.version == pinned.version:
+                    if known.place == place:
+                        return None
+                    found = known.found
+            if found is None:
+                found = find(pinned, place.frame.size)
+            return Newest(self._connections, pinned.version, place, found)
 
     def _ask(
         self, path: Sequence[Tuple[int, int]], frame: Frame

@@ -8,12 +8,14 @@ import math
 import struct
 from dataclasses import dataclass
 from fractions import Fraction
+from itertools import chain
 from typing import Optional, Sequence, Tuple
 
-from clearmap_ros import LARGEST_SIDE, Frame, Number, RosError, exact
+from clearmap_ros import LARGEST_SIDE, UNKNOWN, Frame, Map, Number, RosError, exact, obstacles
 
 DIGITS = bytes.maketrans(b"\0\1", b"01")
 BITS = bytes.maketrans(b"01", b"\0\1")
+IS_UNKNOWN = bytes(value == UNKNOWN for value in range(256))  # of a message's -1
 NO_TURN = 1e-6  # the largest part of a quaternion, its w apart, that is taken for no turn
 
 
@@ -127,6 +129,16 @@ def grid_of_dump(image: bytes) -> Grid:
     _, size, digits = image.split(b"\n", 2)
     width, height = map(int, size.split())
     return Grid(width, height, digits.translate(BITS, b" \n"))
+
+
+def grids_of_map(known: Map, unknown_is_free: bool = False) -> Tuple[Grid, Grid]:
+    """The cells of a yaml's map, and those that it doesn't know: which are free or not as it is
+    asked."""
+    either = [obstacles(known.image, known.settings, free) for free in (False, True)]
+    safe, free = (bytes(chain.from_iterable(rows)) for rows in either)
+    unknown = bytes(map(int.__ne__, safe, free))
+    size = known.frame.size
+    return Grid(*size, free if unknown_is_free else safe), Grid(*size, unknown)
 
 
 def frame_of(width: int, height: int, resolution: float, origin: Tuple[float, float], turn: Tuple[float, float, float]) -> Frame:

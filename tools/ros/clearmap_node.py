@@ -1,9 +1,12 @@
 #!/usr/bin/env python3
-"""A node of ROS: puts the map of a topic on a clearmap server, and answers how far plans keep from its obstacles.
+"""A node of ROS: puts the map of a topic on a clearmap server, or takes a server's as it is,
+answers how far plans keep from its obstacles, and publishes each version as a costmap and as
+distances.
 
     clearmap-ros-node [_port:=7400] [map:=/map] [plan:=/move_base/NavfnROS/plan]
+    clearmap-ros-node _yaml:=map.yaml [_port:=7400]
 
-Wants rospy of ROS 1; nothing here is proved.
+Wants rospy of ROS 1 and numpy; nothing here is proved.
 """
 import argparse
 import math
@@ -19,8 +22,8 @@ sys.path[:0] = [str(folder) for folder in (HERE, TOP / "clients/python", HERE.pa
 
 import clearmap
 import clearmap_grid as grids
-from clearmap_feed import Feed
-from clearmap_ros import RosError
+from clearmap_feed import Feed, Place
+from clearmap_ros import RosError, read_map
 
 
 def program() -> str:
@@ -36,26 +39,58 @@ TOPICS = """It takes these topics, which may be named otherwise as usual (map:=/
   map_updates  map_msgs/OccupancyGridUpdate: a part of the last map
   plan         nav_msgs/Path: a plan in the map's frame, in metres
 
-and publishes these:
+and publishes these for plans:
 
-  ~clearance  std_msgs/Float64: metres from the middle of the plan's tightest cell to that of its nearest obstacle;
-              infinite where the map has no obstacle, and NaN where a plan isn't taken
+  ~clearance  std_msgs/Float64: metres from the middle of the plan's tightest cell to that of its
+              nearest obstacle; infinite where the map has no obstacle, and NaN where a plan isn't
+              taken
   ~tightest   visualization_msgs/Marker: a ball at that cell
+
+and these, latched, for each new version of the server, whoever published it:
+
+  ~map       nav_msgs/OccupancyGrid: the served map: 100 in an obstacle, else 0, and -1 in a cell
+             that the topic's or the yaml's map doesn't know and nobody has changed
+  ~costmap   nav_msgs/OccupancyGrid: the same inflated, with the values of costmap_2d: 99 within
+             robot_radius of an obstacle, from middle to middle, then 98 to 1 by
+             exp(-cost_scaling_factor * (distance - robot_radius)), and 0 beyond inflation_radius,
+             which is rounded up to whole cells
+  ~distance  sensor_msgs/PointCloud2: the middles of free cells, each with its distance in metres,
+             from middle to middle, as intensity
+  ~version   std_msgs/UInt64: the version's number, which comes last; the maps tell it as the whole
+             seconds of info.map_load_time, and all of a version have one stamp
 
 Its parameters:
 
-  ~port              the server's port; 0, which is the default, starts a server with the first map, whose port is ~server_port
-  ~edge              open; with wall the cells round the map are obstacles, on a server of the node's own
-  ~occupied_thresh   0.65: a cell above it is an obstacle
-  ~free_thresh       0.196: a cell below it is free, and one between the two an obstacle
-  ~unknown_is_free   false: unknown cells are obstacles, which is the safe choice
-  ~free_in_any_case  false: with true the clearance is the least one between any points of the two cells
-  ~checkpoints       false: with true a full log of a server that was given is emptied"""
+  ~port                 the server's port; 0, which is the default, starts a server with the first
+                        map, whose port is ~server_port
+  ~yaml                 a map.yaml: where the served map lies, and what a server of the node's own
+                        starts with; a server that was given keeps its map, and no topic is taken
+                        for one
+  ~frame_id             map: the frame of the yaml's map; that of a topic is its header's
+  ~edge                 open; with wall the cells round the map are obstacles, on a server of the
+                        node's own
+  ~occupied_thresh      0.65: a cell of the topic above it is an obstacle
+  ~free_thresh          0.196: a cell of the topic below it is free, and one between the two an
+                        obstacle
+  ~unknown_is_free      false: unknown cells are obstacles, which is the safe choice
+  ~free_in_any_case     false: with true the clearance is the least one between any points of the
+                        two cells
+  ~checkpoints          false: with true a full log of a server that was given is emptied
+  ~robot_radius         0.46, in metres
+  ~inflation_radius     0.55, in metres, not below robot_radius
+  ~cost_scaling_factor  10.0, for each metre
+  ~publish_frequency    5.0: how often in a second a newer version is looked for, up to 50
+  ~distance_points      250000: of a map with more cells each second, third .. column and row is in
+                        ~distance"""
 
 
 def parser() -> argparse.ArgumentParser:
     """The command line; the parameters and names of ROS are read by rospy."""
-    words = argparse.ArgumentParser(prog="clearmap-ros-node", usage="clearmap-ros-node [_port:=PORT] [TOPIC:=NAME ..]", description="Puts the map of a topic of ROS 1 on a clearmap server, and answers how far plans keep from its obstacles.")
+    about = "Puts the map of a topic of ROS 1 on a clearmap server, or takes the one of a server,"
+    about += " answers how far plans keep from its obstacles, and publishes each version as a"
+    about += " costmap and as distances."
+    usage = "clearmap-ros-node [_port:=PORT] [_yaml:=MAP.YAML] [_NAME:=VALUE ..] [TOPIC:=NAME ..]"
+    words = argparse.ArgumentParser(prog="clearmap-ros-node", usage=usage, description=about)
     words.epilog, words.formatter_class = TOPICS, argparse.RawDescriptionHelpFormatter
     return words
 
@@ -69,19 +104,38 @@ class Node:
         from std_msgs.msg import Float64
         from visualization_msgs.msg import Marker
 
+        from clearmap_layers import Layers
+
         self.rospy, self.number, self.marker = rospy, Float64, Marker
         reading = grids.Reading(*(rospy.get_param("~" + name, default) for name, default in (("occupied_thresh", 0.65), ("free_thresh", 0.196), ("unknown_is_free", False))))
         self.table = reading.table()
         self.safe = rospy.get_param("~free_in_any_case", False)
         self.feed = Feed(self.port(), program(), rospy.get_param("~checkpoints", False), self.edge())
+        self.layers = Layers(rospy, self.feed, reading.unknown_is_free)
         self.turns = threading.Lock()
-        self.frame_id = ""
+        yaml = rospy.get_param("~yaml", "")
+        if yaml:
+            self.keep(yaml, reading.unknown_is_free)
         self.clearances = rospy.Publisher("~clearance", Float64, queue_size=10)
         self.markers = rospy.Publisher("~tightest", Marker, queue_size=10, latch=True)
         rospy.on_shutdown(self.feed.close)
-        rospy.Subscriber("map", OccupancyGrid, self.take_map, queue_size=1, buff_size=2**25)
-        rospy.Subscriber("map_updates", OccupancyGridUpdate, self.take_update, queue_size=100)
+        self.layers.start()
+        if not yaml:
+            rospy.Subscriber("map", OccupancyGrid, self.take_map, queue_size=1, buff_size=2**25)
+            rospy.Subscriber("map_updates", OccupancyGridUpdate, self.take_update, queue_size=100)
         rospy.Subscriber("plan", Path, self.take_plan, queue_size=1)
+
+    def keep(self, yaml: str, unknown_is_free: bool) -> None:
+        """Takes the yaml's map for where the served one lies."""
+        known = read_map(yaml)
+        grid, unknown = grids.grids_of_map(known, unknown_is_free)
+        frame_id = self.rospy.get_param("~frame_id", "map")
+        self.feed.keep(grid, Place(known.frame, frame_id, unknown))
+
+    @property
+    def frame_id(self) -> str:
+        """The frame of the last map."""
+        return self.feed.place.frame_id if self.feed.place is not None else ""
 
     def port(self) -> int:
         """The port that is told; 0 where a server is to be started."""
@@ -113,13 +167,17 @@ class Node:
 
         def put() -> str:
             frame = grids.frame_of(width, height, info.resolution, (at.x, at.y), (turn.x, turn.y, turn.z))
-            cells = grids.cells_of(message.data, width, height, self.table)
-            return self.feed.put(grids.Grid(width, height, cells), frame)
+            tables = self.table, grids.IS_UNKNOWN
+            cells, unknown = (
+                grids.Grid(width, height, grids.cells_of(message.data, width, height, table))
+                for table in tables
+            )
+            return self.feed.put(cells, Place(frame, message.header.frame_id, unknown))
 
         with self.turns:
             said = self.told("a map", put)
             if said is not None:
-                self.frame_id = message.header.frame_id
+                self.layers.follower.wake()
                 self.rospy.set_param("~server_port", self.feed.port)
                 self.rospy.loginfo("a map, at port %d: %s", self.feed.port, said)
 
@@ -128,12 +186,14 @@ class Node:
         width, height = message.width, message.height
 
         def put() -> str:
-            cells = grids.cells_of(message.data, width, height, self.table)
-            return self.feed.update(message.x, message.y, width, height, cells)
+            tables = self.table, grids.IS_UNKNOWN
+            both = (grids.cells_of(message.data, width, height, table) for table in tables)
+            return self.feed.update(message.x, message.y, (width, height), *both)
 
         with self.turns:
             said = self.told("an update", put)
         if said is not None:
+            self.layers.follower.wake()
             self.rospy.loginfo("an update: %s", said)
 
     def take_plan(self, message: object) -> None:
@@ -179,7 +239,9 @@ def main() -> int:
         print(f"clearmap-ros-node: there is no master to go on with: {fault}", file=sys.stderr)
         return 1
     except ModuleNotFoundError as missing:
-        rospy.logfatal("%s isn't installed: Debian has python3-nav-msgs, python3-map-msgs and python3-visualization-msgs", missing.name)
+        packages = ("numpy", "nav-msgs", "map-msgs", "sensor-msgs", "visualization-msgs")
+        named = ", ".join("python3-" + package for package in packages)
+        rospy.logfatal("%s isn't installed: Debian has %s", missing.name, named)
         return 1
     except RosError as fault:
         rospy.logfatal("%s", fault)

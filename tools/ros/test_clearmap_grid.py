@@ -17,6 +17,8 @@ from clearmap_ros import Frame, RosError
 from served import PROGRAM, Served
 
 FRAME = Frame(6, 4, Fraction(1, 2), Fraction(-1), Fraction(-2))
+PLACE = feeds.Place(FRAME)
+CORNER = 5, 3, (1, 1), b"\1", b"\0"  # an update
 SINGLE = 0.05000000074505806  # 0.05 as a message of 32 bits has it
 
 
@@ -115,40 +117,41 @@ class Feeds(unittest.TestCase):
     def test_a_server_of_its_own(self):
         feed = self.feed(program=PROGRAM)
         self.assertRaisesRegex(RosError, "no map has come", feed.clearance, [(0, 0)])
-        self.assertRaisesRegex(RosError, "before its map", feed.update, 0, 0, 1, 1, b"\1")
-        self.assertEqual(feed.put(POST, FRAME), "nothing changed")
+        self.assertRaisesRegex(RosError, "before its map", feed.update, 0, 0, (1, 1), b"\1", b"\0")
+        self.assertEqual(feed.put(POST, PLACE), "nothing changed")
         self.assertEqual(dump_of(feed.port), (0, POST))
         wall = grid("000000", "001000", "001000", "001000")
-        self.assertEqual(feed.put(wall, FRAME), "version 1: 2 cells of columns 2 to 2, rows 2 to 3")
-        self.assertEqual(feed.put(wall, FRAME), "nothing changed")
-        self.assertEqual(feed.update(5, 3, 1, 1, b"\1"), "version 2: 1 cells of columns 5 to 5, rows 0 to 0")
+        self.assertEqual(feed.put(wall, PLACE), "version 1: 2 cells of columns 2 to 2, rows 2 to 3")
+        self.assertEqual(feed.put(wall, PLACE), "nothing changed")
+        self.assertEqual(feed.update(*CORNER), "version 2: 1 cells of columns 5 to 5, rows 0 to 0")
         self.assertEqual(dump_of(feed.port), (2, grid("000001", "001000", "001000", "001000")))
         small = grid("00", "00")
-        self.assertRaisesRegex(RosError, "2 by 2 cells, and that of the server 6 by 4", feed.put, small, FRAME)
+        sentence = "2 by 2 cells, and that of the server 6 by 4"
+        self.assertRaisesRegex(RosError, sentence, feed.put, small, PLACE)
         feed._server.kill()
         feed._server.wait()
         self.assertRaisesRegex(clearmap.ConnectionLost, "the next map starts another", feed.clearance, [(-1, -2)])
-        self.assertEqual(feed.put(POST, FRAME), "nothing changed")
+        self.assertEqual(feed.put(POST, PLACE), "nothing changed")
         self.assertEqual(dump_of(feed.port), (0, POST))
 
     def test_plans(self):
         feed = self.feed(program=PROGRAM)
-        feed.put(POST, FRAME)
+        feed.put(POST, PLACE)
         # the post's middle is at (0.25, -0.75); the plan goes along the lowest row, two rows below it
         found = feed.clearance([(-0.9, -1.9), (1.9, -1.9)])
         self.assertEqual((found.version, found.metres, found.cell, found.obstacle), (0, 1.0, (0.25, -1.75), (0.25, -0.75)))
         self.assertAlmostEqual(found.free_metres, 1.0 - math.sqrt(2) / 2)
         self.assertRaisesRegex(RosError, "isn't on the map", feed.clearance, [(-0.9, -1.9), (3.0, -1.9)])
         self.assertRaisesRegex(RosError, "has no point", feed.clearance, [])
-        feed.put(grid("000000", "000000", "000000", "000000"), FRAME)
+        feed.put(grid("000000", "000000", "000000", "000000"), PLACE)
         self.assertEqual(feed.clearance([(0, 0 - 0.1)]), feeds.Clearance(1, math.inf, math.inf))
         long = [(-0.9 + 2.8 * (turn % 2), -1.9 + 0.5 * (turn // 2 % 2)) for turn in range(3000)]
-        feed.put(POST, FRAME)
+        feed.put(POST, PLACE)
         self.assertEqual(feed.clearance(long).metres, 0.5)
 
     def test_walls(self):
         feed = self.feed(program=PROGRAM, edge="wall")
-        feed.put(grid("000000", "000000", "000000", "000000"), FRAME)
+        feed.put(grid("000000", "000000", "000000", "000000"), PLACE)
         # the obstacle is the cell of the frame to the left of the map's lower left cell
         found = feed.clearance([(-0.9, -1.9), (-0.9, -1.9)])
         self.assertEqual((found.metres, found.cell, found.obstacle), (0.5, (-0.75, -1.75), (-1.25, -1.75)))
@@ -159,39 +162,42 @@ class Feeds(unittest.TestCase):
         with clearmap.Client(served.port) as other:
             other.paint(5, 0, 6, 1)
             other.publish()
-            self.assertEqual(feed.put(POST, FRAME), "version 2: 2 cells of columns 2 to 5, rows 0 to 1")
+            said = "version 2: 2 cells of columns 2 to 5, rows 0 to 1"
+            self.assertEqual(feed.put(POST, PLACE), said)
             other.paint(5, 0, 6, 1)
             other.publish()
         # what another painter published stays, where the topic's map doesn't change
-        self.assertEqual(feed.put(grid("000000", "001000", "000000", "100000"), FRAME), "version 4: 1 cells of columns 0 to 0, rows 3 to 3")
+        newer = grid("000000", "001000", "000000", "100000")
+        said = "version 4: 1 cells of columns 0 to 0, rows 3 to 3"
+        self.assertEqual(feed.put(newer, PLACE), said)
         self.assertEqual(dump_of(served.port), (4, grid("000001", "001000", "000000", "100000")))
         served.end()
-        self.assertRaises(clearmap.ConnectionLost, feed.put, POST, FRAME)
+        self.assertRaises(clearmap.ConnectionLost, feed.put, POST, PLACE)
         again = self.served(b"P1\n6 4\n000000\n000000\n000000\n000000\n", port=served.port)
-        self.assertEqual(feed.put(POST, FRAME), "version 1: 1 cells of columns 2 to 2, rows 1 to 1")
+        self.assertEqual(feed.put(POST, PLACE), "version 1: 1 cells of columns 2 to 2, rows 1 to 1")
         self.assertEqual(dump_of(again.port), (1, POST))
 
     def test_full_versions_and_a_full_log(self):
         served = self.served(b"P1\n6 4\n000000\n000000\n000000\n000000\n", "--versions", "2", "--log", "100")
         feed = self.feed(served.port, checkpoints=True)
         for turn in range(100):
-            feed.put(POST if turn % 2 == 0 else grid("000000", "000000", "000000", "000000"), FRAME)
+            feed.put(POST if turn % 2 == 0 else grid("000000", "000000", "000000", "000000"), PLACE)
         self.assertEqual(dump_of(served.port)[0], 100)
         plain = self.served(b"P1\n6 4\n000000\n000000\n000000\n000000\n", "--log", "1")
-        self.assertRaises(clearmap.LogFull, self.feed(plain.port).put, POST, FRAME)
+        self.assertRaises(clearmap.LogFull, self.feed(plain.port).put, POST, PLACE)
 
     def test_another_map(self):
         """No metres are told of a map that isn't of the size of the topic's."""
         served = self.served(POST.pbm())
         feed = self.feed(served.port)
         plan = [(-0.9, -1.9), (1.9, -1.9)]
-        feed.put(POST, FRAME)
+        feed.put(POST, PLACE)
         self.assertEqual(feed.clearance(plan).metres, 1.0)
         served.end()
         other = self.served(b"P1\n8 8\n" + b"0" * 63 + b"1", port=served.port)
         self.assertRaisesRegex(clearmap.WrongMap, "8 by 8 cells, and 6 by 4", feed.clearance, plan)
         sentence = "6 by 4 cells, and that of the server 8 by 8: it isn't put"
-        self.assertRaisesRegex(RosError, sentence, feed.put, POST, FRAME)
+        self.assertRaisesRegex(RosError, sentence, feed.put, POST, PLACE)
         self.assertRaises(clearmap.WrongMap, feed.clearance, plan)
         other.end()
         self.served(POST.pbm(), port=served.port)
@@ -200,9 +206,11 @@ class Feeds(unittest.TestCase):
     def test_no_server_and_no_program(self):
         served = self.served(POST.pbm())
         served.end()
-        self.assertRaisesRegex(clearmap.ConnectionLost, "no server at", self.feed(served.port).put, POST, FRAME)
-        self.assertRaisesRegex(RosError, "can't be run", self.feed(program="/nowhere/clearmap").put, POST, FRAME)
-        self.assertRaisesRegex(RosError, "said ''", self.feed(program="/bin/true").put, POST, FRAME)
+        put = self.feed(served.port).put
+        self.assertRaisesRegex(clearmap.ConnectionLost, "no server at", put, POST, PLACE)
+        put = self.feed(program="/nowhere/clearmap").put
+        self.assertRaisesRegex(RosError, "can't be run", put, POST, PLACE)
+        self.assertRaisesRegex(RosError, "said ''", self.feed(program="/bin/true").put, POST, PLACE)
 
 
 if __name__ == "__main__":

@@ -1,0 +1,182 @@
+"""What a costmap and a picture of distances are made of: the distances of one version, by rows from
+the top, and a robot's radii. Wants numpy, no ROS; nothing here is proved.
+
+A costmap has the values that ROS's costmap_2d publishes: 100 in an obstacle, 99 where the robot's
+middle may not be, then less and less, 0 beyond the inflation radius, and -1 in unknown cells.
+"""
+import array
+import math
+import os
+from dataclasses import dataclass
+from fractions import Fraction
+from typing import TYPE_CHECKING, List, Optional, Tuple
+
+import numpy
+
+import clearmap
+from clearmap_grid import Grid
+from clearmap_ros import Frame, Number, RosError, exact
+
+if TYPE_CHECKING:
+    from numpy.typing import NDArray
+
+    Squares = NDArray[numpy.uint32]
+    Values = NDArray[numpy.int8]
+    Cells = NDArray[numpy.bool_]
+
+OBSTACLE, INSCRIBED, UNKNOWN = 100, 99, -1
+LARGEST_COST = 252  # what costmap_2d has just outside the robot's radius; it publishes 98 for it
+LARGEST_RADIUS = 1000  # cells
+POINT = numpy.dtype([(name, "<f4") for name in ("x", "y", "z", "intensity")])
+THREADS = min(4, os.cpu_count() or 1)  # that share the rows of a version
+
+
+# ---- costs
+
+
+@dataclass(frozen=True)
+class Inflation:
+    """How a costmap's values fall with the distance, in metres, by the names of costmap_2d."""
+
+    robot_radius: Number = 0.46
+    inflation_radius: Number = 0.55
+    cost_scaling_factor: Number = 10.0
+
+    def numbers(self) -> Tuple[Fraction, Fraction, Fraction]:
+        """The three, in this order; what makes no sense is refused."""
+        robot, inflated = exact(self.robot_radius), exact(self.inflation_radius)
+        scaling = exact(self.cost_scaling_factor)
+        if not 0 <= robot <= inflated or scaling < 0:
+            raise RosError(
+                f"robot_radius is {self.robot_radius}, inflation_radius {self.inflation_radius} and"
+                f" cost_scaling_factor {self.cost_scaling_factor}: none is below 0, and the first"
+                " isn't above the second"
+            )
+        return robot, inflated, scaling
+
+    def values(self, resolution: Fraction) -> "Values":
+        """The value of a cell for each square of its distance in cells, which is taken from middle
+        to middle; the last one is for all that are farther."""
+        robot, inflated, scaling = self.numbers()
+        cells = math.ceil(inflated / resolution)
+        if cells > LARGEST_RADIUS:
+            raise RosError(f"an inflation_radius of {cells} cells, and {LARGEST_RADIUS} are most")
+        metres = numpy.sqrt(numpy.arange(cells * cells + 2)) * float(resolution)
+        values = falling(metres - float(robot), float(scaling))
+        values[: math.floor((robot / resolution) ** 2) + 1] = INSCRIBED
+        values[0], values[-1] = OBSTACLE, 0
+        return values
+
+
+def falling(beyond: "NDArray[numpy.float64]", scaling: float) -> "Values":
+    """What costmap_2d publishes so many metres beyond the robot's radius."""
+    costs = (LARGEST_COST * numpy.exp(-scaling * numpy.maximum(beyond, 0))).astype(numpy.int64)
+    values: "Values" = numpy.where(costs > 0, 1 + 97 * (costs - 1) // 251, 0).astype(numpy.int8)
+    return values
+
+
+@dataclass(frozen=True)
+class Unknown:
+    """The cells that a map doesn't know, and whether they were made free."""
+
+    cells: "Cells"
+    are_free: bool = False
+
+    def mark(self, values: "Values") -> None:
+        """Puts -1 to unknown cells, where they still are what they were made. A free one keeps a
+        value of 99 and more, as in costmap_2d."""
+        untouched = values < INSCRIBED if self.are_free else values == OBSTACLE
+        values[self.cells & untouched] = UNKNOWN
+
+
+def unknown_of(grid: Optional[Grid], are_free: bool = False) -> Optional[Unknown]:
+    """The unknown cells of a grid that has 1 for them."""
+    if grid is None:
+        return None
+    cells = numpy.frombuffer(grid.cells, numpy.bool_).reshape(grid.height, grid.width)
+    return Unknown(cells, are_free)
+
+
+def costs(squares: "Squares", values: "Values", unknown: Optional[Unknown] = None) -> "Values":
+    """A costmap of distances."""
+    found = values.take(squares, mode="clip")
+    if unknown is not None:
+        unknown.mark(found)
+    return found
+
+
+def occupancy(squares: "Squares", unknown: Optional[Unknown] = None) -> "Values":
+    """The map itself: 100 in an obstacle, else 0."""
+    return costs(squares, numpy.array([OBSTACLE, 0], numpy.int8), unknown)
+
+
+def from_below(values: "Values") -> "array.array[int]":
+    """The values of a message, by rows from the lowest, as ROS counts them."""
+    return array.array("b", values[::-1].tobytes())
+
+
+# ---- distances as points
+
+
+def step_of(size: Tuple[int, int], most: int) -> int:
+    """Of how many columns and rows one is taken, so that there are so many points at most."""
+    step = 1
+    while math.prod(-(-side // step) for side in size) > most:
+        step += 1
+    return step
+
+
+def cloud(squares: "Squares", frame: Frame, most: int) -> bytes:
+    """The middles of free cells in metres, each with its distance from middle to middle: x, y, z
+    and intensity in four bytes each, the low one first. Of a large map each second, third .. column
+    and row is taken, so that there are `most` points at most. None where there is no obstacle."""
+    step = step_of(frame.size, most)
+    taken = squares[::step, ::step]
+    rows, columns = numpy.nonzero((taken > 0) & (taken < clearmap.NO_OBSTACLE))
+    points = numpy.zeros(rows.size, POINT)
+    side = float(frame.resolution)
+    points["x"] = float(frame.origin_x) + (step * columns + 0.5) * side
+    points["y"] = float(frame.origin_y) + (frame.height - step * rows - 0.5) * side
+    points["intensity"] = numpy.sqrt(taken[rows, columns]) * side
+    return points.tobytes()
+
+
+# ---- distances of a version
+
+
+def no_library() -> str:
+    """Why distances aren't worked out in this process; an empty text where they are."""
+    try:
+        clearmap.Map(numpy.zeros((1, 1), bool))
+    except ImportError as fault:
+        return str(fault)
+    return ""
+
+
+def squares_of(pinned: clearmap.Pinned, size: Tuple[int, int]) -> "Squares":
+    """The `euclid2` distances of a pinned version: by one DUMP and the library in this process, or
+    where there is none by a query of each cell."""
+    try:
+        return pinned.distances(threads=THREADS)
+    except ImportError:
+        return asked(pinned, size)
+
+
+def asked(pinned: clearmap.Pinned, size: Tuple[int, int]) -> "Squares":
+    """The same by the server, row by row."""
+    width, height = size
+    return numpy.array([asked_row(pinned, width, y) for y in range(height)], numpy.uint32)
+
+
+def asked_row(pinned: clearmap.Pinned, width: int, y: int) -> List[int]:
+    """The distances of a row by the server."""
+    queries = clearmap.Queries()
+    for x in range(width):
+        queries.at(x, y)
+    found = []
+    for answer in pinned.ask(queries):
+        if isinstance(answer, clearmap.Refused):
+            raise answer
+        near = answer.distance if isinstance(answer, clearmap.Near) else clearmap.NO_OBSTACLE
+        found.append(near)
+    return found

@@ -1,0 +1,128 @@
+#!/usr/bin/env python3
+"""A node of ROS 2, tried with stand-ins for rclpy alone: it never ran with ROS 2 itself.
+
+    clearmap_ros2_node.py --ros-args -p yaml:=map.yaml -p port:=7400 -r plan:=/plan
+
+It publishes each version of a clearmap server as clearmap-ros-node does, by the same parameters and
+under the same names, and the clearance of plans. The map is that of the yaml; none is taken from a
+topic. Nothing here is proved.
+"""
+import math
+import pathlib
+import sys
+from typing import Any
+
+HERE = pathlib.Path(__file__).resolve().parent
+PYTHON = (HERE.parent.parent / "clients/python", HERE.parent / "python")
+sys.path[:0] = [str(folder) for folder in (HERE, *PYTHON) if folder.is_dir()]
+
+import rclpy
+from builtin_interfaces.msg import Time
+from nav_msgs.msg import OccupancyGrid, Path
+from rclpy.executors import ExternalShutdownException
+from rclpy.node import Node
+from rclpy.qos import DurabilityPolicy, QoSProfile
+from sensor_msgs.msg import PointCloud2, PointField
+from std_msgs.msg import Float64, UInt64
+
+import clearmap
+import clearmap_grid as grids
+from clearmap_costmap import Inflation
+from clearmap_feed import Feed, Place
+from clearmap_follow import Follower, Shown, pause_of
+from clearmap_messages import LAYERS, Kinds, Painter
+from clearmap_node import program
+from clearmap_ros import RosError, read_map
+
+KINDS = Kinds(OccupancyGrid, PointCloud2, PointField, UInt64, lambda seconds: Time(sec=seconds))
+
+
+class ClearmapNode(Node):  # type: ignore[misc]
+    """The topics of one map."""
+
+    def __init__(self) -> None:
+        super().__init__("clearmap")
+        latched = QoSProfile(depth=1, durability=DurabilityPolicy.TRANSIENT_LOCAL)
+        self.layers = [
+            self.create_publisher(getattr(KINDS, kind), "~/" + name, latched)
+            for name, kind in LAYERS
+        ]
+        is_free = self.value("unknown_is_free", False)
+        self.painter = self.painter_of(is_free)
+        self.feed = Feed(self.value("port", 0), program(), edge=self.value("edge", "open"))
+        self.keep(self.value("yaml", ""), is_free)
+        self.clearances = self.create_publisher(Float64, "~/clearance", 10)
+        self.create_subscription(Path, "plan", self.take_plan, 1)
+        pause = pause_of(self.value("publish_frequency", 5.0))
+        self.follower = Follower(self.feed, pause, self.show, self.get_logger().warning)
+
+    def value(self, name: str, default: Any) -> Any:
+        """A parameter."""
+        return self.declare_parameter(name, default).value
+
+    def painter_of(self, is_free: bool) -> Painter:
+        """What makes the messages."""
+        usual = Inflation()
+        names = ("robot_radius", "inflation_radius", "cost_scaling_factor")
+        inflation = Inflation(*(self.value(name, getattr(usual, name)) for name in names))
+        return Painter(KINDS, inflation, is_free, self.value("distance_points", Painter.points))
+
+    def keep(self, yaml: str, is_free: bool) -> None:
+        """Takes the yaml's map for where the served one lies."""
+        if not yaml:
+            raise RosError("there is no yaml: -p yaml:=map.yaml")
+        known = read_map(yaml)
+        grid, unknown = grids.grids_of_map(known, is_free)
+        self.feed.keep(grid, Place(known.frame, self.value("frame_id", "map"), unknown))
+
+    def show(self, shown: Shown) -> None:
+        """Publishes a version, its number last."""
+        layers = self.painter.layers(shown, self.get_clock().now().to_msg())
+        for publisher, message in zip(self.layers, layers):
+            publisher.publish(message)
+        said = f"version {shown.version} at port {self.feed.port} is published"
+        self.get_logger().info(said)
+
+    def take_plan(self, message: Any) -> None:
+        """Answers a plan's clearance; NaN where it isn't taken."""
+        metres = math.nan
+        try:
+            metres = self.clearance(message)
+        except (RosError, clearmap.ClearmapError) as fault:
+            self.get_logger().warning(f"a plan isn't taken: {fault}")
+        self.clearances.publish(Float64(data=metres))
+
+    def clearance(self, message: Any) -> float:
+        """Metres from the plan's tightest cell to its nearest obstacle, from middle to middle."""
+        place, frame_id = self.feed.place, message.header.frame_id
+        if place is not None and frame_id != place.frame_id:
+            raise RosError(f"it is in the frame '{frame_id}', and the map in '{place.frame_id}'")
+        points = [(pose.pose.position.x, pose.pose.position.y) for pose in message.poses]
+        return self.feed.clearance(points).metres
+
+    def end(self) -> None:
+        """Leaves the server, and ends one of the node's own."""
+        self.follower.stop()
+        self.feed.close()
+
+
+def main() -> int:
+    """Runs until a signal ends it. Status 1 where a parameter is refused."""
+    rclpy.init(args=sys.argv)
+    try:
+        node = ClearmapNode()
+    except RosError as fault:
+        print(f"clearmap_ros2_node.py: {fault}", file=sys.stderr)
+        return 1
+    try:
+        node.follower.start()
+        rclpy.spin(node)
+    except (KeyboardInterrupt, ExternalShutdownException):
+        pass
+    finally:
+        node.end()
+    return 0
+
+
+if __name__ == "__main__":
+    sys.exit(main())
