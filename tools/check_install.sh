@@ -134,7 +134,7 @@ fi
 ros=$(tools/python_with rospy, roslaunch, sensor_msgs.msg, numpy)
 if [ -n "$ros" ]; then
     expect 'what the node imports' "$(PYTHONPATH=$usr/share/clearmap/python "$ros" -c '
-import clearmap_layers, clearmap_node
+import clearmap_node, clearmap_layers
 print(clearmap_layers.__file__)')" "$usr/share/clearmap/python/clearmap_layers.py"
     expect 'the launch file' "$(ROS_PACKAGE_PATH=$usr/share/clearmap ROS_HOME=$scratch/ros \
         timeout 60 roslaunch --args=/clearmap clearmap clearmap.launch rviz:=false |

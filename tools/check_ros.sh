@@ -1,8 +1,8 @@
 #!/bin/sh
 # Runs the tests of tools/ros against the built program; CLEARMAP names another one, and
 # CLEARMAP_LIBRARY another library. Loopback alone, and nothing is left.
-# Wants python3; numpy for costmaps, python3-pil for images other than PGM, and for the node of ROS 1
-# a master and its packages. What isn't installed is left out with a word.
+# Wants python3; numpy for costmaps, python3-pil for images other than PGM, and for the node of ROS
+# 1 a master and its packages. What isn't installed is left out with a word.
 set -u
 cd "$(dirname "$0")/.." || exit 1
 CLEARMAP=${CLEARMAP:-$PWD/crates/clearmap/out/clearmap}
@@ -48,8 +48,10 @@ else
     echo '  nav_msgs, map_msgs, sensor_msgs and visualization_msgs'
 fi
 if command -v mypy > /dev/null && [ -n "$arrays" ]; then
-    MYPYPATH=clients/python:tools/ros timeout 300 mypy --strict --cache-dir /dev/null \
-        --python-executable "$(command -v "$arrays")" tools/ros/clearmap_messages.py > "$log" 2>&1 ||
+    export MYPYPATH=clients/python:tools/ros:tools/view
+    own=$(ls tools/ros/clearmap_*.py | grep -v 'layers\|node')
+    timeout 300 mypy --strict --follow-imports silent --cache-dir /dev/null \
+        --python-executable "$(command -v "$arrays")" $own > "$log" 2>&1 ||
         { failed=1; cat "$log"; }
     echo "mypy --strict tools/ros: $(tail -n 1 "$log")"
 else

@@ -55,7 +55,9 @@ def paragraphs(after):
         if head in ("Examples:", "Example:"):
             page += [".PP", head, *verbatim([line.strip() for line in indented])]
         elif indented:
-            page += [".PP", plain("\n".join(line for line in lines if not line.startswith("  "))), *verbatim([line.strip() for line in indented])]
+            told = [line for line in lines if not line.startswith("  ")]
+            listed = verbatim([line[2:].rstrip() for line in indented])
+            page += [".PP", plain("\n".join(told)), *listed]
         else:
             page += [".PP", plain(paragraph)]
     return page

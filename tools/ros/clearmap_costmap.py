@@ -9,13 +9,14 @@ import math
 import os
 from dataclasses import dataclass
 from fractions import Fraction
-from typing import TYPE_CHECKING, List, Optional, Tuple
+from typing import TYPE_CHECKING, Optional, Tuple
 
 import numpy
 
 import clearmap
 from clearmap_grid import Grid
 from clearmap_ros import Frame, Number, RosError, exact
+from tables import by_program
 
 if TYPE_CHECKING:
     from numpy.typing import NDArray
@@ -28,7 +29,7 @@ OBSTACLE, INSCRIBED, UNKNOWN = 100, 99, -1
 LARGEST_COST = 252  # what costmap_2d has just outside the robot's radius; it publishes 98 for it
 LARGEST_RADIUS = 1000  # cells
 POINT = numpy.dtype([(name, "<f4") for name in ("x", "y", "z", "intensity")])
-THREADS = min(4, os.cpu_count() or 1)  # that share the rows of a version
+THREADS = min(4, os.cpu_count() or 1)  # that share a version's rows
 
 
 # ---- costs
@@ -144,39 +145,32 @@ def cloud(squares: "Squares", frame: Frame, most: int) -> bytes:
 # ---- distances of a version
 
 
-def no_library() -> str:
-    """Why distances aren't worked out in this process; an empty text where they are."""
-    try:
-        clearmap.Map(numpy.zeros((1, 1), bool))
-    except ImportError as fault:
-        return str(fault)
-    return ""
-
-
-def squares_of(pinned: clearmap.Pinned, size: Tuple[int, int]) -> "Squares":
+def squares_of(pinned: clearmap.Pinned, program: str) -> "Squares":
     """The `euclid2` distances of a pinned version: by one DUMP and the library in this process, or
-    where there is none by a query of each cell."""
+    where there is none by a run of `clearmap dist`."""
     try:
         return pinned.distances(threads=THREADS)
     except ImportError:
-        return asked(pinned, size)
+        return by_runs(pinned, program)
 
 
-def asked(pinned: clearmap.Pinned, size: Tuple[int, int]) -> "Squares":
-    """The same by the server, row by row."""
-    width, height = size
-    return numpy.array([asked_row(pinned, width, y) for y in range(height)], numpy.uint32)
-
-
-def asked_row(pinned: clearmap.Pinned, width: int, y: int) -> List[int]:
-    """The distances of a row by the server."""
-    queries = clearmap.Queries()
-    for x in range(width):
-        queries.at(x, y)
-    found = []
-    for answer in pinned.ask(queries):
-        if isinstance(answer, clearmap.Refused):
-            raise answer
-        near = answer.distance if isinstance(answer, clearmap.Near) else clearmap.NO_OBSTACLE
-        found.append(near)
+def by_runs(pinned: clearmap.Pinned, program: str) -> "Squares":
+    """The same by the program. A dump doesn't say whether the border is a wall: the server is asked
+    about a cell of the border whose answer tells it."""
+    image = pinned.dump()
+    found = by_program(program, image, clearmap.EUCLID2, clearmap.OPEN)
+    cell = telling(found)
+    near = pinned.at(*cell) if cell is not None else None
+    if near is not None and near.distance == 1:
+        return by_program(program, image, clearmap.EUCLID2, clearmap.WALL)
     return found
+
+
+def telling(squares: "Squares") -> Optional[Tuple[int, int]]:
+    """A cell of the border that has another distance where the border is a wall, which is then 1.
+    None where there is no such cell; then no other cell has another distance either, as what is
+    next to a cell of the border isn't farther than the frame from any cell."""
+    border = numpy.zeros(squares.shape, bool)
+    border[[0, -1]] = border[:, [0, -1]] = True
+    rows, columns = numpy.nonzero(border & (squares > 1))
+    return (int(columns[0]), int(rows[0])) if rows.size else None

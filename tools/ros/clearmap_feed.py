@@ -13,7 +13,6 @@ import clearmap_grid as grids
 from clearmap_ros import Frame, Point, RosError, pieces
 
 T = TypeVar("T")
-Finding = Callable[[clearmap.Pinned, Tuple[int, int]], T]  # of a pinned version of this size
 PATIENCE = 10.0  # seconds for a reply
 CONNECTIONS = "1000000"
 
@@ -62,7 +61,7 @@ class Feed:
     """A map's way to a server. Its calls may come from any thread, and wait for one another."""
 
     def __init__(self, port: int = 0, program: str = "clearmap", checkpoints: bool = False, edge: str = "open") -> None:
-        self.port, self._given, self._program, self._edge = port, port != 0, program, edge
+        self.port, self._given, self.program, self._edge = port, port != 0, program, edge
         self._checkpoints = checkpoints or not self._given
         self._lock = threading.Lock()
         self._server: Optional["subprocess.Popen[bytes]"] = None
@@ -119,7 +118,7 @@ class Feed:
             return said
 
     def newest(
-        self, known: Optional[Newest[T]], find: Finding[T]
+        self, known: Optional[Newest[T]], find: Callable[[clearmap.Pinned], T]
     ) -> Optional[Newest[T]]:
         """What is found of the newest version, unless it is known and lies where it lay; None where
         it is, or where no map has come yet."""
@@ -182,11 +181,12 @@ class Feed:
     def _start(self, grid: Optional[grids.Grid]) -> None:
         if grid is None or self._is_closed:
             raise clearmap.ConnectionLost("the server has ended; the next map starts another")
-        words = [self._program, "serve", "--connections", CONNECTIONS, "--port", "0", "--edge", self._edge]
+        words = [self.program, "serve", "--connections", CONNECTIONS, "--port", "0"]
+        words += ["--edge", self._edge]
         try:
             server = subprocess.Popen(words, stdin=subprocess.PIPE, stdout=subprocess.PIPE)
         except OSError as fault:
-            raise RosError(f"the program '{self._program}' can't be run: {fault.strerror}") from None
+            raise RosError(f"the program '{self.program}' can't be run: {fault.strerror}") from None
         assert server.stdin is not None and server.stdout is not None
         try:
             with server.stdin:
@@ -198,7 +198,8 @@ class Feed:
         if len(said) != 2 or said[0] != b"LISTENING":
             server.kill()
             server.wait()
-            raise RosError(f"'{self._program} serve' said '{b' '.join(said).decode('ascii', 'replace')}'")
+            line = b" ".join(said).decode("ascii", "replace")
+            raise RosError(f"'{self.program} serve' said '{line}'")
         self._server, self.port = server, int(said[1])
 
     def _put(self, grid: grids.Grid) -> str:
@@ -232,7 +233,10 @@ class Feed:
         return call()
 
     def _newer(
-        self, known: Optional[Newest[T]], place: Optional[Place], find: Finding[T]
+        self,
+        known: Optional[Newest[T]],
+        place: Optional[Place],
+        find: Callable[[clearmap.Pinned], T],
     ) -> Optional[Newest[T]]:
         if place is None:
             return None
@@ -244,7 +248,7 @@ class Feed:
                         return None
                     found = known.found
             if found is None:
-                found = find(pinned, place.frame.size)
+                found = find(pinned)
             return Newest(self._connections, pinned.version, place, found)
 
     def _ask(

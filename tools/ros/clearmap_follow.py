@@ -1,5 +1,6 @@
 """Follows the newest version of a server for what shows it, in a thread of its own. No ROS is
 wanted, and nothing here is proved."""
+import functools
 import threading
 from typing import TYPE_CHECKING, Callable, Optional
 
@@ -7,12 +8,13 @@ import clearmap
 from clearmap_costmap import squares_of
 from clearmap_feed import Feed, Newest
 from clearmap_ros import RosError
+from tables import TableError
 
 if TYPE_CHECKING:
     from clearmap_costmap import Squares
 
 MOST_LOOKS = 50.0  # a second
-FAULTS = (RosError, clearmap.ClearmapError, MemoryError)
+FAULTS = (RosError, clearmap.ClearmapError, TableError, MemoryError)
 Shown = Newest["Squares"]
 
 
@@ -37,6 +39,7 @@ class Follower:
         warn: Callable[[str], None],
     ) -> None:
         self._feed, self._pause, self._show, self._warn = feed, pause, show, warn
+        self._squares = functools.partial(squares_of, program=feed.program)
         self._shown: Optional[Shown] = None
         self._told = ""  # the kind of the fault that was told
         self._is_ended = False
@@ -65,7 +68,7 @@ class Follower:
     def look(self) -> None:
         """Looks once, and shows what is new."""
         try:
-            found = self._feed.newest(self._shown, squares_of)
+            found = self._feed.newest(self._shown, self._squares)
             if found is not None and not self._is_ended:
                 self._show(found)
                 self._shown = found

@@ -2,10 +2,11 @@
 version's number. Nothing here is proved."""
 from typing import Any, Dict
 
-from clearmap_costmap import Inflation, no_library
+from clearmap_costmap import Inflation
 from clearmap_feed import Feed
 from clearmap_follow import Follower, Shown, pause_of
 from clearmap_messages import LAYERS, Kinds, Painter
+from tables import no_library
 
 FREQUENCY = 5.0  # looks a second
 
@@ -42,7 +43,8 @@ class Layers:
         """Begins to follow the server."""
         why = no_library()
         if why:
-            self.rospy.logwarn("the server is asked for the distance of each cell: %s", why)
+            words = "each version takes a run of %s: %s"
+            self.rospy.logwarn(words, self.feed.program, why)
         self.rospy.on_shutdown(self.follower.stop)
         self.follower.start()
 

@@ -18,7 +18,8 @@ import threading
 
 HERE = pathlib.Path(__file__).resolve().parent
 TOP = HERE.parent.parent
-sys.path[:0] = [str(folder) for folder in (HERE, TOP / "clients/python", HERE.parent / "python") if folder.is_dir()]
+FOLDERS = (HERE, TOP / "clients/python", HERE.parent / "python", HERE.parent / "view")
+sys.path[:0] = [str(folder) for folder in FOLDERS if folder.is_dir()]
 
 import clearmap
 import clearmap_grid as grids

@@ -13,8 +13,9 @@ import sys
 from typing import Any
 
 HERE = pathlib.Path(__file__).resolve().parent
-PYTHON = (HERE.parent.parent / "clients/python", HERE.parent / "python")
-sys.path[:0] = [str(folder) for folder in (HERE, *PYTHON) if folder.is_dir()]
+TOP = HERE.parent.parent
+FOLDERS = (HERE, TOP / "clients/python", HERE.parent / "python", HERE.parent / "view")
+sys.path[:0] = [str(folder) for folder in FOLDERS if folder.is_dir()]
 
 import rclpy
 from builtin_interfaces.msg import Time

@@ -14,8 +14,8 @@ from unittest import mock
 import numpy
 
 HERE = pathlib.Path(__file__).resolve().parent
-PYTHON = HERE.parent.parent / "clients/python"
-sys.path[:0] = [str(HERE), str(HERE.parent), str(PYTHON)]
+FOLDERS = HERE, HERE.parent, HERE.parent.parent / "clients/python", HERE.parent / "view"
+sys.path[:0] = [str(folder) for folder in FOLDERS]
 
 import clearmap
 import clearmap_costmap as costmaps
@@ -245,18 +245,38 @@ class Following(unittest.TestCase):
         self.assertEqual(self.told, [])
 
     def test_without_the_library(self):
-        """The server's own answers are the same, by either edge and without an obstacle."""
+        """Runs of the program are the same, by either edge, with many obstacles and with none; also
+        where the border tells nothing."""
         draw = random.Random(15)
         missing = mock.Mock(side_effect=ImportError("there is no library"))
-        for edge in ("open", "wall", "open"):
-            cells = [[edge == "wall" and draw.random() < 0.1 for _ in range(90)] for _ in range(7)]
-            flat = bytes(int(it) for row in cells for it in row)
-            served = self.served(grids.Grid(90, 7, flat).pbm(), "--edge", edge)
+        for turn in range(12):
+            edge, share = draw.choice(("open", "wall")), draw.choice((0, 0.02, 0.3))
+            width, height = draw.randint(1, 70), draw.randint(1, 30)
+            full = draw.random() < 0.3  # the border
+            rows = [[draw.random() < share for _ in range(width)] for _ in range(height)]
+            cells = numpy.array(rows)
+            cells[[0, -1]] |= full
+            cells[:, [0, -1]] |= full
+            flat = cells.tobytes()
+            served = self.served(grids.Grid(width, height, flat).pbm(), "--edge", edge)
             with clearmap.Client(served.port) as client, client.pin() as pinned:
-                by_library = costmaps.squares_of(pinned, (90, 7))
+                wanted = clearmap.distances(cells, edge=edge)
                 with mock.patch.object(clearmap.Pinned, "distances", missing):
-                    asked = costmaps.squares_of(pinned, (90, 7))
-            self.assertTrue((asked == by_library).all() and asked.dtype == by_library.dtype)
+                    found = costmaps.squares_of(pinned, PROGRAM)
+                self.assertTrue((found == wanted).all(), (turn, edge, share, full))
+                self.assertTrue((costmaps.squares_of(pinned, PROGRAM) == wanted).all())
+            served.end()
+
+    def test_neither_library_nor_program(self):
+        follower = self.follower(self.served().port)
+        follower._squares.keywords["program"] = "/nowhere/clearmap"
+        with mock.patch.object(clearmap.Pinned, "distances", side_effect=ImportError("none")):
+            follower.look()
+            follower.look()
+        self.assertEqual((self.shown, len(self.told)), ([], 1))
+        self.assertRegex(self.told[0], "there is no costmap yet: clearmap dist can't be run")
+        follower.look()
+        self.assertEqual([it.version for it in self.shown], [0])
 
     def test_the_map_lies_elsewhere(self):
         """The same version at another place, or with other unknown cells, is shown again."""

@@ -10,7 +10,8 @@ import unittest
 from unittest import mock
 
 HERE = pathlib.Path(__file__).resolve().parent
-sys.path[:0] = [str(HERE), str(HERE.parent), str(HERE.parent.parent / "clients/python")]
+FOLDERS = HERE, HERE.parent, HERE.parent.parent / "clients/python", HERE.parent / "view"
+sys.path[:0] = [str(folder) for folder in FOLDERS]
 
 import numpy
 
