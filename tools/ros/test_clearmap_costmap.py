@@ -285,9 +285,8 @@ class Following(unittest.TestCase):
         follower.look()
         moved = Frame(6, 4, Fraction(1, 2), Fraction(7), Fraction(-2))
         unknown = grids.Grid(6, 4, bytes(23) + b"\1")
-        for place in (
-            feeds.Place(moved, "map"), feeds.Place(moved, "odom"), feeds.Place(moved, "odom", unknown)
-        ):  # fmt: skip
+        for words in ("map",), ("odom",), ("odom", unknown):
+            place = feeds.Place(moved, *words)
             self.feed.keep(None, place)
             follower.look()
             follower.look()

@@ -94,7 +94,7 @@ class Running(nodes.Running):
 
 
 def blocked_of(values, width, height):
-    """Which cells of a message are obstacles, by rows from the top, by the node's usual thresholds."""
+    """Which cells of a message are obstacles, by the usual thresholds, by rows from the top."""
     rows = [values[row * width : (row + 1) * width] for row in reversed(range(height))]
     return [[value == -1 or value >= 20 for value in row] for row in rows]
 
