@@ -26,8 +26,9 @@ tried python3 tools/ros/test_clearmap_grid.py
 library=${CLEARMAP_LIBRARY:-crates/libclearmap/out/libclearmap.so.0}
 arrays=$(tools/python_with numpy, PIL.Image)
 if [ -n "$arrays" ] && [ -e "$library" ]; then
-    tried "$arrays" tools/ros/test_clearmap_costmap.py
-    tried "$arrays" tools/ros/test_clearmap_ros2_node.py
+    for test in costmap follow ros2_node; do
+        tried "$arrays" "tools/ros/test_clearmap_$test.py"
+    done
 else
     echo "costmaps left out: there is no python3 with numpy and PIL, or no $library"
 fi

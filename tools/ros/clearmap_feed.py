@@ -5,11 +5,12 @@ The server is one that runs, by its port, or one that is started with the first 
 import math
 import subprocess
 import threading
-from dataclasses import dataclass, replace
+from dataclasses import dataclass
 from typing import Callable, Generic, List, Optional, Sequence, Tuple, TypeVar
 
 import clearmap
 import clearmap_grid as grids
+from clearmap_grid import Place
 from clearmap_ros import Frame, Point, RosError, pieces
 
 T = TypeVar("T")
@@ -26,24 +27,6 @@ class Clearance:
     free_metres: float
     cell: Optional[Tuple[float, float]] = None
     obstacle: Optional[Tuple[float, float]] = None
-
-
-@dataclass(frozen=True)
-class Place:
-    """Where a map lies, in which frame, and which of its cells it doesn't know: those that have 1.
-    None where it knows all."""
-
-    frame: Frame
-    frame_id: str = ""
-    unknown: Optional[grids.Grid] = None
-
-    def updated(self, area: Tuple[int, int, int, int], unknown: bytes) -> "Place":
-        """The same with what an update of an area doesn't know."""
-        if self.unknown is None and not any(unknown):
-            return self
-        size = self.frame.size
-        before = self.unknown or grids.Grid(*size, bytes(math.prod(size)))
-        return replace(self, unknown=before.updated(*area, unknown))
 
 
 @dataclass(frozen=True)
@@ -166,6 +149,8 @@ class Feed:
     ) -> clearmap.Client:
         """The connection to a server whose map has this size. A server of one's own that has ended,
         or wasn't started yet, is started with this map, or with the one that is kept."""
+        if self._is_closed:
+            raise clearmap.ConnectionLost("the node has left the server")
         if not self._given and (self._server is None or self._server.poll() is not None):
             self._lose()
             self._start(grid or self._kept)
@@ -179,7 +164,7 @@ class Feed:
         return self._client
 
     def _start(self, grid: Optional[grids.Grid]) -> None:
-        if grid is None or self._is_closed:
+        if grid is None:
             raise clearmap.ConnectionLost("the server has ended; the next map starts another")
         words = [self.program, "serve", "--connections", CONNECTIONS, "--port", "0"]
         words += ["--edge", self._edge]

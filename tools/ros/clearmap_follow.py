@@ -14,7 +14,7 @@ if TYPE_CHECKING:
     from clearmap_costmap import Squares
 
 MOST_LOOKS = 50.0  # a second
-FAULTS = (RosError, clearmap.ClearmapError, TableError, MemoryError)
+SENTENCES = (RosError, clearmap.ClearmapError, TableError)  # what says in words why it came
 Shown = Newest["Squares"]
 
 
@@ -66,19 +66,19 @@ class Follower:
             self._wanted.clear()
 
     def look(self) -> None:
-        """Looks once, and shows what is new."""
+        """Looks once, and shows what is new. Whatever prevents it may be gone at the next look."""
         try:
             found = self._feed.newest(self._shown, self._squares)
             if found is not None and not self._is_ended:
                 self._show(found)
                 self._shown = found
-        except FAULTS as fault:
+        except Exception as fault:
             if not self._is_ended:
                 self._tell(fault)
         else:
             self._told = ""
 
-    def _tell(self, fault: BaseException) -> None:
+    def _tell(self, fault: Exception) -> None:
         """Says once what keeps a newer version from being shown."""
         kind = "lost" if isinstance(fault, clearmap.ConnectionLost) else type(fault).__name__
         if kind == self._told:
@@ -87,5 +87,5 @@ class Follower:
         stays = "there is no costmap yet"
         if self._shown is not None:
             stays = f"the costmap stays at version {self._shown.version}"
-        why = str(fault) or "out of memory"
-        self._warn(f"{stays}: {why}; it is tried again")
+        why = "" if isinstance(fault, SENTENCES) else type(fault).__name__ + " "
+        self._warn(f"{stays}: {why}{fault}; it is tried again")

@@ -6,7 +6,7 @@ becomes one byte a cell, by rows from the top, as clearmap counts them: 1 is an 
 import array
 import math
 import struct
-from dataclasses import dataclass
+from dataclasses import dataclass, replace
 from fractions import Fraction
 from itertools import chain
 from typing import Optional, Sequence, Tuple
@@ -122,6 +122,24 @@ class Grid:
             start = (top + row) * self.width + left
             changed[start : start + width] = cells[row * width : (row + 1) * width]
         return Grid(self.width, self.height, bytes(changed))
+
+
+@dataclass(frozen=True)
+class Place:
+    """Where a map lies, in which frame, and which of its cells it doesn't know: those that have 1.
+    None where it knows all."""
+
+    frame: Frame
+    frame_id: str = ""
+    unknown: Optional[Grid] = None
+
+    def updated(self, area: Tuple[int, int, int, int], unknown: bytes) -> "Place":
+        """The same with what an update of an area doesn't know."""
+        if self.unknown is None and not any(unknown):
+            return self
+        size = self.frame.size
+        before = self.unknown or Grid(*size, bytes(math.prod(size)))
+        return replace(self, unknown=before.updated(*area, unknown))
 
 
 def grid_of_dump(image: bytes) -> Grid:

@@ -38,6 +38,7 @@ class Layers:
         ]
         pause = pause_of(rospy.get_param("~publish_frequency", FREQUENCY))
         self.follower = Follower(feed, pause, self.show, lambda said: rospy.logwarn("%s", said))
+        rospy.on_shutdown(self.follower.stop)
 
     def start(self) -> None:
         """Begins to follow the server."""
@@ -45,19 +46,15 @@ class Layers:
         if why:
             words = "each version takes a run of %s: %s"
             self.rospy.logwarn(words, self.feed.program, why)
-        self.rospy.on_shutdown(self.follower.stop)
         self.follower.start()
 
     def show(self, shown: Shown) -> None:
         """Publishes a version, its number last: who reads that was sent the others."""
         rospy = self.rospy
-        try:
-            rospy.set_param("~server_port", self.feed.port)
-            layers = self.painter.layers(shown, rospy.Time.now())
-            for publisher, message in zip(self.publishers, layers):
-                publisher.publish(message)
-        except (rospy.ROSException, OSError):
-            if not rospy.is_shutdown():
-                raise
+        layers = self.painter.layers(shown, rospy.Time.now())
+        if rospy.is_shutdown():
             return
+        rospy.set_param("~server_port", self.feed.port)
+        for publisher, message in zip(self.publishers, layers):
+            publisher.publish(message)
         rospy.loginfo("version %d at port %d is published", shown.version, self.feed.port)

@@ -8,7 +8,7 @@ from dataclasses import dataclass
 from typing import TYPE_CHECKING, Any, Callable, Tuple
 
 import clearmap_costmap as costmaps
-from clearmap_feed import Place
+from clearmap_grid import Place
 from clearmap_follow import Shown
 from clearmap_ros import RosError
 

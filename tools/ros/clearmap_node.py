@@ -23,7 +23,8 @@ sys.path[:0] = [str(folder) for folder in FOLDERS if folder.is_dir()]
 
 import clearmap
 import clearmap_grid as grids
-from clearmap_feed import Feed, Place
+from clearmap_feed import Feed
+from clearmap_grid import Place
 from clearmap_ros import RosError, read_map
 
 
@@ -114,7 +115,7 @@ class Node:
         self.feed = Feed(self.port(), program(), rospy.get_param("~checkpoints", False), self.edge())
         self.layers = Layers(rospy, self.feed, reading.unknown_is_free)
         self.turns = threading.Lock()
-        yaml = rospy.get_param("~yaml", "")
+        yaml = str(rospy.get_param("~yaml", ""))
         if yaml:
             self.keep(yaml, reading.unknown_is_free)
         self.clearances = rospy.Publisher("~clearance", Float64, queue_size=10)
@@ -130,7 +131,7 @@ class Node:
         """Takes the yaml's map for where the served one lies."""
         known = read_map(yaml)
         grid, unknown = grids.grids_of_map(known, unknown_is_free)
-        frame_id = self.rospy.get_param("~frame_id", "map")
+        frame_id = str(self.rospy.get_param("~frame_id", "map"))
         self.feed.keep(grid, Place(known.frame, frame_id, unknown))
 
     @property

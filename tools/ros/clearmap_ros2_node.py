@@ -29,7 +29,8 @@ from std_msgs.msg import Float64, UInt64
 import clearmap
 import clearmap_grid as grids
 from clearmap_costmap import Inflation
-from clearmap_feed import Feed, Place
+from clearmap_feed import Feed
+from clearmap_grid import Place
 from clearmap_follow import Follower, Shown, pause_of
 from clearmap_messages import LAYERS, Kinds, Painter
 from clearmap_node import program
