@@ -138,7 +138,7 @@ import clearmap_node, clearmap_layers
 print(clearmap_layers.__file__)')" "$usr/share/clearmap/python/clearmap_layers.py"
     expect 'the launch file' "$(ROS_PACKAGE_PATH=$usr/share/clearmap ROS_HOME=$scratch/ros \
         timeout 60 roslaunch --args=/clearmap clearmap clearmap.launch rviz:=false |
-        sed 's/ .*//')" "$usr/share/clearmap/python/clearmap_node.py"
+        grep -o '[^ ]*clearmap_node.py')" "$usr/share/clearmap/python/clearmap_node.py"
 else
     echo 'the parts of ROS left out: there is no python3 with rospy, roslaunch and sensor_msgs'
 fi

@@ -11,7 +11,17 @@ from fractions import Fraction
 from itertools import chain
 from typing import Optional, Sequence, Tuple
 
-from clearmap_ros import LARGEST_SIDE, UNKNOWN, Frame, Map, Number, RosError, exact, obstacles
+from clearmap_ros import (
+    LARGEST_SIDE,
+    UNKNOWN,
+    Frame,
+    Gray,
+    Map,
+    Number,
+    RosError,
+    exact,
+    obstacles,
+)
 
 DIGITS = bytes.maketrans(b"\0\1", b"01")
 BITS = bytes.maketrans(b"01", b"\0\1")
@@ -152,11 +162,20 @@ def grid_of_dump(image: bytes) -> Grid:
 def grids_of_map(known: Map, unknown_is_free: bool = False) -> Tuple[Grid, Grid]:
     """The cells of a yaml's map, and those that it doesn't know: which are free or not as it is
     asked."""
-    either = [obstacles(known.image, known.settings, free) for free in (False, True)]
-    safe, free = (bytes(chain.from_iterable(rows)) for rows in either)
-    unknown = bytes(map(int.__ne__, safe, free))
-    size = known.frame.size
+    safe, free = (cells_of_map(known, is_free) for is_free in (False, True))
+    differing = int.from_bytes(safe, "big") ^ int.from_bytes(free, "big")
+    unknown, size = differing.to_bytes(len(safe), "big"), known.frame.size
     return Grid(*size, free if unknown_is_free else safe), Grid(*size, unknown)
+
+
+def cells_of_map(known: Map, unknown_is_free: bool) -> bytes:
+    """The cells of a yaml's map; where it has samples of one byte, by what each value becomes."""
+    image = known.image
+    if image.opaque or not isinstance(image.samples, bytes):
+        return bytes(chain.from_iterable(obstacles(image, known.settings, unknown_is_free)))
+    values = Gray(image.most + 1, 1, image.most, range(image.most + 1))
+    (table,) = obstacles(values, known.settings, unknown_is_free)
+    return image.samples.translate(bytes(table).ljust(256))
 
 
 def frame_of(width: int, height: int, resolution: float, origin: Tuple[float, float], turn: Tuple[float, float, float]) -> Frame:

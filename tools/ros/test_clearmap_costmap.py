@@ -19,7 +19,7 @@ import clearmap_costmap as costmaps
 import clearmap_follow as follow
 import clearmap_grid as grids
 import clearmap_messages as messages
-from clearmap_ros import Frame, RosError, read_map
+from clearmap_ros import MODES, Frame, Gray, Map, RosError, Settings, obstacles, read_map
 
 HOUSE = HERE.parent.parent / "examples/house.yaml"
 
@@ -126,7 +126,25 @@ class Costs(unittest.TestCase):
                     wanted = -1 if unknown[y][x] and stays else 100 * cells[y][x]
                     self.assertEqual(plain[y, x], wanted)
 
-    def test_a_yaml_map(self):
+    def test_yaml_maps(self):
+        """Images of each kind, by each mode: as the conversions have them, cell by cell."""
+        draw = random.Random(16)
+        for turn in range(60):
+            width, height, most = draw.randint(1, 9), draw.randint(1, 9), draw.choice((1, 255, 700))
+            samples = [draw.randint(0, most) for _ in range(width * height)]
+            opaque = bytes(draw.randint(0, 1) for _ in samples) if turn % 3 == 0 else b""
+            image = Gray(width, height, most, bytes(samples) if most < 256 else samples, opaque)
+            limits = sorted(Fraction(draw.randint(0, 100), 100) for _ in range(2))
+            mode = draw.choice(MODES)
+            settings = Settings("", 1, 0, 0, draw.random() < 0.5, limits[1], limits[0], mode)
+            known = Map(settings, image, Frame(width, height, Fraction(1), 0, 0))
+            safe, free = (sum(obstacles(image, settings, is_free), []) for is_free in (False, True))
+            unknown = bytes(one != two for one, two in zip(safe, free))
+            for is_free, cells in ((False, safe), (True, free)):
+                grid, mark = grids.grids_of_map(known, is_free)
+                self.assertEqual((grid.cells, mark.cells), (bytes(cells), unknown), turn)
+
+    def test_the_house(self):
         """Unknown cells are obstacles, or free, and are known as such."""
         known = read_map(HOUSE)
         safe, unknown = grids.grids_of_map(known)

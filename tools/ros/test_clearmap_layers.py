@@ -58,9 +58,9 @@ class Running(nodes.Running):
             self.addCleanup(topic.unregister)
 
     def run_words(self, words):
-        """A process whose log is kept."""
+        """A process, the first of its group, whose log is kept."""
         with open(self.log, "wb") as log:
-            process = subprocess.Popen(words, stdout=log, stderr=log)
+            process = subprocess.Popen(words, stdout=log, stderr=log, start_new_session=True)
         self.addCleanup(self.end, process)
         return process
 
@@ -214,15 +214,20 @@ class Layers(Running):
         self.assertEqual({it.header.frame_id for it in layers}, {"odom"})
 
     def test_an_interrupt(self):
-        """The node and its own server end at once."""
-        node = self.start(f"_yaml:={HOUSE}")
-        self.until_version(0)
-        port = rospy.get_param(f"/{self.name}/server_port")
-        node.send_signal(signal.SIGINT)
-        self.assertEqual(node.wait(10), 0)
-        with self.assertRaises(clearmap.ConnectionLost):
-            clearmap.Client(port)
-        self.assertEqual(self.told("Traceback") + self.told("stays"), 0, self.log.read_text())
+        """The node and its own server end at once, also where a terminal interrupts both."""
+        for interrupt in (os.kill, os.killpg):
+            self.came["version"].clear()
+            node = self.start(f"_yaml:={HOUSE}", "_publish_frequency:=50")
+            self.until_version(0)
+            port = rospy.get_param(f"/{self.name}/server_port")
+            interrupt(node.pid, signal.SIGINT)
+            self.assertEqual(node.wait(10), 0)
+            ports = [port, rospy.get_param(f"/{self.name}/server_port")]
+            for left in set(ports):
+                self.assertRaises(clearmap.ConnectionLost, clearmap.Client, left)
+            self.assertEqual(self.told("Traceback"), 0, self.log.read_text())
+            with self.assertRaises(ProcessLookupError):
+                os.killpg(node.pid, 0)  # nothing of the group is left
 
     def test_a_busy_server(self):
         """A server all of whose workers are taken is told, and an interrupt ends the wait."""
@@ -270,8 +275,10 @@ class Layers(Running):
         self.assertEqual((plain.info.width, plain.info.height), (320, 220))
         self.assertEqual(rospy.get_param("/clearmap/inflation_radius"), 0.4)
         self.assertEqual(min(costs.data), -1)
+        port = rospy.get_param("/clearmap/server_port")
         launch.send_signal(signal.SIGINT)
         self.assertEqual(launch.wait(nodes.PATIENCE), 0)
+        self.assertRaises(clearmap.ConnectionLost, clearmap.Client, port)
         rospy.delete_param("/clearmap")
 
 
