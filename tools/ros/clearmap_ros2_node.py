@@ -17,14 +17,20 @@ TOP = HERE.parent.parent
 FOLDERS = (HERE, TOP / "clients/python", HERE.parent / "python", HERE.parent / "view")
 sys.path[:0] = [str(folder) for folder in FOLDERS if folder.is_dir()]
 
-import rclpy
-from builtin_interfaces.msg import Time
-from nav_msgs.msg import OccupancyGrid, Path
-from rclpy.executors import ExternalShutdownException
-from rclpy.node import Node
-from rclpy.qos import DurabilityPolicy, QoSProfile
-from sensor_msgs.msg import PointCloud2, PointField
-from std_msgs.msg import Float64, UInt64
+try:
+    import rclpy
+    from builtin_interfaces.msg import Time
+    from nav_msgs.msg import OccupancyGrid, Path
+    from rclpy.executors import ExternalShutdownException
+    from rclpy.node import Node
+    from rclpy.qos import DurabilityPolicy, QoSProfile
+    from sensor_msgs.msg import PointCloud2, PointField
+    from std_msgs.msg import Float64, UInt64
+except ModuleNotFoundError as missing:
+    if __name__ != "__main__":
+        raise
+    said = f"{sys.executable} has no {missing.name}: it comes with ROS 2"
+    sys.exit(f"clearmap_ros2_node.py: {said}")
 
 import clearmap
 import clearmap_grid as grids

@@ -66,7 +66,7 @@ class Following(unittest.TestCase):
         """Each version is shown once; of several between two looks, the newest. Random maps agree
         with a search, also where the border is a wall."""
         draw = random.Random(14)
-        for turn in range(8):
+        for turn in range(6):
             self.shown.clear()
             width, height = draw.randint(1, 30), draw.randint(1, 30)
             edge = draw.choice(("open", "wall"))
@@ -98,7 +98,7 @@ class Following(unittest.TestCase):
         where the border tells nothing."""
         draw = random.Random(15)
         missing = mock.Mock(side_effect=ImportError("there is no library"))
-        for turn in range(12):
+        for turn in range(8):
             edge, share = draw.choice(("open", "wall")), draw.choice((0, 0.02, 0.3))
             width, height = draw.randint(1, 70), draw.randint(1, 30)
             full = draw.random() < 0.3  # the border
@@ -177,6 +177,17 @@ class Following(unittest.TestCase):
         time.sleep(0.1)
         self.assertEqual(len(self.told), 1)
 
+    def test_another_server_of_the_same_number(self):
+        """Version 0 of a server that took the port between two looks isn't taken for the other's."""
+        served = self.served()
+        follower = self.follower(served.port)
+        follower.look()
+        served.end()
+        self.served(b"P1\n6 4\n" + b"0" * 23 + b"1", port=served.port)
+        follower.look()
+        self.assertEqual([(it.version, int(it.found[3, 5])) for it in self.shown[1:]], [(0, 0)])
+        self.assertEqual(self.told, [])
+
     def test_no_server_and_another_map(self):
         other = self.served(b"P1\n8 8\n" + b"0" * 64)
         follower = self.follower(other.port)
@@ -230,6 +241,24 @@ class Following(unittest.TestCase):
         follower.look()
         self.assertIsNone(self.feed._server)
         self.assertRegex(self.told[-1], "the costmap stays at version 0: the node has left the server")
+
+    def test_what_is_not_shown(self):
+        """What can't be shown is told once, by its kind, and shown when it can."""
+        follower = self.follower(self.served().port)
+        faults = [MemoryError("no room"), MemoryError("no room"), OSError("no master")]
+
+        def show(found):
+            if faults:
+                raise faults.pop(0)
+            self.shown.append(found)
+
+        follower._show = show
+        for _ in range(5):
+            follower.look()
+        self.assertEqual([it.version for it in self.shown], [0])
+        words = ("MemoryError no room", "OSError no master")
+        sentences = [f"there is no costmap yet: {it}; it is tried again" for it in words]
+        self.assertEqual(self.told, sentences)
 
     def test_before_a_map(self):
         follower = self.follower(self.served().port, None)

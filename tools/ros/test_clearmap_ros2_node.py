@@ -3,6 +3,7 @@
 which CLEARMAP names. Wants numpy, and no ROS."""
 import math
 import pathlib
+import subprocess
 import sys
 import time
 import types
@@ -195,6 +196,13 @@ class Node2(unittest.TestCase):
         ):
             with self.assertRaisesRegex(RosError, sentence):
                 self.node(**values)
+
+    def test_without_ros(self):
+        """One line, and status 1, where there is no rclpy."""
+        words = [sys.executable, "-I", str(HERE / "clearmap_ros2_node.py")]
+        run = subprocess.run(words, capture_output=True, text=True, timeout=PATIENCE)
+        self.assertEqual((run.returncode, run.stdout), (1, ""))
+        self.assertRegex(run.stderr, "^clearmap_ros2_node.py: .* has no rclpy: .* ROS 2\n$")
 
     def test_the_first_lines(self):
         """The file says that it wasn't run with ROS 2."""
