@@ -130,7 +130,7 @@ print(it._found(), clearmap.distances([[True, False, False]]).tolist())')" \
 else
     echo 'the library left out: it is not built (make lib)'
 fi
-# The parts of ROS: what the node imports, and the launch file, as roslaunch finds them.
+# The node of ROS: what it imports, and the launch file, as roslaunch finds them.
 ros=$(tools/python_with rospy, roslaunch, sensor_msgs.msg, numpy)
 if [ -n "$ros" ]; then
     expect 'what the node imports' "$(PYTHONPATH=$usr/share/clearmap/python "$ros" -c '
@@ -140,7 +140,7 @@ print(clearmap_layers.__file__)')" "$usr/share/clearmap/python/clearmap_layers.p
         timeout 60 roslaunch --args=/clearmap clearmap clearmap.launch rviz:=false |
         grep -o '[^ ]*clearmap_node.py')" "$usr/share/clearmap/python/clearmap_node.py"
 else
-    echo 'the parts of ROS left out: there is no python3 with rospy, roslaunch and sensor_msgs'
+    echo 'the node of ROS left out: there is no python3 with rospy, roslaunch and sensor_msgs'
 fi
 expect 'what it links' "$(ldd "$usr/bin/clearmap" | grep -v 'vdso\|libc.so\|ld-linux')" ''
 expect 'the unit' "$(grep '^ExecStart' "$usr/lib/systemd/system/clearmap@.service")" 'ExecStart=/usr/bin/clearmap serve --connections 1000000 --port %i'

@@ -21,6 +21,7 @@ from clearmap_ros import (
     RosError,
     exact,
     obstacles,
+    read_map,
 )
 
 DIGITS = bytes.maketrans(b"\0\1", b"01")
@@ -166,6 +167,13 @@ def grids_of_map(known: Map, unknown_is_free: bool = False) -> Tuple[Grid, Grid]
     differing = int.from_bytes(safe, "big") ^ int.from_bytes(free, "big")
     unknown, size = differing.to_bytes(len(safe), "big"), known.frame.size
     return Grid(*size, free if unknown_is_free else safe), Grid(*size, unknown)
+
+
+def read_place(yaml: str, frame_id: str, unknown_is_free: bool) -> Tuple[Grid, Place]:
+    """The map that a yaml names, and where it lies."""
+    known = read_map(yaml)
+    grid, unknown = grids_of_map(known, unknown_is_free)
+    return grid, Place(known.frame, frame_id, unknown)
 
 
 def cells_of_map(known: Map, unknown_is_free: bool) -> bytes:

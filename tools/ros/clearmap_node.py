@@ -25,7 +25,7 @@ import clearmap
 import clearmap_grid as grids
 from clearmap_feed import Feed
 from clearmap_grid import Place
-from clearmap_ros import RosError, read_map
+from clearmap_ros import RosError
 
 
 def program() -> str:
@@ -117,7 +117,8 @@ class Node:
         self.turns = threading.Lock()
         yaml = str(rospy.get_param("~yaml", ""))
         if yaml:
-            self.keep(yaml, reading.unknown_is_free)
+            frame_id = str(rospy.get_param("~frame_id", "map"))
+            self.feed.keep(*grids.read_place(yaml, frame_id, reading.unknown_is_free))
         self.clearances = rospy.Publisher("~clearance", Float64, queue_size=10)
         self.markers = rospy.Publisher("~tightest", Marker, queue_size=10, latch=True)
         rospy.on_shutdown(self.feed.close)
@@ -126,13 +127,6 @@ class Node:
             rospy.Subscriber("map", OccupancyGrid, self.take_map, queue_size=1, buff_size=2**25)
             rospy.Subscriber("map_updates", OccupancyGridUpdate, self.take_update, queue_size=100)
         rospy.Subscriber("plan", Path, self.take_plan, queue_size=1)
-
-    def keep(self, yaml: str, unknown_is_free: bool) -> None:
-        """Takes the yaml's map for where the served one lies."""
-        known = read_map(yaml)
-        grid, unknown = grids.grids_of_map(known, unknown_is_free)
-        frame_id = str(self.rospy.get_param("~frame_id", "map"))
-        self.feed.keep(grid, Place(known.frame, frame_id, unknown))
 
     @property
     def frame_id(self) -> str:

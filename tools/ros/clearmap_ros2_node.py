@@ -36,11 +36,10 @@ import clearmap
 import clearmap_grid as grids
 from clearmap_costmap import Inflation
 from clearmap_feed import Feed
-from clearmap_grid import Place
 from clearmap_follow import Follower, Shown, pause_of
 from clearmap_messages import LAYERS, Kinds, Painter
 from clearmap_node import program
-from clearmap_ros import RosError, read_map
+from clearmap_ros import RosError
 
 KINDS = Kinds(OccupancyGrid, PointCloud2, PointField, UInt64, lambda seconds: Time(sec=seconds))
 
@@ -79,9 +78,8 @@ class ClearmapNode(Node):  # type: ignore[misc]
         """Takes the yaml's map for where the served one lies."""
         if not yaml:
             raise RosError("there is no yaml: -p yaml:=map.yaml")
-        known = read_map(yaml)
-        grid, unknown = grids.grids_of_map(known, is_free)
-        self.feed.keep(grid, Place(known.frame, self.value("frame_id", "map"), unknown))
+        frame_id = self.value("frame_id", "map")
+        self.feed.keep(*grids.read_place(yaml, frame_id, is_free))
 
     def show(self, shown: Shown) -> None:
         """Publishes a version, its number last."""
