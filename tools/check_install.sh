@@ -130,6 +130,10 @@ print(it._found(), clearmap.distances([[True, False, False]]).tolist())')" \
 else
     echo 'the library left out: it is not built (make lib)'
 fi
+expect 'the version of package.xml' \
+    "clearmap $(sed -n 's|.*<version>\(.*\)</version>|\1|p' "$usr/share/clearmap/package.xml")" \
+    "$version"
+
 # The node of ROS: what it imports, and the launch file, as roslaunch finds them.
 ros=$(tools/python_with rospy, roslaunch, sensor_msgs.msg, numpy)
 if [ -n "$ros" ]; then

@@ -66,9 +66,23 @@ def cells_of(values: Sequence[int], width: int, height: int, table: bytes) -> by
     """The cells of a message's values, by rows from the top."""
     if len(values) != width * height:
         raise RosError(f"the message has {len(values)} values, where {width} by {height} cells are told")
-    data = bytes(values) if isinstance(values, (bytes, bytearray)) else array.array("b", values).tobytes()
-    cells = data.translate(table)
+    cells = bytes_of(values).translate(table)
     return b"".join(cells[row * width : (row + 1) * width] for row in reversed(range(height)))
+
+
+def bytes_of(values: Sequence[int]) -> bytes:
+    """A message's values, a byte each."""
+    if isinstance(values, (bytes, bytearray)):
+        return bytes(values)
+    return array.array("b", values).tobytes()
+
+
+def read_cells(
+    values: Sequence[int], width: int, height: int, table: bytes
+) -> Tuple[bytes, bytes]:
+    """The cells of a message's values, and which of them are unknown, by rows from the top."""
+    data = bytes_of(values)
+    return cells_of(data, width, height, table), cells_of(data, width, height, IS_UNKNOWN)
 
 
 @dataclass(frozen=True)

@@ -163,11 +163,8 @@ class Node:
 
         def put() -> str:
             frame = grids.frame_of(width, height, info.resolution, (at.x, at.y), (turn.x, turn.y, turn.z))
-            tables = self.table, grids.IS_UNKNOWN
-            cells, unknown = (
-                grids.Grid(width, height, grids.cells_of(message.data, width, height, table))
-                for table in tables
-            )
+            both = grids.read_cells(message.data, width, height, self.table)
+            cells, unknown = (grids.Grid(width, height, it) for it in both)
             return self.feed.put(cells, Place(frame, message.header.frame_id, unknown))
 
         with self.turns:
@@ -182,8 +179,7 @@ class Node:
         width, height = message.width, message.height
 
         def put() -> str:
-            tables = self.table, grids.IS_UNKNOWN
-            both = (grids.cells_of(message.data, width, height, table) for table in tables)
+            both = grids.read_cells(message.data, width, height, self.table)
             return self.feed.update(message.x, message.y, (width, height), *both)
 
         with self.turns:
