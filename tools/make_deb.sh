@@ -90,7 +90,8 @@ libc=$(libc_of "$root/usr/bin/clearmap")
 package clearmap science "Depends: $libc, python3" \
     "Recommends: libclearmap0 (= $version), python3-numpy" \
     "Suggests: python3-aiohttp, python3-pil, python3-uvloop, python3-rospy, python3-nav-msgs, \
-python3-map-msgs, python3-sensor-msgs, python3-visualization-msgs, python3-roslaunch, rviz" << 'DESCRIPTION'
+python3-map-msgs, python3-sensor-msgs, python3-visualization-msgs, python3-roslaunch, \
+rviz" << 'DESCRIPTION'
 Description: clearance maps of robots, with a proved server
  Distances of each cell of a map to its nearest obstacle, by three metrics,
  and a server of one map that painters change while planners ask about the

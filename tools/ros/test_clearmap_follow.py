@@ -178,7 +178,8 @@ class Following(unittest.TestCase):
         self.assertEqual(len(self.told), 1)
 
     def test_another_server_of_the_same_number(self):
-        """Version 0 of a server that took the port between two looks isn't taken for the other's."""
+        """Version 0 of a server that took the port between two looks isn't taken for the other's.
+        """
         served = self.served()
         follower = self.follower(served.port)
         follower.look()
@@ -240,7 +241,8 @@ class Following(unittest.TestCase):
         self.assertIsNotNone(second.poll())
         follower.look()
         self.assertIsNone(self.feed._server)
-        self.assertRegex(self.told[-1], "the costmap stays at version 0: the node has left the server")
+        sentence = "the costmap stays at version 0: the node has left the server"
+        self.assertRegex(self.told[-1], sentence)
 
     def test_what_is_not_shown(self):
         """What can't be shown is told once, by its kind, and shown when it can."""
