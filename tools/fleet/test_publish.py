@@ -1,0 +1,255 @@
+#!/usr/bin/env python3
+"""Tests of clearmap-publish: what it keeps and drops, one publisher a name, servers one after
+another, and a Redis that is lost, full, or holds something else."""
+import os
+import pathlib
+import signal
+import subprocess
+import sys
+import time
+import unittest
+
+from testing import (
+    HERE, PATIENCE, Keys, Painter, Publishing, Redis, Served, blank, clearmap, free_port, np,
+    room, until,
+)  # fmt: skip
+
+SCRIPT = HERE / "clearmap_publish.py"
+
+
+class Publishes(unittest.TestCase):
+    """Each test has a Redis, and followers that end with it."""
+
+    flags = ()
+
+    def setUp(self):
+        self.redis = self.enterContext(Redis(*self.flags))
+
+    def follow(self, name="yard", **settings):
+        return self.enterContext(clearmap.Follower(self.redis.url, name, **settings))
+
+    def publish(self, port, *words, name="yard"):
+        return self.enterContext(Publishing(port, self.redis.url, *words, name=name))
+
+    def serve(self, image=None, port=0):
+        return self.enterContext(Served(image or room(), port=port))
+
+    def paint(self, server, seed=1):
+        return self.enterContext(Painter(server.port, seed))
+
+    def has(self, follower, painter, number):
+        """The follower has this version soon, and its cells are those that were published."""
+
+        def is_there():
+            try:
+                return follower.version.number == number
+            except clearmap.NoVersion:
+                return False
+
+        self.assertTrue(until(is_there), f"no version {number}: {follower.error}")
+        version = follower.version
+        self.assertTrue((version.map.grid() == painter.grid(number)).all())
+        return version
+
+
+class Kept(Publishes):
+    def test_versions_and_tiles(self):
+        server = self.serve()
+        painter, follower = self.paint(server), self.follow()
+        self.publish(server.port, "--keep", "3", "--interval", "0.01")
+        before = None
+        for _ in range(25):
+            version = self.has(follower, painter, painter.publish())
+            kept = self.redis.stored("yard")
+            self.assertLessEqual(len(kept), 3)
+            self.assertEqual(kept[version.order].hash, version.hash)
+            self.assertTrue(before is None or before.order < version.order)
+            self.assertEqual(version.run, version.run if before is None else before.run)
+            before = version
+        self.assertTrue(until(lambda: not self.redis.strays("yard")))
+
+    def test_one_tile_of_a_large_map(self):
+        """A small change writes the tiles that it touches, and no other."""
+        server = self.serve(blank(1000, 1000))
+        painter, follower = self.paint(server), self.follow()
+        self.publish(server.port)
+        self.has(follower, painter, 0)
+        blanks = self.redis.tiles("yard")
+        painter.client.paint(252, 188, 260, 196)  # the corner of four tiles
+        painter.client.publish()
+        self.has(follower, painter, painter.keep())
+        self.assertEqual(len(self.redis.tiles("yard") - blanks), 4)
+
+    def test_the_edge(self):
+        for edge in ("open", "wall"):
+            server = self.enterContext(Served(blank(70, 30), "--edge", edge))
+            self.publish(server.port, name=edge)
+            version = self.follow(edge).wait(timeout=PATIENCE)
+            self.assertEqual(version.map.edge, edge)
+            self.assertEqual(version.map.at(3, 4) is None, edge == "open")
+
+    def test_a_border_of_obstacles(self):
+        """No cell tells the edge of such a map, and no answer depends on it."""
+        grid = np.ones((30, 70), bool)
+        grid[3:20, 3:60] = False
+        image = b"P4\n70 30\n" + np.packbits(grid, axis=1).tobytes()
+        server = self.enterContext(Served(image, "--edge", "wall"))
+        self.publish(server.port)
+        version = self.follow().wait(timeout=PATIENCE)
+        self.assertTrue((version.map.grid() == grid).all())
+
+    def test_two_names(self):
+        one, other = self.serve(room(seed=1)), self.serve(room(90, 50, seed=2))
+        painters = [self.paint(server) for server in (one, other)]
+        for name, server in (("one", one), ("other", other)):
+            self.publish(server.port, name=name)
+        followers = [self.follow(name) for name in ("one", "other")]
+        for _ in range(5):
+            for follower, painter in zip(followers, painters):
+                self.has(follower, painter, painter.publish())
+        self.assertEqual([follower.version.map.size for follower in followers],
+                         [painter.client.size for painter in painters])  # fmt: skip
+
+
+class Servers(Publishes):
+    """Served maps one after another under one name."""
+
+    def test_a_server_that_is_started_anew(self):
+        """Its numbers begin at 0 again, and its versions are newer all the same."""
+        server = self.serve(room(seed=1))
+        painter, follower = self.paint(server), self.follow()
+        publisher = self.publish(server.port)
+        for _ in range(3):
+            painter.publish()
+        before = self.has(follower, painter, 3)
+        server.end()
+        self.assertTrue(publisher.says("the server ended the connection"))
+        self.assertIs(follower.version, before)
+        again = self.serve(room(seed=2), server.port)
+        painter = self.paint(again)
+        version = self.has(follower, painter, 0)
+        self.assertGreater(version.order, before.order)
+        self.assertNotEqual(version.run, before.run)
+        self.assertTrue(publisher.says("there is a server again"))
+        self.assertEqual(len(publisher.said), 2, publisher.said)
+
+    def test_a_map_of_another_size(self):
+        """It is taken by those who don't say what they expect, and refused by the others."""
+        server = self.serve(room(seed=1))
+        painter, follower = self.paint(server), self.follow()
+        strict = self.follow(size=(300, 400))
+        publisher = self.publish(server.port)
+        before = self.has(strict, painter, 0)
+        publisher.end()
+        other = self.serve(room(90, 50, seed=2))
+        self.publish(other.port)
+        self.assertTrue(until(lambda: follower.version.map.size == (90, 50)))
+        self.assertTrue(until(lambda: strict.error is not None))
+        self.assertRegex(strict.error, "isn't taken: another map: .* 90 by 50 cells, and 300 by")
+        self.assertIs(strict.version, before)
+
+    def test_no_server_at_first(self):
+        port = free_port()
+        publisher = self.publish(port)
+        self.assertTrue(publisher.says(f"no server at 127.0.0.1:{port}"))
+        server = self.serve(port=port)
+        self.has(self.follow(), self.paint(server), 0)
+
+    def test_a_server_that_stands_still(self):
+        """Its lease is kept meanwhile, and followers learn that nobody has seen the server."""
+        server = self.serve()
+        painter, follower = self.paint(server), self.follow()
+        publisher = self.publish(server.port)
+        before = self.has(follower, painter, 0)
+        server.process.send_signal(signal.SIGSTOP)
+        self.assertTrue(publisher.says("no reply within 4 s"))
+        self.assertTrue(until(lambda: follower.stale > 4))
+        self.assertIs(follower.version, before)
+        server.process.send_signal(signal.SIGCONT)
+        self.has(follower, painter, painter.publish())
+        self.assertTrue(until(lambda: follower.stale < 3))
+
+
+class Leases(Publishes):
+    """One publisher of a name is live."""
+
+    def test_a_second_one(self):
+        server, other = self.serve(room(seed=1)), self.serve(room(seed=2))
+        painter, follower = self.paint(server), self.follow()
+        first = self.publish(server.port)
+        self.has(follower, painter, 0)
+        second = self.publish(other.port)
+        self.assertEqual(second.process.wait(PATIENCE), 1)
+        self.assertTrue(second.says("another publisher of 'yard' is live"))
+        self.assertEqual(len(second.said), 1, second.said)
+        self.has(follower, painter, painter.publish())
+        self.assertEqual(first.end(), 0)
+        third = self.publish(other.port)  # at once, as the lease was left
+        self.assertTrue(until(lambda: follower.version.number == 0))
+        self.assertEqual(third.said, [])
+
+    def test_a_killed_one(self):
+        """Its lease ends by itself, and the next one takes over."""
+        server = self.serve()
+        painter, follower = self.paint(server), self.follow()
+        first = self.publish(server.port)
+        before = self.has(follower, painter, 0)
+        first.end(signal.SIGKILL)
+        begun = time.monotonic()
+        self.publish(server.port)
+        number = painter.publish()
+        self.assertGreater(self.has(follower, painter, number).order, before.order)
+        self.assertLess(time.monotonic() - begun, 15)
+
+    def test_one_that_was_held_up(self):
+        """A publisher that stood still while another took over shows nothing any more."""
+        server, other = self.serve(room(seed=1)), self.serve(room(seed=2))
+        follower = self.follow()
+        first = self.publish(server.port)
+        self.has(follower, self.paint(server), 0)
+        first.process.send_signal(signal.SIGSTOP)
+        self.redis.client.delete(Keys("yard").lease)  # as if its time had ended
+        self.publish(other.port)
+        painter = self.paint(other, 2)
+        self.has(follower, painter, painter.publish())
+        first.process.send_signal(signal.SIGCONT)
+        self.assertEqual(first.process.wait(PATIENCE), 1)
+        self.assertTrue(first.says("another publisher of 'yard' is live"))
+        self.has(follower, painter, painter.publish())
+
+
+class Words(unittest.TestCase):
+    """Its command line, and what isn't installed."""
+
+    def told(self, *words, **others):
+        line = [sys.executable, str(SCRIPT), *words]
+        run = subprocess.run(line, capture_output=True, text=True, timeout=PATIENCE, **others)
+        return run.returncode, run.stderr.strip().splitlines()[-1]
+
+    def test_refused(self):
+        good = ("--port", "7400", "--name", "yard")
+        for words in ((), ("--port", "0", "--name", "yard"), ("--port", "7400"),
+                      ("--port", "7400", "--name", "a b"), (*good, "--keep", "0"),
+                      (*good, "--keep", "65"), (*good, "--interval", "0"),
+                      (*good, "--interval", "nan"), (*good, "--interval", "61")):  # fmt: skip
+            status, line = self.told(*words)
+            self.assertEqual(status, 2, words)
+            self.assertRegex(line, "^clearmap-publish: error: ")
+
+    def test_no_url(self):
+        status, line = self.told("--port", "7400", "--name", "yard", "--redis", "depot:6379")
+        self.assertEqual(status, 1)
+        self.assertRegex(line, "^clearmap-publish: Redis URL must")
+
+    def test_no_module(self):
+        """Without python3-redis one line says what to install."""
+        folder = pathlib.Path(self.enterContext(Redis()).folder.name)
+        (folder / "redis.py").write_text("raise ImportError('there is none')\n")
+        status, line = self.told("--port", "7400", "--name", "yard",
+                                 env={**os.environ, "PYTHONPATH": str(folder)})  # fmt: skip
+        self.assertEqual(status, 1)
+        self.assertRegex(line, "^clearmap-publish: there is no redis, .*python3-redis")
+
+
+if __name__ == "__main__":
+    unittest.main()
