@@ -39,6 +39,7 @@ for at = string.find(record, '\\n', 1, true) + 1, #record - 32, 32 do
     local tile = string.sub(record, at, at + 31)
     if redis.call('HEXISTS', KEYS[4], tile) == 0 then return 'tiles' end
 end
+redis.call('GET', KEYS[5])
 redis.call('HSET', KEYS[3], ARGV[2], record)
 redis.call('SET', KEYS[2], ARGV[2])
 redis.call('SET', KEYS[5], ARGV[4])

@@ -100,9 +100,10 @@ class Store:
         return record
 
     def _stored(self) -> Stored:
-        """What stands in Redis at one time. A record that is none names no tiles."""
+        """What stands in Redis, which nobody else writes who has no lease. A record that is none
+        names no tiles."""
         keys = self._keys
-        asked = self._redis.pipeline(transaction=True)
+        asked = self._redis.pipeline(transaction=False)  # which is answered without memory too
         asked.get(keys.newest).hkeys(keys.tiles).hgetall(keys.versions).time()
         newest, tiles, records, (seconds, micros) = asked.execute()
         versions = {order_of(order, keys.versions): _tiles_of(record) for order, record in records.items()}

@@ -18,8 +18,10 @@ import numpy as np
 import redis as redis_of_python
 
 import clearmap
+import store
 from clearmap.records import Keys, read_record, read_tile, tiles_of
 from served import PROGRAM, Served, blank
+from source import Copy, Seen
 
 PATIENCE = 30  # seconds until something that has to happen is given up
 
@@ -46,9 +48,13 @@ class Redis:
 
     def __init__(self, *flags):
         self.folder = tempfile.TemporaryDirectory()
-        self.flags, self.port, self.process = flags, free_port(), None
-        self.url = f"redis://127.0.0.1:{self.port}"
-        self.start()
+        self.flags = flags
+        for _ in range(5):
+            self.port = free_port()
+            self.url = f"redis://127.0.0.1:{self.port}"
+            if self.start():
+                return
+        raise RuntimeError(pathlib.Path(self.folder.name, "log").read_text())
 
     def __enter__(self):
         return self
@@ -58,17 +64,18 @@ class Redis:
         self.folder.cleanup()
 
     def start(self):
+        """Whether it answers soon; it ends by itself where somebody has its port."""
         words = ["redis-server", "--port", str(self.port), "--bind", "127.0.0.1"]
         words += ["--dir", self.folder.name, "--save", "", "--logfile", "log", *self.flags]
         self.process = subprocess.Popen(words, stdout=subprocess.DEVNULL)
         self.client = redis_of_python.Redis.from_url(self.url, socket_timeout=PATIENCE)
-        if not until(self.answers):
-            log = pathlib.Path(self.folder.name, "log").read_text()
-            raise RuntimeError(f"Redis doesn't answer: {log}")
+        return until(lambda: self.process.poll() is not None or self.answers()) and self.answers()
 
     def answers(self):
-        with contextlib.suppress(redis_of_python.RedisError):
+        try:
             return self.client.ping()
+        except redis_of_python.RedisError:
+            return False
 
     def kill(self):
         if self.process.returncode is None:
@@ -175,11 +182,25 @@ class Painter:
         return cells.reshape(height, width) == ord("1")
 
 
+class Direct:
+    """Publishes grids without a server, as a publisher does."""
+
+    def __init__(self, redis, name="yard", keep=8):
+        self.store, self.count = store.Store(redis.client, name, keep), 0
+        self.store.take()
+
+    def show(self, grid, edge="open"):
+        """Publishes a grid as the next version; its record."""
+        self.count += 1
+        seen = Seen("0123456789abcdef", self.count)
+        return self.store.publish(Copy(seen, clearmap.Map(grid, edge)))
+
+
 def nearest_of(image, edge="open"):
     """What `clearmap dist` tells of each cell of an image, by rows: its nearest obstacle."""
     words = [PROGRAM, "dist", "--nearest", "--edge", edge]
     told = subprocess.run(words, input=image, capture_output=True, check=True).stdout
-    return clearmap.read_distances(told.decode())
+    return clearmap.read_distances(told.decode().splitlines())
 
 
 def room(width=300, height=400, seed=7, share=0.01):

@@ -157,7 +157,7 @@ class Follower:
 
     def _look(self) -> bool:
         """Takes the newest version, if it is newer. Whether it did."""
-        refused = 0
+        refused = -1
         for _ in range(TRIES):
             newest, seen = self._fetcher.state()
             if newest == refused or not self._wants(newest):
