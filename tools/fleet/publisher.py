@@ -96,7 +96,7 @@ class Publisher:
                 self._redis.end()
         except LeaseLost:
             self._has_lease = False
-        except (redis().RedisError, ClearmapError, MemoryError) as fault:
+        except (redis().RedisError, ClearmapError, OSError, MemoryError) as fault:
             self._store.doubt()
             self._redis.tell(f"Redis: {fault}")
             return False

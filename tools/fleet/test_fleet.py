@@ -16,10 +16,10 @@ import time
 import unittest
 
 from test_publish import Publishes
-from testing import HERE, PATIENCE, Keys, Publishing, nearest_of, np, room, until
+from testing import HERE, PATIENCE, Keys, nearest_of, np, room
 
 FOLLOWERS = int(os.environ.get("FOLLOWERS", "200"))
-SECONDS = float(os.environ.get("SECONDS", "10"))
+SECONDS = float(os.environ.get("SECONDS_BUSY", "10"))
 PROCESSES = 4
 
 

@@ -1,7 +1,6 @@
 #!/usr/bin/env python3
 """Tests of clearmap-publish that is killed between any two writes, and at random; of followers
 that are killed; and of two publishers that take the name from one another again and again."""
-import pathlib
 import random
 import signal
 import subprocess
@@ -11,7 +10,7 @@ import time
 import unittest
 
 from test_publish import Publishes
-from testing import HERE, PATIENCE, Keys, Publishing, clearmap, room, until
+from testing import HERE, PATIENCE, Keys, clearmap, room, until
 
 KEYS = Keys("yard")
 FOLLOWING = """

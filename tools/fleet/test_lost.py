@@ -1,13 +1,11 @@
 #!/usr/bin/env python3
 """Tests of clearmap-publish and followers over a Redis that is killed, emptied, full, or holds
 something else under the name."""
-import os
 import pathlib
-import random
 import unittest
 
 from test_publish import Publishes
-from testing import Keys, Painter, Redis, Served, blank, clearmap, np, room, until
+from testing import Keys, Redis, clearmap, until
 
 KEYS = Keys("yard")
 

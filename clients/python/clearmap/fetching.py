@@ -31,9 +31,10 @@ def place_of(url: str) -> str:
 
 def connected(url: str, timeout: float) -> Any:
     """A client of Redis, which connects at its first use."""
-    return redis().Redis.from_url(
-        url, socket_timeout=timeout, socket_connect_timeout=timeout, socket_keepalive=True
-    )
+    settings = {"socket_timeout": timeout}
+    if not url.startswith("unix:"):
+        settings.update(socket_connect_timeout=timeout, socket_keepalive=True)
+    return redis().Redis.from_url(url, **settings)
 
 
 class News:

@@ -75,7 +75,8 @@ class Follower:
     @property
     def error(self) -> Optional[str]:
         """What keeps it now from the newest version; None where nothing does."""
-        return self._error
+        why = self._error
+        return None if why is None else f"{self._what}: {why}"
 
     @property
     def stale(self) -> float:
@@ -138,7 +139,7 @@ class Follower:
                 self._follow()
             except Exception as fault:
                 if not self._is_over():
-                    self._error = f"{self._what}: {fault}"
+                    self._error = str(fault) or type(fault).__name__
             pause = PAUSES[0] if time.monotonic() - begun > longest else min(2 * pause, longest)
             self._ended.wait(pause * random.uniform(0.5, 1))
 
@@ -168,7 +169,7 @@ class Follower:
                 self._confirm(newest, seen)
                 return True
             except (BadVersion, WrongMap) as fault:  # it may be that a newer one took its place
-                self._error = f"a version of {self._what} isn't taken: {fault}"
+                self._error = f"the newest version isn't taken: {fault}"
                 refused = newest
         return False
 
@@ -177,9 +178,9 @@ class Follower:
         """
         mine = 0 if self._version is None else self._version.order
         if newest == 0:
-            self._error = f"Redis has no version of {self._what}"
+            self._error = "Redis has no version"
         elif newest < mine:
-            self._error = f"Redis has an older version of {self._what} than the one here"
+            self._error = "Redis has an older version than the one here"
         elif newest == mine:
             self._error = None
         return newest > mine
