@@ -22,7 +22,7 @@ trap 'exit 1' INT TERM
 failed=0
 
 # The tests wait more than they work, so they run side by side.
-for test in records publish lost killed follower links; do
+for test in records publish lost killed follower links users; do
     timeout 280 "$python" "tools/fleet/test_$test.py" > "$scratch/$test" 2>&1 &
     eval "$test=$!"
     running="$running $!"
@@ -32,7 +32,7 @@ told() { # told TEST STATUS: says how it ended, and what it wrote where it faile
     echo "test_$1.py: $(sed -n 's/^Ran \([0-9]* tests*\).*/\1/p' "$scratch/$1")," \
         "$(tail -n 1 "$scratch/$1")"
 }
-for test in records publish lost killed follower links; do
+for test in records publish lost killed follower links users; do
     eval "wait \$$test"
     told "$test" "$?"
 done

@@ -13,7 +13,11 @@ view=''
 gateway=''
 store=''
 publisher=''
-trap 'for started in $server $view $gateway $store $publisher; do kill "$started" 2> /dev/null; done; rm -rf "$scratch"' EXIT
+finish() {
+    for started in $server $view $gateway $store $publisher; do kill "$started" 2> /dev/null; done
+    rm -rf "$scratch"
+}
+trap finish EXIT
 trap 'exit 1' INT TERM
 export PYTHONDONTWRITEBYTECODE=1
 wrong=0
@@ -231,7 +235,8 @@ fi
 
 # The installed publisher of this server, and a follower, by the installed package and library.
 shared=$(tools/python_with numpy, redis)
-if [ -n "$shared" ] && [ -e "$usr/lib/libclearmap.so.0" ] && command -v redis-server > /dev/null; then
+if [ -n "$shared" ] && [ -e "$usr/lib/libclearmap.so.0" ] \
+    && command -v redis-server > /dev/null; then
     redis-server --port 0 --unixsocket "$scratch/redis" --save '' --dir "$scratch" > /dev/null &
     store=$!
     : > "$scratch/publishing"

@@ -3,10 +3,11 @@
 
     following.py URL NAME COUNT SEED FILE
 
-Each line of the file is one answer: `MAP follower run number order age hash` for a version that has
-come, with the SHA-256 of its cells, and `AT number order metric x y` with what was answered. When a
-number comes on the standard input it goes on until all followers have that version, or for 30
-seconds, and prints how many have it."""
+Each line of the file is one answer: `MAP follower run number order time hash` for a version that
+has come, with the SHA-256 of its cells, and `AT number order metric x y` with what was answered.
+When a number comes on the standard input it goes on until all followers have that version, or for
+30 seconds, and prints how many have it. With ANSWERS=0 in the environment it neither asks nor
+hashes."""
 import hashlib
 import os
 import pathlib
@@ -20,7 +21,7 @@ sys.path.insert(0, str(HERE.parent.parent / "clients/python"))
 
 import clearmap
 
-ANSWERS = 6000  # of AT, at most
+ANSWERS = int(os.environ.get("ANSWERS", "6000"))  # of AT, at most
 PATIENCE = 30  # seconds
 
 
@@ -39,8 +40,9 @@ class Asking:
             version = self.followers[index].wait(newer_than=before)
             if before is not None and version.order <= before.order:
                 sys.exit("an older version came after a newer one")
-            age, digest = version.age, hashlib.sha256(version.map.grid().tobytes()).hexdigest()
-            line = f"MAP {index} {version.run} {version.number} {version.order} {age:.6f} {digest}"
+            told = f"{version.run} {version.number} {version.order} {time.time():.6f}"
+            cells = version.map.grid().tobytes() if ANSWERS else b""
+            line = f"MAP {index} {told} {hashlib.sha256(cells).hexdigest()}"
             with self.lock:
                 print(line, file=self.out)
             before = version

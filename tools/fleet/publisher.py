@@ -1,6 +1,8 @@
 """Brings Redis up to date with a server, and goes on where one of them is lost."""
 import argparse
+import threading
 import time
+from contextlib import suppress
 from typing import Any, Callable, Optional
 
 from clearmap import ClearmapError
@@ -60,6 +62,7 @@ class Publisher:
 
     def run(self) -> None:
         """Goes on until it is ended. Taken where another one is live."""
+        threading.Thread(target=self._beat, daemon=True).start()
         try:
             while not self._is_ended:
                 is_well = self._step(self._look())
@@ -73,6 +76,14 @@ class Publisher:
         until = time.monotonic() + seconds
         while not self._is_ended and (left := until - time.monotonic()) > 0:
             time.sleep(min(left, 0.1))
+
+    def _beat(self) -> None:
+        """Keeps the lease while a copy takes its time. What goes wrong is found by what is next."""
+        while not self._is_ended:
+            time.sleep(AGAIN)
+            with suppress(LeaseLost, redis().RedisError, OSError):
+                if self._has_lease:
+                    self._store.keep(False)
 
     def _look(self) -> Optional[Seen]:
         """The server's newest version, with a copy of it where it isn't shown yet; None where the
@@ -136,8 +147,6 @@ class Publisher:
 
     def _leave(self) -> None:
         """Gives the lease up, where Redis is there."""
-        try:
+        with suppress(redis().RedisError, OSError):
             if self._has_lease:
                 self._store.leave()
-        except redis().RedisError:
-            pass

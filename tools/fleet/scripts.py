@@ -12,9 +12,9 @@ redis.call('SET', KEYS[1], ARGV[1], 'PX', ARGV[2])
 return {}
 """
 
-# KEYS lease, seen, newest, versions, tiles; ARGV token, milliseconds, order, count. Keeps the lease,
-# and notes the time where this order is still the newest. 1, or 0 without the lease, or 2 where the
-# newest is another, or its record or tiles are gone.
+# KEYS lease, seen, newest, versions, tiles; ARGV token, milliseconds, order, count. Keeps the
+# lease, and notes the time where this order is still the newest. 1, or 0 without the lease, or 2
+# where the newest is another, or its record or tiles are gone.
 KEEP = """
 if redis.call('GET', KEYS[1]) ~= ARGV[1] then return 0 end
 local newest = redis.call('GET', KEYS[3])

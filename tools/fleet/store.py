@@ -6,7 +6,7 @@ from typing import Any, Dict, Iterable, List, NamedTuple, Optional, Set, Tuple
 
 import scripts
 from clearmap import BadVersion, ClearmapError
-from clearmap.records import Keys, Record, order_of, pressed_tiles, read_record
+from clearmap.records import Keys, Record, order_of, compressed_tiles, read_record
 from source import Copy
 
 LEASE = 10.0  # seconds that a publisher's lease lasts after its last sign
@@ -86,7 +86,7 @@ class Store:
     def publish(self, copy: Copy) -> Record:
         """Shows a version to followers, as newer than each before it."""
         stored = self._stored()
-        hashes, values = pressed_tiles(copy.area)
+        hashes, values = compressed_tiles(copy.area)
         record = self._recorded(copy, tuple(hashes), stored)
         self._drop(stored.tiles - stored.named() - set(hashes))
         lacking = [key for key in values if not self._is_sure or key not in stored.tiles]
@@ -106,7 +106,7 @@ class Store:
         asked = self._redis.pipeline(transaction=False)  # which is answered without memory too
         asked.get(keys.newest).hkeys(keys.tiles).hgetall(keys.versions).time()
         newest, tiles, records, (seconds, micros) = asked.execute()
-        versions = {order_of(order, keys.versions): _tiles_of(record) for order, record in records.items()}
+        versions = {order_of(order, keys.versions): _tiles_of(it) for order, it in records.items()}
         last = max([order_of(newest, keys.newest), *versions])
         return Stored(last, set(tiles), versions, MICRO * int(seconds) + int(micros))
 

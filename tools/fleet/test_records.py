@@ -11,7 +11,7 @@ from testing import clearmap, np
 from clearmap.errors import BadVersion
 from clearmap.followed import missing, put_together, stock_of
 from clearmap.records import (
-    HASH, Keys, Record, order_of, pressed_tiles, read_record, read_tile, tiles_of,
+    HASH, Keys, Record, order_of, compressed_tiles, read_record, read_tile, tiles_of,
 )  # fmt: skip
 
 SIZES = ((1, 1), (63, 2), (64, 64), (65, 191), (256, 192), (257, 193), (300, 400), (1000, 33))
@@ -20,7 +20,7 @@ SIZES = ((1, 1), (63, 2), (64, 64), (65, 191), (256, 192), (257, 193), (300, 400
 def recorded(grid, order=5, edge="open"):
     """A record of a grid, and what is stored of its tiles."""
     area = clearmap.Map(grid, edge)
-    hashes, values = pressed_tiles(area)
+    hashes, values = compressed_tiles(area)
     number = min(order - 1, 99)
     record = Record(order, "0123456789abcdef", number, 17, area.size, edge, tuple(hashes))
     return record, values

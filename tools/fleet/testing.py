@@ -44,14 +44,15 @@ def free_port():
 
 class Redis:
     """A redis-server of its own, in a folder of its own, which can be killed and started again on
-    its port. What it keeps on the disk, and more, is told by flags."""
+    its port. What it keeps on the disk, and more, is told by flags; `user` is a name and a password
+    with an @ after them."""
 
-    def __init__(self, *flags):
+    def __init__(self, *flags, user=""):
         self.folder = tempfile.TemporaryDirectory()
         self.flags = flags
         for _ in range(5):
             self.port = free_port()
-            self.url = f"redis://127.0.0.1:{self.port}"
+            self.url = f"redis://{user}127.0.0.1:{self.port}"
             if self.start():
                 return
         raise RuntimeError(pathlib.Path(self.folder.name, "log").read_text())
@@ -73,7 +74,7 @@ class Redis:
 
     def answers(self):
         try:
-            return self.client.ping()
+            return self.client.time()
         except redis_of_python.RedisError:
             return False
 

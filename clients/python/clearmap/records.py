@@ -12,7 +12,7 @@ from .size import size_of
 
 TILE_WORDS, TILE_ROWS = 4, 192  # of 64 columns each; together 256 columns by 192 rows
 HASH = 32  # bytes of a SHA-256
-PRESSED = 1  # the level of zlib, the fastest
+LEVEL = 1  # of zlib: the fastest
 LARGEST_ORDER = 2**53  # below which Redis' scripts compare numbers exactly
 HEAD = re.compile(
     rb"clearmap-version 1 (\d{1,16}) ([0-9a-f]{16}) (\d{1,10}) (\d{1,16}) "
@@ -77,12 +77,12 @@ def hash_of(data: bytes) -> bytes:
     return hashlib.sha256(data).digest()
 
 
-def pressed_tiles(area: Map) -> Tuple[List[bytes], "dict[bytes, bytes]"]:
+def compressed_tiles(area: Map) -> Tuple[List[bytes], "dict[bytes, bytes]"]:
     """The hashes of a map's tiles in their order, and what is stored of each."""
     words = area._held.memory.cells
     cells = [cells_of(words, tile) for tile in tiles_of(area.size)]
     hashes = [hash_of(part) for part in cells]
-    return hashes, {key: zlib.compress(part, PRESSED) for key, part in zip(hashes, cells)}
+    return hashes, {key: zlib.compress(part, LEVEL) for key, part in zip(hashes, cells)}
 
 
 def read_tile(value: object, wanted: bytes, tile: Tile) -> bytes:
