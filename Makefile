@@ -15,7 +15,8 @@ to = $(DESTDIR)$(PREFIX)
 program = crates/clearmap/out/clearmap
 version = $(shell sed -n 's/^version = "\(.*\)"/\1/p' clients/python/pyproject.toml)
 filled = sed 's|@PREFIX@|$(PREFIX)|; s|@LIBDIR@|$(LIBDIR:$(PREFIX)/%=$${prefix}/%)|; s|@VERSION@|$(version)|'
-pages = clearmap.1 clearmap-backup.1 clearmap-gateway.1 clearmap-publish.1 clearmap-ros.1 clearmap-ros-node.1 clearmap-view.1
+pages = clearmap.1 clearmap-backup.1 clearmap-gateway.1 clearmap-publish.1 clearmap-ros.1 \
+    clearmap-ros-node.1 clearmap-view.1
 client = $(notdir $(wildcard clients/python/clearmap/*.py)) py.typed
 view = asking.py bodies.py changing.py draft.py following.py picture.py site_of_map.py tables.py \
     watched.py yaml_map.py $(wildcard tools/view/page/*)

@@ -20,9 +20,10 @@ running=''
 trap 'for test in $running; do kill "$test" 2> /dev/null; done; rm -rf "$scratch"' EXIT
 trap 'exit 1' INT TERM
 failed=0
+tests='records publish leases lost killed follower taken links users'
 
 # The tests wait more than they work, so they run side by side.
-for test in records publish lost killed follower links users; do
+for test in $tests; do
     timeout 280 "$python" "tools/fleet/test_$test.py" > "$scratch/$test" 2>&1 &
     eval "$test=$!"
     running="$running $!"
@@ -31,8 +32,9 @@ told() { # told TEST STATUS: says how it ended, and what it wrote where it faile
     [ "$2" = 0 ] || { failed=1; cat "$scratch/$1"; }
     echo "test_$1.py: $(sed -n 's/^Ran \([0-9]* tests*\).*/\1/p' "$scratch/$1")," \
         "$(tail -n 1 "$scratch/$1")"
+    grep ' left out: ' "$scratch/$1"
 }
-for test in records publish lost killed follower links users; do
+for test in $tests; do
     eval "wait \$$test"
     told "$test" "$?"
 done

@@ -147,7 +147,9 @@ fi
 # The pages are what --help and docs/PROTOCOL.md say, and man has nothing to complain of.
 tools/make_man.py --check "$program" || wrong=$((wrong + 1))
 if command -v man > /dev/null; then
-    for page in man1/clearmap.1 man1/clearmap-backup.1 man1/clearmap-gateway.1 man1/clearmap-publish.1 man1/clearmap-ros.1 man1/clearmap-ros-node.1 man1/clearmap-view.1 man7/clearmap-protocol.7; do
+    for page in man1/clearmap.1 man1/clearmap-backup.1 man1/clearmap-gateway.1 \
+        man1/clearmap-publish.1 man1/clearmap-ros.1 man1/clearmap-ros-node.1 man1/clearmap-view.1 \
+        man7/clearmap-protocol.7; do
         expect "man $page" "$(man --warnings -l "$usr/share/man/$page" 2>&1 > /dev/null)" ''
     done
 else

@@ -150,7 +150,8 @@ def backup_page():
 
 def script_pages():
     """The pages of the scripts that are installed and written in Python."""
-    sys.path[:0] = [str(TOP / folder) for folder in ("clients/python", "tools/fleet", "tools/gateway", "tools/ros", "tools/view")]
+    tools = (f"tools/{name}" for name in ("fleet", "gateway", "ros", "view"))
+    sys.path[:0] = [str(TOP / folder) for folder in ("clients/python", *tools)]
     import clearmap_gateway
     import clearmap_node
     import clearmap_publish

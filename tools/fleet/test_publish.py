@@ -1,20 +1,12 @@
 #!/usr/bin/env python3
-"""Tests of clearmap-publish: what it keeps and drops, one publisher a name, servers one after
-another, and a Redis that is lost, full, or holds something else."""
-import os
-import pathlib
+"""Tests of clearmap-publish: what it keeps and drops, and servers one after another."""
 import signal
-import subprocess
-import sys
-import time
 import unittest
 
 from testing import (
-    HERE, PATIENCE, Keys, Painter, Publishing, Redis, Served, blank, clearmap, free_port, np,
-    room, until,
+    PATIENCE, Answering, Painter, Publishing, Redis, Served, blank, clearmap, free_port, np, room,
+    until,
 )  # fmt: skip
-
-SCRIPT = HERE / "clearmap_publish.py"
 
 
 class Publishes(unittest.TestCase):
@@ -155,6 +147,25 @@ class Servers(Publishes):
         server = self.serve(port=port)
         self.has(self.follow(), self.paint(server), 0)
 
+    def test_a_server_whose_workers_are_taken(self):
+        server = self.enterContext(Served(room(), "--workers", "1"))
+        with Painter(server.port) as painter:
+            publisher = self.publish(server.port)
+            self.assertTrue(publisher.says("no worker has answered within 4 s"))
+        self.has(self.follow(), painter, 0)
+        self.assertTrue(publisher.says("there is a server again"))
+
+    def test_what_is_no_server(self):
+        """What answers otherwise is told in one line, and no version comes of it."""
+        for replies in ([b"HTTP/1.1 400\r\n"], [b"OK 1\n", b"OK 5\nP1\n1\n", b"OK 1\n"],
+                        [b"OK 0\n", b"OK 0\n"], [b"O" * 200]):  # fmt: skip
+            with Answering(replies) as fake:
+                publisher = self.publish(fake.port)
+                self.assertTrue(until(lambda: publisher.said), replies)
+                self.assertEqual(publisher.end(), 0)
+                self.assertEqual(len(publisher.said), 1, publisher.said)
+                self.assertEqual(self.redis.stored("yard"), {})
+
     def test_a_server_that_stands_still(self):
         """Its lease is kept meanwhile, and followers learn that nobody has seen the server."""
         server = self.serve()
@@ -168,87 +179,6 @@ class Servers(Publishes):
         server.process.send_signal(signal.SIGCONT)
         self.has(follower, painter, painter.publish())
         self.assertTrue(until(lambda: follower.stale < 3))
-
-
-class Leases(Publishes):
-    """One publisher of a name is live."""
-
-    def test_a_second_one(self):
-        server, other = self.serve(room(seed=1)), self.serve(room(seed=2))
-        painter, follower = self.paint(server), self.follow()
-        first = self.publish(server.port)
-        self.has(follower, painter, 0)
-        second = self.publish(other.port)
-        self.assertEqual(second.process.wait(PATIENCE), 1)
-        self.assertTrue(second.says("another publisher of 'yard' is live"))
-        self.assertEqual(len(second.said), 1, second.said)
-        self.has(follower, painter, painter.publish())
-        self.assertEqual(first.end(), 0)
-        third = self.publish(other.port)  # at once, as the lease was left
-        self.assertTrue(until(lambda: follower.version.number == 0))
-        self.assertEqual(third.said, [])
-
-    def test_a_killed_one(self):
-        """Its lease ends by itself, and the next one takes over."""
-        server = self.serve()
-        painter, follower = self.paint(server), self.follow()
-        first = self.publish(server.port)
-        before = self.has(follower, painter, 0)
-        first.end(signal.SIGKILL)
-        begun = time.monotonic()
-        self.publish(server.port)
-        number = painter.publish()
-        self.assertGreater(self.has(follower, painter, number).order, before.order)
-        self.assertLess(time.monotonic() - begun, 15)
-
-    def test_one_that_was_held_up(self):
-        """A publisher that stood still while another took over shows nothing any more."""
-        server, other = self.serve(room(seed=1)), self.serve(room(seed=2))
-        follower = self.follow()
-        first = self.publish(server.port)
-        self.has(follower, self.paint(server), 0)
-        first.process.send_signal(signal.SIGSTOP)
-        self.redis.client.delete(Keys("yard").lease)  # as if its time had ended
-        self.publish(other.port)
-        painter = self.paint(other, 2)
-        self.has(follower, painter, painter.publish())
-        first.process.send_signal(signal.SIGCONT)
-        self.assertEqual(first.process.wait(PATIENCE), 1)
-        self.assertTrue(first.says("another publisher of 'yard' is live"))
-        self.has(follower, painter, painter.publish())
-
-
-class Words(unittest.TestCase):
-    """Its command line, and what isn't installed."""
-
-    def told(self, *words, **others):
-        line = [sys.executable, str(SCRIPT), *words]
-        run = subprocess.run(line, capture_output=True, text=True, timeout=PATIENCE, **others)
-        return run.returncode, run.stderr.strip().splitlines()[-1]
-
-    def test_refused(self):
-        good = ("--port", "7400", "--name", "yard")
-        for words in ((), ("--port", "0", "--name", "yard"), ("--port", "7400"),
-                      ("--port", "7400", "--name", "a b"), (*good, "--keep", "0"),
-                      (*good, "--keep", "65"), (*good, "--interval", "0"),
-                      (*good, "--interval", "nan"), (*good, "--interval", "61")):  # fmt: skip
-            status, line = self.told(*words)
-            self.assertEqual(status, 2, words)
-            self.assertRegex(line, "^clearmap-publish: error: ")
-
-    def test_no_url(self):
-        status, line = self.told("--port", "7400", "--name", "yard", "--redis", "depot:6379")
-        self.assertEqual(status, 1)
-        self.assertRegex(line, "^clearmap-publish: Redis URL must")
-
-    def test_no_module(self):
-        """Without python3-redis one line says what to install."""
-        folder = pathlib.Path(self.enterContext(Redis()).folder.name)
-        (folder / "redis.py").write_text("raise ImportError('there is none')\n")
-        status, line = self.told("--port", "7400", "--name", "yard",
-                                 env={**os.environ, "PYTHONPATH": str(folder)})  # fmt: skip
-        self.assertEqual(status, 1)
-        self.assertRegex(line, "^clearmap-publish: there is no redis, .*python3-redis")
 
 
 if __name__ == "__main__":

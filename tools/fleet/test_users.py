@@ -10,7 +10,7 @@ import unittest
 import redis
 
 from test_publish import Publishes
-from testing import HERE, PATIENCE, Direct, Keys, Publishing, Redis, clearmap, np, room, until
+from testing import HERE, PATIENCE, Direct, Keys, Publishing, Redis, clearmap, np, until
 
 PAGE = HERE.parent.parent / "docs/RUNNING.md"
 DEPOT, ROBOT = "depot:publishing@", "robot:following@"
@@ -171,4 +171,6 @@ class Encrypted(unittest.TestCase):
 
 
 if __name__ == "__main__":
+    if not shutil.which("openssl"):
+        print("TLS left out: there is no openssl")
     unittest.main()

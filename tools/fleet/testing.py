@@ -1,6 +1,5 @@
 """Redis, publishers and served maps of known versions, for the tests of a fleet."""
 import contextlib
-import os
 import pathlib
 import random
 import signal
@@ -139,6 +138,30 @@ class Publishing:
         self._reader.join(PATIENCE)
         self.process.stderr.close()
         return status
+
+
+class Answering:
+    """What listens as a server does, and answers the lines of each connection with these."""
+
+    def __init__(self, replies):
+        self.listener, self.replies = socket.create_server(("127.0.0.1", 0)), replies
+        self.port = self.listener.getsockname()[1]
+        threading.Thread(target=self.serve, daemon=True).start()
+
+    def serve(self):
+        with contextlib.suppress(OSError):  # the listener was closed
+            while True:
+                with self.listener.accept()[0] as stream, contextlib.suppress(OSError):
+                    for reply in self.replies:
+                        if stream.recv(100):
+                            stream.sendall(reply)
+                    stream.recv(100)
+
+    def __enter__(self):
+        return self
+
+    def __exit__(self, *_):
+        self.listener.close()
 
 
 class Painter:

@@ -47,14 +47,14 @@ class Version:
         return max(0.0, time.monotonic() - self._published)
 
 
-def stock_of(version: Optional[Version]) -> "Dict[bytes, Tile]":
+def stock_of(version: Optional[Version]) -> Dict[bytes, Tile]:
     """Where a version has which tile, by the hash."""
     if version is None:
         return {}
     return dict(zip(version._record.tiles, tiles_of(version.map.size)))
 
 
-def missing(record: Record, stock: Dict[bytes, Any]) -> "Dict[bytes, Tile]":
+def missing(record: Record, stock: Dict[bytes, Any]) -> Dict[bytes, Tile]:
     """The tiles of a record that aren't in stock, each once, with a place that each has."""
     places = zip(record.tiles, tiles_of(record.size))
     return {wanted: tile for wanted, tile in places if wanted not in stock}

@@ -3,7 +3,7 @@ import hashlib
 import re
 import zlib
 from dataclasses import dataclass
-from typing import Any, List, NamedTuple, Tuple
+from typing import Any, Dict, List, NamedTuple, Tuple
 
 from .errors import BadVersion, ClearmapError, Size
 from .library import numpy
@@ -77,7 +77,7 @@ def hash_of(data: bytes) -> bytes:
     return hashlib.sha256(data).digest()
 
 
-def compressed_tiles(area: Map) -> Tuple[List[bytes], "dict[bytes, bytes]"]:
+def compressed_tiles(area: Map) -> Tuple[List[bytes], Dict[bytes, bytes]]:
     """The hashes of a map's tiles in their order, and what is stored of each."""
     words = area._held.memory.cells
     cells = [cells_of(words, tile) for tile in tiles_of(area.size)]
