@@ -58,8 +58,12 @@ def seconds(word: str) -> float:
 
 def named(word: str) -> str:
     """A reader of a name."""
-    if not re.fullmatch(r"[A-Za-z0-9_.-]{1,64}", word):
-        raise argparse.ArgumentTypeError(f"'{word}' isn't 1 to 64 letters, digits, '_', '.', '-'")
+    from clearmap.records import Keys
+
+    try:
+        Keys(word)
+    except ValueError as fault:
+        raise argparse.ArgumentTypeError(str(fault)) from fault
     return word
 
 

@@ -101,7 +101,7 @@ class Waits(Follows):
                 follower.wait(version)
         left = [thread for thread in threading.enumerate() if thread.name.startswith("follower")]
         self.assertEqual(left, [])
-        self.assertTrue(until(lambda: self.redis.client.pubsub_numsub(KEYS.news)[0][1] == 0))
+        self.assertTrue(until(lambda: len(self.redis.client.client_list()) == 1))
 
     def test_closed_while_another_thread_waits(self):
         follower, faults = self.follow(), []

@@ -46,19 +46,24 @@ class Publishes(unittest.TestCase):
 
 class Kept(Publishes):
     def test_versions_and_tiles(self):
+        for keep in (1, 3):
+            with self.subTest(keep=keep):
+                self.keep(keep, f"yard{keep}")
+
+    def keep(self, keep, name):
         server = self.serve()
-        painter, follower = self.paint(server), self.follow()
-        self.publish(server.port, "--keep", "3", "--interval", "0.01")
+        painter, follower = self.paint(server), self.follow(name)
+        self.publish(server.port, "--keep", str(keep), "--interval", "0.01", name=name)
         before = None
-        for _ in range(25):
+        for _ in range(20):
             version = self.has(follower, painter, painter.publish())
-            kept = self.redis.stored("yard")
-            self.assertLessEqual(len(kept), 3)
+            kept = self.redis.stored(name)
+            self.assertLessEqual(len(kept), keep)
             self.assertEqual(kept[version.order].hash, version.hash)
             self.assertTrue(before is None or before.order < version.order)
             self.assertEqual(version.run, version.run if before is None else before.run)
             before = version
-        self.assertTrue(until(lambda: not self.redis.strays("yard")))
+        self.assertTrue(until(lambda: not self.redis.strays(name)))
 
     def test_one_tile_of_a_large_map(self):
         """A small change writes the tiles that it touches, and no other."""

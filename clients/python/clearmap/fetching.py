@@ -15,8 +15,8 @@ MICRO = 1_000_000
 
 
 class State(NamedTuple):
-    """The newest version's order, 0 where there is none, and how many seconds ago the publisher
-    last found that it is the server's newest; None where nobody tells."""
+    """The newest version's order, 0 where there is none, and when the publisher last found that it
+    is the server's newest, by `time.monotonic` of this process; None where nobody tells."""
 
     newest: int
     seen: Optional[float]
@@ -80,28 +80,32 @@ class Fetcher:
 
     def state(self) -> State:
         """What is the newest version, by one question."""
-        asked = self._client.pipeline(transaction=False)
+        asked, begun = self._client.pipeline(transaction=False), time.monotonic()
         asked.get(self._keys.newest).get(self._keys.seen).time()
         newest, seen, now = asked.execute()
         order, told = order_of(newest, self._keys.newest), order_of(seen, self._keys.seen)
-        return State(order, max(0.0, _seconds(now) - told / MICRO) if told else None)
+        return State(order, _when(told, now, begun) if told else None)
 
     def version(self, order: int, before: Optional[Version]) -> Version:
         """The version of this order. BadVersion where it isn't whole, and WrongMap where its map
         has another size than is wanted."""
-        asked = self._client.pipeline(transaction=False)
+        asked, begun = self._client.pipeline(transaction=False), time.monotonic()
         asked.hget(self._keys.versions, order).time()
         data, now = asked.execute()
-        record, came = read_record(data), time.monotonic()
+        record = read_record(data)
         if record.order != order:
             raise BadVersion(f"its record is that of version {record.order}")
         if self._size is not None and record.size != self._size:
             raise WrongMap(self._size, record.size)
         self._fetch(record, before)
-        age = _seconds(now) - record.published / MICRO
-        made = put_together(record, before, self._fetched, came - age)
+        published = _when(record.published, now, begun)
+        made = put_together(record, before, self._fetched, published)
         self._fetched = {}
         return made
+
+    def close(self) -> None:
+        """Ends the connections."""
+        self._client.connection_pool.disconnect()
 
     def _fetch(self, record: Record, before: Optional[Version]) -> None:
         """Fetches and checks what neither the version before nor an earlier try has."""
@@ -119,7 +123,9 @@ class Fetcher:
             self._fetched[key] = read_tile(value, key, places[key])
 
 
-def _seconds(told: Any) -> float:
-    """The time that Redis tells, as one number."""
-    seconds, micros = told
-    return float(int(seconds) + int(micros) / MICRO)
+def _when(told: int, now: Any, begun: float) -> float:
+    """The time by `time.monotonic` of what Redis told, which answered at its time `now` a question
+    that began here at `begun`. An answer that was long on its way makes it too early, and never too
+    late; what Redis' clock has in the future is now."""
+    seconds, micros = now
+    return begun - max(0.0, int(seconds) + int(micros) / MICRO - told / MICRO)

@@ -142,6 +142,7 @@ class Follower:
                     self._error = str(fault) or type(fault).__name__
             pause = PAUSES[0] if time.monotonic() - begun > longest else min(2 * pause, longest)
             self._ended.wait(pause * random.uniform(0.5, 1))
+        self._fetcher.close()
 
     def _follow(self) -> None:
         """Looks at each news, and now and then without any, over one connection of news."""
@@ -194,7 +195,7 @@ class Follower:
             self._changed.notify_all()
 
     def _confirm(self, newest: int, seen: Optional[float]) -> None:
-        """The publisher has found so many seconds ago that this is the newest."""
+        """The publisher has found at that time that this is the newest."""
         mine = self._version
         if mine is not None and mine.order == newest and seen is not None:
-            self._newest_at = max(mine._published, time.monotonic() - seen)
+            self._newest_at = max(mine._published, seen)
