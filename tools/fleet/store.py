@@ -6,7 +6,7 @@ from typing import Any, Dict, Iterable, List, NamedTuple, Optional, Set, Tuple
 
 import scripts
 from clearmap import BadVersion, ClearmapError
-from clearmap.records import Keys, Record, order_of, compressed_tiles, read_record
+from clearmap.records import Keys, Record, compressed_tiles, order_of, read_record
 from source import Copy
 
 LEASE = 10.0  # seconds that a publisher's lease lasts after its last sign

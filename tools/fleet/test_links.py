@@ -1,6 +1,7 @@
 #!/usr/bin/env python3
 """Tests of links that are lost and stand still: through a link of this process, and between three
 networks, of a server, of Redis and of followers, where this user may make them."""
+import atexit
 import contextlib
 import os
 import pathlib
@@ -133,6 +134,7 @@ class Networks:
         self.stem = f"clearmap{os.getpid()}"
 
     def __enter__(self):
+        atexit.register(self.__exit__)  # where the test is ended
         for name in NETWORKS:
             self.ip("netns", "add", f"{self.stem}{name}")
             self.ip("-n", f"{self.stem}{name}", "link", "set", "lo", "up")

@@ -11,7 +11,7 @@ from testing import clearmap, np
 from clearmap.errors import BadVersion
 from clearmap.followed import missing, put_together, stock_of
 from clearmap.records import (
-    HASH, Keys, Record, order_of, compressed_tiles, read_record, read_tile, tiles_of,
+    HASH, Keys, Record, compressed_tiles, order_of, read_record, read_tile, tiles_of,
 )  # fmt: skip
 
 SIZES = ((1, 1), (63, 2), (64, 64), (65, 191), (256, 192), (257, 193), (300, 400), (1000, 33))

@@ -22,6 +22,7 @@ from clearmap.records import Keys, read_record, read_tile, tiles_of
 from served import PROGRAM, Served, blank
 from source import Copy, Seen
 
+signal.signal(signal.SIGTERM, signal.default_int_handler)  # so that folders are removed then too
 PATIENCE = 30  # seconds until something that has to happen is given up
 
 

@@ -28,7 +28,7 @@ In process, over an array of numpy:
 
 From other machines, through Redis, where `clearmap-publish` puts each version:
 
-    with clearmap.Follower("redis://depot:6379", "yard") as follower:
+    with clearmap.Follower("redis://store:6379", "yard") as follower:
         version = follower.wait(timeout=10)         # whole, and never older than the one before
         near = version.map.at(3, 4)
 

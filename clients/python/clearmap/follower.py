@@ -20,7 +20,7 @@ TRIES = 3  # looks one after another while newer versions take the place of the 
 class Follower:
     """The newest version of the map that `clearmap-publish` puts into Redis under a name.
 
-        with clearmap.Follower("redis://depot:6379", "yard") as follower:
+        with clearmap.Follower("redis://store:6379", "yard") as follower:
             version = follower.wait(timeout=10)
             near = version.map.at(3, 4)
 
