@@ -112,7 +112,7 @@ class Waits(Follows):
             except clearmap.NoVersion as fault:
                 faults.append(str(fault))
 
-        thread = threading.Thread(target=wait)
+        thread = threading.Thread(target=wait, daemon=True)
         thread.start()
         time.sleep(0.2)
         follower.close()
@@ -184,7 +184,7 @@ class Waits(Follows):
                     faults.append((version.number, x, y))
                 last = version.order
 
-        threads = [threading.Thread(target=ask, args=(seed,)) for seed in range(3)]
+        threads = [threading.Thread(target=ask, args=(seed,), daemon=True) for seed in range(3)]
         for thread in threads:
             thread.start()
         for number in range(2, 25):

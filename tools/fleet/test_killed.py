@@ -114,7 +114,7 @@ class TakingTurns(Publishes):
         painters = [self.paint(server, seed) for seed, server in enumerate(servers)]
         seen, ended = [], threading.Event()
         follower = self.follow()
-        watcher = threading.Thread(target=self.watch, args=(follower, seen, ended))
+        watcher = threading.Thread(target=self.watch, args=(follower, seen, ended), daemon=True)
         watcher.start()
         for turn in range(8):
             painter, server = painters[turn % 2], servers[turn % 2]

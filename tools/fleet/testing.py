@@ -1,4 +1,5 @@
 """Redis, publishers and served maps of known versions, for the tests of a fleet."""
+import atexit
 import contextlib
 import pathlib
 import random
@@ -69,6 +70,7 @@ class Redis:
         words = ["redis-server", "--port", str(self.port), "--bind", "127.0.0.1"]
         words += ["--dir", self.folder.name, "--save", "", "--logfile", "log", *self.flags]
         self.process = subprocess.Popen(words, stdout=subprocess.DEVNULL)
+        atexit.register(self.kill)  # where the test is ended
         self.client = redis_of_python.Redis.from_url(self.url, socket_timeout=PATIENCE)
         return until(lambda: self.process.poll() is not None or self.answers()) and self.answers()
 
