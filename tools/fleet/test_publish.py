@@ -1,11 +1,13 @@
 #!/usr/bin/env python3
 """Tests of clearmap-publish: what it keeps and drops, and servers one after another."""
 import signal
+import subprocess
+import sys
 import unittest
 
 from testing import (
-    PATIENCE, Answering, Painter, Publishing, Redis, Served, blank, clearmap, free_port, np, room,
-    until,
+    HERE, PATIENCE, Answering, Painter, Publishing, Redis, Served, blank, clearmap, free_port, np,
+    room, until,
 )  # fmt: skip
 
 
@@ -151,6 +153,24 @@ class Servers(Publishes):
         self.assertTrue(publisher.says(f"no server at 127.0.0.1:{port}"))
         server = self.serve(port=port)
         self.has(self.follow(), self.paint(server), 0)
+
+    def test_through_a_gateway(self):
+        """A gateway closes its clients where its server is lost: another server is another run."""
+        server = self.serve(room(seed=1))
+        words = [sys.executable, str(HERE.parent / "gateway/clearmap_gateway.py")]
+        gateway = subprocess.Popen([*words, "--port", str(server.port), "--links", "2"],
+                                   stdout=subprocess.PIPE, stderr=subprocess.DEVNULL)  # fmt: skip
+        with gateway:
+            self.addCleanup(gateway.kill)
+            port = int(gateway.stdout.readline().split()[1])
+            painter, follower = self.paint(server), self.follow()
+            self.publish(port)
+            before = self.has(follower, painter, painter.publish())
+            server.end()
+            again = self.serve(room(seed=2), server.port)
+            painter = self.paint(again)
+            self.assertNotEqual(self.has(follower, painter, 0).run, before.run)
+            gateway.kill()
 
     def test_a_server_whose_workers_are_taken(self):
         server = self.enterContext(Served(room(), "--workers", "1"))

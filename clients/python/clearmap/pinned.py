@@ -224,8 +224,9 @@ class Pinned:
     def _copied(self, edge: Optional[str], untold: Optional[str] = None) -> Map:
         """The version as a map, copied in one exchange."""
         library(), numpy()
-        if edge is not None:
-            edge_of(edge)
+        for named in (edge, untold):
+            if named is not None:
+                edge_of(named)
 
         def work(connection: Connection) -> Union[Map, ClearmapError]:
             text = _dumped(connection)
