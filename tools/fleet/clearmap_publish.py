@@ -23,8 +23,9 @@ REDIS = "redis://127.0.0.1:6379"
 NOTES = """\
 Each version is cut into tiles. A tile is written once, by the hash of its cells, and a version \
 is a record that names its tiles; followers read the record first, and then the tiles that they \
-don't have. A version is shown once all its tiles are there. clearmap.Follower of the package in \
-Python is a follower; docs/FORMATS.md says what others need.
+don't have. A version is shown once all its tiles are there; after the first one PUBLISHING and \
+the name are printed. clearmap.Follower of the package in Python is a follower; docs/FORMATS.md \
+says what others need.
 
 One publisher of a name is live at a time: a second one says so and ends with status 1. A killed \
 one's lease ends after 10 seconds. Where the server or Redis goes away, one line says so, and it \
