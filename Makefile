@@ -15,7 +15,8 @@ to = $(DESTDIR)$(PREFIX)
 program = crates/clearmap/out/clearmap
 version = $(shell sed -n 's/^version = "\(.*\)"/\1/p' clients/python/pyproject.toml)
 filled = sed 's|@PREFIX@|$(PREFIX)|; s|@LIBDIR@|$(LIBDIR:$(PREFIX)/%=$${prefix}/%)|; s|@VERSION@|$(version)|'
-pages = clearmap.1 clearmap-backup.1 clearmap-gateway.1 clearmap-ros.1 clearmap-ros-node.1 clearmap-view.1
+pages = clearmap.1 clearmap-backup.1 clearmap-gateway.1 clearmap-publish.1 clearmap-ros.1 \
+    clearmap-ros-node.1 clearmap-view.1
 client = $(notdir $(wildcard clients/python/clearmap/*.py)) py.typed
 view = asking.py bodies.py changing.py draft.py following.py picture.py site_of_map.py tables.py \
     watched.py yaml_map.py $(wildcard tools/view/page/*)
@@ -23,6 +24,7 @@ ros = clearmap_costmap.py clearmap_feed.py clearmap_follow.py clearmap_grid.py \
     clearmap_layers.py clearmap_messages.py
 ros_commands = clearmap_node.py clearmap_ros.py clearmap_ros2_node.py
 gateway = clients.py dumps.py limits.py lines.py links.py queries.py streams.py versions.py watch.py
+fleet = publisher.py scripts.py source.py store.py
 
 # The library: what is proved comes from rt, and clients/c/clearmap.c goes with it.
 library = crates/libclearmap/out
@@ -81,7 +83,13 @@ install-program: all
 	for part in $(gateway); do \
 	    $(INSTALL) -m 644 tools/gateway/$$part '$(to)/share/clearmap/gateway/'$$part || exit 1; \
 	done
+	$(INSTALL) -D -m 755 tools/fleet/clearmap_publish.py \
+	    '$(to)/share/clearmap/fleet/clearmap_publish.py'
+	for part in $(fleet); do \
+	    $(INSTALL) -m 644 tools/fleet/$$part '$(to)/share/clearmap/fleet/'$$part || exit 1; \
+	done
 	ln -sf ../share/clearmap/gateway/clearmap_gateway.py '$(to)/bin/clearmap-gateway'
+	ln -sf ../share/clearmap/fleet/clearmap_publish.py '$(to)/bin/clearmap-publish'
 	ln -sf ../share/clearmap/python/clearmap_ros.py '$(to)/bin/clearmap-ros'
 	ln -sf ../share/clearmap/python/clearmap_node.py '$(to)/bin/clearmap-ros-node'
 	ln -sf ../share/clearmap/view/clearmap_view.py '$(to)/bin/clearmap-view'
@@ -97,9 +105,9 @@ uninstall-program:
 	rm -f '$(to)/bin/clearmap' '$(to)/bin/clearmap-backup' '$(to)/bin/clearmap-ros' '$(to)/bin/clearmap-ros-node' '$(to)/bin/clearmap-view' '$(to)/share/man/man7/clearmap-protocol.7' \
 	    '$(to)/share/bash-completion/completions/clearmap' '$(to)/share/pkgconfig/clearmap.pc' '$(to)/lib/systemd/system/clearmap@.service'
 	for page in $(pages); do rm -f '$(to)/share/man/man1/'$$page; done
-	rm -f '$(to)/bin/clearmap-gateway'
+	rm -f '$(to)/bin/clearmap-gateway' '$(to)/bin/clearmap-publish'
 	rm -f '$(to)/share/clearmap/package.xml'
-	for part in python view gateway ros examples; do rm -rf '$(to)/share/clearmap/'$$part; done
+	for part in python view gateway fleet ros examples; do rm -rf '$(to)/share/clearmap/'$$part; done
 	rm -rf '$(to)/share/doc/clearmap'
 	[ -e '$(to)/include/clearmap.h' ] || rm -rf $(shared)
 

@@ -11,7 +11,13 @@ scratch=$(mktemp -d)
 server=''
 view=''
 gateway=''
-trap 'for started in $server $view $gateway; do kill "$started" 2> /dev/null; done; rm -rf "$scratch"' EXIT
+store=''
+publisher=''
+finish() {
+    for started in $server $view $gateway $store $publisher; do kill "$started" 2> /dev/null; done
+    rm -rf "$scratch"
+}
+trap finish EXIT
 trap 'exit 1' INT TERM
 export PYTHONDONTWRITEBYTECODE=1
 wrong=0
@@ -105,7 +111,7 @@ fi
 usr=$scratch/root/usr
 expect 'the installed program' "$("$usr/bin/clearmap" --version)" "$version"
 tried_scripts() { # tried_scripts PREFIX: the scripts and the client there
-    for script in clearmap-gateway clearmap-ros clearmap-ros-node clearmap-view; do
+    for script in clearmap-gateway clearmap-publish clearmap-ros clearmap-ros-node clearmap-view; do
         expect "$1/bin/$script" "$(timeout 60 "$1/bin/$script" --help | sed -n "1s/^usage: \($script\) .*/\1/p")" "$script"
     done
     expect "$1/bin/clearmap-backup" "$("$1/bin/clearmap-backup" --help | sed -n "s/^Usage: \([a-z-]*\) .*/\1/p")" clearmap-backup
@@ -159,7 +165,9 @@ fi
 # The pages are what --help and docs/PROTOCOL.md say, and man has nothing to complain of.
 tools/make_man.py --check "$program" || wrong=$((wrong + 1))
 if command -v man > /dev/null; then
-    for page in man1/clearmap.1 man1/clearmap-backup.1 man1/clearmap-gateway.1 man1/clearmap-ros.1 man1/clearmap-ros-node.1 man1/clearmap-view.1 man7/clearmap-protocol.7; do
+    for page in man1/clearmap.1 man1/clearmap-backup.1 man1/clearmap-gateway.1 \
+        man1/clearmap-publish.1 man1/clearmap-ros.1 man1/clearmap-ros-node.1 man1/clearmap-view.1 \
+        man7/clearmap-protocol.7; do
         expect "man $page" "$(man --warnings -l "$usr/share/man/$page" 2>&1 > /dev/null)" ''
     done
 else
@@ -243,6 +251,28 @@ if [ -n "$arrays" ] && [ -e "$usr/lib/libclearmap.so.0" ]; then
     kill "$gateway" 2> /dev/null
 else
     echo 'the installed gateway left out: there is no python3 with numpy, or no library (make lib)'
+fi
+
+# The installed publisher of this server, and a follower, by the installed package and library.
+shared=$(tools/python_with numpy, redis)
+if [ -n "$shared" ] && [ -e "$usr/lib/libclearmap.so.0" ] \
+    && command -v redis-server > /dev/null; then
+    redis-server --port 0 --unixsocket "$scratch/redis" --save '' --dir "$scratch" > /dev/null &
+    store=$!
+    : > "$scratch/publishing"
+    timeout 300 "$shared" "$usr/bin/clearmap-publish" --port "$port" --name room \
+        --redis "unix://$scratch/redis" > "$scratch/publishing" 2> /dev/null &
+    publisher=$!
+    expect 'the installed publisher' "$(told "$publisher" "$scratch/publishing" PUBLISHING)" room
+    expect 'a follower' "$(PYTHONPATH=$usr/share/clearmap/python timeout 60 "$shared" -c '
+import clearmap, sys
+with clearmap.Follower(sys.argv[1], "room") as follower:
+    print(follower.wait(timeout=30).map.at(2, 1, "city"))' "unix://$scratch/redis")" \
+        'Near(distance=3, obstacle=(0, 0))'
+    kill "$publisher" "$store" 2> /dev/null
+else
+    echo 'the installed publisher left out: there is no redis-server, no python3 with numpy and' \
+        'redis, or no library (make lib)'
 fi
 kill "$server" 2> /dev/null
 

@@ -29,7 +29,7 @@ rm "$root/usr/share/doc/clearmap/LICENSE"
 strip --strip-unneeded "$root/usr/bin/clearmap" "$root$lib/libclearmap.so.0"
 strip --strip-debug "$root$lib/libclearmap.a"
 for script in "$root"/usr/share/clearmap/python/*.py "$root"/usr/share/clearmap/view/*.py \
-    "$root"/usr/share/clearmap/gateway/*.py; do
+    "$root"/usr/share/clearmap/gateway/*.py "$root"/usr/share/clearmap/fleet/*.py; do
     sed -i '1s|^#!/usr/bin/env python3$|#!/usr/bin/python3|' "$script"
 done
 find "$root/usr/share/man" -type f -exec gzip -9n {} +
@@ -89,9 +89,9 @@ package() { # package NAME SECTION FIELD ..: writes it; the description comes on
 libc=$(libc_of "$root/usr/bin/clearmap")
 package clearmap science "Depends: $libc, python3" \
     "Recommends: libclearmap0 (= $version), python3-numpy" \
-    "Suggests: python3-aiohttp, python3-pil, python3-uvloop, python3-rospy, python3-nav-msgs, \
-python3-map-msgs, python3-sensor-msgs, python3-visualization-msgs, python3-roslaunch, \
-rviz" << 'DESCRIPTION'
+    "Suggests: python3-aiohttp, python3-pil, python3-redis, python3-uvloop, python3-rospy, \
+python3-nav-msgs, python3-map-msgs, python3-sensor-msgs, python3-visualization-msgs, \
+python3-roslaunch, redis-server, rviz" << 'DESCRIPTION'
 Description: clearance maps of robots, with a proved server
  Distances of each cell of a map to its nearest obstacle, by three metrics,
  and a server of one map that painters change while planners ask about the

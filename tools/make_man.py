@@ -152,9 +152,11 @@ def backup_page():
 
 def script_pages():
     """The pages of the scripts that are installed and written in Python."""
-    sys.path[:0] = [str(TOP / folder) for folder in ("clients/python", "tools/gateway", "tools/ros", "tools/view")]
+    tools = (f"tools/{name}" for name in ("fleet", "gateway", "ros", "view"))
+    sys.path[:0] = [str(TOP / folder) for folder in ("clients/python", *tools)]
     import clearmap_gateway
     import clearmap_node
+    import clearmap_publish
     import clearmap_ros
     import clearmap_view
 
@@ -165,6 +167,13 @@ def script_pages():
             clearmap_gateway.parser(),
             clearmap_gateway.NOTES.split("\n\n"),
             (("clearmap", 1), ("clearmap-protocol", 7)),
+        ),
+        "clearmap-publish.1": script_page(
+            "clearmap-publish",
+            "puts each version of a clearance map server into Redis",
+            clearmap_publish.parser(),
+            clearmap_publish.NOTES.split("\n\n"),
+            (("clearmap", 1), ("clearmap-gateway", 1)),
         ),
         "clearmap-ros.1": script_page("clearmap-ros", "maps, plans and radii of ROS for clearmap", clearmap_ros.parser(), (), (("clearmap", 1),)),
         "clearmap-ros-node.1": script_page(

@@ -227,13 +227,22 @@ class Copies(unittest.TestCase):
             with clearmap.Client(fake.port, timeout=5) as client:
                 self.assertRaises(clearmap.WrongAnswer, client.pin().map)
 
+    def test_an_edge_for_maps_that_tell_none(self):
+        """It isn't taken where a cell tells another one."""
+        with Served(b"P1\n2 1\n00\n", "--edge", "wall") as server:
+            with clearmap.Client(server.port) as client, client.pin() as pinned:
+                self.assertEqual(pinned.map(untold="open").edge, "wall")
+
     def test_a_border_of_obstacles(self):
         with Served(b"P1\n2 1\n11\n") as server, clearmap.Client(server.port) as client:
             with client.pin() as pinned:
                 with self.assertRaisesRegex(clearmap.ClearmapError, "name it"):
                     pinned.map()
                 self.assertEqual(pinned.map("wall").edge, "wall")
+                self.assertEqual(pinned.map(untold="open").edge, "open")
                 self.assertRaises(ValueError, pinned.map, "none")
+                with self.assertRaises(ValueError):
+                    pinned.map(untold="none")
                 self.assertEqual(pinned.at(0, 0), (0, (0, 0)))  # the pin goes on
             self.assertRaises(clearmap.ClearmapError, pinned.map)
 

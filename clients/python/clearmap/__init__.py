@@ -26,6 +26,12 @@ In process, over an array of numpy:
     area = clearmap.Map(grid, low=65)
     near = area.at(3, 4)                            # answers as a pin's
 
+From other machines, through Redis, where `clearmap-publish` puts each version:
+
+    with clearmap.Follower("redis://store:6379", "yard") as follower:
+        version = follower.wait(timeout=10)         # whole, and never older than the one before
+        near = version.map.at(3, 4)
+
 A client is one connection, which serves the calls of several threads one after another. A call that
 is cut off, by an interrupt or by any exception, closes it: no answer belongs to another question.
 """
@@ -35,6 +41,7 @@ from .errors import (
     BadArguments,
     BadImage,
     BadPath,
+    BadVersion,
     BlocksFull,
     ClearmapError,
     ConnectionLost,
@@ -42,6 +49,7 @@ from .errors import (
     LogFull,
     NoMemory,
     NotPinned,
+    NoVersion,
     OutOfRange,
     PlacesUsed,
     Refused,
@@ -50,6 +58,8 @@ from .errors import (
     WrongAnswer,
     WrongMap,
 )
+from .followed import FixedMap, Version
+from .follower import Follower
 from .grids import OPEN, WALL
 from .library import NO_OBSTACLE, NOWHERE
 from .maps import Map
@@ -72,6 +82,9 @@ __all__ = [
     "Entry",
     "read_distances",
     "Map",
+    "Follower",
+    "Version",
+    "FixedMap",
     "distances",
     "capped_distances",
     "distance_transform_edt",
@@ -86,6 +99,8 @@ __all__ = [
     "TimedOut",
     "WrongAnswer",
     "WrongMap",
+    "NoVersion",
+    "BadVersion",
     "Refused",
     "OutOfRange",
     "BlocksFull",

@@ -39,6 +39,15 @@ class WrongMap(ClearmapError):
         return "another map: the server's has %d by %d cells, and %d by %d are expected" % sizes
 
 
+class NoVersion(ClearmapError):
+    """No version of a followed map has come yet, or none that is newer in the time that was given.
+    """
+
+
+class BadVersion(ClearmapError):
+    """A published version isn't whole, or isn't what its hashes say: it isn't taken."""
+
+
 class Refused(ClearmapError):
     """A line that the server refused. Nothing has changed, and the connection goes on, except after
     `LineTooLong` and `TooMuchData`, which end it.

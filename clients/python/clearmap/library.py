@@ -144,6 +144,17 @@ def numpy() -> Any:
         ) from fault
 
 
+def redis() -> Any:
+    """The module redis, imported at the first use."""
+    try:
+        return importlib.import_module("redis")
+    except ImportError as fault:
+        raise ImportError(
+            "there is no redis, which following and publishing need: install it by `apt-get "
+            "install python3-redis` or `pip install redis`"
+        ) from fault
+
+
 def check(status: int) -> None:
     """Raises what a status says. The arguments were checked before, so that only want of memory is
     left to be told."""

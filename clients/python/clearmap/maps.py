@@ -13,6 +13,8 @@ from typing import (
     Literal,
     Optional,
     Tuple,
+    Type,
+    TypeVar,
     overload,
 )
 
@@ -29,6 +31,7 @@ if TYPE_CHECKING:
 
     from .rows import Distances, Obstacles
 
+M = TypeVar("M", bound="Map")
 END = 1 << 32  # what is less can be asked for
 ROWS = 64  # rows of a band
 ALL_BANDS = 2**64 - 1  # as if each had an obstacle: it is right for words that have none too
@@ -88,7 +91,7 @@ class Map:
         self._size = int(memory.layout.width), int(memory.layout.height)
 
     @classmethod
-    def _of(cls, memory: Memory, edge: str) -> "Map":
+    def _of(cls: Type[M], memory: Memory, edge: str) -> M:
         """A map of what is packed already."""
         made = cls.__new__(cls)
         made._begin(memory, edge)

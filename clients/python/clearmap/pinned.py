@@ -179,15 +179,16 @@ class Pinned:
         """The version as a plain PBM image."""
         return self._exchange(_dumped)
 
-    def map(self, edge: Optional[str] = None) -> Map:
+    def map(self, edge: Optional[str] = None, *, untold: Optional[str] = None) -> Map:
         """The version as a map of this process, which outlives the pin, by one DUMP. It needs numpy
         and libclearmap, else ImportError.
 
         A dump tells no edge. Where none is named, the server is asked about a cell of the border
         whose answer tells it. ClearmapError where no cell does, as where the whole border are
-        obstacles: name it then. A named edge is taken as it is.
+        obstacles: name it then, or name by `untold` the one for maps that don't tell it, whose
+        answers don't depend on it. A named edge is taken as it is.
         """
-        return self._copied(edge)
+        return self._copied(edge, untold)
 
     @overload
     def distances(
@@ -223,8 +224,9 @@ class Pinned:
     def _copied(self, edge: Optional[str], untold: Optional[str] = None) -> Map:
         """The version as a map, copied in one exchange."""
         library(), numpy()
-        if edge is not None:
-            edge_of(edge)
+        for named in (edge, untold):
+            if named is not None:
+                edge_of(named)
 
         def work(connection: Connection) -> Union[Map, ClearmapError]:
             text = _dumped(connection)

@@ -1,0 +1,131 @@
+"""What a follower reads from Redis: which version is the newest, and what it lacks of it."""
+import socket
+import time
+from contextlib import suppress
+from typing import Any, Dict, List, NamedTuple, Optional
+from urllib.parse import urlsplit
+
+from .errors import BadVersion, Size, WrongMap
+from .followed import Version, missing, put_together, stock_of
+from .library import redis
+from .records import Keys, Record, Tile, order_of, read_record, read_tile
+
+BATCH = 64  # tiles that are asked for at once
+MICRO = 1_000_000
+
+
+class State(NamedTuple):
+    """The newest version's order, 0 where there is none, and when the publisher last found that it
+    is the server's newest, by `time.monotonic` of this process; None where nobody tells."""
+
+    newest: int
+    seen: Optional[float]
+
+
+def place_of(url: str) -> str:
+    """Where a Redis is, without what a URL has of passwords."""
+    parts = urlsplit(url)
+    where = parts.hostname or parts.path
+    return f"{where}:{parts.port}" if parts.port else where
+
+
+def connected(url: str, timeout: float) -> Any:
+    """A client of Redis, which connects at its first use."""
+    settings = {"socket_timeout": timeout}
+    if not url.startswith("unix:"):
+        settings.update(socket_connect_timeout=timeout, socket_keepalive=True)
+    return redis().Redis.from_url(url, **settings)
+
+
+class News:
+    """What is told of new versions on a connection of its own."""
+
+    def __init__(self, client: Any, channel: str) -> None:
+        self._listener = client.pubsub(ignore_subscribe_messages=True)
+        try:
+            self._listener.subscribe(channel)
+        except BaseException:
+            self.close()
+            raise
+
+    def wait(self, seconds: float) -> bool:
+        """Whether something is told within this time. What else came by then is dropped."""
+        told = bool(self._listener.get_message(timeout=seconds))
+        while told and self._listener.get_message():
+            pass
+        return told
+
+    def wake(self) -> None:
+        """Ends a wait of another thread."""
+        stream = getattr(self._listener.connection, "_sock", None)
+        with suppress(OSError, AttributeError):
+            stream.shutdown(socket.SHUT_RDWR)  # type: ignore[union-attr]
+
+    def close(self) -> None:
+        """Ends the connection."""
+        self._listener.close()
+
+
+class Fetcher:
+    """Reads the versions of a name. Tiles that were fetched for a version that couldn't be taken
+    are kept for the next try."""
+
+    def __init__(self, client: Any, name: str, size: Optional[Size]) -> None:
+        self._client, self._keys, self._size = client, Keys(name), size
+        self._fetched: Dict[bytes, bytes] = {}
+
+    def news(self) -> News:
+        """A connection that is told of new versions."""
+        return News(self._client, self._keys.news)
+
+    def state(self) -> State:
+        """What is the newest version, by one question."""
+        asked, begun = self._client.pipeline(transaction=False), time.monotonic()
+        asked.get(self._keys.newest).get(self._keys.seen).time()
+        newest, seen, now = asked.execute()
+        order, told = order_of(newest, self._keys.newest), order_of(seen, self._keys.seen)
+        return State(order, _when(told, now, begun) if told else None)
+
+    def version(self, order: int, before: Optional[Version]) -> Version:
+        """The version of this order. BadVersion where it isn't whole, and WrongMap where its map
+        has another size than is wanted."""
+        asked, begun = self._client.pipeline(transaction=False), time.monotonic()
+        asked.hget(self._keys.versions, order).time()
+        data, now = asked.execute()
+        record = read_record(data)
+        if record.order != order:
+            raise BadVersion(f"its record is that of version {record.order}")
+        if self._size is not None and record.size != self._size:
+            raise WrongMap(self._size, record.size)
+        self._fetch(record, before)
+        published = _when(record.published, now, begun)
+        made = put_together(record, before, self._fetched, published)
+        self._fetched = {}
+        return made
+
+    def close(self) -> None:
+        """Ends the connections."""
+        self._client.connection_pool.disconnect()
+
+    def _fetch(self, record: Record, before: Optional[Version]) -> None:
+        """Fetches and checks what neither the version before nor an earlier try has."""
+        self._fetched = {key: self._fetched[key] for key in record.tiles if key in self._fetched}
+        stock: Dict[bytes, object] = {**stock_of(before), **self._fetched}
+        lacking = missing(record, stock)
+        wanted = list(lacking)
+        for start in range(0, len(wanted), BATCH):
+            self._take(wanted[start : start + BATCH], lacking)
+
+    def _take(self, wanted: List[bytes], places: Dict[bytes, Tile]) -> None:
+        """Fetches and checks these tiles."""
+        values = self._client.hmget(self._keys.tiles, wanted)
+        for key, value in zip(wanted, values):
+            self._fetched[key] = read_tile(value, key, places[key])
+
+
+def _when(told: int, now: Any, begun: float) -> float:
+    """The time by `time.monotonic` of what Redis told, which answered at its time `now` a question
+    that began here at `begun`. An answer that was long on its way makes it too early, and never too
+    late; what Redis' clock has in the future is now."""
+    seconds, micros = now
+    return begun - max(0.0, int(seconds) + int(micros) / MICRO - told / MICRO)

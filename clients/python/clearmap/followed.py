@@ -1,0 +1,100 @@
+"""A followed version: its map, which nobody changes, and how it is put together from tiles."""
+import time
+from dataclasses import dataclass, field
+from typing import Any, Dict, NoReturn, Optional, Sequence
+
+from .errors import BadVersion
+from .grids import Memory
+from .library import Bits, numpy
+from .maps import ROWS, Map
+from .records import Record, Tile, cells_of, tiles_of, words_of
+
+FIXED = "the map of a version isn't changed: paint on a copy, as version.map.copy()"
+
+
+class FixedMap(Map):
+    """A map that can't be painted or cleared. Queries are those of a `Map`."""
+
+    def _draw(self, name: str, *corners: int) -> NoReturn:
+        raise TypeError(FIXED)
+
+    def copy(self) -> Map:
+        """A map of the same cells and edge that may be painted and cleared."""
+        return Map._of(self._held.memory, self.edge)
+
+
+@dataclass(frozen=True, eq=False)
+class Version:
+    """A published version, whole, which stays as it is: ask its `map`. Any threads may share it.
+
+    `number` is the server's own, and counts within one `run`: the publisher's connection to one
+    served map. `order` grows from version to version of a name whatever is restarted. `hash` names
+    the version and its map: it is the same for all who follow it.
+    """
+
+    map: FixedMap
+    number: int
+    run: str
+    order: int
+    hash: str
+    _published: float = field(repr=False)  # by time.monotonic of this process
+    _record: Record = field(repr=False)
+
+    @property
+    def age(self) -> float:
+        """Seconds since it was published, by Redis' clock up to when it came, and then by this
+        machine's."""
+        return max(0.0, time.monotonic() - self._published)
+
+
+def stock_of(version: Optional[Version]) -> Dict[bytes, Tile]:
+    """Where a version has which tile, by the hash."""
+    if version is None:
+        return {}
+    return dict(zip(version._record.tiles, tiles_of(version.map.size)))
+
+
+def missing(record: Record, stock: Dict[bytes, Any]) -> Dict[bytes, Tile]:
+    """The tiles of a record that aren't in stock, each once, with a place that each has."""
+    places = zip(record.tiles, tiles_of(record.size))
+    return {wanted: tile for wanted, tile in places if wanted not in stock}
+
+
+def put_together(
+    record: Record, before: Optional[Version], fetched: Dict[bytes, bytes], published: float
+) -> Version:
+    """A version of the tiles that were fetched, and of those that the one before it has."""
+    words = _words(record, before, fetched)
+    width, height = record.size
+    if width % 64 and (words[:, -1] >> numpy().uint64(width % 64)).any():
+        raise BadVersion("a tile has cells beyond the map's right side")
+    bits = Bits(width, height, words.shape[1], _bands(words))
+    area = FixedMap._of(Memory("bits", words, words.size, bits), record.edge)
+    told = record.number, record.run, record.order, record.hash
+    return Version(area, *told, published, record)
+
+
+def _words(record: Record, before: Optional[Version], fetched: Dict[bytes, bytes]) -> Any:
+    """The words of a record's map, by rows."""
+    width, height = record.size
+    words = numpy().empty((height, (width + 63) // 64), numpy().uint64)
+    stock: Dict[bytes, Tile] = {}
+    same: Sequence[Optional[bytes]] = [None] * len(record.tiles)
+    if before is not None:
+        stock, old = stock_of(before), before.map._held.memory.cells
+        if before.map.size == record.size:
+            words, same = old.copy(), before._record.tiles
+    for wanted, had, tile in zip(record.tiles, same, tiles_of(record.size)):
+        if wanted != had:
+            cells = fetched[wanted] if wanted in fetched else cells_of(old, stock[wanted])
+            if len(cells) != tile.length:
+                raise BadVersion(f"its tile {wanted.hex()[:16]} isn't of {tile.length} bytes")
+            words[tile.y0 : tile.y1, tile.first : tile.end] = words_of(cells, tile)
+    return words
+
+
+def _bands(words: Any) -> int:
+    """A bit for each 64 rows that have an obstacle."""
+    rows = words.any(axis=1)
+    starts = range(0, len(rows), ROWS)
+    return sum(1 << k for k, y in enumerate(starts) if rows[y : y + ROWS].any())

@@ -1,0 +1,201 @@
+"""Follows the versions of a served map through Redis: the newest whole one, in this process."""
+import math
+import os
+import random
+import threading
+import time
+from typing import NoReturn, Optional
+
+from .errors import BadVersion, ClearmapError, NoVersion, Size, WrongMap
+from .fetching import Fetcher, News, connected, place_of
+from .followed import Version
+from .library import library, numpy, redis
+from .size import size_of
+
+LOOK = 1.0  # seconds without news after which Redis is asked
+PAUSES = 0.1, 2.0  # seconds before Redis is tried again, at first and at most
+TRIES = 3  # looks one after another while newer versions take the place of the one that is read
+
+
+class Follower:
+    """The newest version of the map that `clearmap-publish` puts into Redis under a name.
+
+        with clearmap.Follower("redis://store:6379", "yard") as follower:
+            version = follower.wait(timeout=10)
+            near = version.map.at(3, 4)
+
+    A thread of its own fetches what each version lacks. `version` is always a whole one, and never
+    older than one before it. What isn't whole, or isn't what its hashes say, isn't taken, and
+    `error` tells so. Without Redis the version stays: its `age` and `stale` grow. With `size` a map
+    of another size isn't taken.
+
+    Ask a version, not the follower, for answers that belong together. Any thread may use all of
+    this, and a signal's handler `version`, `stale` and `error`. A process that was forked makes a
+    follower of its own. It needs numpy, libclearmap and redis, else ImportError.
+    """
+
+    def __init__(
+        self, url: str, name: str, *, size: Optional[Size] = None, timeout: float = 5.0
+    ) -> None:
+        library(), numpy(), redis()
+        if not timeout > 0:
+            raise ValueError(f"a time-out of {timeout} s, where more than 0 is wanted")
+        self._what = f"'{name}' at {place_of(url)}"
+        self._fetcher = Fetcher(
+            connected(url, timeout), name, None if size is None else size_of(size)
+        )
+        self._version: Optional[Version] = None
+        self._newest_at = -math.inf  # when the version was last known to be the server's newest
+        self._error: Optional[str] = None
+        self._news: Optional[News] = None
+        self._changed, self._ended = threading.Condition(), threading.Event()
+        self._process = os.getpid()
+        self._thread = threading.Thread(target=self._run, name=f"follower {name}", daemon=True)
+        self._thread.start()
+
+    def __enter__(self) -> "Follower":
+        return self
+
+    def __exit__(self, *_: object) -> None:
+        self.close()
+
+    def __reduce__(self) -> NoReturn:
+        raise TypeError("a Follower is a thread, which can't be copied or pickled")
+
+    # ---- what is known
+
+    @property
+    def version(self) -> Version:
+        """The newest whole version. NoVersion where none has come yet."""
+        self._check_process()
+        if self._version is None:
+            raise NoVersion(self._none())
+        return self._version
+
+    @property
+    def error(self) -> Optional[str]:
+        """What keeps it now from the newest version; None where nothing does."""
+        why = self._error
+        return None if why is None else f"{self._what}: {why}"
+
+    @property
+    def stale(self) -> float:
+        """Seconds since the version was last known to be the newest of the server. While all is
+        well it stays below three; it is infinite without a version."""
+        return max(0.0, time.monotonic() - self._newest_at)
+
+    def wait(
+        self, newer_than: Optional[Version] = None, timeout: Optional[float] = None
+    ) -> Version:
+        """The newest version, once there is one, or one that is newer than this. NoVersion where
+        none comes within so many seconds, or the follower is closed."""
+        self._check_process()
+        with self._changed:
+            self._changed.wait_for(lambda: self._is_newer(newer_than) or self._is_over(), timeout)
+            if not self._is_newer(newer_than):
+                raise NoVersion(self._none(newer_than))
+            return self.version
+
+    def close(self) -> None:
+        """Ends the thread and its connections. The version stays. It may be called again."""
+        self._ended.set()
+        if self._process != os.getpid():
+            return
+        news = self._news
+        if news is not None:
+            news.wake()
+        with self._changed:
+            self._changed.notify_all()
+        if threading.current_thread() is not self._thread:
+            self._thread.join()
+
+    def _is_newer(self, than: Optional[Version]) -> bool:
+        """Whether there is a version, and a newer one than this."""
+        mine = self._version
+        return mine is not None and (than is None or mine.order > than.order)
+
+    def _is_over(self) -> bool:
+        return self._ended.is_set()
+
+    def _none(self, newer_than: Optional[Version] = None) -> str:
+        """What is said where there is no version."""
+        newer = "" if newer_than is None else f" newer than {newer_than.number}"
+        why = "the follower is closed" if self._is_over() else self._error
+        return f"there is no version{newer} of {self._what} yet" + (f": {why}" if why else "")
+
+    def _check_process(self) -> None:
+        if self._process != os.getpid():
+            raise ClearmapError("a forked process makes a follower of its own")
+
+    # ---- the thread
+
+    def _run(self) -> None:
+        """Follows until the end. What Redis, its link or what is stored there does wrong is told,
+        and tried again."""
+        pause, longest = PAUSES
+        while not self._is_over():
+            begun = time.monotonic()
+            try:
+                self._follow()
+            except Exception as fault:
+                if not self._is_over():
+                    self._error = str(fault) or type(fault).__name__
+            pause = PAUSES[0] if time.monotonic() - begun > longest else min(2 * pause, longest)
+            self._ended.wait(pause * random.uniform(0.5, 1))
+        self._fetcher.close()
+
+    def _follow(self) -> None:
+        """Looks at each news, and now and then without any, over one connection of news."""
+        news = self._news = self._fetcher.news()
+        try:
+            is_told = True
+            while not self._is_over():
+                if self._look() and not is_told:
+                    return  # a version came that no news told of: a connection that may be lost
+                is_told = news.wait(LOOK)
+        finally:
+            self._news = None
+            news.close()
+
+    def _look(self) -> bool:
+        """Takes the newest version, if it is newer. Whether it did."""
+        refused = -1
+        for _ in range(TRIES):
+            newest, seen = self._fetcher.state()
+            if newest == refused or not self._wants(newest):
+                self._confirm(newest, seen)
+                return False
+            try:
+                self._take(newest)
+                self._confirm(newest, seen)
+                return True
+            except (BadVersion, WrongMap) as fault:  # it may be that a newer one took its place
+                self._error = f"the newest version isn't taken: {fault}"
+                refused = newest
+        return False
+
+    def _wants(self, newest: int) -> bool:
+        """Whether a version of this order is newer than what is there. An error where it's older.
+        """
+        mine = 0 if self._version is None else self._version.order
+        if newest == 0:
+            self._error = "Redis has no version"
+        elif newest < mine:
+            self._error = "Redis has an older version than the one here"
+        elif newest == mine:
+            self._error = None
+        return newest > mine
+
+    def _take(self, newest: int) -> None:
+        """Fetches the newest version, and shows it to all."""
+        version = self._fetcher.version(newest, self._version)
+        with self._changed:
+            self._version, self._error = version, None
+            self._newest_at = version._published
+            self._changed.notify_all()
+
+    def _confirm(self, newest: int, seen: Optional[float]) -> None:
+        """The publisher has found at that time that this is the newest."""
+        mine = self._version
+        if mine is not None and mine.order == newest and seen is not None:
+            self._newest_at = max(mine._published, seen)

@@ -1,0 +1,152 @@
+"""Brings Redis up to date with a server, and goes on where one of them is lost."""
+import argparse
+import threading
+import time
+from contextlib import suppress
+from typing import Any, Callable, Optional
+
+from clearmap import ClearmapError
+from clearmap.library import redis
+from source import Copy, Seen, Source
+from store import LEASE, LeaseLost, Store
+
+AGAIN = 1.0  # seconds until what went wrong is tried again, and between two signs of life
+SAME = 10.0  # seconds within which another reason is taken as a part of what was told
+
+
+class Trouble:
+    """Says one line when something goes wrong, and one when it is well again. Where it goes wrong
+    in another way at once, as it does where something ends, that is a part of the same."""
+
+    def __init__(self, say: Callable[[object], None], well: str) -> None:
+        self._say, self._well, self._said, self._at = say, well, "", 0.0
+
+    def tell(self, why: object) -> None:
+        """It goes wrong, for this reason."""
+        line = str(why) or type(why).__name__
+        is_new = not self._said or line != self._said and time.monotonic() > self._at + SAME
+        if is_new:
+            self._say(line)
+            self._said, self._at = line, time.monotonic()
+
+    def end(self) -> None:
+        """All is well."""
+        if self._said:
+            self._say(self._well)
+        self._said = ""
+
+
+class Taken(Exception):
+    """Another publisher of the name is live."""
+
+
+class Publisher:
+    """Publishes the versions of a server under a name until it is ended."""
+
+    def __init__(
+        self, options: argparse.Namespace, redis: Any, say: Callable[[object], None]
+    ) -> None:
+        self._options = options
+        self._source, self._store = Source(options.port), Store(redis, options.name, options.keep)
+        self._server = Trouble(say, "there is a server again")
+        self._redis = Trouble(say, "Redis takes versions again")
+        self._lease = Trouble(say, "the lease has ended")
+        self._is_ended = self._has_lease = self._has_shown = False
+        self._copy: Optional[Copy] = None
+        self._shown: Optional[Seen] = None
+        self._kept_at = 0.0
+
+    def end(self, *_: object) -> None:
+        """Ends it after what is in hand. A signal's handler may call it."""
+        self._is_ended = True
+
+    def run(self) -> None:
+        """Goes on until it is ended. Taken where another one is live."""
+        threading.Thread(target=self._beat, daemon=True).start()
+        try:
+            while not self._is_ended:
+                is_well = self._step(self._look())
+                self._rest(self._options.interval if is_well else AGAIN)
+        finally:
+            self._source.close()
+            self._leave()
+
+    def _rest(self, seconds: float) -> None:
+        """Waits so long, or until it is ended."""
+        until = time.monotonic() + seconds
+        while not self._is_ended and (left := until - time.monotonic()) > 0:
+            time.sleep(min(left, 0.1))
+
+    def _beat(self) -> None:
+        """Keeps the lease while a copy takes its time. What goes wrong is found by what is next."""
+        while not self._is_ended:
+            time.sleep(AGAIN)
+            with suppress(LeaseLost, redis().RedisError, OSError):
+                if self._has_lease:
+                    self._store.keep(False)
+
+    def _look(self) -> Optional[Seen]:
+        """The server's newest version, with a copy of it where it isn't shown yet; None where the
+        server isn't there."""
+        try:
+            seen = self._source.look()
+            if seen != self._shown and (self._copy is None or self._copy.seen != seen):
+                self._copy = self._source.copy()
+                seen = self._copy.seen
+        except (ClearmapError, MemoryError) as fault:
+            self._server.tell(fault)
+            return None
+        self._server.end()
+        return seen
+
+    def _step(self, seen: Optional[Seen]) -> bool:
+        """Brings Redis up to date. Whether all is well."""
+        try:
+            if self._has_lease or self._take_lease():
+                self._show(seen)
+                self._redis.end()
+        except LeaseLost:
+            self._has_lease = False
+        except (redis().RedisError, ClearmapError, OSError, MemoryError) as fault:
+            self._store.doubt()
+            self._redis.tell(f"Redis: {fault}")
+            return False
+        return seen is not None
+
+    def _show(self, seen: Optional[Seen]) -> None:
+        """Publishes what isn't shown yet, or gives a sign of life once a second."""
+        if seen is not None and seen != self._shown and self._copy is not None:
+            self._store.publish(self._copy)
+            self._shown, self._kept_at = self._copy.seen, time.monotonic()
+            if not self._has_shown:
+                print(f"PUBLISHING {self._options.name}", flush=True)
+            self._has_shown = True
+        elif time.monotonic() >= self._kept_at + AGAIN:
+            if not self._store.keep(seen is not None and seen == self._shown):
+                self._shown = None
+                self._store.doubt()
+            self._kept_at = time.monotonic()
+
+    def _take_lease(self) -> bool:
+        """Takes the lease, once that of a publisher that is gone has ended."""
+        begun, least = time.monotonic(), LEASE
+        while not self._is_ended:
+            held = self._store.take()
+            if held is None:
+                self._lease.end()
+                self._has_lease, self._shown, self._kept_at = True, None, 0.0
+                return True
+            holder, left = held
+            if left > least:
+                raise Taken(f"another publisher of '{self._options.name}' is live: {holder}")
+            if time.monotonic() > begun + 2 * AGAIN:  # a live one would have kept it
+                self._lease.tell(f"the lease of '{self._options.name}' is {holder}'s: it ends soon")
+            least = left
+            self._rest(0.2)
+        return False
+
+    def _leave(self) -> None:
+        """Gives the lease up, where Redis is there."""
+        with suppress(redis().RedisError, OSError):
+            if self._has_lease:
+                self._store.leave()

@@ -1,0 +1,66 @@
+"""The server whose versions are published: one connection, and a run of it after another."""
+from contextlib import contextmanager
+from dataclasses import dataclass
+from secrets import token_hex
+from typing import Iterator, NamedTuple, Optional
+
+from clearmap import OPEN, Client, ClearmapError, Map, Pinned, Refused
+
+PATIENCE = 4.0  # seconds for each reply, less than a lease lasts
+
+
+class Seen(NamedTuple):
+    """A version: its number, of one connection. A server that ends closes its connections, so that
+    numbers of one connection are those of one served map."""
+
+    run: str
+    number: int
+
+
+@dataclass(frozen=True)
+class Copy:
+    """A version with its map."""
+
+    seen: Seen
+    area: Map
+
+
+class Source:
+    """Looks at a server, or at a gateway to it. A look or a copy raises a ClearmapError, and the
+    next one connects anew where the connection was lost."""
+
+    def __init__(self, port: int) -> None:
+        self._port = port
+        self._client: Optional[Client] = None
+        self._run = ""
+
+    def look(self) -> Seen:
+        """The newest version, which isn't held."""
+        with self._pinned() as pinned:
+            return Seen(self._run, pinned.version)
+
+    def copy(self) -> Copy:
+        """The newest version, copied. Where its cells don't tell the edge, no answer of its map
+        depends on it, and it is told as open."""
+        with self._pinned() as pinned:
+            return Copy(Seen(self._run, pinned.version), pinned.map(untold=OPEN))
+
+    def close(self) -> None:
+        """Ends the connection."""
+        client, self._client = self._client, None
+        if client is not None:
+            client.close()
+
+    @contextmanager
+    def _pinned(self) -> Iterator[Pinned]:
+        """A pin, on the connection that stands or on a new one, which is another run."""
+        try:
+            if self._client is None:
+                self._client, self._run = Client(self._port, timeout=PATIENCE), token_hex(8)
+            with self._client.pin() as pinned:
+                yield pinned
+        except Refused:
+            raise
+        except ClearmapError:
+            self.close()
+            raise

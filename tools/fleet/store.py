@@ -1,0 +1,154 @@
+"""The versions of one name in Redis, and the lease of the one who may publish them."""
+import os
+import socket
+from secrets import token_hex
+from typing import Any, Dict, Iterable, List, NamedTuple, Optional, Set, Tuple
+
+import scripts
+from clearmap import BadVersion, ClearmapError
+from clearmap.records import Keys, Record, compressed_tiles, order_of, read_record
+from source import Copy
+
+LEASE = 10.0  # seconds that a publisher's lease lasts after its last sign
+BATCH = 64  # tiles that are written or dropped at once
+MICRO = 1_000_000
+
+
+class LeaseLost(Exception):
+    """The lease has ended, or is another publisher's."""
+
+
+class Stored(NamedTuple):
+    """What stands in Redis: the greatest order, the tiles that are there, those that each version
+    names, by its order, and the time, in microseconds."""
+
+    newest: int
+    tiles: Set[bytes]
+    versions: Dict[int, Set[bytes]]
+    now: int
+
+    def named(self, but: Iterable[int] = ()) -> Set[bytes]:
+        """The tiles of all versions but these."""
+        left = [tiles for order, tiles in self.versions.items() if order not in set(but)]
+        return set().union(*left)
+
+
+class Store:
+    """Writes versions: first the tiles that aren't there, then by one script the record and what
+    names it the newest. After that the tiles go that no kept version names. What Redis refuses is
+    raised, and can be tried again at any time."""
+
+    def __init__(self, redis: Any, name: str, keep: int) -> None:
+        self._redis, self._keys, self._keep = redis, Keys(name), keep
+        self._token = f"{socket.gethostname()}:{os.getpid()}:{token_hex(8)}"
+        self._last = 0  # the order of what was published last from here
+        self._count = 0  # tiles that stood in Redis after it
+        self._is_sure = False  # whether the tiles in Redis are as they were written
+
+    # ---- the lease
+
+    def take(self) -> Optional[Tuple[str, float]]:
+        """Takes the lease. Where it is another's: whose, and for how many seconds more."""
+        held = self._run(scripts.TAKE, [self._keys.lease], [int(1000 * LEASE)])
+        if not held:
+            self.doubt()
+            return None
+        if held[1] < 0:
+            raise ClearmapError(f"the key {self._keys.lease} holds something else: it never ends")
+        return held[0].decode("utf-8", "replace").rpartition(":")[0], held[1] / 1000
+
+    def keep(self, is_newest: bool) -> bool:
+        """Keeps the lease; LeaseLost where it isn't one's own any more. With `is_newest` followers
+        are told that what was published last is still the server's newest. False where Redis shows
+        another version, or not all of it, as one that has lost its last writes does."""
+        keys = self._keys
+        names = [keys.lease, keys.seen, keys.newest, keys.versions, keys.tiles]
+        order = self._last if is_newest else ""
+        told = self._run(scripts.KEEP, names, [int(1000 * LEASE), order, self._count])
+        if told == 0:
+            raise LeaseLost
+        return bool(told == 1)
+
+    def leave(self) -> None:
+        """Gives the lease up, so that the next publisher needn't wait."""
+        self._run(scripts.LEAVE, [self._keys.lease], [])
+
+    def doubt(self) -> None:
+        """From now on it isn't known what Redis holds: the next version writes all its tiles."""
+        self._is_sure = False
+
+    def _run(self, script: str, keys: List[str], words: List[object]) -> Any:
+        """Runs a script, which is told the token first."""
+        return self._redis.eval(script, len(keys), *keys, self._token, *words)
+
+    # ---- versions
+
+    def publish(self, copy: Copy) -> Record:
+        """Shows a version to followers, as newer than each before it."""
+        stored = self._stored()
+        hashes, values = compressed_tiles(copy.area)
+        record = self._recorded(copy, tuple(hashes), stored)
+        self._drop(stored.tiles - stored.named() - set(hashes))
+        lacking = [key for key in values if not self._is_sure or key not in stored.tiles]
+        self._write({key: values[key] for key in lacking})
+        count = max(0, len(stored.versions) + 1 - self._keep)
+        dropped = sorted(stored.versions)[:count]
+        self._commit(record, dropped)
+        left = stored.named(dropped) | set(hashes)
+        self._drop((stored.tiles & stored.named()) - left)
+        self._count = len(left)
+        return record
+
+    def _stored(self) -> Stored:
+        """What stands in Redis, which nobody else writes who has no lease. A record that is none
+        names no tiles."""
+        keys = self._keys
+        asked = self._redis.pipeline(transaction=False)  # which is answered without memory too
+        asked.get(keys.newest).hkeys(keys.tiles).hgetall(keys.versions).time()
+        newest, tiles, records, (seconds, micros) = asked.execute()
+        versions = {order_of(order, keys.versions): _tiles_of(it) for order, it in records.items()}
+        last = max([order_of(newest, keys.newest), *versions])
+        return Stored(last, set(tiles), versions, MICRO * int(seconds) + int(micros))
+
+    def _recorded(self, copy: Copy, tiles: Tuple[bytes, ...], stored: Stored) -> Record:
+        """The record of a version. Its order is the time, or more: a Redis that has lost what it
+        held goes on above what followers have seen."""
+        order = max(stored.now, stored.newest + 1, self._last + 1)
+        run, number = copy.seen
+        return Record(order, run, number, stored.now, copy.area.size, copy.area.edge, tiles)
+
+    def _write(self, values: Dict[bytes, bytes]) -> None:
+        """Writes tiles, and keeps the lease between them."""
+        names = list(values)
+        for start in range(0, len(names), BATCH):
+            part = {key: values[key] for key in names[start : start + BATCH]}
+            self._redis.hset(self._keys.tiles, mapping=part)
+            self.keep(False)
+
+    def _commit(self, record: Record, dropped: List[int]) -> None:
+        """Makes a version the newest, and drops older ones."""
+        keys = self._keys
+        named = [keys.lease, keys.newest, keys.versions, keys.tiles, keys.seen]
+        words = [record.order, record.written(), record.published, keys.news, *dropped]
+        told = self._run(scripts.COMMIT, named, words)
+        if told == b"lease":
+            raise LeaseLost
+        if told != b"done":
+            raise ClearmapError("Redis has lost or changed what was just written")
+        self._last, self._is_sure = record.order, True
+
+    def _drop(self, tiles: Set[bytes]) -> None:
+        """Drops tiles that no kept version names."""
+        names = list(tiles)
+        for start in range(0, len(names), BATCH):
+            words: List[object] = list(names[start : start + BATCH])
+            if not self._run(scripts.DROP, [self._keys.lease, self._keys.tiles], words):
+                raise LeaseLost
+
+
+def _tiles_of(record: bytes) -> Set[bytes]:
+    """The tiles that a record names."""
+    try:
+        return set(read_record(record).tiles)
+    except BadVersion:
+        return set()
