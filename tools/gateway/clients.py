@@ -69,6 +69,8 @@ class Client(Stream):
     def _do_lines(self) -> None:
         """Does some lines, up to one that takes time. Their replies go out together."""
         said = self._said_of_queries()
+        if said and not self._pending and not self._is_last and self._news is None:
+            return self._write(b"".join(said))
         while self._task is None and not self._is_full and not self._is_over:
             line = next_line(self._pending)
             if line is None:

@@ -23,6 +23,7 @@ class Stream(asyncio.BufferedProtocol):
         self._ending: Optional[asyncio.TimerHandle] = None  # while the last bytes are read away
         self._away = 0
         self._is_full = False  # replies wait to be taken
+        self._is_paused = False  # what was sent waits to be read
         self._is_last = False  # no more bytes come
         self._is_over = False  # no more replies go out
         self._transport: asyncio.Transport
@@ -78,12 +79,12 @@ class Stream(asyncio.BufferedProtocol):
 
     def _regulate(self) -> None:
         """Stops reading where enough waits to be done."""
-        if self._transport.is_closing() or self._is_last or self._ending is not None:
+        pauses = len(self._pending) > UNREAD and not self._is_over
+        if pauses == self._is_paused or self._transport.is_closing() or self._is_last:
             return
-        if len(self._pending) > UNREAD and not self._is_over:
-            self._transport.pause_reading()
-        else:
-            self._transport.resume_reading()
+        if self._ending is None:
+            self._is_paused = pauses
+            self._transport.pause_reading() if pauses else self._transport.resume_reading()
 
     async def _counted(self, count: int) -> bytearray:
         """The next bytes that the client sends, so many."""
