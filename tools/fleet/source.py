@@ -6,7 +6,7 @@ from typing import Iterator, NamedTuple, Optional
 
 from clearmap import OPEN, Client, ClearmapError, Map, Pinned, Refused
 
-PATIENCE = 4.0  # seconds for each reply, less than a lease lasts
+PATIENCE = 10.0  # seconds for each reply, and each piece of a dump
 
 
 class Seen(NamedTuple):

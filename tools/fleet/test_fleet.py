@@ -19,7 +19,7 @@ from test_publish import Publishes
 from testing import HERE, PATIENCE, Keys, nearest_of, np, room
 
 FOLLOWERS = int(os.environ.get("FOLLOWERS", "200"))
-SECONDS = float(os.environ.get("SECONDS_BUSY", "10"))
+SECONDS = float(os.environ.get("SECONDS_BUSY", "8"))
 PROCESSES = 4
 
 

@@ -176,7 +176,7 @@ class Servers(Publishes):
         server = self.enterContext(Served(room(), "--workers", "1"))
         with Painter(server.port) as painter:
             publisher = self.publish(server.port)
-            self.assertTrue(publisher.says("no worker has answered within 4 s"))
+            self.assertTrue(publisher.says("no worker has answered within 10 s"))
         self.has(self.follow(), painter, 0)
         self.assertTrue(publisher.says("there is a server again"))
 
@@ -198,7 +198,7 @@ class Servers(Publishes):
         publisher = self.publish(server.port)
         before = self.has(follower, painter, 0)
         server.process.send_signal(signal.SIGSTOP)
-        self.assertTrue(publisher.says("no reply within 4 s"))
+        self.assertTrue(publisher.says("no reply within 10 s"))
         self.assertTrue(until(lambda: follower.stale > 4))
         self.assertIs(follower.version, before)
         server.process.send_signal(signal.SIGCONT)
