@@ -50,6 +50,7 @@ from .errors import (
     WrongAnswer,
     WrongMap,
 )
+from .footprints import Footprint
 from .grids import OPEN, WALL
 from .library import NO_OBSTACLE, NOWHERE
 from .maps import Map
@@ -72,6 +73,7 @@ __all__ = [
     "Entry",
     "read_distances",
     "Map",
+    "Footprint",
     "distances",
     "capped_distances",
     "distance_transform_edt",

@@ -45,19 +45,31 @@ def packed(memory: Memory) -> Memory:
     return Memory("bits", words, words.size, bits)
 
 
+def unpacked(memory: Memory, y0: int, y1: int) -> Any:
+    """The cells of rows y0 to y1 - 1 of a map in bits, as bools."""
+    cells, width = memory.cells[y0:y1], memory.layout.width
+    out = numpy().empty((y1 - y0, width), numpy().uint8)
+    bits = Bits(width, y1 - y0, cells.shape[1], ALL_BANDS)
+    where = cells.ctypes.data, cells.size, ctypes.byref(bits)
+    check(library().clearmap_unpack(*where, 0, 1, out.ctypes.data, out.size))
+    return out.view(bool)
+
+
 @functools.lru_cache(maxsize=None)
 def _call(name: str) -> Any:
     """A query of the library, over bits."""
     return getattr(library(), f"clearmap_bits_{name}")
 
 
-class _Held:
-    """The cells of a map at one time, which nobody writes, and how a call is told of them."""
+class Held:
+    """The cells of a map at one time, which nobody writes, the number of its edge, and how a call
+    is told of them."""
 
-    __slots__ = ("memory", "where")
+    __slots__ = ("memory", "edge", "size", "where")
 
-    def __init__(self, memory: Memory) -> None:
-        self.memory = memory
+    def __init__(self, memory: Memory, edge: int) -> None:
+        self.memory, self.edge = memory, edge
+        self.size: Size = int(memory.layout.width), int(memory.layout.height)
         self.where = memory.cells.ctypes.data, memory.length, ctypes.byref(memory.layout)
 
 
@@ -84,8 +96,8 @@ class Map:
     def _begin(self, memory: Memory, edge: str) -> None:
         """Holds a map in bits, which nobody writes any more."""
         self._edge, self._lock = edge_of(edge), threading.Lock()
-        self._held = _Held(memory)
-        self._size = int(memory.layout.width), int(memory.layout.height)
+        self._held = Held(memory, self._edge)
+        self._size = self._held.size
 
     @classmethod
     def _of(cls, memory: Memory, edge: str) -> "Map":
@@ -220,12 +232,7 @@ class Map:
         y1 - 1, which are on the map, else OutOfRange; without y1 of those up to the last."""
         end = self.height if y1 is None else whole(y1)
         _, y0, _, end = self._corners("the rows of", 0, y0, self.width, end)
-        cells = self._held.memory.cells[y0:end]
-        out = numpy().empty((end - y0, self.width), numpy().uint8)
-        bits = Bits(self.width, end - y0, cells.shape[1], ALL_BANDS)
-        where = cells.ctypes.data, cells.size, ctypes.byref(bits)
-        check(library().clearmap_unpack(*where, 0, 1, out.ctypes.data, out.size))
-        return out.view(bool)  # type: ignore[no-any-return]
+        return unpacked(self._held.memory, y0, end)  # type: ignore[no-any-return]
 
     # ---- changes
 
@@ -254,7 +261,7 @@ class Map:
                 rows = cells[band * ROWS : (band + 1) * ROWS]
                 bands = bands & ~(1 << band) | int(rows.any()) << band
             bits = Bits(old.width, old.height, old.stride, bands)
-            self._held = _Held(Memory("bits", cells, length, bits))
+            self._held = Held(Memory("bits", cells, length, bits), self._edge)
 
 
 def _mask(x0: int, x1: int) -> Tuple[int, Any]:
