@@ -48,6 +48,13 @@ public:
     /// The nearest obstacle; CLEARMAP_NOWHERE twice where the map has none.
     Cell obstacle(Cell c) const noexcept { return {near(c).x, near(c).y}; }
 
+    /// The direction away from the nearest obstacle, of the length 1. Nothing in an obstacle, and
+    /// where the map has none.
+    std::optional<Direction> gradient(Cell c) const noexcept {
+        if (distance(c) == CLEARMAP_NO_OBSTACLE) return std::nullopt;
+        return detail::direction(obstacle(c), c);
+    }
+
     /// The distance in cells, the straight one where the metric is euclid2; infinite where the map
     /// has no obstacle.
     double clearance(Cell c) const noexcept { return detail::in_cells(distance(c), metric()); }
@@ -98,6 +105,8 @@ public:
     }
 
 private:
+    friend class SignedField;
+
     static constexpr std::size_t few_cells = 128;        // which are asked for one by one
     static constexpr std::size_t cells_a_change = 2048;  // a field of fewer is made anew
 

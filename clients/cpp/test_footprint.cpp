@@ -311,6 +311,22 @@ static void limits() {
     }
 }
 
+/// Sides through corners of cells: the cell that such a corner belongs to alone isn't covered,
+/// however a quotient is rounded.
+static void through_corners() {
+    for (int half = 2; half < 130; ++half) {
+        const Footprint left({{0, 0}, {2, 2.0 * half}, {5, 0}});
+        const Footprint right({{0, 0}, {-2, 2.0 * half}, {-5, 0}});
+        Map map({12, 300});
+        map.paint(0, half, 1, half + 1), map.paint(11, half, 12, half + 1);
+        CHECK(left.is_clear(map, 0, 0, 0) && right.is_clear(map, 12, 0, 0));
+        map.paint(0, half - 1, 1, half);
+        CHECK(left.hits(map, 0, 0, 0) && right.is_clear(map, 12, 0, 0));
+        map.paint(11, half - 1, 12, half);
+        CHECK(right.hits(map, 12, 0, 0));
+    }
+}
+
 int main(int count, char** words) {
     const int maps = count > 1 ? std::stoi(words[1]) : 40;
     against_the_model(10 * maps);
@@ -319,5 +335,6 @@ int main(int count, char** words) {
     threads();
     invalid();
     limits();
+    through_corners();
     std::printf("tests of clearmap_footprint.hpp: %d, all good\n", tried.load());
 }

@@ -82,7 +82,8 @@ class Answers(unittest.TestCase):
             corners = polygons.placed(outline, *asked[0])
             top = chance.randint(-20, 20)
             bottom = top + chance.randint(0, 40)
-            wanted = covered(corners_at(points, resolution, asked[0]), -99, top, 140, bottom)
+            exact = corners_at(points, resolution, asked[0])
+            wanted = covered(exact, -99, top, 140, bottom)
             told = np.zeros_like(wanted)
             for row, first, end in polygons.rows_of(corners, top, bottom):
                 self.assertLess(first, end)
@@ -124,6 +125,21 @@ class Definitions(unittest.TestCase):
         corner = clearmap.Footprint([(1, 1), (3, 2), (2, 3)])
         self.assertFalse(corner.hits(clearmap.Map(grid), 0, 0, 0))
         self.assertTrue(corner.hits(clearmap.Map(grid), -2**-16, -2**-16, 0))
+
+    def test_sides_through_corners(self):
+        """The cell that such a corner belongs to alone isn't covered."""
+        for half in range(2, 130):
+            area = clearmap.Map(np.zeros((300, 12), bool))
+            robots = [
+                (clearmap.Footprint([(0, 0), (2 * sign, 2 * half), (5 * sign, 0)]), at, column)
+                for sign, at, column in ((1, 0, 0), (-1, 12, 11))
+            ]
+            for rows, hits in ((half, False), (half - 1, True)):
+                for robot, at, column in robots:
+                    area.paint(column, rows, column + 1, rows + 1)
+                    self.assertEqual(robot.hits(area, at, 0, 0), hits)
+                    for answers in by_arrays(robot, area, [(at, 0, 0)]):
+                        self.assertEqual(answers, [hits])
 
     def test_turns_from_x_towards_y(self):
         grid = np.zeros((9, 9), bool)

@@ -57,6 +57,7 @@ from .maps import Map
 from .pinned import Pinned
 from .requests import CHESS, CITY, EUCLID2, Change, Collected, Near, Queries, Tightest
 from .rows import distances
+from .signed import gradients, signed_distances
 from .tables import Entry, read_distances
 from .tiles import FARTHER, capped_distances
 from .transforms import distance_transform_cdt, distance_transform_edt
@@ -76,6 +77,8 @@ __all__ = [
     "Footprint",
     "distances",
     "capped_distances",
+    "signed_distances",
+    "gradients",
     "distance_transform_edt",
     "distance_transform_cdt",
     "NO_OBSTACLE",

@@ -3,6 +3,7 @@ from __future__ import annotations
 
 import ctypes
 import functools
+import math
 import threading
 from array import array
 from typing import (
@@ -22,16 +23,17 @@ from .grids import EDGES, OPEN, Memory, edge_of, map_of, number_of
 from .library import CROOKED, NO_OBSTACLE, Bits, CFound, CNear, check, library, numpy
 from .requests import EUCLID2, LARGEST_SIDE, LONGEST_PATH, Cell, Near, Request, Tightest, whole
 from .rows import distances_of
+from .signed import ALL_BANDS, gradients_of, signed_of
 
 if TYPE_CHECKING:
     import numpy as np
     from numpy.typing import NDArray
 
     from .rows import Distances, Obstacles
+    from .signed import Reals
 
 END = 1 << 32  # what is less can be asked for
 ROWS = 64  # rows of a band
-ALL_BANDS = 2**64 - 1  # as if each had an obstacle: it is right for words that have none too
 
 
 def packed(memory: Memory) -> Memory:
@@ -143,6 +145,16 @@ class Map:
         check(self._asked("at", metric, x, y, ctypes.byref(near)))
         return None if near.dist == NO_OBSTACLE else Near(near.dist, (near.x, near.y))
 
+    def gradient(self, x: int, y: int, metric: str = EUCLID2) -> Optional[Tuple[float, float]]:
+        """The direction away from the nearest obstacle of a cell, by columns and by rows, of the
+        length 1; None in an obstacle, and where the map has none. Refused as `at` is."""
+        near = self.at(x, y, metric)
+        if near is None or near.distance == 0:
+            return None
+        dx, dy = x - near.obstacle[0], y - near.obstacle[1]
+        length = math.sqrt(dx * dx + dy * dy)
+        return dx / length, dy / length
+
     def rect(
         self, x0: int, y0: int, x1: int, y1: int, metric: str = EUCLID2
     ) -> Optional[Tightest]:
@@ -226,6 +238,16 @@ class Map:
     def distances(self, metric: str = EUCLID2, nearest: bool = False, threads: int = 1) -> Any:
         """As the package's `distances`, of this map and its edge."""
         return distances_of(self._held.memory, metric, self.edge, nearest, threads)
+
+    def signed_distances(
+        self, metric: str = EUCLID2, resolution: float = 1.0, threads: int = 1
+    ) -> Reals:
+        """As the package's `signed_distances`, of this map and its edge."""
+        return signed_of(self._held.memory, metric, self.edge, resolution, threads)
+
+    def gradients(self, metric: str = EUCLID2, inside: bool = False, threads: int = 1) -> Reals:
+        """As the package's `gradients`, of this map and its edge."""
+        return gradients_of(self._held.memory, metric, self.edge, inside, threads)
 
     def grid(self, y0: int = 0, y1: Optional[int] = None) -> NDArray[np.bool_]:
         """The cells as an array of bools by rows, True where an obstacle is: of rows y0 up to
