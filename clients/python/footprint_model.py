@@ -146,13 +146,32 @@ def draw_case(chance, make):
         return grid, edge, resolution, points, poses
 
 
+def slivers():
+    """Cases as `draw_case` has them, whose polygon enters a cell or misses it by less than a float
+    can tell: where its side comes to a row, it is a billionth of a step from a border of cells."""
+    for row, sign in itertools.product(range(2, 12), (1, -1)):
+        height = 13 * CELL + 2 * row + 1
+        if math.gcd(height, row) > 1:
+            continue
+        x = -sign * pow(height, -1, CELL) % CELL
+        right = -sign * pow(row * CELL, -1, height) % height
+        border = round(Fraction(x * height + right * row * CELL, height * CELL))
+        corners = [(x, 0), (x + right, height), (x + right + 2 * CELL, 0)]
+        points = [(a / CELL, b / CELL) for a, b in corners]
+        for column in (border - 1, border - 2):
+            grid = np.zeros((20, 20), bool)
+            grid[row, column] = True
+            yield grid, "open", 1.0, points, [(0, 0, 0)]
+            yield grid[:, ::-1], "open", 1.0, [(-a, b) for a, b in points], [(20, 0, 0)]
+
+
 def main():
     """Prints cases."""
     import clearmap
 
     chance = random.Random(int(sys.argv[2]) if len(sys.argv) > 2 else 1)
-    for _ in range(int(sys.argv[1])):
-        grid, edge, resolution, points, poses = draw_case(chance, clearmap.Footprint)
+    drawn = (draw_case(chance, clearmap.Footprint) for _ in range(int(sys.argv[1])))
+    for grid, edge, resolution, points, poses in itertools.chain(slivers(), drawn):
         cells = "".join("01"[int(cell)] for cell in grid.ravel())
         print("map", grid.shape[1], grid.shape[0], edge, cells)
         print("footprint", resolution.hex(), *(x.hex() for point in points for x in point))

@@ -16,7 +16,7 @@ import numpy as np
 import clearmap
 from clearmap import footprints, polygons, poses
 from footprint_model import (
-    CELL, corners_at, covered, draw_case, draw_points, draw_pose, model_hits,
+    CELL, corners_at, covered, draw_case, draw_points, draw_pose, model_hits, slivers,
 )  # fmt: skip
 
 ARRAYS = int(os.environ.get("ARRAYS", "150"))
@@ -43,6 +43,19 @@ class Answers(unittest.TestCase):
             self.assertEqual(told, [not footprint.is_clear(area, *pose) for pose in asked])
             for answers in by_arrays(footprint, area, asked):
                 self.assertEqual(answers, wanted, (case, points, asked))
+
+    def test_slivers(self):
+        """What no float tells: half of the obstacles on one side of a border are hit, none next to
+        them."""
+        hits = []
+        for grid, edge, resolution, points, asked in slivers():
+            wanted = [model_hits(grid, edge, points, resolution, asked[0])]
+            footprint, area = clearmap.Footprint(points, resolution), clearmap.Map(grid, edge)
+            self.assertEqual([footprint.hits(area, *asked[0])], wanted)
+            for answers in by_arrays(footprint, area, asked):
+                self.assertEqual(answers, wanted)
+            hits += wanted
+        self.assertEqual(4 * sum(hits), len(hits))
 
     def test_circles_and_cells_agree(self):
         """What the circles tell is what the cells tell: most of 400 poses of each map."""
@@ -92,8 +105,8 @@ class Answers(unittest.TestCase):
 
 
     def test_corners_that_rounding_moves(self):
-        """Corners a few steps apart: at many angles one is in the polygon or on a side, and the pose
-        is asked alone."""
+        """Corners a few steps apart: at many angles one is in the polygon or on a side, and the
+        pose is asked alone."""
         step = 2.0**-16
         small = [(0, 0), (2, 1), (3, 2), (0, 5)]
         points = [(3 + step * x, 1 + step * y) for x, y in small] + [(0, 2), (-2, 0)]
