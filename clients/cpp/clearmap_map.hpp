@@ -93,6 +93,12 @@ inline double in_cells(std::uint32_t distance, Metric metric) noexcept {
     return metric == Metric::euclid2 ? std::sqrt(static_cast<double>(distance)) : distance;
 }
 
+/// The bits of a word that has the columns 0 to 63 from x0 up to x1 - 1, which has some of them.
+constexpr std::uint64_t bits_of(int x0, int x1) noexcept {
+    const int from = x0 < 0 ? 0 : x0, to = x1 > 64 ? 64 : x1;
+    return ~std::uint64_t{0} << from & ~std::uint64_t{0} >> (64 - to);
+}
+
 /// The way from one cell to another, of the length 1. Nothing where they are the same.
 inline std::optional<Direction> direction(Cell from, Cell to) noexcept {
     if (from == to) return std::nullopt;
@@ -471,8 +477,7 @@ private:
         std::size_t changed = 0;
         for (int y = y0; y < y1; ++y)
             for (int first = x0 / 64 * 64; first < x1; first += 64) {
-                int from = std::max(x0 - first, 0), to = std::min(x1 - first, 64);
-                std::uint64_t mask = ~std::uint64_t{0} << from & ~std::uint64_t{0} >> (64 - to);
+                const std::uint64_t mask = detail::bits_of(x0 - first, x1 - first);
                 std::uint64_t& old = words_[word(first, y)];
                 std::uint64_t drawn = obstacles ? old | mask : old & ~mask;
                 changed += std::bitset<64>(old ^ drawn).count();
