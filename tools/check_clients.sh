@@ -34,7 +34,8 @@ library=${CLEARMAP_LIBRARY:-crates/libclearmap/out/libclearmap.so.0}
 arrays=$(tools/python_with numpy)
 if [ -n "$arrays" ] && [ -e "$library" ]; then
     for test in clients/python/test_library.py clients/python/test_maps.py \
-        clients/python/test_tiles.py; do
+        clients/python/test_tiles.py clients/python/test_footprints.py \
+        clients/python/test_signed.py; do
         tried "$arrays" "$test"
     done
     for peer in scipy cv2; do

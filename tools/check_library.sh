@@ -3,7 +3,7 @@
 # what the shared library shows, the tests (also under valgrind, the sanitizers and, for ARM, qemu),
 # and the programs of docs/LIBRARY.md. Leaves out, with a word, what isn't installed here. MAPS is
 # how many random maps. The C++ test asks servers of the built program too; CLEARMAP names another
-# one.
+# one. Footprints are tried on cases that the model in Python has answered.
 set -u
 cd "$(dirname "$0")/.." || exit 1
 library=$PWD/crates/libclearmap/out
@@ -104,6 +104,17 @@ else
     echo 'maps of a server left out: the program is not built'
 fi
 
+# Footprints and poses with the answers of the model in Python.
+arrays=$(tools/python_with numpy)
+cases=''
+if [ -n "$arrays" ]; then
+    cases=$scratch/cases
+    PYTHONPATH=clients/python timeout 300 "$arrays" clients/python/footprint_model.py \
+        "$((10 * ${MAPS:-40}))" > "$cases" || { failed=1; echo 'no cases of footprints'; }
+else
+    echo 'footprints of the model in Python left out: there is no python3 with numpy'
+fi
+
 header_test() { # header_test NAME MAPS COMPILER FLAG ..: a test of the headers for C++, built so
     name=$1 count=$2
     shift 2
@@ -111,6 +122,8 @@ header_test() { # header_test NAME MAPS COMPILER FLAG ..: a test of the headers 
     case $name in
         map) links='' asked=$ports ;;
         field) links='-Wl,--wrap=malloc' asked='' ;;
+        footprint) links='' asked=$cases ;;
+        signed) links='' asked='' ;;
     esac
     if ! "$@" -std=c++17 -Wall -Wextra -Wconversion -Wpedantic -Werror -g1 -pthread -Iclients/c \
         -Iclients/cpp -c "clients/cpp/test_$name.cpp" -o "$scratch/test.o"; then
@@ -122,7 +135,7 @@ header_test() { # header_test NAME MAPS COMPILER FLAG ..: a test of the headers 
         echo "$name by $* left out: it does not link here"
     fi
 }
-for name in map field; do
+for name in map field footprint signed; do
     header_test "$name" "${MAPS:-40}" g++ -O2
     header_test "$name" 5 clang++ -O1
     for compiler in g++ clang++; do
@@ -167,7 +180,6 @@ fi
 sed -n '/^```python$/,/^```$/{/^```/d;p}' docs/LIBRARY.md > "$scratch/page.py"
 mkdir -p "$prefix/share/clearmap/python"
 cp -r clients/python/clearmap "$prefix/share/clearmap/python/"
-arrays=$(tools/python_with numpy)
 if [ -n "$arrays" ]; then
     export PYTHONPATH="$prefix/share/clearmap/python"
     says 'page by Python' "$c_says" "$arrays" "$scratch/page.py"

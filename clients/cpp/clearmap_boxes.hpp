@@ -20,6 +20,11 @@ inline Box meet(const Box& a, const Box& b) noexcept {
     return {std::max(a.x0, b.x0), std::max(a.y0, b.y0), std::min(a.x1, b.x1), std::min(a.y1, b.y1)};
 }
 
+/// The least box that has two others.
+inline Box around(const Box& a, const Box& b) noexcept {
+    return {std::min(a.x0, b.x0), std::min(a.y0, b.y0), std::max(a.x1, b.x1), std::max(a.y1, b.y1)};
+}
+
 /// The least box that has all of some cells.
 inline Box box_of(const std::vector<Cell>& cells) noexcept {
     Box box{largest_side, largest_side, 0, 0};
@@ -132,26 +137,81 @@ private:
     std::vector<Box> above_, here_;  // the boxes that end with the row before, and with this one
 };
 
-/// What became free and what became an obstacle from one map to another of the same size.
+/// What became free and what became an obstacle from one map to another of the same size. Where
+/// these are more boxes than `most`, it is some of them, and more than `most`.
 struct Changes {
     Runs cleared, painted;
 
-    Changes(const Map& from, const Map& to) {
-        const std::size_t words = from.bits().stride;
-        const std::uint64_t *old = from.words().data(), *now = to.words().data();
-        for (int y = 0; y < from.size().height; ++y, old += words, now += words)
-            if (std::equal(old, old + words, now)) {
-                cleared.end_row();
-                painted.end_row();
-            } else {
-                cleared.row(y, old, now, words);
-                painted.row(y, now, old, words);
-            }
-        cleared.end_row();
-        painted.end_row();
+    Changes(const Map& from, const Map& to, std::size_t most) {
+        const std::uint64_t bands = from.bits().bands | to.bits().bands;
+        for (int y = 0; y < from.size().height && count() <= most; y += 64) {
+            const int end = std::min(y + 64, from.size().height);
+            if ((bands >> y / 64 & 1) == 0 || same(from, to, y, end))
+                end_row();
+            else
+                rows(from, to, y, end, most);
+        }
+        end_row();
+        if (count() > most) return;
+        join(cleared.boxes, to, false);
+        join(painted.boxes, to, true);
     }
 
     std::size_t count() const noexcept { return cleared.boxes.size() + painted.boxes.size(); }
+
+private:
+    /// Joins boxes whose common box is of obstacles alone, or of free cells: those that did not
+    /// change do no harm in it.
+    static void join(std::vector<Box>& boxes, const Map& map, bool obstacles) noexcept {
+        std::size_t kept = 0;
+        for (const Box box : boxes) {
+            std::size_t at = kept;
+            for (; at > 0 && kept - at < neighbours; --at) {
+                const Box both = around(boxes[at - 1], box);
+                if (!is_full(map, both, obstacles)) continue;
+                boxes[at - 1] = both;
+                break;
+            }
+            if (at == 0 || kept - at == neighbours) boxes[kept++] = box;
+        }
+        boxes.resize(kept, Box{0, 0, 0, 0});
+    }
+
+    /// Whether each cell of a box is an obstacle, or each is free.
+    static bool is_full(const Map& map, const Box& box, bool obstacles) noexcept {
+        for (int y = box.y0; y < box.y1; ++y)
+            for (int first = box.x0 / 64 * 64; first < box.x1; first += 64) {
+                const std::uint64_t mask = bits_of(box.x0 - first, box.x1 - first);
+                const std::uint64_t bits = row(map, y)[first / 64] & mask;
+                if (bits != (obstacles ? mask : 0)) return false;
+            }
+        return true;
+    }
+
+    static constexpr std::size_t neighbours = 4;  // boxes that one is joined to at most
+
+    static const std::uint64_t* row(const Map& map, int y) noexcept {
+        return map.words().data() + static_cast<std::size_t>(y) * map.bits().stride;
+    }
+    static bool same(const Map& from, const Map& to, int y0, int y1) noexcept {
+        return std::equal(row(from, y0), row(from, y1), row(to, y0));
+    }
+
+    /// Takes what differs in the rows y0 up to y1 - 1.
+    void rows(const Map& from, const Map& to, int y0, int y1, std::size_t most) {
+        for (int y = y0; y < y1 && count() <= most; ++y)
+            if (same(from, to, y, y + 1)) {
+                end_row();
+            } else {
+                cleared.row(y, row(from, y), row(to, y), from.bits().stride);
+                painted.row(y, row(to, y), row(from, y), from.bits().stride);
+            }
+    }
+
+    void end_row() {
+        cleared.end_row();
+        painted.end_row();
+    }
 };
 
 }  // namespace clearmap::detail

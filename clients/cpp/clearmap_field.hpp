@@ -48,6 +48,13 @@ public:
     /// The nearest obstacle; CLEARMAP_NOWHERE twice where the map has none.
     Cell obstacle(Cell c) const noexcept { return {near(c).x, near(c).y}; }
 
+    /// The direction away from the nearest obstacle, of the length 1. Nothing in an obstacle, and
+    /// where the map has none.
+    std::optional<Direction> gradient(Cell c) const noexcept {
+        if (distance(c) == CLEARMAP_NO_OBSTACLE) return std::nullopt;
+        return detail::direction(obstacle(c), c);
+    }
+
     /// The distance in cells, the straight one where the metric is euclid2; infinite where the map
     /// has no obstacle.
     double clearance(Cell c) const noexcept { return detail::in_cells(distance(c), metric()); }
@@ -87,18 +94,23 @@ public:
     /// and works what they change. A map of another size or edge is worked whole, and so is one
     /// with many changes. Throws std::invalid_argument for a map that was moved from.
     void update(const Map& map) {
-        if (!(checked(map.size()) == size() && map.edge() == map_.edge())) return remake(map);
-        const detail::Changes changes(map_, map);
-        if (changes.count() > table_.cells() / cells_a_change) return remake(map);
+        if (!(checked(map.size()) == size())) return remake(map);
+        if (map.edge() != map_.edge()) return refill(map);
+        const std::size_t most = table_.cells() / cells_a_change;
+        const detail::Changes changes(map_, map, most);
+        if (changes.count() > most) return refill(map);
         ready();
-        map_ = map;  // takes no memory: the sizes are the same
+        follow(map, changes);
         const std::vector<detail::Box>& cleared = changes.cleared.boxes;
         rework(cleared.data(), cleared.data() + cleared.size());
         for (const detail::Box& box : changes.painted.boxes) table_.paint(box);
     }
 
 private:
+    friend class SignedField;
+
     static constexpr std::size_t few_cells = 128;        // which are asked for one by one
+    static constexpr std::size_t few_boxes = 8;          // which are drawn one by one
     static constexpr std::size_t cells_a_change = 2048;  // a field of fewer is made anew
 
     static Size checked(Size size) {
@@ -119,6 +131,29 @@ private:
         if (size().width > 0 && !table_.is_bounded()) table_.bound();
     }
     void remake(const Map& map) { *this = Field(map, metric(), threads_); }
+
+    /// The same for a map of this size, in the memory that there is: rows for which the library has
+    /// none left are asked for cell by cell.
+    void refill(const Map& map) {
+        map_ = map;  // takes no memory: the sizes are the same
+        table_.unbound();
+        try {
+            if (fill() == CLEARMAP_DONE) return;
+        } catch (const std::bad_alloc&) {
+        }
+        for (int y = 0; y < size().height; ++y)
+            for (int x = 0; x < size().width; ++x) table_.row(y)[x] = query({x, y});
+    }
+
+    /// Makes the field's map the same as another of its size, which takes no memory.
+    void follow(const Map& map, const detail::Changes& changes) {
+        if (changes.count() > few_boxes) {
+            map_ = map;
+            return;
+        }
+        for (const detail::Box& b : changes.cleared.boxes) map_.clear(b.x0, b.y0, b.x1, b.y1);
+        for (const detail::Box& b : changes.painted.boxes) map_.paint(b.x0, b.y0, b.x1, b.y1);
+    }
 
     // -- all rows
 
@@ -185,7 +220,7 @@ private:
             table_.held_by(*first, [&](Cell c) {
                 if (cells.size() <= most) cells.push_back(c);
             });
-            if (cells.size() > most) return refill();
+            if (cells.size() > most) return filled();
             if (cells.size() > few_cells) by_window(cells, detail::box_of(cells).longer_side());
             if (cells.size() > few_cells)
                 left.insert(left.end(), cells.begin(), cells.end());
@@ -199,7 +234,7 @@ private:
     }
 
     /// Makes the table anew, and answers whether there was memory for it.
-    bool refill() {
+    bool filled() {
         const std::uint32_t status = fill();
         table_.bound();
         return status == CLEARMAP_DONE;
@@ -218,13 +253,14 @@ private:
     void by_queries(const std::vector<Cell>& cells) noexcept {
         for (Cell c : cells) by_query(c);
     }
-    void by_query(Cell c) noexcept {
+    void by_query(Cell c) noexcept { table_.set(c, query(c)); }
+    clearmap_near query(Cell c) const noexcept {
         clearmap_near found{};
         const clearmap_bits bits = map_.bits();
         clearmap_bits_at(map_.words().data(), map_.words().size(), &bits,
                          detail::numbered(metric()), detail::numbered(map_.edge()),
                          detail::numbered(c.x), detail::numbered(c.y), &found);
-        table_.set(c, found);
+        return found;
     }
 
     Map map_;

@@ -1,7 +1,8 @@
 // A map in process, for planners: queries and tables of distances without a server. One header over
 // clearmap.h, whose library is linked (-lclearmap -pthread), and clearmap.hpp, whose cells, answers
 // and frames it shares: C++17. The library is proved. This file and clearmap_field.hpp, which it
-// includes, are not (test_map.cpp and test_field.cpp try them).
+// includes, are not (test_map.cpp and test_field.cpp try them). Robots of any convex shape are in
+// clearmap_footprint.hpp, and signed distances in clearmap_signed.hpp.
 //
 //     auto map = clearmap::Map::of_bytes(costmap, {640, 480}, {253, 254});
 //     double cells;
@@ -48,6 +49,12 @@ struct Range {
 /// costmaps, the lowest first. In a map row 0 is the top one, as a Frame has it.
 enum class Rows { downwards, upwards };
 
+/// A way in the plane, by columns and by rows.
+struct Direction {
+    double x, y;
+    friend bool operator==(Direction a, Direction b) { return a.x == b.x && a.y == b.y; }
+};
+
 namespace detail {
 
 inline constexpr std::size_t most_points = 1000;
@@ -84,6 +91,19 @@ inline std::optional<Tightest> answer(const clearmap_found& found) {
 inline double in_cells(std::uint32_t distance, Metric metric) noexcept {
     if (distance == CLEARMAP_NO_OBSTACLE) return std::numeric_limits<double>::infinity();
     return metric == Metric::euclid2 ? std::sqrt(static_cast<double>(distance)) : distance;
+}
+
+/// The bits of a word that has the columns 0 to 63 from x0 up to x1 - 1, which has some of them.
+constexpr std::uint64_t bits_of(int x0, int x1) noexcept {
+    const int from = x0 < 0 ? 0 : x0, to = x1 > 64 ? 64 : x1;
+    return ~std::uint64_t{0} << from & ~std::uint64_t{0} >> (64 - to);
+}
+
+/// The way from one cell to another, of the length 1. Nothing where they are the same.
+inline std::optional<Direction> direction(Cell from, Cell to) noexcept {
+    if (from == to) return std::nullopt;
+    const double x = to.x - from.x, y = to.y - from.y, length = std::sqrt(x * x + y * y);
+    return Direction{x / length, y / length};
 }
 
 /// Points as the library takes them, without memory of the heap. Of too many there is none, which
@@ -348,10 +368,27 @@ public:
     template <class X, class Y, class = detail::IfReal<X, Y>>
     bool is_valid(X x, Y y, double& clearance) const = delete;
 
+    /// The direction away from a cell's nearest obstacle, of the length 1. Nothing in an obstacle,
+    /// and where the map has none.
+    std::optional<Direction> gradient(Cell c, Metric m = Metric::euclid2) const {
+        auto near = at(c, m);
+        return near ? detail::direction(near->obstacle, c) : std::nullopt;
+    }
+
     /// Whether a cell is an obstacle.
     bool is_obstacle(Cell c) const {
         if (!inside(c.x, c.y)) detail::check(CLEARMAP_OUTSIDE);
         return (words_[word(c.x, c.y)] >> (c.x % 64) & 1) != 0;
+    }
+
+    /// The map whose obstacles are this one's free cells. Its border is open.
+    Map inverse() const {
+        Map map(size());
+        const std::uint64_t last = ~std::uint64_t{0} >> (63 - (width() - 1) % 64);
+        for (std::size_t k = 0; k < words_.size(); ++k)
+            map.words_[k] = ~words_[k] & ((k + 1) % stride() == 0 ? last : ~std::uint64_t{0});
+        map.mark(0, size_.height);
+        return map;
     }
 
     // -- changes
@@ -440,8 +477,7 @@ private:
         std::size_t changed = 0;
         for (int y = y0; y < y1; ++y)
             for (int first = x0 / 64 * 64; first < x1; first += 64) {
-                int from = std::max(x0 - first, 0), to = std::min(x1 - first, 64);
-                std::uint64_t mask = ~std::uint64_t{0} << from & ~std::uint64_t{0} >> (64 - to);
+                const std::uint64_t mask = detail::bits_of(x0 - first, x1 - first);
                 std::uint64_t& old = words_[word(first, y)];
                 std::uint64_t drawn = obstacles ? old | mask : old & ~mask;
                 changed += std::bitset<64>(old ^ drawn).count();

@@ -33,6 +33,8 @@ public:
             for (int x = 0; x < width_; x += side) raise(x, y, most(tile(x, y)));
     }
 
+    /// Says that the table was written by `row`.
+    void unbound() noexcept { row_tops_.clear(); }
     bool is_bounded() const noexcept { return !row_tops_.empty(); }
 
     /// Takes the cells of a box as obstacles.

@@ -185,6 +185,21 @@ static void without_memory(const Map& map, int least, Change change) {
     }
 }
 
+static void take(Map& map, const Map& other) { map = other; }
+static void take(Field& field, const Map& other) { field.update(other); }
+
+/// Maps of which every cell has changed, or the edge alone, or a few cells.
+static void updates_without_memory(const Map& map) {
+    const Size size = map.size();
+    Map other = map, walled(size, map.edge() == Edge::open ? Edge::wall : Edge::open);
+    for (int y = 0; y < size.height; ++y)
+        for (int x = 0; x < size.width; ++x) draw(other, {x, y, x + 1, y + 1}, below(9) == 0);
+    Map near = map;
+    near.clear(90, 40, 94, 48), near.paint(20, 20, 21, 22);
+    for (const Map& next : {other, walled, near})
+        without_memory(map, 3, [&](auto& drawn) { take(drawn, next); });
+}
+
 static void invalid() {
     Map map({70, 5});
     map.paint(1, 1, 2, 2);
@@ -234,6 +249,7 @@ int main(int count, char** words) {
     map.paint(90, 40, 98, 48), map.paint(5, 5, 6, 6), map.paint(150, 90, 151, 91);
     without_memory(map, 5, [](auto& drawn) { drawn.clear(90, 40, 98, 48); });
     without_memory(map, 2, [](auto& drawn) { drawn.paint(10, 80, 14, 84); });
+    updates_without_memory(map);
     invalid();
     largest();
     std::printf("tests of clearmap_field.hpp: %d, all good\n", tried.load());

@@ -1,6 +1,8 @@
 // DynamicEDT3D next to clearmap_map.hpp on random maps: each cell's distance, before and after some
 // paints and clears, and the time of a first build, of a look-up, and of a paint or a clear of 8 by
-// 8 cells with 1,000 look-ups, by `paint` and `clear` of a field and by `update` of its map.
+// 8 cells with 1,000 look-ups, by `paint` and `clear` of a field and by `update` of its map. Then
+// the time of an update after one cell in five was drawn anew: theirs of these cells, ours, and
+// theirs of a new build.
 //     dynamic_edt SIDE PERCENT ROUNDS
 // Build: g++ -std=c++17 -O2 -pthread -I clients/c -I clients/cpp -o dynamic_edt
 //     tools/bench/dynamic_edt.cpp crates/libclearmap/out/libclearmap.a -ldynamicedt3d
@@ -46,6 +48,22 @@ struct Grid {
         std::mt19937 random(1);
         std::bernoulli_distribution obstacle(percent / 100);
         for (unsigned char& cell : cells) cell = obstacle(random);
+    }
+
+    void build(std::optional<DynamicEDT3D>& theirs) const {
+        theirs.emplace(2 * side * side);
+        theirs->initializeEmpty(side, side, 1);
+        occupy(*theirs);
+        theirs->update();
+    }
+
+    /// Tells the cells that differ from another grid's.
+    void change(DynamicEDT3D& theirs, const Grid& before) const {
+        auto cell = cells.begin(), old = before.cells.begin();
+        for (int y = 0; y < side; ++y)
+            for (int x = 0; x < side; ++x, ++cell, ++old)
+                if (*cell != *old) *cell ? theirs.occupyCell(x, y, 0) : theirs.clearCell(x, y, 0);
+        theirs.update();
     }
 
     void occupy(DynamicEDT3D& theirs) const {
@@ -141,18 +159,39 @@ private:
     int x_ = 0, y_ = 0;
 };
 
+/// One cell in five is drawn anew, some rounds: the least times of an update, and of their new
+/// build.
+static void redraw(const Grid& grid, int rounds) {
+    Grid now = grid;
+    std::mt19937 random(4);
+    std::bernoulli_distribution changes(0.2);
+    const clearmap::Size size{grid.side, grid.side};
+    auto map = [&] { return clearmap::Map::of_bytes(now.cells, size, {1, 255}); };
+    clearmap::Field field(map(), clearmap::Metric::euclid2, 1);
+    std::optional<DynamicEDT3D> theirs;
+    grid.build(theirs);
+    double ours = std::numeric_limits<double>::infinity(), other = ours, anew = ours;
+    for (int i = 0; i < rounds; ++i) {
+        const Grid before = now;
+        for (unsigned char& cell : now.cells)
+            if (changes(random)) cell = !cell;
+        const clearmap::Map next = map();
+        ours = std::min(ours, time_of([&] { field.update(next); }));
+        other = std::min(other, time_of([&] { now.change(*theirs, before); }));
+        std::optional<DynamicEDT3D> fresh;
+        anew = std::min(anew, time_of([&] { now.build(fresh); }));
+    }
+    compare(*theirs, field, grid.side);
+    std::printf("a fifth drawn anew: theirs %.0f, their build %.0f, ours %.0f: %.1f, %.1f\n", other,
+                anew, ours, other / ours, anew / ours);
+}
+
 int main(int count, char** words) {
     if (count != 4) return 2;
     const int side = std::stoi(words[1]), rounds = std::stoi(words[3]);
     Grid grid(side, std::stod(words[2]));
-    const int farthest = 2 * side * side;
     std::optional<DynamicEDT3D> theirs;
-    double build_theirs = least(std::min(rounds, 5), [&] {
-        theirs.emplace(farthest);
-        theirs->initializeEmpty(side, side, 1);
-        grid.occupy(*theirs);
-        theirs->update();
-    });
+    double build_theirs = least(std::min(rounds, 5), [&] { grid.build(theirs); });
     std::optional<clearmap::Field> field;
     double build_ours = least(std::min(rounds, 5), [&] {
         field.emplace(clearmap::Map::of_bytes(grid.cells, {side, side}, {1, 255}),
@@ -178,4 +217,5 @@ int main(int count, char** words) {
     draws.print("clear", false);
     compare(*theirs, *field, side);
     compare(*theirs, follower, side);
+    redraw(grid, std::min(rounds, 9));
 }

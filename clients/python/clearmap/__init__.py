@@ -60,12 +60,14 @@ from .errors import (
 )
 from .followed import FixedMap, Version
 from .follower import Follower
+from .footprints import Footprint
 from .grids import OPEN, WALL
 from .library import NO_OBSTACLE, NOWHERE
 from .maps import Map
 from .pinned import Pinned
 from .requests import CHESS, CITY, EUCLID2, Change, Collected, Near, Queries, Tightest
 from .rows import distances
+from .signed import gradients, signed_distances
 from .tables import Entry, read_distances
 from .tiles import FARTHER, capped_distances
 from .transforms import distance_transform_cdt, distance_transform_edt
@@ -85,8 +87,11 @@ __all__ = [
     "Follower",
     "Version",
     "FixedMap",
+    "Footprint",
     "distances",
     "capped_distances",
+    "signed_distances",
+    "gradients",
     "distance_transform_edt",
     "distance_transform_cdt",
     "NO_OBSTACLE",

@@ -3,6 +3,7 @@ from __future__ import annotations
 
 import ctypes
 import functools
+import math
 import threading
 from array import array
 from typing import (
@@ -24,17 +25,18 @@ from .grids import EDGES, OPEN, Memory, edge_of, map_of, number_of
 from .library import CROOKED, NO_OBSTACLE, Bits, CFound, CNear, check, library, numpy
 from .requests import EUCLID2, LARGEST_SIDE, LONGEST_PATH, Cell, Near, Request, Tightest, whole
 from .rows import distances_of
+from .signed import ALL_BANDS, gradients_of, signed_of
 
 if TYPE_CHECKING:
     import numpy as np
     from numpy.typing import NDArray
 
     from .rows import Distances, Obstacles
+    from .signed import Reals
 
 M = TypeVar("M", bound="Map")
 END = 1 << 32  # what is less can be asked for
 ROWS = 64  # rows of a band
-ALL_BANDS = 2**64 - 1  # as if each had an obstacle: it is right for words that have none too
 
 
 def packed(memory: Memory) -> Memory:
@@ -48,19 +50,31 @@ def packed(memory: Memory) -> Memory:
     return Memory("bits", words, words.size, bits)
 
 
+def unpacked(memory: Memory, y0: int, y1: int) -> Any:
+    """The cells of rows y0 to y1 - 1 of a map in bits, as bools."""
+    cells, width = memory.cells[y0:y1], memory.layout.width
+    out = numpy().empty((y1 - y0, width), numpy().uint8)
+    bits = Bits(width, y1 - y0, cells.shape[1], ALL_BANDS)
+    where = cells.ctypes.data, cells.size, ctypes.byref(bits)
+    check(library().clearmap_unpack(*where, 0, 1, out.ctypes.data, out.size))
+    return out.view(bool)
+
+
 @functools.lru_cache(maxsize=None)
 def _call(name: str) -> Any:
     """A query of the library, over bits."""
     return getattr(library(), f"clearmap_bits_{name}")
 
 
-class _Held:
-    """The cells of a map at one time, which nobody writes, and how a call is told of them."""
+class Held:
+    """The cells of a map at one time, which nobody writes, the number of its edge, and how a call
+    is told of them."""
 
-    __slots__ = ("memory", "where")
+    __slots__ = ("memory", "edge", "size", "where")
 
-    def __init__(self, memory: Memory) -> None:
-        self.memory = memory
+    def __init__(self, memory: Memory, edge: int) -> None:
+        self.memory, self.edge = memory, edge
+        self.size: Size = int(memory.layout.width), int(memory.layout.height)
         self.where = memory.cells.ctypes.data, memory.length, ctypes.byref(memory.layout)
 
 
@@ -87,8 +101,8 @@ class Map:
     def _begin(self, memory: Memory, edge: str) -> None:
         """Holds a map in bits, which nobody writes any more."""
         self._edge, self._lock = edge_of(edge), threading.Lock()
-        self._held = _Held(memory)
-        self._size = int(memory.layout.width), int(memory.layout.height)
+        self._held = Held(memory, self._edge)
+        self._size = self._held.size
 
     @classmethod
     def _of(cls: Type[M], memory: Memory, edge: str) -> M:
@@ -133,6 +147,16 @@ class Map:
         near = CNear()
         check(self._asked("at", metric, x, y, ctypes.byref(near)))
         return None if near.dist == NO_OBSTACLE else Near(near.dist, (near.x, near.y))
+
+    def gradient(self, x: int, y: int, metric: str = EUCLID2) -> Optional[Tuple[float, float]]:
+        """The direction away from the nearest obstacle of a cell, by columns and by rows, of the
+        length 1; None in an obstacle, and where the map has none. Refused as `at` is."""
+        near = self.at(x, y, metric)
+        if near is None or near.distance == 0:
+            return None
+        dx, dy = x - near.obstacle[0], y - near.obstacle[1]
+        length = math.sqrt(dx * dx + dy * dy)
+        return dx / length, dy / length
 
     def rect(
         self, x0: int, y0: int, x1: int, y1: int, metric: str = EUCLID2
@@ -218,17 +242,22 @@ class Map:
         """As the package's `distances`, of this map and its edge."""
         return distances_of(self._held.memory, metric, self.edge, nearest, threads)
 
+    def signed_distances(
+        self, metric: str = EUCLID2, resolution: float = 1.0, threads: int = 1
+    ) -> Reals:
+        """As the package's `signed_distances`, of this map and its edge."""
+        return signed_of(self._held.memory, metric, self.edge, resolution, threads)
+
+    def gradients(self, metric: str = EUCLID2, inside: bool = False, threads: int = 1) -> Reals:
+        """As the package's `gradients`, of this map and its edge."""
+        return gradients_of(self._held.memory, metric, self.edge, inside, threads)
+
     def grid(self, y0: int = 0, y1: Optional[int] = None) -> NDArray[np.bool_]:
         """The cells as an array of bools by rows, True where an obstacle is: of rows y0 up to
         y1 - 1, which are on the map, else OutOfRange; without y1 of those up to the last."""
         end = self.height if y1 is None else whole(y1)
         _, y0, _, end = self._corners("the rows of", 0, y0, self.width, end)
-        cells = self._held.memory.cells[y0:end]
-        out = numpy().empty((end - y0, self.width), numpy().uint8)
-        bits = Bits(self.width, end - y0, cells.shape[1], ALL_BANDS)
-        where = cells.ctypes.data, cells.size, ctypes.byref(bits)
-        check(library().clearmap_unpack(*where, 0, 1, out.ctypes.data, out.size))
-        return out.view(bool)  # type: ignore[no-any-return]
+        return unpacked(self._held.memory, y0, end)  # type: ignore[no-any-return]
 
     # ---- changes
 
@@ -257,7 +286,7 @@ class Map:
                 rows = cells[band * ROWS : (band + 1) * ROWS]
                 bands = bands & ~(1 << band) | int(rows.any()) << band
             bits = Bits(old.width, old.height, old.stride, bands)
-            self._held = _Held(Memory("bits", cells, length, bits))
+            self._held = Held(Memory("bits", cells, length, bits), self._edge)
 
 
 def _mask(x0: int, x1: int) -> Tuple[int, Any]:

@@ -1,0 +1,227 @@
+// Footprints, over clearmap_map.hpp: whether a robot of any convex shape stands on an obstacle,
+// pose by pose. Not proved; test_footprint.cpp compares it with a search of all cells, and with a
+// model in Python.
+//
+//     clearmap::Footprint robot({{-0.3, -0.2}, {0.5, 0}, {-0.3, 0.2}}, 0.05);  // metres, of 0.05
+//     if (robot.hits(map, 31.5, 20.5, 0.7)) ..          // a pose in cells of the map
+//     if (robot.is_clear(map, frame, 1.5, 1, 0.7)) ..   // a pose in metres
+//
+// Threads. Any threads may ask one footprint, of one map or field too, while none changes it. A
+// query takes no memory.
+#ifndef CLEARMAP_FOOTPRINT_HPP
+#define CLEARMAP_FOOTPRINT_HPP
+
+#include "clearmap_polygon.hpp"
+
+namespace clearmap {
+
+/// A robot's outline: a convex polygon of 3 to 128 points round its centre, in their order. They
+/// reach 4096 cells from the centre (0, 0) at most, which may lie outside of them.
+///
+/// A pose is where the centre is, and by how much the points are turned, in radians from x towards
+/// y. In cells of the map cell (3, 4) is the square from (3, 4) to (4, 5), and (3.5, 4.5) its
+/// middle. Row 0 of a Frame is at the top: by a frame x, y and the points are in metres with y
+/// upwards, and the map's rows the other way round.
+///
+/// A pose hits an obstacle where the inside of the polygon meets an obstacle's square: to touch it
+/// from outside is no hit. Round the map all is free with Edge::open, and all are obstacles with
+/// Edge::wall. So each pose has an answer, on the map or off it.
+///
+/// Exact is the answer for the polygon whose corners lie on whole steps of 1/65536 of a cell: the
+/// points, the pose and the turned corners are rounded to these, and the cosine and the sine to
+/// 2^-30. No corner is moved by more than 1/16384 of a cell, and by none at right angles.
+class Footprint {
+public:
+    /// Points in cells. Throws std::invalid_argument for points that are no convex polygon.
+    explicit Footprint(const std::vector<Point>& points) : Footprint(points, 1, std::nullopt) {}
+
+    /// Points in metres, on maps of so many metres a cell.
+    Footprint(const std::vector<Point>& points, double resolution)
+        : Footprint(points, resolution, resolution) {}
+
+    /// Whether the robot stands on an obstacle at a pose in cells of a map, or of a field's map.
+    /// Throws std::invalid_argument where a number isn't finite, and for a map that was moved from.
+    bool hits(const Map& map, double x, double y, double theta) const {
+        return asked(map, {x, y, theta, 1});
+    }
+    bool hits(const Field& field, double x, double y, double theta) const {
+        return asked(field, {x, y, theta, 1});
+    }
+
+    /// At a pose in metres, y upwards and turned from x towards it, of a map or a field. Throws
+    /// std::invalid_argument where the frame has another size than the map, or another resolution
+    /// than the points.
+    template <class Area>
+    bool hits(const Area& area, const Frame& frame, double x, double y, double theta) const {
+        if (!(frame.size() == area.size()))
+            throw std::invalid_argument("the frame has another size than the map");
+        if (resolution_ && *resolution_ != frame.resolution)
+            throw std::invalid_argument("the frame has another resolution than the footprint");
+        return asked(area, {(x - frame.origin_x) / frame.resolution,
+                            frame.height - (y - frame.origin_y) / frame.resolution, theta, -1});
+    }
+
+    /// Whether it stands on none.
+    template <class Area, class... Pose>
+    bool is_clear(const Area& area, const Pose&... pose) const {
+        return !hits(area, pose...);
+    }
+
+private:
+    using Corner = detail::Corner;
+
+    /// Centre and turn; `down` is -1 where the points have y against the rows.
+    struct Pose {
+        double x, y, theta;
+        int down;
+    };
+
+    static constexpr double slack = 1.0 / 8192;  // more than rounding moves any corner, in cells
+    static constexpr double root_half = 0.70710678118654757;
+
+    Footprint(const std::vector<Point>& points, double cell, std::optional<double> resolution)
+        : outline_(detail::outline_of(in_steps(points, cell))), resolution_(resolution) {
+        inner_ = detail::largest_reach;
+        detail::each_side(outline_, [&](Corner a, Corner b) {
+            const auto twice = static_cast<double>(detail::cross(a, b, {0, 0}));
+            inner_ = std::min(inner_, twice / detail::length(a, b) / detail::steps);
+            outer_ = std::max(outer_, detail::length({0, 0}, a) / detail::steps);
+        });
+        inner_ -= slack, outer_ += slack;
+    }
+
+    static std::vector<Corner> in_steps(const std::vector<Point>& points, double cell) {
+        if (!(0 < cell && cell < std::numeric_limits<double>::infinity()))
+            detail::bad_footprint("a cell has a size above 0 in metres");
+        if (points.size() < 3 || points.size() > detail::most_corners)
+            detail::bad_footprint("a footprint has 3 to 128 points");
+        std::vector<Corner> corners;
+        for (Point point : points) {
+            const double x = point.x / cell, y = point.y / cell;
+            if (!std::isfinite(x) || !std::isfinite(y))
+                detail::bad_footprint("a point of a footprint isn't finite");
+            if (std::hypot(x, y) > detail::largest_reach)
+                detail::bad_footprint("a footprint reaches 4096 cells from its centre at most");
+            corners.push_back(
+                {detail::rounded(x * detail::steps), detail::rounded(y * detail::steps)});
+        }
+        return corners;
+    }
+
+    /// By the squares round the outer circle and in the inner one, of which a look at the bits
+    /// tells whether they have an obstacle, and where these don't tell it by the cells.
+    bool asked(const Map& map, const Pose& pose) const {
+        if (is_far(map, pose)) return map.edge() == Edge::wall;
+        const Square outer(map.size(), pose, outer_), inner(map.size(), pose, inner_ * root_half);
+        if (outer.is_inside || map.edge() == Edge::open) {
+            if (!outer.has_obstacle(map)) return false;
+        }
+        return (inner_ > 0 && inner.has_obstacle(map)) || by_cells(map, pose);
+    }
+
+    /// By a look-up, where the field has straight distances.
+    bool asked(const Field& field, const Pose& pose) const {
+        const Map& map = field.map();
+        if (field.metric() != Metric::euclid2) return asked(map, pose);
+        if (is_far(map, pose)) return map.edge() == Edge::wall;
+        const double column = std::floor(pose.x), row = std::floor(pose.y);
+        if (0 <= column && column < map.size().width && 0 <= row && row < map.size().height) {
+            const Cell cell{static_cast<int>(column), static_cast<int>(row)};
+            const double off = length(pose.x - column - 0.5, pose.y - row - 0.5);
+            const double away = outer_ + root_half + off;
+            if (field.distance(cell) > away * away) return false;
+            const Cell near = field.obstacle(cell);
+            if (length(gap(near.x, pose.x), gap(near.y, pose.y)) < inner_) return true;
+        }
+        return by_cells(map, pose);
+    }
+
+    /// Whether a pose is so far from the map that no covered cell is one of its own.
+    bool is_far(const Map& map, const Pose& pose) const {
+        const Size size = map.size();
+        if (size.width == 0) detail::check(CLEARMAP_SIZE);
+        if (!std::isfinite(pose.x) || !std::isfinite(pose.y) || !std::isfinite(pose.theta))
+            throw std::invalid_argument("a pose isn't finite");
+        const double far = outer_ + 1;
+        return !(-far <= pose.x && pose.x <= size.width + far && -far <= pose.y &&
+                 pose.y <= size.height + far);
+    }
+
+    static double length(double x, double y) noexcept { return std::sqrt(x * x + y * y); }
+
+    /// How far a column or a row of cells is from a coordinate.
+    static double gap(int cell, double at) noexcept {
+        return std::max({cell - at, at - cell - 1, 0.0});
+    }
+
+    /// The cells of a map that a square round a pose meets.
+    struct Square {
+        Square(Size size, const Pose& pose, double reach) noexcept
+            : x0(cell(pose.x - reach, size.width)),
+              x1(cell(pose.x + reach + 1, size.width)),
+              y0(cell(pose.y - reach, size.height)),
+              y1(cell(pose.y + reach + 1, size.height)),
+              is_inside(pose.x >= reach && pose.x + reach <= size.width && pose.y >= reach &&
+                        pose.y + reach <= size.height) {}
+
+        bool has_obstacle(const Map& map) const noexcept {
+            const clearmap_bits bits = map.bits();
+            const std::uint64_t* row =
+                map.words().data() + static_cast<std::size_t>(y0) * bits.stride;
+            for (int y = y0; y < y1; ++y, row += bits.stride)
+                if (detail::any_set(row, x0, x1)) return true;
+            return false;
+        }
+
+        int x0, x1, y0, y1;
+        bool is_inside;
+
+    private:
+        static int cell(double at, int size) noexcept {
+            return std::clamp(static_cast<int>(std::floor(at)), 0, size);
+        }
+    };
+
+    /// The corners at a pose.
+    detail::Hull placed(const Pose& pose) const noexcept {
+        const std::int64_t cosine = detail::rounded(std::cos(pose.theta) * detail::unit);
+        const std::int64_t sine = detail::rounded(std::sin(pose.theta) * detail::unit);
+        const std::int64_t across = detail::rounded(pose.x * detail::steps);
+        const std::int64_t down = detail::rounded(pose.y * detail::steps);
+        Corner corners[detail::most_corners];
+        std::size_t count = 0;
+        auto in_steps = [](std::int64_t turned) {
+            return detail::floored(turned + detail::unit / 2, detail::unit);
+        };
+        for (Corner c : outline_)
+            corners[count++] = {across + in_steps(c.x * cosine - c.y * sine),
+                                down + in_steps(pose.down * (c.x * sine + c.y * cosine))};
+        return detail::Hull(corners, count);
+    }
+
+    /// Whether a covered cell is an obstacle.
+    bool by_cells(const Map& map, const Pose& pose) const noexcept {
+        const Size size = map.size();
+        const detail::Hull hull = placed(pose);
+        const bool walled = map.edge() == Edge::wall;
+        const std::int64_t below = size.height * detail::steps;
+        if (walled && (hull.left[0].y < 0 || hull.left[hull.lefts - 1].y > below)) return true;
+        const std::uint64_t* words = map.words().data();
+        const std::size_t stride = map.bits().stride;
+        return detail::any_row(
+            hull, 0, size.height, [&](int row, std::int64_t first, std::int64_t end) {
+                if (walled && (first < 0 || end > size.width)) return true;
+                return detail::any_set(words + static_cast<std::size_t>(row) * stride,
+                                       std::max<std::int64_t>(first, 0),
+                                       std::min<std::int64_t>(end, size.width));
+            });
+    }
+
+    std::vector<Corner> outline_;
+    std::optional<double> resolution_;
+    double inner_ = 0, outer_ = 0;
+};
+
+}  // namespace clearmap
+
+#endif

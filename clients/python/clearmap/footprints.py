@@ -1,0 +1,150 @@
+"""Footprints: whether a robot of any convex shape stands on an obstacle, pose by pose."""
+from __future__ import annotations
+
+import ctypes
+import math
+from array import array
+from typing import TYPE_CHECKING, Iterable, Optional, Tuple
+
+from . import poses
+from .grids import EDGES, WALL, number_of
+from .library import NO_OBSTACLE, CFound, check, library, numpy
+from .maps import Held, Map
+from .polygons import STEPS, Corner, cross, outline_of, placed, rows_of
+from .requests import EUCLID2
+
+if TYPE_CHECKING:
+    import numpy as np
+    from numpy.typing import ArrayLike, NDArray
+
+WALLED = EDGES.index(WALL)
+HALF_DIAGONAL = math.sqrt(0.5)
+SLACK = 2.0**-13  # cells: more than rounding moves any corner, and than a root is off by
+LONE_POSES = 1000  # cells of a map for which as much work is done as for a pose
+
+
+class Footprint:
+    """A robot's outline: a convex polygon of 3 to 128 points around its centre, in their order.
+
+    The points are (x, y) in cells, or in metres where `resolution` says how many metres a cell has.
+    They reach 4096 cells from the centre (0, 0) at most, which may lie outside of them. A pose is
+    (x, y, theta): where the centre is, in cells of the map, so that cell (3, 4) is the square from
+    (3, 4) to (4, 5) and (3.5, 4.5) its middle, whatever `resolution` is; and by how much the points
+    are turned, in radians, from x towards y.
+
+    A pose hits an obstacle where the inside of the polygon meets an obstacle's square: to touch it
+    from outside is no hit. Round the map all is free with the edge `open`, and with `wall` all are
+    obstacles. So each pose has an answer, on the map or off it.
+
+    Exact is the answer for the polygon whose corners lie on whole steps of 1/65536 of a cell: the
+    points, the pose and the turned corners are rounded to these, and the cosine and the sine to
+    2**-30. No corner is moved by more than 1/16384 of a cell, and by none at right angles.
+
+    ValueError for what is no such polygon or pose. Any threads may ask one footprint.
+    """
+
+    __slots__ = ("_outline", "_inner", "_outer")
+
+    def __init__(self, points: Iterable[Iterable[float]], resolution: float = 1.0) -> None:
+        self._outline = outline_of(points, resolution)
+        inner, outer = _circles(self._outline)
+        self._inner, self._outer = inner - SLACK, outer + SLACK
+
+    def hits(self, area: Map, x: float, y: float, theta: float) -> bool:
+        """Whether the robot stands on an obstacle of a map at this pose."""
+        pose = float(x), float(y), float(theta)
+        if not all(map(math.isfinite, pose)):
+            raise ValueError(f"a pose of {pose}, where finite numbers are wanted")
+        return self._hits(area._held, *pose)
+
+    def is_clear(self, area: Map, x: float, y: float, theta: float) -> bool:
+        """Whether it stands on none."""
+        return not self.hits(area, x, y, theta)
+
+    def hits_many(
+        self, area: Map, x: ArrayLike, y: ArrayLike, theta: ArrayLike
+    ) -> NDArray[np.bool_]:
+        """`hits` of each pose of three arrays, which numpy broadcasts: an array of bools. All poses
+        are asked of the cells as they are when the call begins. Where they are many for the map,
+        each cell's distance is worked first, in 12 bytes a cell for the time of the call."""
+        np = numpy()
+        held = area._held
+        arrays = poses.flat(x, y, theta)
+        found = np.empty(arrays[0].shape, bool)
+        out, each = found.reshape(-1), tuple(numbers.ravel() for numbers in arrays)
+        if area.width * area.height <= LONE_POSES * out.size:
+            circles = self._inner, self._outer
+            left = poses.by_table(held, circles, each, out)
+            each = tuple(numbers[left] for numbers in each)
+            out[left] = poses.by_cells(held, self._outline, each, self._by_cells)
+        else:
+            for number, pose in enumerate(zip(*(numbers.tolist() for numbers in each))):
+                out[number] = self._hits(held, *pose)
+        return found  # type: ignore[no-any-return]
+
+    # ---- one pose
+
+    def _hits(self, held: Held, x: float, y: float, theta: float) -> bool:
+        """By the circles, and where these don't tell it by the cells."""
+        width, height = held.size
+        far = self._outer + 1
+        if not (-far <= x <= width + far and -far <= y <= height + far):
+            return held.edge == WALLED
+        told = self._by_circles(held, x, y)
+        return self._by_cells(held, x, y, theta) if told is None else told
+
+    def _by_circles(self, held: Held, x: float, y: float) -> Optional[bool]:
+        """False where all obstacles lie outside of the outer circle, True where one meets the
+        inner, and else None."""
+        column, row = math.floor(x), math.floor(y)
+        width, height = held.size
+        if not (0 <= column < width and 0 <= row < height):
+            return None
+        away = self._outer + HALF_DIAGONAL + math.hypot(x - column - 0.5, y - row - 0.5)
+        near = _nearer(held, column, row, int(away * away) + 1)
+        if near is None:
+            return False
+        gap_x, gap_y = (max(n - at, at - n - 1, 0) for n, at in zip(near, (x, y)))
+        return True if math.hypot(gap_x, gap_y) < self._inner else None
+
+    def _by_cells(self, held: Held, x: float, y: float, theta: float) -> bool:
+        """Whether a covered cell is an obstacle."""
+        width, height = held.size
+        corners = placed(self._outline, x, y, theta)
+        if held.edge == WALLED and _leaves(corners, width * STEPS, height * STEPS):
+            return True
+        cells = held.memory.cells
+        for row, first, end in rows_of(corners, 0, height):
+            first, end = max(first, 0), min(end, width)
+            if first < end:
+                words = cells[row, first // 64 : (end + 63) // 64].tobytes()
+                bits = int.from_bytes(words, "little") >> first % 64
+                if bits & ((1 << (end - first)) - 1):
+                    return True
+        return False
+
+
+def _circles(outline: Iterable[Corner]) -> Tuple[float, float]:
+    """The radii of the largest circle round the centre that lies in a polygon, 0 where there is
+    none, and of the least that has it inside."""
+    corners = list(outline)
+    inner = min(
+        cross(a, b, (0, 0)) / math.hypot(b[0] - a[0], b[1] - a[1])
+        for a, b in zip(corners, corners[1:] + corners[:1])
+    )
+    outer = max(math.hypot(x, y) for x, y in corners)
+    return max(inner, 0.0) / STEPS, outer / STEPS
+
+
+def _leaves(corners: Iterable[Corner], right: int, below: int) -> bool:
+    """Whether a polygon isn't all on a map of this size in steps."""
+    return not all(0 <= x <= right and 0 <= y <= below for x, y in corners)
+
+
+def _nearer(held: Held, x: int, y: int, limit: int) -> Optional[Tuple[int, int]]:
+    """The nearest obstacle of a cell whose square of a distance is below a limit."""
+    point, found = array("H", (x, y)), CFound()
+    where = *held.where, number_of(EUCLID2), held.edge, point.buffer_info()[0], 1, limit
+    check(library().clearmap_bits_clear_of(*where, ctypes.byref(found)))
+    near = found.near
+    return None if near.dist == NO_OBSTACLE else (near.x, near.y)
