@@ -46,6 +46,19 @@ def best(rounds, *what):
     return min((asked(*what) for _ in range(rounds)), key=lambda figures: figures[1])
 
 
+def redis_told(words):
+    """The last line of redis-benchmark, once the server is there; nothing where it hangs."""
+    for _ in range(20):
+        try:
+            run = subprocess.run(words, capture_output=True, text=True, timeout=60)
+        except subprocess.TimeoutExpired:
+            return ""
+        lines = run.stdout.splitlines()
+        if lines and lines[-1].startswith('"GET"'):
+            return lines[-1]
+    return ""
+
+
 def redis(requests):
     """What redis-benchmark tells of GET by 1,000 connections, of which each asks."""
     if not (shutil.which("redis-server") and shutil.which("redis-benchmark")):
@@ -56,13 +69,12 @@ def redis(requests):
         server = subprocess.Popen([*words, "--dir", folder], stdout=subprocess.DEVNULL)
         words = ["redis-benchmark", "-p", port, "-c", "1000", "-n", str(requests), "--csv"]
         words += ["-t", "get"]
-        for _ in range(20):
-            told = subprocess.run(words, capture_output=True, text=True).stdout.splitlines()
-            if told and told[-1].startswith('"GET"'):
-                break
+        told = redis_told(words)
         server.kill()
         server.wait()
-        figures = [float(word.strip('"')) for word in told[-1].split(",")[1:]]
+        if not told:
+            return print("Redis left out: redis-benchmark hasn't ended within a minute")
+        figures = [float(word.strip('"')) for word in told.split(",")[1:]]
         micros = [int(1000 * figures[k]) for k in (3, 5)]
         row("GET of Redis", 1000, 1, [int(figures[0]), *micros])
 

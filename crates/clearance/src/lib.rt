@@ -24,4 +24,5 @@ mod words;
 pub use queries::{
     along, along_rows, at, at_rows, clear_of, clear_of_rows, least_in, least_in_rows,
 };
+pub use row::is_blank;
 pub use rows::Rows;

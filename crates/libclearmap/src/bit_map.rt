@@ -8,7 +8,7 @@ ghost use Rattle.libclearmap.specs.Statuses.{bits_status};
 
 use crate::layout::ClearmapBits;
 use crate::status::{DONE, shape_status};
-use clearance::Rows;
+use clearance::{Rows, is_blank};
 use metric::{BAND_ROWS, MOST_SIDE};
 
 /// The map that lies so in these words. Bits past the edge may be anything.
@@ -62,13 +62,10 @@ impl<'a> Rows for BitMap<'a> {
         in_band(self.map.bands, y, own)
     }
 
+    /// A row with a bit past the edge isn't known to be blank.
     fn is_blank(&mut self, y: u16) -> bool {
-        'words: for index in 0..self.across() {
-            if self.word(y, index) != 0 {
-                return false;
-            }
-        }
-        true
+        let start = usize::from(y) * self.map.stride;
+        is_blank(&self.words[start..start + self.across()])
     }
 
     #[inline(always)]

@@ -1,6 +1,6 @@
 -- What a contract sees of a stream of bytes: this project's own rule.
 -- A stream may tell its bytes, as `Some` of the bytes that are left to read or that were written, or tell nothing, as `None`. One that doesn't tell stays so.
-use Rattle.std.specs.Prelude.{◌≡◌, ◌≢◌, ℕ, ◌+◌, ◌<◌, ◌≤◌, ◌^◌, List, [], ◌∷◌, ◌++◌, length, take, Option, Some, None, Result, Ok, Err}
+use Rattle.std.specs.Prelude.{◌≡◌, ◌≢◌, ℕ, ◌+◌, ◌<◌, ◌≤◌, ◌^◌, List, [], ◌∷◌, ◌++◌, length, take, slice_index, Option, Some, None, Result, Ok, Err}
 
 -- this is left after one byte is taken from the front, or after the end is met
 abbrev pub TakesByte : Option (List ℕ) → Option ℕ → Option (List ℕ) → Type 0
@@ -44,3 +44,7 @@ pub record TakesBlock (rest : Option (List ℕ)) (count : ℕ) (block : List ℕ
   pub fits : count ≤ length block
   pub taken : Takes rest (take count block) left
   pub ended : count ≡ 0 → block ≢ [] → AreAll rest []
+
+-- of the first bytes of the block none but the last is this one
+abbrev pub StopsAt : ℕ → ℕ → List ℕ → Type 0
+StopsAt stop count block = (k : ℕ) → k + 1 < count → slice_index block k ≢ stop

@@ -1,10 +1,11 @@
 //! Streams of bytes: what a reader and a writer are to the engines.
 //!
-//! An engine reads byte by byte or by blocks, and writes whole texts. A stream may tell its bytes to contracts, as one in memory does, or tell nothing.
+//! An engine reads byte by byte or by blocks, and writes whole texts. A stream may tell its bytes to
+//! contracts, as one in memory does, or tell nothing.
 
 ghost use Rattle.std.specs.Prelude.{◌≡◌, ℕ, List, Option, IfOk, OnOk, OnErr};
 ghost use Rattle.metric.specs.Wire.{Wire};
-ghost use Rattle.metric.specs.Stream.{TakesByte, TakesBlock, Appends, AppendsFront, Counts, CanFail};
+ghost use Rattle.metric.specs.Stream.{TakesByte, TakesBlock, StopsAt, Appends, AppendsFront, Counts, CanFail};
 
 /// A read failed.
 #[derive(Clone, Copy, Debug, PartialEq, Eq)]
@@ -38,6 +39,18 @@ pub trait Source {
     fn next_block(&mut self, block: &mut [u8]) -> Result<usize, ReadFault>
         requires { CanFail (failed_reads self.old) }
         ensures taken { IfOk result (λ count. TakesBlock (rest self.old) count block.new (rest self.new)) }
+        ensures kept { OnErr result (rest self.new ≡ rest self.old) }
+        ensures counts { Counts (failed_reads self.old) result (failed_reads self.new) }
+        ensures written { written self.new ≡ written self.old }
+    {
+        self.next_until(0, block)
+    }
+
+    /// The same, but takes none after the first byte that is `stop`.
+    fn next_until(&mut self, stop: u8, block: &mut [u8]) -> Result<usize, ReadFault>
+        requires { CanFail (failed_reads self.old) }
+        ensures taken { IfOk result (λ count. TakesBlock (rest self.old) count block.new (rest self.new)) }
+        ensures stops { IfOk result (λ count. StopsAt stop count block.new) }
         ensures kept { OnErr result (rest self.new ≡ rest self.old) }
         ensures counts { Counts (failed_reads self.old) result (failed_reads self.new) }
         ensures written { written self.new ≡ written self.old }

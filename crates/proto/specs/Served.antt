@@ -1,5 +1,5 @@
 -- What a stream is answered from its first byte to its end: this project's own rule.
-use Rattle.std.specs.Prelude.{◌≡◌, ◌≢◌, ℕ, ◌+◌, ◌<◌, ◌≤◌, ◌⊎◌, List, [], ◌∷◌, ◌++◌, length, All, Option, Some, None, Result, Ok, Err, IsOkAnd, Vec}
+use Rattle.std.specs.Prelude.{◌≡◌, ◌≢◌, Bool, false, if◌then◌else◌, ℕ, ◌+◌, ◌<◌, ◌≤◌, ◌⊎◌, List, [], ◌∷◌, ◌++◌, length, All, Option, Some, None, Result, Ok, Err, IsOkAnd, Vec}
 use Rattle.std.specs.List.{flat_map}
 use Rattle.metric.specs.Stream.{Appends, AppendsFront, Takes}
 use Rattle.metric.specs.declared.refusal.Refusal.{Refusal}
@@ -146,6 +146,26 @@ abbrev pub IsLineStop : End → Wire → List ℕ → Wire → Type 0
 IsLineStop ends.LineTooLong old bytes new = IsTooLong bytes × HasRead 0 old bytes new
 IsLineStop end old bytes new = IsLine bytes × IsCutOff end old bytes new
 
+-- what a line ends with, where it does
+abbrev pub line_end : Bool → List ℕ
+line_end ends = if ends then 10 ∷ [] else []
+
+-- these bytes were kept after those before, but for an LF at their end
+pub record IsKept (ends : Bool) (before bytes after : List ℕ) : Type 0 where
+  pub part : List ℕ
+  pub after_is : after ≡ before ++ part
+  pub plain : All (λ byte. byte ≢ 10) part
+  pub bytes_are : bytes ≡ part ++ line_end ends
+
+-- a part of a line was read after these bytes, and kept but for an LF, with which the line ends
+pub record IsLinePart (ends : Bool) (before : List ℕ) (old : Wire) (after : List ℕ) (new : Wire) : Type 0 where
+  pub part : List ℕ
+  pub after_is : after ≡ before ++ part
+  pub plain : All (λ byte. byte ≢ 10) part
+  pub few : length (after ++ line_end ends) ≤ 16385
+  pub more : ends ≡ false → 0 < length part
+  pub read : HasRead 0 old (part ++ line_end ends) new
+
 -- the bytes that were counted are kept, where there was memory for them
 abbrev pub AreKept : {A E : Type 0} → Result (Vec ℕ A) E → List ℕ → Type 0
 AreKept (Err refused) bytes = Unit {0}
@@ -156,6 +176,13 @@ pub record HasCounted {A E : Type 0} (count : ℕ) (kept : Result (Vec ℕ A) E)
   pub bytes : List ℕ
   pub as_many : length bytes ≡ count
   pub kept_are : AreKept kept bytes
+  pub read : HasRead 0 old bytes new
+
+-- so many bytes were read, one at least
+pub record HasPassed (count : ℕ) (old new : Wire) : Type 0 where
+  pub some : 0 < count
+  pub bytes : List ℕ
+  pub as_many : length bytes ≡ count
   pub read : HasRead 0 old bytes new
 
 -- the input was cut off before so many bytes were read

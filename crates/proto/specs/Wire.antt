@@ -1,5 +1,5 @@
 -- What happens to the wire of a stream as it is read and written: this project's own rule.
-use Rattle.std.specs.Prelude.{◌≡◌, ℕ, ◌+◌, List, [], ◌∷◌, Option, Some, None}
+use Rattle.std.specs.Prelude.{◌≡◌, ℕ, ◌+◌, ◌<◌, ◌≤◌, List, [], length, take, Option, Some, None}
 use Rattle.metric.specs.Wire.{Wire}
 use Rattle.metric.specs.Stream.{Appends, AppendsFront, CanFail, Takes}
 
@@ -20,10 +20,11 @@ abbrev pub IsReadOut : Option (List ℕ) → Type 0
 IsReadOut None = Unit {0}
 IsReadOut (Some left) = left ≡ []
 
--- the next byte was read, or the end was met
-abbrev pub HasTaken : Option ℕ → Wire → Wire → Type 0
-HasTaken (Some byte) old new = HasRead 0 old (byte ∷ []) new
-HasTaken None old new = HasRead 0 old [] new × IsReadOut new.rest
+-- the first bytes of a block were read, one at least
+pub record HasTaken (count : ℕ) (block : List ℕ) (old new : Wire) : Type 0 where
+  pub some : 0 < count
+  pub fits : count ≤ length block
+  pub read : HasRead 0 old (take count block) new
 
 -- this text was written, no write failed, and nothing was read
 pub record HasWritten (old : Wire) (text : List ℕ) (new : Wire) : Type 0 where

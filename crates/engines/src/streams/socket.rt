@@ -1,7 +1,9 @@
 //! A TCP connection as a stream. It tells contracts nothing of its bytes: what becomes of them rests on tests alone.
 
-ghost use Rattle.std.specs.Prelude.{◌≡◌, IfOk, None};
+ghost use Rattle.std.specs.Prelude.{◌≡◌, ◌+◌, ◌≤◌, length, IfOk, IfSome, None};
+ghost use Rattle.metric.specs.Stream.{CanFail, StopsAt};
 
+use memchr::memchr;
 use metric::{ReadFault, Sink, Source, Stream, WriteFault};
 use std::alloc::Global;
 use std::io;
@@ -138,17 +140,53 @@ impl Socket {
         Err(io::Error::from(ErrorKind::Interrupted))
     }
 
-    /// The next byte, before which the replies are sent where the read could wait.
-    fn take(&mut self) -> io::Result<Option<u8>>
+    /// Sends the replies and reads ahead, where nothing is left to take.
+    fn ready(&mut self) -> io::Result<()>
         ensures { self.new ≡ self.old }
     {
         if self.reader.buffer().is_empty() {
             self.send()?;
             self.fill()?;
         }
+        Ok(())
+    }
+
+    /// The next byte.
+    fn take(&mut self) -> io::Result<Option<u8>>
+        ensures { self.new ≡ self.old }
+    {
+        self.ready()?;
         let byte = self.reader.buffer().first().copied();
         self.reader.consume(1);
         Ok(byte)
+    }
+
+    /// The next bytes into the block's front, none of them after a first `stop`, if that is given.
+    /// Answers how many.
+    fn take_block(&mut self, stop: Option<u8>, block: &mut [u8]) -> io::Result<usize>
+        ensures socket { self.new ≡ self.old }
+        ensures fits { IfOk result (λ count. count ≤ length block.new) }
+        ensures stops { IfOk result (λ count. IfSome stop (λ stop. StopsAt stop count block.new)) }
+    {
+        self.ready()?;
+        let held = self.reader.buffer();
+        let front = &held[..held.len().min(block.len())];
+        let count = match stop {
+            Some(stop) => count_until(stop, front),
+            None => front.len(),
+        };
+        block[..count].copy_from_slice(&front[..count]);
+        self.reader.consume(count);
+        Ok(count)
+    }
+
+    /// Counts a failed read.
+    fn fail_read(&mut self) -> ReadFault
+        requires { CanFail self.old.0 }
+        ensures { self.new ≡ (self.old.0 + 1, self.old.1) }
+    {
+        self.failed_reads += 1;
+        ReadFault
     }
 
     /// Gathers a reply, or sends it where it is long.
@@ -175,10 +213,21 @@ impl Source for Socket {
     fn next_byte(&mut self) -> Result<Option<u8>, ReadFault> {
         match self.take() {
             Ok(byte) => Ok(byte),
-            Err(_) => {
-                self.failed_reads += 1;
-                Err(ReadFault)
-            }
+            Err(_) => Err(self.fail_read()),
+        }
+    }
+
+    fn next_block(&mut self, block: &mut [u8]) -> Result<usize, ReadFault> {
+        match self.take_block(None, block) {
+            Ok(count) => Ok(count),
+            Err(_) => Err(self.fail_read()),
+        }
+    }
+
+    fn next_until(&mut self, stop: u8, block: &mut [u8]) -> Result<usize, ReadFault> {
+        match self.take_block(Some(stop), block) {
+            Ok(count) => Ok(count),
+            Err(_) => Err(self.fail_read()),
         }
     }
 
@@ -226,6 +275,17 @@ impl Stream for Socket {
     ghost reading = { λ s. refl };
 
     ghost writing = { λ s. refl };
+}
+
+/// How many bytes there are up to the first `stop` and with it, or in all where there is none.
+fn count_until(stop: u8, bytes: &[u8]) -> usize
+    ensures within { result ≤ length bytes.now }
+    ensures stops { StopsAt stop result bytes.now }
+{
+    match memchr(stop, bytes) {
+        Some(place) => place + 1,
+        None => bytes.len(),
+    }
 }
 
 /// The buffers of a connection, without it.

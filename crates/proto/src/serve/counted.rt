@@ -1,13 +1,16 @@
 //! The bytes that a line counts, which follow it.
 
-ghost use Rattle.std.specs.Prelude.{◌≡◌, ◌≤◌, [], length, vec_capacity, None, Some, IfOk, IfErr, OnOk};
-ghost use Rattle.proto.specs.Served.{HasCounted, IsCutShort};
+ghost use Rattle.std.specs.Prelude.{◌≡◌, ◌<◌, ◌≤◌, [], length, vec_capacity, None, Some, IfOk, IfErr, OnOk};
+ghost use Rattle.proto.specs.Served.{HasCounted, HasPassed, IsCutOff, IsCutShort};
 ghost use Rattle.proto.specs.Wire.{CanGoOn};
 
 use crate::serve::end::End;
-use crate::serve::wire::take_byte;
+use crate::serve::wire::take_block;
 use metric::Stream;
 use std::alloc::{AllocError, Global};
+
+/// How many bytes are taken at once, at most.
+const BLOCK: usize = 4096;
 
 /// The bytes that a line counts, or the growth that was refused to keep them.
 pub type Counted = Result<Vec<u8>, AllocError>;
@@ -33,13 +36,12 @@ fn keep<S: Stream>(stream: &mut S, room: Vec<u8>, count: u32) -> Result<Counted,
     ensures counted { IfOk result (λ kept. HasCounted count kept (S.wire stream.old) (S.wire stream.new)) }
     ensures cut { IfErr result (λ end. IsCutShort count end (S.wire stream.old) (S.wire stream.new)) }
 {
-    let mut bytes = room;
-    'bytes: for _ in 0..count {
-        match take_byte(stream) {
-            Ok(Some(byte)) => bytes.push_reserved(byte),
-            Ok(None) => return Err(End::EndOfInput),
-            Err(_) => return Err(End::ReadFailed),
-        }
+    let (mut bytes, count) = (room, count as usize);
+    'takes: while bytes.len() < count {
+        let mut block = [0; BLOCK];
+        let most = (count - bytes.len()).min(BLOCK);
+        let taken = take_block(stream, &mut block[..most])?;
+        let _ = bytes.extend_from_slice(&block[..taken]);
     }
     Ok(Ok(bytes))
 }
@@ -50,12 +52,23 @@ fn skip<S: Stream>(stream: &mut S, count: u32, refused: AllocError) -> Result<Co
     ensures counted { IfOk result (λ kept. HasCounted count kept (S.wire stream.old) (S.wire stream.new)) }
     ensures cut { IfErr result (λ end. IsCutShort count end (S.wire stream.old) (S.wire stream.new)) }
 {
-    'bytes: for _ in 0..count {
-        match take_byte(stream) {
-            Ok(Some(_)) => {}
-            Ok(None) => return Err(End::EndOfInput),
-            Err(_) => return Err(End::ReadFailed),
-        }
+    let mut left = count as usize;
+    'passes: while left > 0 {
+        left -= pass_over(stream, left)?;
     }
     Ok(Err(refused))
+}
+
+/// Reads some bytes, as many as this at most, and keeps none. Answers how many.
+fn pass_over<S: Stream>(stream: &mut S, most: usize) -> Result<usize, End>
+    requires wire { CanGoOn (S.wire stream.old) }
+    requires some { 0 < most }
+    ensures passed { IfOk result (λ count. HasPassed count (S.wire stream.old) (S.wire stream.new)) }
+    ensures within { IfOk result (λ count. count ≤ most) }
+    ensures cut { IfErr result (λ end. IsCutOff end (S.wire stream.old) [] (S.wire stream.new)) }
+{
+    let mut block = [0; BLOCK];
+    let few = most.min(BLOCK);
+    let block = &mut block[..few];
+    take_block(stream, block)
 }

@@ -1,18 +1,22 @@
-//! The buffer of a line, which is read a byte at a time.
+//! The buffer of a line, which is read a part at a time.
 
-ghost use Rattle.std.specs.Prelude.{◌≡◌, ◌∷◌, ◌++◌, [], IfOk, IfErr, OnOk};
+ghost use Rattle.std.specs.Prelude.{◌≡◌, ◌∷◌, ◌++◌, ◌+◌, ◌<◌, ◌≤◌, [], length, IfOk, IfErr, OnOk, OnErr};
 ghost use Rattle.proto.specs.Exchanges.{IsLine};
-ghost use Rattle.proto.specs.Served.{IsLineStop};
+ghost use Rattle.metric.specs.Stream.{StopsAt};
+ghost use Rattle.proto.specs.Served.{IsCutOff, IsKept, IsLinePart, IsLineStop};
 ghost use Rattle.proto.specs.Wire.{CanGoOn, HasRead};
 
 use crate::serve::end::End;
-use crate::serve::wire::take_byte;
+use crate::serve::wire::take_until;
 use metric::Stream;
 use std::alloc::{AllocError, Global};
 use std::marker::Model;
 
 /// The most bytes that are looked at for the LF of a line, which has one fewer at most before it.
-const MOST_BYTES: u32 = 16_385;
+const MOST_BYTES: usize = 16_385;
+
+/// How many bytes of a line are read at once, at most.
+const PART: usize = 64;
 
 /// Room for the bytes of a line.
 #[derive(Drop)]
@@ -35,7 +39,7 @@ impl LineBuffer {
     pub fn new(alloc: Global) -> Result<Self, AllocError>
         ensures { IfOk result (λ line. line ≡ []) }
     {
-        let bytes = Vec::with_capacity(alloc, MOST_BYTES as usize)?;
+        let bytes = Vec::with_capacity(alloc, MOST_BYTES)?;
         Ok(LineBuffer { bytes })
     }
 
@@ -54,14 +58,39 @@ impl LineBuffer {
         ensures stop { IfErr result (λ end. IsLineStop end (S.wire stream.old) self.new (S.wire stream.new)) }
     {
         self.bytes.clear();
-        'bytes: for _ in 0..MOST_BYTES {
-            match take_byte(stream) {
-                Ok(Some(b'\n')) => return Ok(()),
-                Ok(Some(byte)) => self.bytes.push_reserved(byte),
-                Ok(None) => return Err(End::EndOfInput),
-                Err(_) => return Err(End::ReadFailed),
+        'parts: while self.bytes.len() < MOST_BYTES {
+            if self.read_part(stream)? {
+                return Ok(());
             }
         }
         Err(End::LineTooLong)
+    }
+
+    /// Reads a part of a line after what the buffer holds, and answers whether the line ends there.
+    fn read_part<S: Stream>(&mut self, stream: &mut S) -> Result<bool, End>
+        requires wire { CanGoOn (S.wire stream.old) }
+        requires room { length self.old < 16385 }
+        ensures part { IfOk result (λ ends. IsLinePart ends self.old (S.wire stream.old) self.new (S.wire stream.new)) }
+        ensures kept { OnErr result (self.new ≡ self.old) }
+        ensures stop { IfErr result (λ end. IsCutOff end (S.wire stream.old) [] (S.wire stream.new)) }
+    {
+        let mut block = [0; PART];
+        let most = (MOST_BYTES - self.bytes.len()).min(PART);
+        let count = take_until(stream, b'\n', &mut block[..most])?;
+        Ok(self.keep(&block[..count]))
+    }
+
+    /// Keeps the bytes but for an LF at their end, and answers whether there is one. There is room for
+    /// them.
+    fn keep(&mut self, bytes: &[u8]) -> bool
+        requires some { 0 < length bytes.now }
+        requires room { length self.old + length bytes.now ≤ 16385 }
+        requires plain { StopsAt 10 (length bytes.now) bytes.now }
+        ensures { IsKept result self.old bytes.now self.new }
+    {
+        let last = bytes.len() - 1;
+        let ends = bytes[last] == b'\n';
+        let _ = self.bytes.extend_from_slice(if ends { &bytes[..last] } else { bytes });
+        ends
     }
 }

@@ -1,17 +1,41 @@
-//! Single steps on a stream: a byte that is read, a text that is written.
+//! Single steps on a stream: bytes that are read, a text that is written.
 
-ghost use Rattle.std.specs.Prelude.{[], IfOk, OnOk, OnErr};
-ghost use Rattle.proto.specs.Wire.{CanGoOn, HasNotWritten, HasRead, HasTaken, HasWritten};
+ghost use Rattle.std.specs.Prelude.{◌<◌, [], length, IfOk, IfErr, OnOk, OnErr};
+ghost use Rattle.metric.specs.Stream.{StopsAt};
+ghost use Rattle.proto.specs.Served.{IsCutOff};
+ghost use Rattle.proto.specs.Wire.{CanGoOn, HasNotWritten, HasTaken, HasWritten};
 
-use metric::{ReadFault, Stream, WriteFault};
+use crate::serve::end::End;
+use metric::{Stream, WriteFault};
 
-/// Takes the next byte of a stream; `None` at its end.
-pub fn take_byte<S: Stream>(stream: &mut S) -> Result<Option<u8>, ReadFault>
-    requires { CanGoOn (S.wire stream.old) }
-    ensures byte { IfOk result (λ byte. HasTaken byte (S.wire stream.old) (S.wire stream.new)) }
-    ensures failed { OnErr result (HasRead 1 (S.wire stream.old) [] (S.wire stream.new)) }
+/// Takes the next bytes of a stream into the front of a block that has a place, and answers how
+/// many: one at least. Otherwise it answers how the stream ends.
+pub fn take_block<S: Stream>(stream: &mut S, block: &mut [u8]) -> Result<usize, End>
+    requires wire { CanGoOn (S.wire stream.old) }
+    requires place { 0 < length block.old }
+    ensures taken { IfOk result (λ count. HasTaken count block.new (S.wire stream.old) (S.wire stream.new)) }
+    ensures cut { IfErr result (λ end. IsCutOff end (S.wire stream.old) [] (S.wire stream.new)) }
 {
-    stream.next_byte()
+    match stream.next_block(block) {
+        Ok(0) => Err(End::EndOfInput),
+        Ok(count) => Ok(count),
+        Err(_) => Err(End::ReadFailed),
+    }
+}
+
+/// The same, but takes none after the first byte that is `stop`.
+pub fn take_until<S: Stream>(stream: &mut S, stop: u8, block: &mut [u8]) -> Result<usize, End>
+    requires wire { CanGoOn (S.wire stream.old) }
+    requires place { 0 < length block.old }
+    ensures taken { IfOk result (λ count. HasTaken count block.new (S.wire stream.old) (S.wire stream.new)) }
+    ensures stops { IfOk result (λ count. StopsAt stop count block.new) }
+    ensures cut { IfErr result (λ end. IsCutOff end (S.wire stream.old) [] (S.wire stream.new)) }
+{
+    match stream.next_until(stop, block) {
+        Ok(0) => Err(End::EndOfInput),
+        Ok(count) => Ok(count),
+        Err(_) => Err(End::ReadFailed),
+    }
 }
 
 /// Writes a text.

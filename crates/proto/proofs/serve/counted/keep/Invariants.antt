@@ -1,12 +1,16 @@
--- The buffer holds as many bytes as there were turns, and they are those that were read.
-use Rattle.std.proofs.Common.{◌≡◌, ◌≤◌, length, vec_capacity}
+-- The buffer holds the bytes that were read.
+use Rattle.std.proofs.Common.{◌≡◌, ◌≤◌, ◌-◌, length, vec_capacity}
 use Rattle.proto.specs.Wire.{HasRead}
 use Rattle.proto.proofs.serve.counted.keep.Given as goal
 
--- each turn has read a byte, and all of them are kept
-abbrev pub invariant-bytes : goal.invariant-bytes
-invariant-bytes g l = record {
+-- all that was read is kept, and it isn't too much
+abbrev pub invariant-takes : goal.invariant-takes
+invariant-takes g l = record {
   read : HasRead 0 (g.S.Stream.wire l.fn.stream) l.bytes.items (g.S.Stream.wire l.stream);
-  as_many : length l.bytes.items ≡ l.counter;
+  few : length l.bytes.items ≤ l.fn.count;
   room : l.fn.count ≤ vec_capacity l.bytes;
 }
+
+-- each block has a byte at least
+abbrev pub decreases-takes : goal.decreases-takes
+decreases-takes g l = l.fn.count - length l.bytes.items

@@ -1,13 +1,16 @@
 -- The line so far stands in the buffer, and it has no LF.
-use Rattle.std.proofs.Common.{◌≡◌, ◌≢◌, ◌≤◌, length, All, vec_capacity}
+use Rattle.std.proofs.Common.{◌≡◌, ◌≢◌, ◌≤◌, ◌-◌, length, All}
 use Rattle.proto.specs.Wire.{HasRead}
 use Rattle.proto.proofs.serve.line_buffer.LineBuffer.read.Given as goal
 
--- each turn has read a byte, none of them an LF, and they stand in the buffer
-abbrev pub invariant-bytes : goal.invariant-bytes
-invariant-bytes g l = record {
-  read : HasRead 0 (g.S.Stream.wire l.fn.stream) l.self-inside.bytes.items (g.S.Stream.wire l.stream);
-  plain : All (λ byte. byte ≢ 10) l.self-inside.bytes.items;
-  as_many : length l.self-inside.bytes.items ≡ l.counter;
-  room : 16385 ≤ vec_capacity l.self-inside.bytes;
+-- the parts that were read stand in the buffer, and there is no LF among them
+abbrev pub invariant-parts : goal.invariant-parts
+invariant-parts g l = record {
+  read : HasRead 0 (g.S.Stream.wire l.fn.stream) l.self (g.S.Stream.wire l.stream);
+  plain : All (λ byte. byte ≢ 10) l.self;
+  few : length l.self ≤ 16385;
 }
+
+-- each part has a byte at least
+abbrev pub decreases-parts : goal.decreases-parts
+decreases-parts g l = 16385 - length l.self
