@@ -11,6 +11,7 @@ namespace clearmap::detail {
 struct Box {
     int x0, y0, x1, y1;
 
+    int area() const noexcept { return (x1 - x0) * (y1 - y0); }
     int longer_side() const noexcept { return std::max(x1 - x0, y1 - y0); }
     bool has(int x, int y) const noexcept { return x0 <= x && x < x1 && y0 <= y && y < y1; }
 };
@@ -160,14 +161,15 @@ struct Changes {
     std::size_t count() const noexcept { return cleared.boxes.size() + painted.boxes.size(); }
 
 private:
-    /// Joins boxes whose common box is of obstacles alone, or of free cells: those that did not
-    /// change do no harm in it.
+    /// Joins boxes whose common box is of obstacles alone, or of free cells, and not much larger
+    /// than both: cells that did not change do no harm in it.
     static void join(std::vector<Box>& boxes, const Map& map, bool obstacles) noexcept {
         std::size_t kept = 0;
         for (const Box box : boxes) {
             std::size_t at = kept;
             for (; at > 0 && kept - at < neighbours; --at) {
                 const Box both = around(boxes[at - 1], box);
+                if (both.area() > 2 * (boxes[at - 1].area() + box.area())) continue;
                 if (!is_full(map, both, obstacles)) continue;
                 boxes[at - 1] = both;
                 break;
