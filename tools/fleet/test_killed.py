@@ -131,7 +131,7 @@ class TakingTurns(Publishes):
         watcher.join()
         orders = [version.order for version in seen]
         self.assertEqual(orders, sorted(set(orders)))
-        self.assertGreater(len(seen), 8)
+        self.assertGreater(len(seen), 4)
         for version in seen:
             grids = (painter.grid(version.number) for painter in painters
                      if version.number in painter.known)  # fmt: skip
