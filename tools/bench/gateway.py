@@ -66,6 +66,7 @@ def redis(requests):
     with tempfile.TemporaryDirectory() as folder:
         port = "17421"
         words = ["redis-server", "--port", port, "--bind", "127.0.0.1", "--save", ""]
+        words += ["--tcp-backlog", "2048"]
         server = subprocess.Popen([*words, "--dir", folder], stdout=subprocess.DEVNULL)
         words = ["redis-benchmark", "-p", port, "-c", "1000", "-n", str(requests), "--csv"]
         words += ["-t", "get"]

@@ -4,11 +4,11 @@ from typing import Dict, List, Optional
 
 import dumps
 from clearmap import Map, Refused
-from lines import NOT_PINNED, PINNED, Line, next_cells, next_line
+from lines import AT, NOT_PINNED, PINNED, Line, next_cells, next_line
 from limits import STAMPS, Room
 from links import Server, ServerLost
 from queries import Answer, at_reply, refusal
-from streams import Gone, Stream
+from streams import INPUT, Gone, Stream
 from versions import Held, Said, Versions
 from watch import Watchers
 
@@ -58,6 +58,21 @@ class Client(Stream):
 
     # ---- lines
 
+    def buffer_updated(self, count: int) -> None:
+        """One query of a cell, of a map that is there, is answered at once where nothing else is to
+        be done: a planner's usual line."""
+        area = None if self._held is None else self._held.map
+        if area is not None and self._is_at_rest():
+            cell = AT.fullmatch(INPUT, 0, count)
+            if cell is not None:
+                return self._write(at_reply(area, *cell.groups()))
+        super().buffer_updated(count)
+
+    def _is_at_rest(self) -> bool:
+        """Whether all that has come is done, and more is awaited."""
+        waits = self._pending or self._task or self._news is not None
+        return not (waits or self._is_full or self._is_over or self._is_last)
+
     def _advance(self) -> None:
         """Does what can be done now."""
         if self._task is not None:
@@ -69,8 +84,6 @@ class Client(Stream):
     def _do_lines(self) -> None:
         """Does some lines, up to one that takes time. Their replies go out together."""
         said = self._said_of_queries()
-        if said and not self._pending and not self._is_last and self._news is None:
-            return self._write(b"".join(said))
         while self._task is None and not self._is_full and not self._is_over:
             line = next_line(self._pending)
             if line is None:

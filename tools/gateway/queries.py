@@ -2,12 +2,13 @@
 import re
 from typing import Callable, List, NamedTuple, Optional, Sequence, Tuple
 
-from clearmap import Map, Near, Refused, Tightest, requests
+from clearmap import NO_OBSTACLE, Map, Near, Refused, Tightest, requests
 from clearmap.requests import LARGEST_SIDE
 
 METRICS = {name.encode(): name for name in requests.METRICS}
 LARGEST = 4_294_967_295  # of a number in a line
 NUMBER = re.compile(rb"[0-9]{1,10}")
+NONE = b"NONE\n"
 SHORT = 4096  # cells of a rectangle or a path that are looked at at once
 
 
@@ -35,7 +36,7 @@ def refusal(fault: Refused) -> bytes:
 def near_text(near: Optional[Near]) -> bytes:
     """The reply to AT."""
     if near is None:
-        return b"NONE\n"
+        return NONE
     distance, (x, y) = near
     return b"OK %d %d %d\n" % (distance, x, y)
 
@@ -43,12 +44,13 @@ def near_text(near: Optional[Near]) -> bytes:
 def at_reply(area: Map, metric: bytes, x: bytes, y: bytes) -> bytes:
     """The reply to AT of these words. The map refuses a number too large for a line, too."""
     try:
-        return near_text(area.at(int(x), int(y), METRICS[metric]))
+        near = area._near(int(x), int(y), METRICS[metric])
     except Refused as fault:
         return refusal(fault)
+    return NONE if near.dist == NO_OBSTACLE else b"OK %d %d %d\n" % (near.dist, near.x, near.y)
 
 
-def tightest_text(found: Optional[Tightest], none: bytes = b"NONE\n") -> bytes:
+def tightest_text(found: Optional[Tightest], none: bytes = NONE) -> bytes:
     """The reply to RECT, PATH and CLEAROF."""
     if found is None:
         return none

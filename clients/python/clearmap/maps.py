@@ -140,13 +140,17 @@ class Map:
 
     def at(self, x: int, y: int, metric: str = EUCLID2) -> Optional[Near]:
         """As `Pinned.at`."""
-        x, y = whole(x), whole(y)
+        near = self._near(whole(x), whole(y), metric)
+        return None if near.dist == NO_OBSTACLE else Near(near.dist, (near.x, near.y))
+
+    def _near(self, x: int, y: int, metric: str) -> CNear:
+        """The nearest obstacle as the library tells it."""
         width, height = self._size
         if not (0 <= x < width and 0 <= y < height):
             raise _outside((x, y), requests.at(x, y, metric))
         near = CNear()
         check(self._asked("at", metric, x, y, ctypes.byref(near)))
-        return None if near.dist == NO_OBSTACLE else Near(near.dist, (near.x, near.y))
+        return near
 
     def gradient(self, x: int, y: int, metric: str = EUCLID2) -> Optional[Tuple[float, float]]:
         """The direction away from the nearest obstacle of a cell, by columns and by rows, of the
