@@ -1,5 +1,5 @@
 -- The buffer holds the bytes that were read.
-use Rattle.std.proofs.Common.{◌≡◌, ◌≤◌, ◌-◌, length, vec_capacity}
+use Rattle.std.proofs.Common.{◌≤◌, ◌-◌, length, vec_capacity}
 use Rattle.proto.specs.Wire.{HasRead}
 use Rattle.proto.proofs.serve.counted.keep.Given as goal
 

@@ -1,5 +1,5 @@
 -- The line so far stands in the buffer, and it has no LF.
-use Rattle.std.proofs.Common.{◌≡◌, ◌≢◌, ◌≤◌, ◌-◌, length, All}
+use Rattle.std.proofs.Common.{◌≢◌, ◌≤◌, ◌-◌, length, All}
 use Rattle.proto.specs.Wire.{HasRead}
 use Rattle.proto.proofs.serve.line_buffer.LineBuffer.read.Given as goal
 
