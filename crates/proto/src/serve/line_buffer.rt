@@ -90,7 +90,8 @@ impl LineBuffer {
     {
         let last = bytes.len() - 1;
         let ends = bytes[last] == b'\n';
-        let _ = self.bytes.extend_from_slice(if ends { &bytes[..last] } else { bytes });
+        let kept = if ends { &bytes[..last] } else { bytes };
+        let _ = self.bytes.extend_from_slice(kept);
         ends
     }
 }

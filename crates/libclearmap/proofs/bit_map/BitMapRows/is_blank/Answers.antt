@@ -18,12 +18,16 @@ returns-clause-blank c = λ yes k within.
     let start = c.from.result * map.stride in
     let row : start ≡ c.args.y * map.stride = rw c.from.ensures refl in
     let across = c.across.ensures.across in
-    let inside : start + c.across.result ≤ length words = omega (arith, row, across,
-        part_within map.width map.height c.across.result map.stride (length words) c.args.y 0 c.across.result (rw across c.args.self.now.shape) c.requires (omega arith)) in
+    let inside : start + c.across.result ≤ length words = omega (
+      arith,
+      row,
+      across,
+      part_within map.width map.height c.across.result map.stride (length words) c.args.y 0 c.across.result (rw across c.args.self.now.shape) c.requires (omega arith),
+    ) in
     let part = part_length start c.across.result words inside in
     let zero = part_read start c.across.result k words (omega (arith, across)) in
     let stored : get_or words (c.args.y * map.stride + k) 0 ≡ 0 =
-        ap (λ (n : ℕ). get_or words (n + k) 0) (sym row) ∙ (sym zero ∙ c.is_blank.ensures yes k (rw part (omega (arith, across)))) in
+    ap (λ (n : ℕ). get_or words (n + k) 0) (sym row) ∙ (sym zero ∙ c.is_blank.ensures yes k (rw part (omega (arith, across)))) in
     sym (word_in_bits map words c.args.y k 0 within c.requires (omega arith)
     (λ i below bit. ap (λ (n : ℕ). bit_at n i) (sym stored)) (λ i past bit. bit_at-zero i))
     ∙ neither (is_in_band map.bands c.args.y)
