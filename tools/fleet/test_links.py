@@ -117,6 +117,7 @@ class Loopback(Publishes):
             grid[y : y + 8, x : x + 8] ^= True
             grids[direct.count + 1] = grid
             direct.show(grid)
+            time.sleep(0.2)  # longer than what a paint changes takes, and less than a map
         version = follower.version
         self.assertTrue((version.map.grid() == grids[version.number]).all())
         self.has(follower, _Known(grids), direct.count)
