@@ -18,6 +18,7 @@ if TYPE_CHECKING:
     Cells = NDArray[numpy.bool_]
 
 SIDE = 512  # numbers of a piece's side
+HEAD = 16  # bytes that have an image's sides, at least
 OBSTACLE, UNKNOWN = 0, 1
 FAR = 2**31 - 1  # what a piece has for NO_OBSTACLE
 
@@ -78,15 +79,17 @@ class Picture:
 
 def size_of(image: bytes) -> Tuple[int, int]:
     """The width and the height of a plain PBM image, as a server dumps it."""
-    width, height = image.split(b"\n", 2)[1].split()
+    width, height = image[:HEAD].split(b"\n", 2)[1].split()
     return int(width), int(height)
 
 
 def bits_of(image: bytes) -> "Cells":
-    """The cells of a plain PBM image, as a server dumps it, by rows: which are obstacles."""
+    """The cells of a plain PBM image, as a server dumps it, by rows: which are obstacles. By numpy
+    alone, which lets others of this process go on meanwhile."""
     width, height = size_of(image)
-    text = image.split(b"\n", 2)[2].translate(None, b" \n")
-    return numpy.frombuffer(text, numpy.uint8).reshape(height, width) == ord("1")
+    text = numpy.frombuffer(image, numpy.uint8, offset=image.index(b"\n", len("P1\n")) + 1)
+    cells: "Cells" = text[text > ord(" ")] == ord("1")
+    return cells.reshape(height, width)
 
 
 def differing(before: "Cells", drawn: Iterable[Tuple[Sequence[int], bool]], after: "Cells") -> int:
