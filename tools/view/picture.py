@@ -87,7 +87,7 @@ def bits_of(image: bytes) -> "Cells":
     """The cells of a plain PBM image, as a server dumps it, by rows: which are obstacles. By numpy
     alone, which lets others of this process go on meanwhile."""
     width, height = size_of(image)
-    text = numpy.frombuffer(image, numpy.uint8, offset=image.index(b"\n", len("P1\n")) + 1)
+    text = numpy.frombuffer(image, numpy.uint8)[image.index(b"\n", len("P1\n")) + 1 :]
     cells: "Cells" = text[text > ord(" ")] == ord("1")
     return cells.reshape(height, width)
 
