@@ -2,7 +2,7 @@
 import re
 from typing import Callable, List, NamedTuple, Optional, Sequence, Tuple
 
-from clearmap import NO_OBSTACLE, Map, Near, Refused, Tightest, requests
+from clearmap import NO_OBSTACLE, Map, Refused, Tightest, requests
 from clearmap.requests import LARGEST_SIDE
 
 METRICS = {name.encode(): name for name in requests.METRICS}
@@ -31,14 +31,6 @@ def numbers_of(words: Sequence[bytes]) -> Optional[List[int]]:
 def refusal(fault: Refused) -> bytes:
     """The reply of what is refused."""
     return " ".join(map(str, ("ERR", fault.number, fault.name, *fault.details))).encode() + b"\n"
-
-
-def near_text(near: Optional[Near]) -> bytes:
-    """The reply to AT."""
-    if near is None:
-        return NONE
-    distance, (x, y) = near
-    return b"OK %d %d %d\n" % (distance, x, y)
 
 
 def at_reply(area: Map, metric: bytes, x: bytes, y: bytes) -> bytes:

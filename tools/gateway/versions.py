@@ -8,7 +8,7 @@ from clearmap.copies import maps_of, telling
 from clearmap.grids import OPEN
 from limits import MAPS
 from links import Link, Server
-from queries import near_text
+from queries import at_reply
 
 
 class Said(Exception):
@@ -147,8 +147,9 @@ class Versions:
         if asked is None:
             return None
         (x, y), metric = asked
-        reply = await held.link.ask(f"AT {metric} {x} {y}\n".encode())
+        line = f"AT {metric} {x} {y}\n".encode()
+        reply, words = await held.link.ask(line), line.split()[1:]
         for edge, area in maps.items():
-            if near_text(area.at(x, y, metric)) == reply:
+            if at_reply(area, *words) == reply:
                 return edge
         raise held.link.fail(f"the server answers {reply!r} for a cell of the map that it dumps")

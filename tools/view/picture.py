@@ -10,6 +10,7 @@ from typing import TYPE_CHECKING, Iterable, List, Optional, Sequence, Tuple
 import numpy
 
 from clearmap import NO_OBSTACLE
+from clearmap.copies import read_dump
 
 if TYPE_CHECKING:
     from numpy.typing import NDArray
@@ -84,12 +85,9 @@ def size_of(image: bytes) -> Tuple[int, int]:
 
 
 def bits_of(image: bytes) -> "Cells":
-    """The cells of a plain PBM image, as a server dumps it, by rows: which are obstacles. By numpy
-    alone, which lets others of this process go on meanwhile."""
-    width, height = size_of(image)
-    text = numpy.frombuffer(image, numpy.uint8)[image.index(b"\n", len("P1\n")) + 1 :]
-    cells: "Cells" = text[text > ord(" ")] == ord("1")
-    return cells.reshape(height, width)
+    """The cells of a plain PBM image, as a server dumps it, by rows: which are obstacles."""
+    cells: "Cells" = read_dump(image).cells == ord("1")
+    return cells
 
 
 def differing(before: "Cells", drawn: Iterable[Tuple[Sequence[int], bool]], after: "Cells") -> int:
