@@ -34,7 +34,9 @@ static clearmap_cell drawn_cell(uint32_t side) {
     return (clearmap_cell){x, y};
 }
 
-static uint16_t least(uint32_t one, uint32_t other) { return (uint16_t)(one < other ? one : other); }
+static uint16_t least(uint32_t one, uint32_t other) {
+    return (uint16_t)(one < other ? one : other);
+}
 
 /* A coordinate, moved by -8 to 8 inside the map. */
 static uint16_t moved(uint16_t from, uint16_t to, uint32_t side) {
