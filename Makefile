@@ -53,7 +53,7 @@ uninstall: uninstall-program uninstall-lib
 
 install-program: all
 	$(INSTALL) -D -m 755 $(program) '$(to)/bin/clearmap'
-	$(INSTALL) -m 755 tools/clearmap_backup.sh '$(to)/bin/clearmap-backup'
+	$(INSTALL) -m 755 bin/clearmap-backup '$(to)/bin/clearmap-backup'
 	for page in $(pages); do $(INSTALL) -D -m 644 man/$$page '$(to)/share/man/man1/'$$page || exit 1; done
 	$(INSTALL) -D -m 644 man/clearmap-protocol.7 '$(to)/share/man/man7/clearmap-protocol.7'
 	$(INSTALL) -D -m 644 packaging/clearmap.bash '$(to)/share/bash-completion/completions/clearmap'
@@ -112,7 +112,7 @@ uninstall-program:
 	[ -e '$(to)/include/clearmap.h' ] || rm -rf $(shared)
 
 deb: all lib
-	tools/make_deb.sh packages
+	tools/package/make_deb.sh packages
 
 # For this machine, and for ARM where that library is built too.
 wheel: lib

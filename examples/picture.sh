@@ -3,7 +3,7 @@
 # Needs netpbm: pamfile pgmtoppm ppmhist pnmenlarge pnmtopng
 . "$(dirname "$0")/setup.bash"
 
-clearmap dist < examples/room.pbm | tools/distances_to_pgm > "$scratch/room.pgm"
+clearmap dist < examples/room.pbm | bin/distances_to_pgm > "$scratch/room.pgm"
 pgmtoppm blue-red "$scratch/room.pgm" > "$scratch/room.ppm"
 pnmenlarge 16 "$scratch/room.ppm" | pnmtopng > "${1-$scratch/room.png}"
 pamfile "$scratch/room.ppm" | sed 's/.*://'
@@ -12,4 +12,4 @@ pamfile "$scratch/room.ppm" | sed 's/.*://'
 ppmhist -noheader "$scratch/room.ppm"
 
 # What is no table of distances isn't drawn.
-printf 'P1\n3 1\n00\n' | { clearmap dist || true; } | tools/distances_to_pgm || echo "status $?"
+printf 'P1\n3 1\n00\n' | { clearmap dist || true; } | bin/distances_to_pgm || echo "status $?"

@@ -25,7 +25,7 @@ YAML
 
 # The obstacles as PBM, and a picture of the distances.
 tools/ros/clearmap_ros.py pbm "$scratch/map.yaml" > "$scratch/map.pbm"
-clearmap dist < "$scratch/map.pbm" | tools/distances_to_pgm > "$scratch/distances.pgm"
+clearmap dist < "$scratch/map.pbm" | bin/distances_to_pgm > "$scratch/distances.pgm"
 pgmtoppm blue-red "$scratch/distances.pgm" | pnmtopng > "${1-$scratch/distances.png}"
 head -c 15 "$scratch/distances.pgm" | head -n 3
 

@@ -1,5 +1,0 @@
-#!/bin/sh
-# Tries clients of the built server beside one another (tools/check_beside.py). Loopback alone.
-set -u
-cd "$(dirname "$0")/.." || exit 1
-exec python3 tools/check_beside.py "$@"

@@ -1,5 +1,0 @@
-#!/bin/sh
-# Tries each row of the table of docs/LIMITS.md on the built program (tools/check_limits.py).
-set -u
-cd "$(dirname "$0")/.." || exit 1
-exec python3 tools/check_limits.py "$@"

@@ -1,0 +1,227 @@
+#!/bin/sh
+# Builds libclearmap where it has to, and tries it from C and C++: the header against the source,
+# what the shared library shows, the tests (also under valgrind, the sanitizers and, for ARM, qemu),
+# and the programs of docs/LIBRARY.md. Leaves out, with a word, what isn't installed here. MAPS is
+# how many random maps. The C++ test asks servers of the built program too; CLEARMAP names another
+# one. Footprints are tried on cases that the model in Python has answered.
+set -u
+cd "$(dirname "$0")/../.." || exit 1
+library=$PWD/crates/libclearmap/out
+program=${CLEARMAP:-$PWD/crates/clearmap/out/clearmap}
+scratch=$(mktemp -d)
+servers=''
+trap 'for server in $servers; do kill "$server" 2> /dev/null; done; rm -rf "$scratch"' EXIT
+trap 'exit 1' INT TERM
+export PYTHONDONTWRITEBYTECODE=1
+failed=0
+
+wants() { # wants TOOL WHAT: whether the tool is there; else a word of what is left out
+    command -v "$1" > /dev/null && return
+    echo "$2 left out: there is no $1"
+    return 1
+}
+
+try() { # try WHAT COMMAND ..: says how it ended, and what it wrote where it failed
+    what=$1
+    shift
+    if timeout 600 "$@" > "$scratch/log" 2>&1; then
+        echo "$what: $(tail -n 1 "$scratch/log")"
+    else
+        failed=1
+        echo "$what FAILED:"
+        tail -n 30 "$scratch/log"
+    fi
+}
+
+try 'header' tools/lint/check_header.py
+wants gcc 'the library' && wants make 'the library' || exit "$failed"
+timeout 1100 make -s lib > "$scratch/log" 2>&1 || { tail -n 30 "$scratch/log"; exit 1; }
+
+flags="-std=c11 -Wall -Wextra -Wshadow -Wconversion -Wpedantic -Werror -g -Iclients/c"
+test="clients/c/test_clearmap.c"
+
+# The shared library shows the calls of the header, has its own name, and needs the C library alone.
+nm -D --defined-only "$library/libclearmap.so.0" | sed 's/.* //' | sort > "$scratch/shown"
+grep -oE '\*?clearmap_[a-z_]+\(' clients/c/clearmap.h | grep -oE 'clearmap_[a-z_]+' | sort -u \
+    > "$scratch/told"
+try 'shown names' diff "$scratch/told" "$scratch/shown"
+readelf -d "$library/libclearmap.so.0" > "$scratch/dynamic"
+grep -q 'SONAME.*\[libclearmap.so.0\]' "$scratch/dynamic" \
+    || { failed=1; echo 'the soname is another one'; }
+[ "$(grep -c NEEDED "$scratch/dynamic")" = "$(grep -c 'NEEDED.*\[libc.so' "$scratch/dynamic")" ] \
+    || { failed=1; echo 'it needs more than the C library'; }
+
+# The tests, with the static library; each request for memory can be refused there.
+if gcc $flags -O2 $test "$library/libclearmap.a" -Wl,--wrap=malloc -lpthread \
+    -o "$scratch/test"; then
+    try 'test' "$scratch/test" "${MAPS:-40}"
+    wants valgrind 'valgrind' \
+        && try 'valgrind' valgrind -q --error-exitcode=9 --leak-check=full "$scratch/test" 5
+else
+    failed=1
+fi
+
+# The C side's threads; the library's own code isn't compiled for the sanitizer.
+if gcc $flags -O1 -fsanitize=thread $test "$library/libclearmap.a" -Wl,--wrap=malloc -lpthread \
+    -o "$scratch/threads" 2> "$scratch/log"; then
+    try 'thread sanitizer' "$scratch/threads" 1
+else
+    echo 'thread sanitizer left out: it does not link here'
+fi
+
+# The library for ARM, with the same test. It is linked with its C library, so that qemu needs none.
+if wants aarch64-linux-gnu-gcc 'the library for ARM' && wants qemu-aarch64 'the library for ARM'; then
+    try 'make lib-arm' make -s lib-arm
+    if aarch64-linux-gnu-gcc $flags -O2 -static $test "$library/aarch64/libclearmap.a" \
+        -Wl,--wrap=malloc -lpthread -o "$scratch/arm"; then
+        try 'test on ARM' qemu-aarch64 "$scratch/arm" 5
+    else
+        failed=1
+    fi
+fi
+
+# The headers for C++, their tests by both compilers and under the sanitizers; the answers of a map
+# against those of two servers too.
+serve() { # serve FLAG ..: starts a server of a blank map, whose port is added to `ports`
+    : > "$scratch/port"
+    timeout 900 "$program" serve --connections 1000 "$@" < "$scratch/blank" > "$scratch/port" &
+    servers="$servers $!"
+    port=''
+    for _ in $(seq 400); do
+        port=$(sed -n 's/^LISTENING //p' "$scratch/port")
+        [ -z "$port" ] && kill -0 "$!" 2> /dev/null || break
+        sleep 0.05
+    done
+    ports="$ports $port"
+    [ -n "$port" ] || { failed=1; echo 'no server listens'; }
+}
+ports=''
+if [ -x "$program" ]; then
+    { printf 'P1\n64 48\n'; yes "$(printf '%064d' 0)" | head -n 48; } > "$scratch/blank"
+    serve
+    serve --edge wall
+else
+    echo 'maps of a server left out: the program is not built'
+fi
+
+# Footprints and poses with the answers of the model in Python.
+arrays=$(tools/python_with numpy)
+cases=''
+if [ -n "$arrays" ]; then
+    cases=$scratch/cases
+    PYTHONPATH=clients/python timeout 300 "$arrays" clients/python/footprint_model.py \
+        "$((10 * ${MAPS:-40}))" > "$cases" || { failed=1; echo 'no cases of footprints'; }
+else
+    echo 'footprints of the model in Python left out: there is no python3 with numpy'
+fi
+
+header_test() { # header_test NAME MAPS COMPILER FLAG ..: a test of the headers for C++, built so
+    name=$1 count=$2
+    shift 2
+    wants "$1" "test_$name.cpp by $1" || return
+    case $name in
+        map) links='' asked=$ports ;;
+        field) links='-Wl,--wrap=malloc' asked='' ;;
+        footprint) links='' asked=$cases ;;
+        signed) links='' asked='' ;;
+    esac
+    if ! "$@" -std=c++17 -Wall -Wextra -Wconversion -Wpedantic -Werror -g1 -pthread -Iclients/c \
+        -Iclients/cpp -c "clients/cpp/test_$name.cpp" -o "$scratch/test.o"; then
+        failed=1
+    elif "$@" -pthread $links "$scratch/test.o" "$library/libclearmap.a" -o "$scratch/test" \
+        2> "$scratch/log"; then
+        try "$name by $*" "$scratch/test" "$count" $asked
+    else
+        echo "$name by $* left out: it does not link here"
+    fi
+}
+for name in map field footprint signed; do
+    header_test "$name" "${MAPS:-40}" g++ -O2
+    header_test "$name" 5 clang++ -O1
+    for compiler in g++ clang++; do
+        header_test "$name" 5 "$compiler" -O1 -fsanitize=address,undefined \
+            -fno-sanitize-recover=all
+        header_test "$name" 5 "$compiler" -O1 -fsanitize=thread
+    done
+done
+
+# Installed into an empty prefix: the page's programs by pkg-config and by CMake.
+prefix=$scratch/usr
+try 'make install-lib' make -s install-lib PREFIX="$prefix"
+for language in c cpp; do
+    sed -n "/^\`\`\`$language\$/,/^\`\`\`\$/{/^\`\`\`/d;p}" docs/LIBRARY.md \
+        > "$scratch/page.$language"
+done
+
+says() { # says WHAT WORDS PROGRAM ..: runs a program of the page, which says so
+    what=$1 words=$2
+    shift 2
+    try "$what" env LD_LIBRARY_PATH="$prefix/lib" "$@"
+    [ "$(cat "$scratch/log")" = "$words" ] || { failed=1; echo "$what should say: $words"; }
+}
+c_says='clearance 0.250 m, nearest (7, 4)'
+cpp_says='the path is clear: 0.751665 m at its tightest; 1.5 m at (2, 2)'
+
+if wants pkg-config "the page's programs by pkg-config"; then
+    found=$(PKG_CONFIG_PATH=$prefix/share/pkgconfig pkg-config --cflags --libs libclearmap)
+    page() { # page FILE WORDS COMPILER FLAG ..: a program of the page, built so
+        file=$1 words=$2
+        shift 2
+        wants "$1" "the page's program by $1" || return
+        "$@" -Wall -Wextra -Werror "$scratch/$file" -x none $found -lm -pthread -o "$scratch/page" \
+            && says "$file by $*" "$words" "$scratch/page" || failed=1
+    }
+    page page.c "$c_says" gcc -std=c11
+    page page.c "$c_says" g++ -std=c++20 -x c++
+    page page.cpp "$cpp_says" g++ -std=c++17
+    page page.cpp "$cpp_says" clang++ -std=c++17
+fi
+# The page's lines in Python, by a package and a library that are installed to this prefix.
+sed -n '/^```python$/,/^```$/{/^```/d;p}' docs/LIBRARY.md > "$scratch/page.py"
+mkdir -p "$prefix/share/clearmap/python"
+cp -r clients/python/clearmap "$prefix/share/clearmap/python/"
+if [ -n "$arrays" ]; then
+    export PYTHONPATH="$prefix/share/clearmap/python"
+    says 'page by Python' "$c_says" "$arrays" "$scratch/page.py"
+    try 'its library' "$arrays" -c 'import clearmap.library as it; it.library(); print(it._found())'
+    [ "$(cat "$scratch/log")" = "$prefix/lib/libclearmap.so.0" ] || failed=1
+    unset PYTHONPATH
+else
+    echo "the page's lines in Python left out: there is no python3 with numpy"
+fi
+rm -r "$prefix/share/clearmap/python"
+
+if wants cmake "the page's programs by CMake"; then
+    mkdir "$scratch/project"
+    cp "$scratch/page.c" "$scratch/page.cpp" "$scratch/project/"
+    cat > "$scratch/project/CMakeLists.txt" << 'PROJECT'
+cmake_minimum_required(VERSION 3.16)
+project(page C CXX)
+find_package(clearmap 0.1 REQUIRED)
+add_executable(page page.c)
+target_link_libraries(page clearmap::clearmap m)
+add_executable(page_cpp page.cpp)
+target_link_libraries(page_cpp clearmap::clearmap)
+PROJECT
+    try 'cmake' cmake -S "$scratch/project" -B "$scratch/built" -DCMAKE_PREFIX_PATH="$prefix"
+    try 'cmake --build' cmake --build "$scratch/built"
+    says 'page.c by CMake' "$c_says" "$scratch/built/page"
+    says 'page.cpp by CMake' "$cpp_says" "$scratch/built/page_cpp"
+fi
+
+# Nothing is left of it, and what the program's installation shares with it stays with the other.
+installed() { find "$prefix" ! -type d; }
+if [ -x crates/clearmap/out/clearmap ]; then
+    alone=$(installed | sort)
+    try 'make install-program' make -s -o all install-program PREFIX="$prefix"
+    try 'make uninstall-program' make -s uninstall-program PREFIX="$prefix"
+    [ "$(installed | sort)" = "$alone" ] || { failed=1; echo 'make uninstall-program took of the library'; }
+    try 'make install-program' make -s -o all install-program PREFIX="$prefix"
+    try 'make uninstall-lib' make -s uninstall-lib PREFIX="$prefix"
+    [ -e "$prefix/include/clearmap.hpp" ] || { failed=1; echo 'the client is gone'; }
+    try 'make uninstall-program' make -s uninstall-program PREFIX="$prefix"
+else
+    try 'make uninstall-lib' make -s uninstall-lib PREFIX="$prefix"
+fi
+[ -z "$(installed)" ] || { failed=1; installed; }
+exit "$failed"

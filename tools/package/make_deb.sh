@@ -1,0 +1,120 @@
+#!/bin/sh
+# Writes packages for Debian into a folder: clearmap, libclearmap0 and libclearmap-dev. Together
+# they are what `make install` installs. The program and the library have to be built. Wants
+# dpkg-deb, and strip and objdump of binutils.
+#   tools/package/make_deb.sh FOLDER
+set -eu
+[ $# = 1 ] || { echo 'make_deb.sh: name the folder for the packages' >&2; exit 2; }
+mkdir -p "$1"
+folder=$(cd "$1" && pwd)
+cd "$(dirname "$0")/../.."
+for tool in make dpkg-deb gzip strip objdump; do
+    command -v "$tool" > /dev/null || { echo "make_deb.sh: there is no $tool" >&2; exit 1; }
+done
+umask 022
+roots=$(mktemp -d)
+trap 'rm -rf "$roots"' EXIT
+trap 'exit 1' INT TERM
+version=$(sed -n 's/^version = "\(.*\)"/\1/p' clients/python/pyproject.toml)
+arch=$(dpkg --print-architecture)
+lib=/usr/lib/$(dpkg-architecture -q DEB_HOST_MULTIARCH 2> /dev/null || gcc -print-multiarch)
+maintainer='The clearmap authors <authors@clearmap.example>'
+date=${SOURCE_DATE_EPOCH:-$(git log -1 --format=%ct 2> /dev/null || date +%s)}
+
+# All that is installed goes to the package clearmap; the library's parts are taken out of it.
+root=$roots/clearmap
+make -s -o all -o lib install DESTDIR="$root" PREFIX=/usr LIBDIR="$lib" \
+    PKGCONFIGDIR="$lib/pkgconfig"
+rm "$root/usr/share/doc/clearmap/LICENSE"
+strip --strip-unneeded "$root/usr/bin/clearmap" "$root$lib/libclearmap.so.0"
+strip --strip-debug "$root$lib/libclearmap.a"
+for script in "$root"/usr/share/clearmap/python/*.py "$root"/usr/share/clearmap/view/*.py \
+    "$root"/usr/share/clearmap/gateway/*.py "$root"/usr/share/clearmap/fleet/*.py; do
+    sed -i '1s|^#!/usr/bin/env python3$|#!/usr/bin/python3|' "$script"
+done
+find "$root/usr/share/man" -type f -exec gzip -9n {} +
+
+take() { # take PACKAGE PATH ..: moves files or folders to another package
+    to=$roots/$1
+    shift
+    for path in "$@"; do
+        mkdir -p "$to${path%/*}"
+        mv "$root$path" "$to${path%/*}/"
+    done
+}
+take libclearmap0 "$lib/libclearmap.so.0"
+take libclearmap-dev /usr/include "$lib" /usr/share/clearmap/cmake /usr/share/pkgconfig
+
+copyright() {
+    echo 'Format: https://www.debian.org/doc/packaging-manuals/copyright-format/1.0/'
+    echo 'Upstream-Name: clearmap'
+    echo
+    echo 'Files: *'
+    sed -n 's/^Copyright (c) /Copyright: /p' LICENSE
+    echo 'License: Expat'
+    sed '1,/^Copyright/d; /^$/{1d}' LICENSE | sed 's/^$/./; s/^/ /' | sed '1{/^ \.$/d}'
+}
+
+changelog() { # changelog: one entry, which says what there is
+    printf 'clearmap (%s) unstable; urgency=medium\n\n' "$version"
+    printf '  * The program with its clients and tools, the library, and its headers.\n\n'
+    printf ' -- %s  %s\n' "$maintainer" "$(LC_ALL=C date -u -R -d "@$date")"
+}
+
+libc_of() { # libc_of FILE: the C library that it wants
+    needed=$(objdump -T "$1" | sed -n 's/.*GLIBC_\([0-9.]*\).*/\1/p' | sort -V | tail -n 1)
+    echo "libc6 (>= $needed)"
+}
+
+package() { # package NAME SECTION FIELD ..: writes it; the description comes on standard input
+    name=$1 section=$2 place=$roots/$1
+    shift 2
+    mkdir -p "$place/usr/share/doc/$name" "$place/DEBIAN"
+    copyright > "$place/usr/share/doc/$name/copyright"
+    changelog | gzip -9n > "$place/usr/share/doc/$name/changelog.gz"
+    (cd "$place" && find usr -type f -exec md5sum {} +) > "$place/DEBIAN/md5sums"
+    {
+        printf '%s\n' "Package: $name" 'Source: clearmap' "Version: $version" \
+            "Architecture: $arch" "Maintainer: $maintainer" "Section: $section" \
+            'Priority: optional' "Installed-Size: $(du -sk --exclude=DEBIAN "$place" | cut -f 1)" \
+            "$@"
+        cat
+    } > "$place/DEBIAN/control"
+    find "$place" -exec touch -h -d "@$date" {} +
+    file=$folder/${name}_${version}_$arch.deb
+    dpkg-deb --root-owner-group --build "$place" "$file" > /dev/null
+    echo "$file"
+}
+
+libc=$(libc_of "$root/usr/bin/clearmap")
+package clearmap science "Depends: $libc, python3" \
+    "Recommends: libclearmap0 (= $version), python3-numpy" \
+    "Suggests: python3-aiohttp, python3-pil, python3-redis, python3-uvloop, python3-rospy, \
+python3-nav-msgs, python3-map-msgs, python3-sensor-msgs, python3-visualization-msgs, \
+python3-roslaunch, redis-server, rviz" << 'DESCRIPTION'
+Description: clearance maps of robots, with a proved server
+ Distances of each cell of a map to its nearest obstacle, by three metrics,
+ and a server of one map that painters change while planners ask about the
+ version that they have pinned. The program is proved.
+ .
+ A client for Python, a page for the browser (clearmap-view), a node of ROS
+ (clearmap-ros-node) and conversions of ROS's maps are tested, not proved.
+DESCRIPTION
+
+mkdir "$roots/libclearmap0/DEBIAN"
+echo "libclearmap 0 libclearmap0 (>= $version)" > "$roots/libclearmap0/DEBIAN/shlibs"
+echo 'activate-noawait ldconfig' > "$roots/libclearmap0/DEBIAN/triggers"
+libc=$(libc_of "$roots/libclearmap0$lib/libclearmap.so.0")
+package libclearmap0 libs "Depends: $libc" 'Multi-Arch: same' << 'DESCRIPTION'
+Description: exact distances to the nearest obstacle of a map
+ Distances and nearest obstacles of a map in the caller's own memory: of all
+ cells of some rows, of one cell, of a rectangle or along a path. What each
+ call does is proved.
+DESCRIPTION
+
+package libclearmap-dev libdevel "Depends: libclearmap0 (= $version)" << 'DESCRIPTION'
+Description: exact distances to the nearest obstacle of a map, headers
+ Headers for C and C++ and the static library of libclearmap0, and the client
+ for C++ of the server in the package clearmap, found by pkg-config and CMake.
+ The headers are tested and not proved.
+DESCRIPTION
