@@ -5,7 +5,8 @@
 #   make lib                      (the library, in crates/libclearmap/out/)
 #   make lib-arm                  (the library for ARM, in crates/libclearmap/out/aarch64/)
 #   make deb                      (packages for Debian, in the folder packages/)
-#   make wheel                    (the package for Python with the library in it, in packages/)
+#   make wheel                    (wheels with the library and the program in them, in packages/)
+#   make release                  (all packages, their checksums and the gate's log, in packages/)
 PREFIX = /usr/local
 LIBDIR = $(PREFIX)/lib
 PKGCONFIGDIR = $(PREFIX)/share/pkgconfig
@@ -42,7 +43,7 @@ headers = $(notdir $(wildcard clients/cpp/clearmap*.hpp))
 # What both install-program and install-lib put in place: it goes with the last of the two.
 shared = '$(to)/include/clearmap.hpp' '$(to)/share/clearmap'
 
-.PHONY: all lib lib-arm deb wheel install install-program install-lib uninstall uninstall-program uninstall-lib
+.PHONY: all lib lib-arm deb wheel release install install-program install-lib uninstall uninstall-program uninstall-lib
 
 all:
 	./clearmap --version
@@ -115,8 +116,12 @@ deb: all lib
 	tools/package/make_deb.sh packages
 
 # For this machine, and for ARM where that library is built too.
-wheel: lib
+wheel: all lib
 	clients/python/build_wheel.py packages
+
+# From a clone whose gate has passed: .ci/run 2>&1 | tee gate.log
+release: all lib
+	tools/package/make_release.sh packages gate.log
 
 lib: $(library)/libclearmap.a $(library)/libclearmap.so.0
 

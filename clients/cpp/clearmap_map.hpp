@@ -125,7 +125,7 @@ private:
     }
 };
 
-/// Reads a PBM image, plain or raw, by the rules of docs/FORMATS.md. The first fault from its front
+/// Reads a PBM image, plain or raw, by the rules of docs/use/FORMATS.md. The first fault from its front
 /// is thrown by its name there.
 class ImageReader {
 public:
@@ -274,7 +274,7 @@ public:
         return map;
     }
 
-    /// A PBM image, plain or raw (docs/FORMATS.md), as Pinned::dump answers it; black is an
+    /// A PBM image, plain or raw (docs/use/FORMATS.md), as Pinned::dump answers it; black is an
     /// obstacle. Throws std::invalid_argument with the name of the first fault, as "BadImage
     /// BadMagic".
     static Map of_pbm(std::string_view image, Edge edge = Edge::open) {

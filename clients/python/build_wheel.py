@@ -3,9 +3,11 @@
 
     build_wheel.py FOLDER
 
-writes one with the library in it for each processor that `make lib` and `make lib-arm` have built
-it for. `pip install ./clients/python` calls `build_wheel` by pyproject.toml: the wheel has the
-library of this machine where it is built, and else the modules alone.
+writes one for each processor that `make lib` and `make lib-arm` have built the library for: with
+the library in it, and with the program as the command `clearmap` where it is built for that
+processor too. `pip install ./clients/python` calls `build_wheel` by pyproject.toml: the wheel has
+what is built for this machine, and else the modules alone. `pip install -e ./clients/python` calls
+`build_editable`: the modules, and the library, are those of the tree.
 """
 import base64
 import hashlib
@@ -24,6 +26,7 @@ PARTS = (*MODULES, "clearmap/py.typed")
 SOURCES = (*PARTS, "build_wheel.py", "pyproject.toml")
 LIBRARY = "libclearmap.so.0"
 BUILT = HERE.parent.parent / "crates/libclearmap/out"
+PROGRAM = HERE.parent.parent / "crates/clearmap/out/clearmap"
 PROCESSORS = {62: "x86_64", 183: "aarch64"}  # by the number in the head of an ELF file
 
 
@@ -43,32 +46,46 @@ def metadata() -> str:
     )
 
 
+def processor_of(path: pathlib.Path) -> Optional[str]:
+    """The processor that an ELF file is for; `None` if there is no such file."""
+    head = path.read_bytes()[:20] if path.exists() else b""
+    if not head.startswith(b"\x7fELF"):
+        return None
+    return PROCESSORS.get(int.from_bytes(head[18:20], "little"))
+
+
 def libraries() -> Dict[str, pathlib.Path]:
-    """The libraries that are built, by their processors, which each file itself tells."""
-    found = {}
-    for path in (BUILT / LIBRARY, BUILT / "aarch64" / LIBRARY):
-        if path.exists():
-            head = path.read_bytes()[:20]
-            processor = PROCESSORS.get(int.from_bytes(head[18:20], "little"))
-            if head.startswith(b"\x7fELF") and processor is not None:
-                found[processor] = path
-    return found
+    """The libraries that are built, by their processors."""
+    paths = ((processor_of(path), path) for path in (BUILT / LIBRARY, BUILT / "aarch64" / LIBRARY))
+    return {processor: path for processor, path in paths if processor}
 
 
 def write_wheel(folder: str, processor: Optional[str] = None) -> str:
     """Writes the wheel with the library of a processor, or with none, and answers its file name."""
-    stem = "{name}-{version}".format(**settings())
     tag = f"py3-none-linux_{processor}" if processor else "py3-none-any"
     files = {part: (HERE / part).read_bytes() for part in PARTS}
     if processor:
         files[f"clearmap/{LIBRARY}"] = libraries()[processor].read_bytes()
-    pure = str(processor is None).lower()
-    files[f"{stem}.dist-info/METADATA"] = metadata().encode()
-    files[f"{stem}.dist-info/WHEEL"] = (
+        if processor_of(PROGRAM) == processor:
+            files[f"{stem()}.data/scripts/clearmap"] = PROGRAM.read_bytes()
+    return pack(folder, tag, files)
+
+
+def stem() -> str:
+    """What a wheel's file name and its folders begin with."""
+    return "{name}-{version}".format(**settings())
+
+
+def pack(folder: str, tag: str, files: Dict[str, bytes]) -> str:
+    """Writes a wheel of these files, and answers its file name. `files` gets what describes it."""
+    info = f"{stem()}.dist-info"
+    pure = str(tag.endswith("-any")).lower()
+    files[f"{info}/METADATA"] = metadata().encode()
+    files[f"{info}/WHEEL"] = (
         f"Wheel-Version: 1.0\nGenerator: clearmap\nRoot-Is-Purelib: {pure}\nTag: {tag}\n".encode()
     )
-    files[f"{stem}.dist-info/RECORD"] = record(files, f"{stem}.dist-info/RECORD")
-    name = f"{stem}-{tag}.whl"
+    files[f"{info}/RECORD"] = record(files, f"{info}/RECORD")
+    name = f"{stem()}-{tag}.whl"
     with zipfile.ZipFile(pathlib.Path(folder, name), "w", zipfile.ZIP_DEFLATED) as wheel:
         for path, data in files.items():
             wheel.writestr(zipfile.ZipInfo(path), data, zipfile.ZIP_DEFLATED)
@@ -92,14 +109,20 @@ def build_wheel(
     return write_wheel(wheel_directory, here if here in libraries() else None)
 
 
+def build_editable(
+    wheel_directory: str, config_settings: object = None, metadata_directory: object = None
+) -> str:
+    """Writes a wheel that leads to the modules of this folder, and answers its file name."""
+    return pack(wheel_directory, "py3-none-any", {"clearmap.pth": f"{HERE}\n".encode()})
+
+
 def build_sdist(sdist_directory: str, config_settings: object = None) -> str:
     """Writes the sources into a folder, and answers the file name."""
-    stem = "{name}-{version}".format(**settings())
-    name = f"{stem}.tar.gz"
+    name = f"{stem()}.tar.gz"
     with tarfile.open(pathlib.Path(sdist_directory, name), "w:gz") as sources:
         for part in SOURCES:
-            sources.add(HERE / part, f"{stem}/{part}")
-        about = tarfile.TarInfo(f"{stem}/PKG-INFO")
+            sources.add(HERE / part, f"{stem()}/{part}")
+        about = tarfile.TarInfo(f"{stem()}/PKG-INFO")
         about.size = len(metadata().encode())
         sources.addfile(about, io.BytesIO(metadata().encode()))
     return name

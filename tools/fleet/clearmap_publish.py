@@ -24,7 +24,7 @@ NOTES = """\
 Each version is cut into tiles. A tile is written once, by the hash of its cells, and a version \
 is a record that names its tiles; followers read the record first, and then the tiles that they \
 don't have. A version is shown once all its tiles are there; after the first one PUBLISHING and \
-the name are printed. clearmap.Follower of the package in Python is a follower; docs/FORMATS.md \
+the name are printed. clearmap.Follower of the package in Python is a follower; docs/use/FORMATS.md \
 says what others need.
 
 One publisher of a name is live at a time: a second one says so and ends with status 1. A killed \

@@ -1,5 +1,5 @@
 #!/usr/bin/env python3
-"""Tests of a Redis as docs/RUNNING.md sets it up: its users, TLS, and a replica with users."""
+"""Tests of a Redis as docs/use/RUNNING.md sets it up: its users, TLS, and a replica with users."""
 import pathlib
 import re
 import shutil
@@ -12,7 +12,7 @@ import redis
 from test_publish import Publishes
 from testing import HERE, PATIENCE, Direct, Keys, Publishing, Redis, clearmap, np, until
 
-PAGE = HERE.parent.parent / "docs/RUNNING.md"
+PAGE = HERE.parent.parent / "docs/use/RUNNING.md"
 DEPOT, ROBOT = "depot:publishing@", "robot:following@"
 
 

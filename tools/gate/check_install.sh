@@ -162,7 +162,7 @@ else
     echo 'the unit is not verified: there is no systemd-analyze'
 fi
 
-# The pages are what --help and docs/PROTOCOL.md say, and man has nothing to complain of.
+# The pages are what --help and docs/use/PROTOCOL.md say, and man has nothing to complain of.
 tools/package/make_man.py --check "$program" || wrong=$((wrong + 1))
 if command -v man > /dev/null; then
     for page in man1/clearmap.1 man1/clearmap-backup.1 man1/clearmap-gateway.1 \

@@ -1,7 +1,7 @@
 #!/bin/sh
 # Builds libclearmap where it has to, and tries it from C and C++: the header against the source,
 # what the shared library shows, the tests (also under valgrind, the sanitizers and, for ARM, qemu),
-# and the programs of docs/LIBRARY.md. Leaves out, with a word, what isn't installed here. MAPS is
+# and the programs of docs/use/LIBRARY.md. Leaves out, with a word, what isn't installed here. MAPS is
 # how many random maps. The C++ test asks servers of the built program too; CLEARMAP names another
 # one. Footprints are tried on cases that the model in Python has answered.
 set -u
@@ -149,7 +149,7 @@ done
 prefix=$scratch/usr
 try 'make install-lib' make -s install-lib PREFIX="$prefix"
 for language in c cpp; do
-    sed -n "/^\`\`\`$language\$/,/^\`\`\`\$/{/^\`\`\`/d;p}" docs/LIBRARY.md \
+    sed -n "/^\`\`\`$language\$/,/^\`\`\`\$/{/^\`\`\`/d;p}" docs/use/LIBRARY.md \
         > "$scratch/page.$language"
 done
 
@@ -177,7 +177,7 @@ if wants pkg-config "the page's programs by pkg-config"; then
     page page.cpp "$cpp_says" clang++ -std=c++17
 fi
 # The page's lines in Python, by a package and a library that are installed to this prefix.
-sed -n '/^```python$/,/^```$/{/^```/d;p}' docs/LIBRARY.md > "$scratch/page.py"
+sed -n '/^```python$/,/^```$/{/^```/d;p}' docs/use/LIBRARY.md > "$scratch/page.py"
 mkdir -p "$prefix/share/clearmap/python"
 cp -r clients/python/clearmap "$prefix/share/clearmap/python/"
 if [ -n "$arrays" ]; then

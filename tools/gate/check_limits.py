@@ -1,5 +1,5 @@
 #!/usr/bin/env python3
-"""Tries each row of the table of docs/LIMITS.md on the built program (or that of CLEARMAP): the
+"""Tries each row of the table of docs/use/LIMITS.md on the built program (or that of CLEARMAP): the
 last that is taken, the first that isn't, and what is answered then, with the row's own numbers and
 answers.
 
@@ -19,7 +19,7 @@ import limit_settings  # its tries
 from limit_tools import CHECKS, TRIES, Line, asked, check, image, ran, row
 from served import PROGRAM, Served, blank
 
-PAGE = pathlib.Path(__file__).resolve().parents[2] / "docs/LIMITS.md"
+PAGE = pathlib.Path(__file__).resolve().parents[2] / "docs/use/LIMITS.md"
 
 
 def rows():

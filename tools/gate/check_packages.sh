@@ -30,7 +30,7 @@ if [ ! -x "$program" ] || [ ! -e crates/libclearmap/out/libclearmap.so.0 ]; then
 fi
 wants make 'the packages' || exit 0
 version=$("$program" --version)
-sed -n '/^```cpp$/,/^```$/{/^```/d;p}' docs/LIBRARY.md > "$scratch/plan.cpp"
+sed -n '/^```cpp$/,/^```$/{/^```/d;p}' docs/use/LIBRARY.md > "$scratch/plan.cpp"
 cat > "$scratch/CMakeLists.txt" << 'PROJECT'
 cmake_minimum_required(VERSION 3.16)
 project(plan CXX)

@@ -1,5 +1,5 @@
 #!/usr/bin/env python3
-"""Checks what README.md, CONTRIBUTING.md, CHANGELOG.md and docs/ quote and name: pieces of files, runs at a terminal, the conversation of docs/PROTOCOL.md, links, and names in backticks.
+"""Checks what README.md, CONTRIBUTING.md, CHANGELOG.md and docs/ quote and name: pieces of files, runs at a terminal, the conversation of docs/use/PROTOCOL.md, links, and names in backticks.
 
 A block after `<!-- from FILE -->` stands so in that file; a line `..` in it stands for what is left out. A block whose first line has `$ ` in front is run
 by bash, with `clearmap` on the path, in a scratch folder of its page; blocks that name a port are left out, as they take two terminals.
@@ -17,7 +17,7 @@ from page_names import wrong_names, wrong_promises
 from served import PROGRAM, Served
 
 TOP = pathlib.Path(__file__).resolve().parents[2]
-PAGES = [TOP / "README.md", TOP / "CONTRIBUTING.md", TOP / "CHANGELOG.md", *sorted((TOP / "docs").glob("*.md"))]
+PAGES = [TOP / "README.md", TOP / "CONTRIBUTING.md", TOP / "CHANGELOG.md", *sorted((TOP / "docs").rglob("*.md"))]
 wrong = []
 
 
@@ -69,8 +69,8 @@ def check_runs(page, text, folder):
 
 
 def check_conversation():
-    """A server answers the lines of docs/PROTOCOL.md as the page says."""
-    (lines,) = (block.split("\n") for _, block in blocks((TOP / "docs/PROTOCOL.md").read_text()) if block.startswith("> "))
+    """A server answers the lines of docs/use/PROTOCOL.md as the page says."""
+    (lines,) = (block.split("\n") for _, block in blocks((TOP / "docs/use/PROTOCOL.md").read_text()) if block.startswith("> "))
     asked = "".join(line[2:] + "\n" for line in lines if line.startswith("> "))
     wanted = "".join(line + "\n" for line in lines if not line.startswith("> "))
     with Served(b"P1\n6 4\n000000\n001000\n000000\n000000\n") as server:

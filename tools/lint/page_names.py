@@ -9,7 +9,7 @@ import re
 import subprocess
 
 TOP = pathlib.Path(__file__).resolve().parents[2]
-FOLDERS = ("bin", "crates", "docs", "tools", "examples", "clients", "man", "packaging", "specs", "proofs", "src", "must-fail", "more-edits")
+FOLDERS = ("crates", "docs", "tools", "examples", "clients", "man", "packaging", "specs", "proofs", "src", "must-fail", "more-edits")
 SOURCE = r"\.(rt|antt|edit|py|sh|rs|in|c|h|hpp|cpp|html|js|bash)$|^(Makefile|clearmap|crates\.txt)$"
 CODE = r"^crates/\w+/src/.*\.rt$"
 STATEMENTS = r"^crates/\w+/(specs|proofs)/.*\.antt$"

@@ -32,6 +32,8 @@ for script in "$root"/usr/share/clearmap/python/*.py "$root"/usr/share/clearmap/
     "$root"/usr/share/clearmap/gateway/*.py "$root"/usr/share/clearmap/fleet/*.py; do
     sed -i '1s|^#!/usr/bin/env python3$|#!/usr/bin/python3|' "$script"
 done
+mkdir -p "$root/usr/lib/python3/dist-packages" # where Debian's python3 finds it
+ln -s ../../../share/clearmap/python/clearmap "$root/usr/lib/python3/dist-packages/clearmap"
 find "$root/usr/share/man" -type f -exec gzip -9n {} +
 
 take() { # take PACKAGE PATH ..: moves files or folders to another package

@@ -1,5 +1,5 @@
 #!/usr/bin/env python3
-"""Writes man/clearmap.1 from the program's --help, man/clearmap-protocol.7 from docs/PROTOCOL.md, and the pages of the scripts from what they read their
+"""Writes man/clearmap.1 from the program's --help, man/clearmap-protocol.7 from docs/use/PROTOCOL.md, and the pages of the scripts from what they read their
 command lines with. With --check it compares instead.
 
     tools/package/make_man.py [--check] [PROGRAM]
@@ -102,7 +102,7 @@ def table(block):
 def protocol_page():
     page = heading("CLEARMAP\\-PROTOCOL", 7, "Clearance maps")
     page += [".SH NAME", "clearmap\\-protocol \\- the lines of a clearance map server, and its replies", ".SH DESCRIPTION"]
-    blocks = (TOP / "docs/PROTOCOL.md").read_text().split("\n\n")
+    blocks = (TOP / "docs/use/PROTOCOL.md").read_text().split("\n\n")
     for block in blocks[1:]:
         lines = block.strip("\n").split("\n")
         if lines[0].startswith("## "):
@@ -195,7 +195,7 @@ def main():
             path.write_text(text)
         elif not path.exists() or path.read_text() != text:
             wrong += 1
-            print(f"man/{name} isn't what --help, the scripts and docs/PROTOCOL.md say: run tools/package/make_man.py")
+            print(f"man/{name} isn't what --help, the scripts and docs/use/PROTOCOL.md say: run tools/package/make_man.py")
     return 1 if wrong else 0
 
 

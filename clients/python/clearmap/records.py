@@ -1,4 +1,4 @@
-"""How a published version lies in Redis: its keys, its record, its tiles (docs/FORMATS.md)."""
+"""How a published version lies in Redis: its keys, its record, its tiles (docs/use/FORMATS.md)."""
 import hashlib
 import re
 import zlib

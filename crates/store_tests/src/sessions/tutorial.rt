@@ -1,4 +1,4 @@
-//! The program that docs/SESSIONS.md starts with.
+//! The program that docs/change/SESSIONS.md starts with.
 
 ghost use Rattle.std.specs.Prelude.{◌≡◌};
 
