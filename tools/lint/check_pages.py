@@ -109,7 +109,7 @@ def main():
         os.environ["PATH"] = f"{room}/bin:{os.environ['PATH']}"
         for page in PAGES:
             text = page.read_text()
-            folder = pathlib.Path(room, page.stem)
+            folder = pathlib.Path(room, str(page.relative_to(TOP)).replace("/", "_"))
             folder.mkdir()
             (folder / "examples").symlink_to(TOP / "examples")
             check_links(page, text)
