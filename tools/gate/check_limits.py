@@ -15,6 +15,7 @@ import time
 
 sys.dont_write_bytecode = True
 sys.path.append(str(pathlib.Path(__file__).resolve().parent.parent))  # served.py
+import limit_memory  # its tries
 import limit_settings  # its tries
 from limit_tools import CHECKS, TRIES, Line, asked, check, image, ran, row
 from served import PROGRAM, Served, blank

@@ -19,7 +19,7 @@ ITEM = re.compile(r"\b(?:fn|struct|enum|trait|type|const|static|mod|macro_rules!
 CLAUSE = re.compile(r"\b(?:ensures\*?|requires) (\w+) \{|\bghost (\w+)\s*[:=]|^  (?:pub )?(\w+) :", re.M)
 DEFINITION = re.compile(r"^(?:abbrev |unfoldable |pub |record |data )*([\w-]+)(?= :| \(| where|$)", re.M)
 # Names of other programs, of the toolchain, and of examples.
-OUTSIDE = ("std::", "ManuallyDrop", "overflow_sub", "clap", "map_server", "ServerAliveInterval", "crates/planner/", "/sys/", "Display", "BYE")
+OUTSIDE = ("std::", "ManuallyDrop", "overflow_sub", "clap", "map_server", "ServerAliveInterval", "crates/planner/", "LimitAS=", "MemoryMax=", "/sys/", "Display", "BYE")
 
 
 @functools.cache
