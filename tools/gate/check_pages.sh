@@ -1,5 +1,7 @@
 #!/bin/sh
-# Checks the pages by what they quote (tools/lint/check_pages.py), with the built program.
+# Checks the pages by what they quote (tools/lint/check_pages.py), with the built program, and that
+# docs/trust/CLAUSES.md is what the sources say.
 set -u
 cd "$(dirname "$0")/../.." || exit 1
+python3 tools/lint/make_clauses.py --check || exit 1
 exec python3 tools/lint/check_pages.py
