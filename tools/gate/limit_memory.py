@@ -9,7 +9,7 @@ from served import Served
 
 SIDE = 1024
 ROOM = 24 << 20  # bytes of address space over what a server takes that is at rest
-ROUNDS = int(os.environ.get("ROUNDS", "40"))
+ROUNDS = int(os.environ.get("ROUNDS", "20"))
 STRIPES = [b"P4\n%d %d\n" % (SIDE, SIDE) + bytes([byte]) * (SIDE // 8 * SIDE) for byte in (85, 170)]
 
 
@@ -50,7 +50,7 @@ def stamps(painter, place):
 def images(numbers, answers):
     server, painter, planner = start()
     with server:
-        check("a stamp", painter.ask(b"STAMP 0 0 9\nP4\n8 1\n\xff"), "OK 1 4")
+        check("a stamp", painter.ask(b"STAMP 0 0 8\nP4\n8 1\n\xff"), "OK 1 4")
         limit = taken(server) + ROOM
     server, painter, planner = start(limit)
     place, counts = 1, []

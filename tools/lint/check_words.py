@@ -25,6 +25,9 @@ PLAINER = {
     r"beg(ins?|an|un|inning) with": "start with",
     r"whence|thereof|hitherto|therein": "say it in other words",
     r"spare[sd]?": "save, do without",
+    r"want of (memory|room|blocks)": "out of memory, no room, too few blocks",
+    r"so (many|much)": "how many it is, or that many",
+    r"seldom": "rarely",
 }
 SCRIPTS = (".py", ".sh", ".cpp", ".hpp", ".c", ".rs", ".rt.in", ".js", ".html", ".bash", ".service", "Makefile", "/run", "clearmap", "_to_pgm", "more_edits")
 MOST_WORDS = 45
