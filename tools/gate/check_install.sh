@@ -54,6 +54,12 @@ cp clearmap "$scratch/fresh/"
 printf 'low:\nclearmap: low\n' > "$scratch/fresh/crates.txt"
 cat > "$scratch/fresh/bin/rt" << 'RT'
 #!/bin/sh
+if [ "$1" = try ]; then
+    while [ "$1" != -- ]; do shift; done
+    shift
+    echo "tried $*"
+    exit
+fi
 for crate in low clearmap; do
     sleep 1 # rt reads the libraries before it writes; a folder made at once may be as old as the run by the file system's clock
     mkdir -p "../$crate/out/incremental"
@@ -73,7 +79,10 @@ else
     echo 'the first run at a terminal left out: there is no script'
 fi
 expect 'a first run without a terminal' "$(PATH=$scratch/fresh/bin:$PATH timeout 60 "$scratch/fresh/clearmap" one 2>&1)" \
-    "$(printf '%s\n' "clearmap: the first run proves and builds the program's crates, which takes about half an hour" 'ran one')"
+    "$(printf '%s\n' "clearmap: the first run proves and builds the program's crates: about half an hour" 'ran one')"
+expect 'a run without a proof' "$(PATH=$scratch/fresh/bin:$PATH timeout 60 "$scratch/fresh/clearmap" --unproved one two 2> /dev/null)" 'tried one two'
+expect 'what it says of itself' "$(PATH=$scratch/fresh/bin:$PATH timeout 60 "$scratch/fresh/clearmap" --unproved one 2>&1 > /dev/null)" \
+    'clearmap: --unproved: nothing is proved of what runs now'
 
 # A checkout of somebody else: what is built runs, and what isn't is told at once.
 theirs=$scratch/theirs

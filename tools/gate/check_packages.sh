@@ -90,6 +90,10 @@ if wants dpkg-deb 'the packages for Debian' && wants strip 'the packages for Deb
     expect 'paths in two packages' "$(sort "$scratch/paths" | uniq -d)" ''
     folder=$(cd "$scratch/unpacked" && dirname "$(find usr/lib -name libclearmap.so.0)")
     tried_program "$scratch/unpacked" "/$folder"
+    expect "Debian's python3" "clearmap $(
+        cd "$scratch" && PYTHONPATH=$scratch/unpacked/usr/lib/python3/dist-packages /usr/bin/python3 \
+            -c 'import clearmap; print(clearmap.__version__)'
+    )" "$version"
     tried_cpp "$scratch/unpacked" "/$folder" "/$folder/pkgconfig"
     if wants lintian 'errors of the packages'; then
         expect 'lintian' "$(timeout 300 lintian --allow-root $debs 2>&1 | grep '^E:')" ''
@@ -116,6 +120,13 @@ if "$python" -c 'import ensurepip, venv' 2> /dev/null; then
     if [ -n "$arrays" ]; then
         expect 'distances' "$(cd "$scratch" && bare "$venv/bin/python" -c "$row")" '[[0, 1, 4]]'
     fi
+    expect 'the program of the wheel' "$(bare "$venv/bin/clearmap" --version)" "$version"
+    bare "$venv/bin/pip" uninstall -q -y clearmap
+    before=$(git status --porcelain clients/python)
+    bare "$venv/bin/pip" install -q --no-cache-dir -e clients/python || wrong=$((wrong + 1))
+    expect 'pip install -e' "$(cd "$scratch" && bare "$venv/bin/python" -c \
+        'import clearmap; print(clearmap.__file__)')" "$PWD/clients/python/clearmap/__init__.py"
+    expect 'what it leaves in the tree' "$(git status --porcelain clients/python)" "$before"
     expect 'no rt' "$(bare sh -c 'command -v rt')" ''
 else
     echo 'the wheel left out: python3 has no venv, or no ensurepip'
