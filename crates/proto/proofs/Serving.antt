@@ -1,12 +1,12 @@
 -- A stream that is served: how its exchanges and its end come about.
 use Rattle.std.proofs.Common.{◌≡◌, ◌≢◌, ℕ, ◌+◌, ◌≤◌, List, [], ◌∷◌, ◌++◌, Option, Some, None, Result, Ok, Err, is_some, refl, sym, ap, subst, ◌∙◌, arith, append_assoc, inl, inr}
-use Rattle.std.specs.Prelude.{◌⊎◌, Vec}
+use Rattle.std.specs.Prelude.{◌<◌, IsOkAnd, length}
 use Rattle.std.specs.List.{flat_map}
 use Rattle.std.proofs.lemmas.List.{append-nil}
 use Rattle.std.proofs.lemmas.Grind.{flat_map-append}
 use Rattle.metric.specs.Stream.{Appends, AppendsFront, Takes}
 use Rattle.metric.proofs.Appending.{Appends-nothing, Appends-more}
-use Rattle.metric.proofs.Taking.{Takes-behind}
+use Rattle.metric.proofs.Taking.{Takes-behind, Takes-nothing}
 use Rattle.metric.specs.declared.refusal.Refusal.{Refusal}
 use Rattle.metric.specs.declared.refusal.Refusal.TheVariants.{Memory, NotPinned}
 use Rattle.metric.specs.declared.refusal.Refusal.TheVariants as refusals
@@ -15,16 +15,17 @@ use Rattle.proto.specs.declared.answer.Answer.{Answer}
 use Rattle.proto.specs.declared.answer.Answer.TheVariants as answers
 use Rattle.proto.specs.declared.serve.end.End.{End}
 use Rattle.proto.specs.declared.serve.end.End.TheVariants as ends
-use Rattle.proto.specs.Asked.{QueryView}
+use Rattle.proto.specs.Asked.{QueryView, HasPoints}
 use Rattle.proto.specs.Said.{LineView, SaysPoints}
 use Rattle.proto.specs.Said as saids
 use Rattle.proto.specs.Replies.{reply_line}
 use Rattle.proto.specs.Callers.{CallerValue, IsRefusedAs}
-use Rattle.proto.specs.Exchanges.{Exchange, IsExchange, IsLine, IsLineAnswer, IsQueryAnswer, line_said, counts, with_pin}
-use Rattle.proto.specs.Served.{AreExchanges, HasAnswered, HasCounted, HasMoved, HasSaid, IsCutOff, IsCutShort, IsHeard, IsLineStop, IsQuit, IsSaid, IsServed, IsShort, IsFarewell, IsTail, IsTooLong, IsTooMuch, IsUnsaid, IsWritten, bytes_of, text_of}
+use Rattle.proto.specs.Exchanges.{Exchange, IsExchange, IsLineAnswer, IsQueryAnswer, line_said, body_of, counts, with_pin}
+use Rattle.proto.specs.Served.{AreExchanges, HasHeard, HasMoved, HasSaid, IsCutOff, IsCutShort, IsHeard, IsLineStop, IsPartOfExchange, IsQuit, IsSaid, IsServed, IsShort, IsFarewell, IsTail, IsTooMuch, IsUnsaid, IsWritten, bytes_of, text_of}
 use Rattle.metric.specs.Wire.{Wire}
 use Rattle.proto.specs.Wire.{HasNotWritten, HasRead, HasWritten}
-use Rattle.proto.proofs.Wires.{read_on}
+use Rattle.proto.proofs.Speaking.{IsNoDump, plain_body}
+use Rattle.proto.proofs.Wires.{nothing_read, read_on}
 
 -- exchanges, and more after them, are exchanges one after another
 exchanges_on : (store : StoreId) (xs ys : List Exchange) (a b c : CallerValue) → AreExchanges store xs a b → AreExchanges store ys b c → AreExchanges store (xs ++ ys) a c
@@ -70,6 +71,16 @@ moved_on end old between new b1 t1 u1 b2 t2 u2 first next =
       reads = (let e = first.reads in let f = next.reads in omega arith);
       writes = (let e = first.writes in let f = next.writes in omega arith);
     }
+
+-- a stream on which nothing was done was served so far
+pub serves_nothing : (store : StoreId) (w : Wire) (a : CallerValue) → IsServed store None w a w a
+serves_nothing store w a = record {
+  bytes = [];
+  said = [];
+  unsaid = [];
+  served = record { exchanges = []; tail = []; last = []; behind = a; run = refl; left = refl; ends = (refl, refl); bytes_are = refl; texts_are = refl; unsaid_is = refl };
+  moved = record { taken = Takes-nothing w.rest; reached = tt; written = Appends-nothing w.held; reads = omega arith; writes = omega arith };
+}
 
 -- a stream that was served up to a place, and then from there on, was served in all
 pub serves_on : (store : StoreId) (end : Option End) (w1 w2 w3 : Wire) (a b c : CallerValue) → IsServed store None w1 a w2 b → IsServed store end w2 b w3 c → IsServed store end w1 a w3 c
@@ -121,126 +132,95 @@ unsaid_moved w1 w2 w3 bytes text read written =
       writes = (let e = written.writes in let f = read.writes in omega arith);
     }
 
--- a stream that ends after these bytes with a last text, whose write failed, was served to its end
-unsaid_end : (store : StoreId) (w1 w2 w3 : Wire) (tail last : List ℕ) (a b : CallerValue) → b.seat ≡ a.seat → IsFarewell tail last → HasRead 0 w1 tail w2 → HasNotWritten w2 last w3 → IsServed store (Some ends.WriteFailed) w1 a w3 b
-unsaid_end store w1 w2 w3 tail last a b same farewell read written =
-    ended store ends.WriteFailed w1 w3 tail last [] last a b same (inr farewell) refl (inr (farewell, refl)) (unsaid_moved w1 w2 w3 tail last read written)
+-- nothing is written where so many reads failed after the last bytes
+silent : (end : End) (faults : ℕ) (w1 w2 : Wire) (bytes : List ℕ) → HasRead faults w1 bytes w2 → Appends w1.held [] w2.held × (w2.failed_writes ≡ w1.failed_writes + 0)
+silent end faults w1 w2 bytes read =
+    (subst (λ h. Appends w1.held [] h) (sym read.held) (Appends-nothing w1.held), (let e = read.writes in omega arith))
 
--- nothing is written where the input is cut off
-cut_moved : (end : End) (w1 w2 : Wire) (bytes : List ℕ) → IsCutOff end w1 bytes w2 → HasMoved (Some end) w1 bytes [] [] w2
-cut_moved ends.EndOfInput w1 w2 bytes (read, out) =
-    record { taken = read.taken; reached = out; written = subst (λ h. Appends w1.held [] h) (sym read.held) (Appends-nothing w1.held); reads = read.reads; writes = (let e = read.writes in omega arith) }
-cut_moved ends.ReadFailed w1 w2 bytes read =
-    record { taken = read.taken; reached = tt; written = subst (λ h. Appends w1.held [] h) (sym read.held) (Appends-nothing w1.held); reads = read.reads; writes = (let e = read.writes in omega arith) }
-cut_moved ends.Quit w1 w2 bytes cut = absurd cut
-cut_moved ends.LineTooLong w1 w2 bytes cut = absurd cut
-cut_moved ends.TooMuchData w1 w2 bytes cut = absurd cut
-cut_moved ends.WriteFailed w1 w2 bytes cut = absurd cut
-cut_moved ends.Memory w1 w2 bytes cut = absurd cut
-
--- where the input is cut off in an exchange, the part of it that was read is the tail
-cut_tail : (end : End) (w1 w2 : Wire) (read bytes : List ℕ) → IsCutOff end w1 read w2 → IsLine bytes ⊎ IsShort bytes → IsTail (Some end) bytes []
-cut_tail ends.EndOfInput w1 w2 read bytes cut part = (part, refl)
-cut_tail ends.ReadFailed w1 w2 read bytes cut part = (part, refl)
-cut_tail ends.Quit w1 w2 read bytes cut part = absurd cut
-cut_tail ends.LineTooLong w1 w2 read bytes cut part = absurd cut
-cut_tail ends.TooMuchData w1 w2 read bytes cut part = absurd cut
-cut_tail ends.WriteFailed w1 w2 read bytes cut part = absurd cut
-cut_tail ends.Memory w1 w2 read bytes cut part = absurd cut
-
--- nothing is left unsaid where the input is cut off
-cut_unsaid : (end : End) (w1 w2 : Wire) (read bytes : List ℕ) → IsCutOff end w1 read w2 → IsUnsaid (Some end) [] bytes [] []
-cut_unsaid ends.EndOfInput w1 w2 read bytes cut = refl
-cut_unsaid ends.ReadFailed w1 w2 read bytes cut = refl
-cut_unsaid ends.Quit w1 w2 read bytes cut = absurd cut
-cut_unsaid ends.LineTooLong w1 w2 read bytes cut = absurd cut
-cut_unsaid ends.TooMuchData w1 w2 read bytes cut = absurd cut
-cut_unsaid ends.WriteFailed w1 w2 read bytes cut = absurd cut
-cut_unsaid ends.Memory w1 w2 read bytes cut = absurd cut
+-- where the input is cut off in an exchange, the stream ends, and the part of it that was read is the tail
+cut_ended : (store : StoreId) (end : End) (w1 w2 : Wire) (bytes : List ℕ) (a : CallerValue) → IsPartOfExchange bytes → IsCutOff end w1 bytes w2 → IsServed store (Some end) w1 a w2 a
+cut_ended store end w1 w2 bytes a part (inl (is, read, out)) =
+    let m = silent ends.EndOfInput 0 w1 w2 bytes read in
+    rw (is) (ended store ends.EndOfInput w1 w2 bytes [] [] [] a a refl (part, refl) refl refl record { taken = read.taken; reached = out; written = m.0; reads = read.reads; writes = m.1 })
+cut_ended store end w1 w2 bytes a part (inr (is, read)) =
+    let m = silent ends.ReadFailed 1 w1 w2 bytes read in
+    rw (is) (ended store ends.ReadFailed w1 w2 bytes [] [] [] a a refl (part, refl) refl refl record { taken = read.taken; reached = tt; written = m.0; reads = read.reads; writes = m.1 })
 
 -- where the input is cut off after more bytes, it is cut off after all of them
 cut_on : (end : End) (w1 w2 w3 : Wire) (a b : List ℕ) → HasRead 0 w1 a w2 → IsCutOff end w2 b w3 → IsCutOff end w1 (a ++ b) w3
-cut_on ends.EndOfInput w1 w2 w3 a b first (read, out) = (read_on 0 w1 w2 w3 a b first read, out)
-cut_on ends.ReadFailed w1 w2 w3 a b first read = read_on 1 w1 w2 w3 a b first read
-cut_on ends.Quit w1 w2 w3 a b first cut = absurd cut
-cut_on ends.LineTooLong w1 w2 w3 a b first cut = absurd cut
-cut_on ends.TooMuchData w1 w2 w3 a b first cut = absurd cut
-cut_on ends.WriteFailed w1 w2 w3 a b first cut = absurd cut
-cut_on ends.Memory w1 w2 w3 a b first cut = absurd cut
-
--- a line that is cut off ends the stream
-line_cut : (store : StoreId) (end : End) (w1 w2 : Wire) (bytes : List ℕ) (a : CallerValue) → IsLine bytes × IsCutOff end w1 bytes w2 → IsServed store (Some end) w1 a w2 a
-line_cut store end w1 w2 bytes a (line, cut) = ended store end w1 w2 bytes [] [] [] a a refl (cut_tail end w1 w2 bytes bytes cut (inl line)) refl (cut_unsaid end w1 w2 bytes bytes cut) (cut_moved end w1 w2 bytes cut)
+cut_on end w1 w2 w3 a b first (inl (is, read, out)) = inl (is, read_on 0 w1 w2 w3 a b first read, out)
+cut_on end w1 w2 w3 a b first (inr (is, read)) = inr (is, read_on 1 w1 w2 w3 a b first read)
 
 -- a line that wasn't read to its LF, and isn't too long, ends the stream
 pub line_stopped : (store : StoreId) (end : End) (w1 w2 : Wire) (bytes : List ℕ) (a : CallerValue) → end ≢ ends.LineTooLong → IsLineStop end w1 bytes w2 → IsServed store (Some end) w1 a w2 a
-line_stopped store ends.LineTooLong w1 w2 bytes a other stop = absurd (other refl)
-line_stopped store ends.Quit w1 w2 bytes a other stop = line_cut store ends.Quit w1 w2 bytes a stop
-line_stopped store ends.EndOfInput w1 w2 bytes a other stop = line_cut store ends.EndOfInput w1 w2 bytes a stop
-line_stopped store ends.TooMuchData w1 w2 bytes a other stop = line_cut store ends.TooMuchData w1 w2 bytes a stop
-line_stopped store ends.ReadFailed w1 w2 bytes a other stop = line_cut store ends.ReadFailed w1 w2 bytes a stop
-line_stopped store ends.WriteFailed w1 w2 bytes a other stop = line_cut store ends.WriteFailed w1 w2 bytes a stop
-line_stopped store ends.Memory w1 w2 bytes a other stop = line_cut store ends.Memory w1 w2 bytes a stop
+line_stopped store end w1 w2 bytes a other (inl (is, long, read)) = absurd (other is)
+line_stopped store end w1 w2 bytes a other (inr (line, cut)) = cut_ended store end w1 w2 bytes a (inl line) cut
 
 -- where bytes were read and then a text was written, these alone were taken and written, and no call failed
 said_moved : (w1 w2 w3 : Wire) (bytes text : List ℕ) → HasRead 0 w1 bytes w2 → HasWritten w2 text w3 → Takes w1.rest bytes w3.rest × Appends w1.held text w3.held × (w3.failed_reads ≡ w1.failed_reads + 0) × (w3.failed_writes ≡ w1.failed_writes + 0)
 said_moved w1 w2 w3 bytes text read written =
     (subst (λ r. Takes w1.rest bytes r) (sym written.rest) read.taken, subst (λ h. Appends h text w3.held) read.held written.appended, written.reads ∙ read.reads, (let e = written.writes in let f = read.writes in omega arith))
 
+-- a last text ends the stream as planned, or by its failed write
+farewell : (store : StoreId) (planned end : End) (w1 w2 w3 : Wire) (tail last : List ℕ) (a b : CallerValue) → b.seat ≡ a.seat → IsTail (Some planned) tail last → IsUnsaid (Some planned) [] tail last []
+    → (Takes w1.rest tail w3.rest × Appends w1.held last w3.held × (w3.failed_reads ≡ w1.failed_reads + 0) × (w3.failed_writes ≡ w1.failed_writes + 0) → HasMoved (Some planned) w1 tail last [] w3)
+    → IsFarewell tail last → HasRead 0 w1 tail w2 → HasSaid planned end w2 last w3 → IsServed store (Some end) w1 a w3 b
+farewell store planned end w1 w2 w3 tail last a b same is none moved text read (inl (e, written)) =
+    rw (e) (ended store planned w1 w3 tail last last [] a b same is (append-nil last) none (moved (said_moved w1 w2 w3 tail last read written)))
+farewell store planned end w1 w2 w3 tail last a b same is none moved text read (inr (e, written)) =
+    rw (e) (ended store ends.WriteFailed w1 w3 tail last [] last a b same (inr text) refl (inr (text, refl)) (unsaid_moved w1 w2 w3 tail last read written))
+
 -- a line that is too long ends the stream with its refusal
-pub too_long : (store : StoreId) (end : End) (w1 w2 w3 : Wire) (bytes : List ℕ) (a : CallerValue) → IsTooLong bytes → HasRead 0 w1 bytes w2
+pub too_long : (store : StoreId) (end : End) (w1 w2 w3 : Wire) (bytes : List ℕ) (a : CallerValue) → IsLineStop ends.LineTooLong w1 bytes w2
     → HasSaid ends.LineTooLong end w2 (reply_line (answers.Refused refusals.LineTooLong)) w3 → IsServed store (Some end) w1 a w3 a
-too_long store end w1 w2 w3 bytes a long read (inl (e, written)) =
-    let m = said_moved w1 w2 w3 bytes _ read written in
-    rw (e) (ended store ends.LineTooLong w1 w3 bytes _ _ [] a a refl (long, refl) (append-nil _) refl record { taken = m.0; reached = tt; written = m.1; reads = m.2; writes = m.3 })
-too_long store end w1 w2 w3 bytes a long read (inr (e, written)) =
-    rw (e) (unsaid_end store w1 w2 w3 bytes _ a a refl (inr (inl (long, refl))) read written)
+too_long store end w1 w2 w3 bytes a (inl (is, long, read)) said =
+    farewell store ends.LineTooLong end w1 w2 w3 bytes _ a a refl (long, refl) refl (λ m. record { taken = m.0; reached = tt; written = m.1; reads = m.2; writes = m.3 }) (inr (inl (long, refl))) read said
+too_long store end w1 w2 w3 bytes a (inr (line, inl cut)) said = let never : ends.LineTooLong ≡ ends.EndOfInput = cut.0 in absurd (cc)
+too_long store end w1 w2 w3 bytes a (inr (line, inr cut)) said = let never : ends.LineTooLong ≡ ends.ReadFailed = cut.0 in absurd (cc)
 
--- a line that counts too many bytes ends the stream with its refusal
-pub too_much : (store : StoreId) (end : End) (w1 w2 w3 : Wire) (bytes : List ℕ) (a : CallerValue) → IsTooMuch bytes → HasRead 0 w1 bytes w2
-    → HasSaid ends.TooMuchData end w2 (reply_line (answers.Refused refusals.TooMuchData)) w3 → IsServed store (Some end) w1 a w3 a
-too_much store end w1 w2 w3 bytes a much read (inl (e, written)) =
-    let m = said_moved w1 w2 w3 bytes _ read written in
-    rw (e) (ended store ends.TooMuchData w1 w3 bytes _ _ [] a a refl (much, refl) (append-nil _) refl record { taken = m.0; reached = tt; written = m.1; reads = m.2; writes = m.3 })
-too_much store end w1 w2 w3 bytes a much read (inr (e, written)) =
-    rw (e) (unsaid_end store w1 w2 w3 bytes _ a a refl (inr (inr (much, refl))) read written)
-
--- QUIT ends the stream with its reply, where the pin was left before
-pub quits : (store : StoreId) (end : End) (w1 w2 w3 : Wire) (bytes : List ℕ) (a b : CallerValue) → b.seat ≡ a.seat → IsQuit bytes → HasRead 0 w1 bytes w2
-    → HasSaid ends.Quit end w2 (reply_line answers.Bye) w3 → IsServed store (Some end) w1 a w3 b
-quits store end w1 w2 w3 bytes a b same quit read (inl (e, written)) =
-    let m = said_moved w1 w2 w3 bytes _ read written in
-    rw (e) (ended store ends.Quit w1 w3 bytes _ _ [] a b same (quit, refl) (append-nil _) refl record { taken = m.0; reached = tt; written = m.1; reads = m.2; writes = m.3 })
-quits store end w1 w2 w3 bytes a b same quit read (inr (e, written)) =
-    rw (e) (unsaid_end store w1 w2 w3 bytes _ a b same (inl (quit, refl)) read written)
-
--- where the bytes that a line counts are cut off, the stream ends
-pub counted_cut : (store : StoreId) (end : End) (w1 w2 w3 : Wire) (line : List ℕ) (a : CallerValue) → IsLine line → HasRead 0 w1 (line ++ 10 ∷ []) w2
-    → counts (line_said line) ≤ 17100000 → IsCutShort (counts (line_said line)) end w2 w3 → IsServed store (Some end) w1 a w3 a
-counted_cut store end w1 w2 w3 line a is read most short =
-    let whole = line ++ (10 ∷ short.bytes) in
-    let e : (line ++ 10 ∷ []) ++ short.bytes ≡ whole = append_assoc line (10 ∷ []) short.bytes in
-    let cut : IsCutOff end w1 whole w3 = subst (λ t. IsCutOff end w1 t w3) e (cut_on end w1 w2 w3 (line ++ 10 ∷ []) short.bytes read short.cut) in
-    ended store end w1 w3 whole [] [] [] a a refl
-    (cut_tail end w1 w3 whole whole cut (inr record { line = line; line_is = is; most = most; counted = short.bytes; few = short.few; bytes_are = refl }))
-    refl (cut_unsaid end w1 w3 whole whole cut) (cut_moved end w1 w3 whole cut)
+-- a line that has a query with points is one
+asks_points : (said : Result LineView Refusal) → IsOkAnd said SaysPoints → (query : QueryView) × (said ≡ Ok (saids.asked query)) × HasPoints query
+asks_points (Ok (saids.asked query)) points = (query, refl, points)
+asks_points (Ok (saids.told t)) points = absurd points
+asks_points (Ok (saids.stamp x y n)) points = absurd points
+asks_points (Ok saids.pin) points = absurd points
+asks_points (Ok saids.unpin) points = absurd points
+asks_points (Ok saids.dump) points = absurd points
+asks_points (Ok saids.quit) points = absurd points
+asks_points (Err refusal) points = absurd points
 
 -- what was heard counts as many bytes as the line
-pub heard_counts : (said heard : Result LineView Refusal) → IsHeard said heard → counts heard ≡ counts said
+heard_counts : (said heard : Result LineView Refusal) → IsHeard said heard → counts heard ≡ counts said
 heard_counts said heard (inl e) = ap counts e
-heard_counts (Ok (saids.asked query)) heard (inr (e, points)) = ap counts e
-heard_counts (Ok (saids.told t)) heard (inr (e, points)) = absurd points
-heard_counts (Ok (saids.stamp x y n)) heard (inr (e, points)) = absurd points
-heard_counts (Ok saids.pin) heard (inr (e, points)) = absurd points
-heard_counts (Ok saids.unpin) heard (inr (e, points)) = absurd points
-heard_counts (Ok saids.dump) heard (inr (e, points)) = absurd points
-heard_counts (Ok saids.quit) heard (inr (e, points)) = absurd points
-heard_counts (Err refusal) heard (inr (e, points)) = absurd points
+heard_counts said heard (inr (e, points)) = let (query, is, has) = asks_points said points in ap counts e ∙ sym (ap counts is)
+
+-- a line that counts too many bytes ends the stream with its refusal
+pub too_much : (store : StoreId) (end : End) (w1 w2 w3 : Wire) (heard : Result LineView Refusal) (a : CallerValue) → HasHeard w1 heard w2 → 17100000 < counts heard
+    → HasSaid ends.TooMuchData end w2 (reply_line (answers.Refused refusals.TooMuchData)) w3 → IsServed store (Some end) w1 a w3 a
+too_much store end w1 w2 w3 heard a hears many said =
+    let much : IsTooMuch (hears.line ++ 10 ∷ []) = record { line = hears.line; line_is = hears.line_is; bytes_are = refl; many = subst (λ n. 17100000 < n) (heard_counts (line_said hears.line) heard hears.heard_is) many } in
+    farewell store ends.TooMuchData end w1 w2 w3 _ _ a a refl (much, refl) refl (λ m. record { taken = m.0; reached = tt; written = m.1; reads = m.2; writes = m.3 }) (inr (inr (much, refl))) hears.read said
 
 -- where QUIT was heard, the line says QUIT
-pub heard_quit : (said heard : Result LineView Refusal) → IsHeard said heard → heard ≡ Ok saids.quit → said ≡ Ok saids.quit
+heard_quit : (said heard : Result LineView Refusal) → IsHeard said heard → heard ≡ Ok saids.quit → said ≡ Ok saids.quit
 heard_quit said heard (inl e) quit = sym e ∙ quit
 heard_quit said heard (inr (e, points)) quit = let no_quit : Err Memory ≡ Ok saids.quit = sym e ∙ quit in absurd (cc)
+
+-- QUIT ends the stream with its reply, where the pin was left before
+pub quits : (store : StoreId) (end : End) (w1 w2 w3 : Wire) (a b : CallerValue) → b.seat ≡ a.seat → HasHeard w1 (Ok saids.quit) w2
+    → HasSaid ends.Quit end w2 (reply_line answers.Bye) w3 → IsServed store (Some end) w1 a w3 b
+quits store end w1 w2 w3 a b same hears said =
+    let quit : IsQuit (hears.line ++ 10 ∷ []) = record { line = hears.line; line_is = hears.line_is; bytes_are = refl; quits = heard_quit (line_said hears.line) (Ok saids.quit) hears.heard_is refl } in
+    farewell store ends.Quit end w1 w2 w3 _ _ a b same (quit, refl) refl (λ m. record { taken = m.0; reached = tt; written = m.1; reads = m.2; writes = m.3 }) (inl (quit, refl)) hears.read said
+
+-- where the bytes that a line counts are cut off, the stream ends
+pub counted_cut : (store : StoreId) (end : End) (w1 w2 w3 : Wire) (heard : Result LineView Refusal) (a : CallerValue) → HasHeard w1 heard w2
+    → counts heard ≤ 17100000 → IsCutShort (counts heard) end w2 w3 → IsServed store (Some end) w1 a w3 a
+counted_cut store end w1 w2 w3 heard a hears most short =
+    let all = heard_counts (line_said hears.line) heard hears.heard_is in
+    let part : IsShort (hears.line ++ (10 ∷ short.bytes)) = record { line = hears.line; line_is = hears.line_is; most = subst (λ n. n ≤ 17100000) all most; counted = short.bytes; few = subst (λ n. length short.bytes < n) all short.few; bytes_are = refl } in
+    cut_ended store end w1 w3 _ a (inr part)
+    (subst (λ t. IsCutOff end w1 t w3) (append_assoc hears.line (10 ∷ []) short.bytes) (cut_on end w1 w2 w3 (hears.line ++ 10 ∷ []) short.bytes hears.read short.cut))
 
 -- want of memory for the points of a query is answered as the query may be
 points_refused : (store : StoreId) (query : QueryView) (pin : Option ℕ) (old : CallerValue) (answer : Answer) (new : CallerValue) → old.pin ≡ pin → SaysPoints (saids.asked query)
@@ -252,15 +232,10 @@ points_refused store query (Some v) old answer new is points refused = record { 
 -- an answer to what was heard is an answer to what the line says
 heard_answer : (store : StoreId) (said heard : Result LineView Refusal) (bytes : List ℕ) (old : CallerValue) (answer : Answer) (new : CallerValue) → IsHeard said heard → IsLineAnswer store heard bytes old answer new → IsLineAnswer store said bytes old answer new
 heard_answer store said heard bytes old answer new (inl e) answered = subst (λ h. IsLineAnswer store h bytes old answer new) e answered
-heard_answer store (Ok (saids.asked query)) heard bytes old answer new (inr (e, points)) answered =
-    points_refused store query old.pin old answer new refl points (subst (λ h. IsLineAnswer store h bytes old answer new) e answered)
-heard_answer store (Ok (saids.told t)) heard bytes old answer new (inr (e, points)) answered = absurd points
-heard_answer store (Ok (saids.stamp x y n)) heard bytes old answer new (inr (e, points)) answered = absurd points
-heard_answer store (Ok saids.pin) heard bytes old answer new (inr (e, points)) answered = absurd points
-heard_answer store (Ok saids.unpin) heard bytes old answer new (inr (e, points)) answered = absurd points
-heard_answer store (Ok saids.dump) heard bytes old answer new (inr (e, points)) answered = absurd points
-heard_answer store (Ok saids.quit) heard bytes old answer new (inr (e, points)) answered = absurd points
-heard_answer store (Err refusal) heard bytes old answer new (inr (e, points)) answered = absurd points
+heard_answer store said heard bytes old answer new (inr (e, points)) answered =
+    let (query, is, has) = asks_points said points in
+    subst (λ s. IsLineAnswer store s bytes old answer new) (sym is)
+    (points_refused store query old.pin old answer new refl has (subst (λ h. IsLineAnswer store h bytes old answer new) e answered))
 
 -- a text is itself with nothing after it, twice
 one : (t : List ℕ) → t ≡ (t ++ []) ++ []
@@ -277,39 +252,46 @@ exchanged_by store None w1 w2 w3 x a b is read written =
       served = record { exchanges = x ∷ []; tail = []; last = []; behind = b; run = (b, is, refl); left = refl; ends = (refl, refl); bytes_are = one (bytes_of x); texts_are = sym (append-nil (text_of x ++ [])); unsaid_is = refl };
       moved = record { taken = m.0; reached = tt; written = m.1; reads = m.2; writes = m.3 };
     }
-exchanged_by store (Some ends.WriteFailed) w1 w2 w3 x a b is read written =
-    record {
+exchanged_by store (Some end) w1 w2 w3 x a b is read (failed, written) =
+    rw (failed) record {
       bytes = bytes_of x;
       said = [];
       unsaid = text_of x;
       served = record { exchanges = x ∷ []; tail = []; last = []; behind = b; run = (b, is, refl); left = refl; ends = inl (refl, refl); bytes_are = one (bytes_of x); texts_are = one (text_of x); unsaid_is = inl ([], x, refl, refl, refl) };
       moved = unsaid_moved w1 w2 w3 (bytes_of x) (text_of x) read written;
     }
-exchanged_by store (Some ends.Quit) w1 w2 w3 x a b is read written = absurd written
-exchanged_by store (Some ends.EndOfInput) w1 w2 w3 x a b is read written = absurd written
-exchanged_by store (Some ends.LineTooLong) w1 w2 w3 x a b is read written = absurd written
-exchanged_by store (Some ends.TooMuchData) w1 w2 w3 x a b is read written = absurd written
-exchanged_by store (Some ends.ReadFailed) w1 w2 w3 x a b is read written = absurd written
-exchanged_by store (Some ends.Memory) w1 w2 w3 x a b is read written = absurd written
 
--- a line is served where its counted bytes were read, it was answered, and its answer was said
-pub exchanged : {A E : Type 0} (store : StoreId) (end : Option End) (w1 w2 w3 w4 : Wire) (line : List ℕ) (heard : Result LineView Refusal) (count : ℕ) (kept : Result (Vec ℕ A) E) (a b : CallerValue)
-    → IsLine line → HasRead 0 w1 (line ++ 10 ∷ []) w2 → IsHeard (line_said line) heard → count ≡ counts heard → count ≤ 17100000 → HasCounted count kept w2 w3
-    → HasAnswered store heard kept end w3 a w4 b → IsServed store end w1 a w4 b
-exchanged store end w1 w2 w3 w4 line heard count kept a b is read hears count_is few counted done =
-    let x : Exchange = record { line = line; counted = counted.bytes; answer = done.answer; body = done.body } in
-    let all : count ≡ counts (line_said line) = count_is ∙ heard_counts (line_said line) heard hears in
-    let e : (line ++ 10 ∷ []) ++ counted.bytes ≡ line ++ (10 ∷ counted.bytes) = append_assoc line (10 ∷ []) counted.bytes in
+-- a line that was heard is served where its counted bytes were read, it was answered, and its answer was said
+pub exchanged : (store : StoreId) (end : Option End) (w1 w2 w3 w4 : Wire) (heard : Result LineView Refusal) (counted : List ℕ) (answer : Answer) (body : List ℕ) (a b : CallerValue)
+    → HasHeard w1 heard w2 → length counted ≡ counts heard → counts heard ≤ 17100000 → HasRead 0 w2 counted w3 → IsLineAnswer store heard counted a answer b → body ≡ body_of store a answer
+    → IsSaid end w3 (reply_line answer ++ body) w4 → IsServed store end w1 a w4 b
+exchanged store end w1 w2 w3 w4 heard counted answer body a b hears as_many few read answered body_is said =
+    let x : Exchange = record { line = hears.line; counted = counted; answer = answer; body = body } in
+    let all = heard_counts (line_said hears.line) heard hears.heard_is in
     exchanged_by store end w1 w3 w4 x a b
     record {
-      line = is;
-      counted = counted.as_many ∙ all;
+      line = hears.line_is;
+      counted = as_many ∙ all;
       few = subst (λ n. n ≤ 17100000) all few;
-      answer = heard_answer store (line_said line) heard counted.bytes a done.answer b hears (done.answered counted.bytes counted.kept_are);
-      body = done.body_is;
+      answer = heard_answer store (line_said hears.line) heard counted a answer b hears.heard_is answered;
+      body = body_is;
     }
-    (subst (λ t. HasRead 0 w1 t w3) e (read_on 0 w1 w2 w3 (line ++ 10 ∷ []) counted.bytes read counted.read))
-    done.said
+    (subst (λ t. HasRead 0 w1 t w3) (append_assoc hears.line (10 ∷ []) counted) (read_on 0 w1 w2 w3 (hears.line ++ 10 ∷ []) counted hears.read read))
+    said
+
+-- nothing follows the reply line of a line that was heard and isn't DUMP
+pub replied : (store : StoreId) (end : Option End) (w1 w2 w3 w4 : Wire) (heard : Result LineView Refusal) (counted : List ℕ) (answer : Answer) (a b : CallerValue)
+    → HasHeard w1 heard w2 → IsNoDump heard → length counted ≡ counts heard → counts heard ≤ 17100000 → HasRead 0 w2 counted w3 → IsLineAnswer store heard counted a answer b
+    → IsSaid end w3 (reply_line answer) w4 → IsServed store end w1 a w4 b
+replied store end w1 w2 w3 w4 heard counted answer a b hears other as_many few read answered said =
+    exchanged store end w1 w2 w3 w4 heard counted answer [] a b hears as_many few read answered (plain_body store heard counted a b answer other answered)
+    (subst (λ t. IsSaid end w3 t w4) (sym (append-nil (reply_line answer))) said)
+
+-- a line that was heard, isn't DUMP and counts no bytes is served where it was answered, and its answer was said
+pub answered_alone : (store : StoreId) (end : Option End) (w1 w2 w3 : Wire) (heard : Result LineView Refusal) (answer : Answer) (a b : CallerValue)
+    → HasHeard w1 heard w2 → IsNoDump heard → counts heard ≡ 0 → IsLineAnswer store heard [] a answer b → IsSaid end w2 (reply_line answer) w3 → IsServed store end w1 a w3 b
+answered_alone store end w1 w2 w3 heard answer a b hears other none answered said =
+    replied store end w1 w2 w2 w3 heard [] answer a b hears other (sym none) (omega (arith, none)) (nothing_read w2) answered said
 
 -- a stream that has ended was served so whatever pin its caller then has
 pub serves_left : (store : StoreId) (end : End) (w1 w2 : Wire) (a b c : CallerValue) → c.seat ≡ b.seat → IsServed store (Some end) w1 a w2 b → IsServed store (Some end) w1 a w2 c

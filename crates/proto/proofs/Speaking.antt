@@ -1,6 +1,6 @@
 -- What follows a reply line: nothing, but for a dump's.
-use Rattle.std.proofs.Common.{◌≡◌, ◌≢◌, ℕ, List, [], Option, Some, None, Result, Ok, Err, refl, inl, inr}
-use Rattle.std.specs.Prelude.{◌⊎◌, Vec}
+use Rattle.std.proofs.Common.{◌≡◌, ℕ, List, [], Option, Some, None, Result, Ok, Err, refl, inl, inr}
+use Rattle.std.specs.Prelude.{◌⊎◌}
 use Rattle.metric.specs.declared.edge.Edge.{Edge}
 use Rattle.metric.specs.declared.refusal.Refusal.{Refusal}
 use Rattle.metric.specs.declared.refusal.Refusal.TheVariants.{Memory, AlreadyPinned, NotPinned}
@@ -15,7 +15,6 @@ use Rattle.proto.specs.Said.{LineView}
 use Rattle.proto.specs.Said as saids
 use Rattle.proto.specs.Callers.{CallerValue, HasPinned, HasUnpinned, IsRefusedAs}
 use Rattle.proto.specs.Exchanges.{IsLineAnswer, IsQueryAnswer, body_of}
-use Rattle.proto.specs.Served.{AreKept}
 
 -- a refusal is no dump
 refusal_dumps : (refusal : Refusal) (old new : CallerValue) (n : ℕ) → IsRefusedAs refusal old (answers.Dumped n) new → ⊥
@@ -41,8 +40,13 @@ pin_dumps store None old new n (inl pinned) = let e = pinned.answer_is in cc
 pin_dumps store None old new n (inr refused) = refusal_dumps Memory old new n refused
 pin_dumps store (Some v) old new n refused = refusal_dumps AlreadyPinned old new n refused
 
+-- a line isn't DUMP
+abbrev pub IsNoDump : Result LineView Refusal → Type 0
+IsNoDump (Ok saids.dump) = ⊥
+IsNoDump said = Unit {0}
+
 -- no line but DUMP is answered by a dump
-line_dumps : (store : StoreId) (said : Result LineView Refusal) (bytes : List ℕ) (old new : CallerValue) (n : ℕ) → said ≢ Ok saids.dump → IsLineAnswer store said bytes old (answers.Dumped n) new → ⊥
+line_dumps : (store : StoreId) (said : Result LineView Refusal) (bytes : List ℕ) (old new : CallerValue) (n : ℕ) → IsNoDump said → IsLineAnswer store said bytes old (answers.Dumped n) new → ⊥
 line_dumps store (Err refusal) bytes old new n other refused = refusal_dumps _ old new n refused
 line_dumps store (Ok (saids.told t)) bytes old new n other (c, is, commanded) = commanded.answered
 line_dumps store (Ok (saids.stamp x y m)) bytes old new n other (inl (taken, cells, reads, commanded)) = commanded.answered
@@ -51,11 +55,11 @@ line_dumps store (Ok (saids.stamp x y m)) bytes old new n other (inr (inr refuse
 line_dumps store (Ok saids.pin) bytes old new n other answered = pin_dumps store old.pin old new n answered
 line_dumps store (Ok saids.unpin) bytes old new n other answered = pinned_dumps old.pin old new n (λ v. HasUnpinned v old (answers.Dumped n) new) (λ v dumped. let e = dumped.answer_is in cc) answered
 line_dumps store (Ok (saids.asked query)) bytes old new n other answered = pinned_dumps old.pin old new n (λ _. IsQueryAnswer store query old (answers.Dumped n) new) (λ v dumped. elim dumped.answered [ inl value ↦ query_dumps _ _ _ query n value | inr memory ↦ (let e = memory.1 in cc) ]) answered
-line_dumps store (Ok saids.dump) bytes old new n other answered = other refl
+line_dumps store (Ok saids.dump) bytes old new n other answered = absurd other
 line_dumps store (Ok saids.quit) bytes old new n other answered = answered
 
 -- nothing follows the reply line of another line than DUMP
-pub plain_body : (store : StoreId) (said : Result LineView Refusal) (bytes : List ℕ) (old new : CallerValue) (answer : Answer) → said ≢ Ok saids.dump → IsLineAnswer store said bytes old answer new → [] ≡ body_of store old answer
+pub plain_body : (store : StoreId) (said : Result LineView Refusal) (bytes : List ℕ) (old new : CallerValue) (answer : Answer) → IsNoDump said → IsLineAnswer store said bytes old answer new → [] ≡ body_of store old answer
 plain_body store said bytes old new (answers.Near near) other answered = refl
 plain_body store said bytes old new (answers.Found found) other answered = refl
 plain_body store said bytes old new (answers.Clear found) other answered = refl
@@ -64,8 +68,3 @@ plain_body store said bytes old new (answers.Version version) other answered = r
 plain_body store said bytes old new (answers.Dumped n) other answered = absurd (line_dumps store said bytes old new n other answered)
 plain_body store said bytes old new answers.Bye other answered = refl
 plain_body store said bytes old new (answers.Refused refusal) other answered = refl
-
--- some bytes are those that were kept, if any were
-pub kept_bytes : {A E : Type 0} (kept : Result (Vec ℕ A) E) → (bytes : List ℕ) × AreKept kept bytes
-kept_bytes (Err refused) = ([], tt)
-kept_bytes (Ok v) = (v.items, refl)

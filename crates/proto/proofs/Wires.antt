@@ -1,11 +1,16 @@
 -- Bytes that are read from a wire one after another, and texts that are written.
-use Rattle.std.proofs.Common.{ℕ, List, [], ◌++◌, ap, subst, ◌∙◌, arith, append_assoc}
+use Rattle.std.proofs.Common.{ℕ, List, [], ◌++◌, Result, Ok, Err, refl, sym, ap, subst, ◌∙◌, arith, append_assoc}
 use Rattle.std.proofs.lemmas.List.{append-nil}
 use Rattle.metric.specs.Stream.{AppendsFront}
 use Rattle.metric.proofs.Appending.{Appends-more, AppendsFront-more}
-use Rattle.metric.proofs.Taking.{Takes-behind}
+use Rattle.metric.proofs.Taking.{Takes-behind, Takes-nothing}
+use Rattle.metric.specs.declared.stream.WriteFault.{WriteFault}
 use Rattle.metric.specs.Wire.{Wire}
-use Rattle.proto.specs.Wire.{HasNotWritten, HasRead, HasWritten}
+use Rattle.proto.specs.Wire.{HasNotWritten, HasPut, HasRead, HasWritten}
+
+-- where nothing was done, no byte was read
+pub nothing_read : (w : Wire) → HasRead 0 w [] w
+nothing_read w = record { taken = Takes-nothing w.rest; held = refl; reads = omega arith; writes = refl }
 
 -- bytes that were read, and more after them, were read together, and as many reads failed as for the last
 pub read_on : (faults : ℕ) (old between new : Wire) (a b : List ℕ) → HasRead 0 old a between → HasRead faults between b new → HasRead faults old (a ++ b) new
@@ -48,6 +53,15 @@ failed_first old new a b next =
       writes = next.writes;
     }
 
--- a text's write failed where it was written, but what the stream kept back couldn't be passed on
-pub failed_last : (old between new : Wire) (a : List ℕ) → HasWritten old a between → HasNotWritten between [] new → HasNotWritten old a new
-failed_last old between new a first next = subst (λ t. HasNotWritten old t new) (append-nil a) (failed_on old between new a [] first next)
+-- a text that was written, and one after it that was written or failed, are one text
+pub put_on : (put : Result (Unit {0}) WriteFault) (old between new : Wire) (a b : List ℕ) → HasWritten old a between → HasPut put between b new → HasPut put old (a ++ b) new
+put_on (Ok done) old between new a b first next = written_on old between new a b first next
+put_on (Err fault) old between new a b first next = failed_on old between new a b first next
+
+-- a text that was written, after which nothing is put, is put alone
+pub put_last : (put : Result (Unit {0}) WriteFault) (old between new : Wire) (a : List ℕ) → HasWritten old a between → HasPut put between [] new → HasPut put old a new
+put_last put old between new a first next = subst (λ t. HasPut put old t new) (append-nil a) (put_on put old between new a [] first next)
+
+-- a text is put with nothing after it
+pub put_alone : (put : Result (Unit {0}) WriteFault) (old new : Wire) (a : List ℕ) → HasPut put old a new → HasPut put old (a ++ []) new
+put_alone put old new a is = subst (λ t. HasPut put old t new) (sym (append-nil a)) is

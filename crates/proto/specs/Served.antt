@@ -15,9 +15,9 @@ use Rattle.proto.specs.Replies.{reply_line}
 use Rattle.proto.specs.Said.{LineView, SaysPoints}
 use Rattle.proto.specs.Said as saids
 use Rattle.proto.specs.Callers.{CallerValue, bitmap_held}
-use Rattle.proto.specs.Exchanges.{Exchange, IsDump, IsExchange, IsLine, IsLineAnswer, line_said, body_of, counts}
+use Rattle.proto.specs.Exchanges.{Exchange, IsDump, IsExchange, IsLine, line_said, counts}
 use Rattle.metric.specs.Wire.{Wire}
-use Rattle.proto.specs.Wire.{HasNotWritten, HasRead, HasWritten, IsReadOut}
+use Rattle.proto.specs.Wire.{HasNotWritten, HasPut, HasRead, HasWritten, IsReadOut}
 
 -- the bytes of an exchange are its line, LF, and the bytes that it counts
 abbrev pub bytes_of : Exchange → List ℕ
@@ -137,14 +137,11 @@ pub record HasMoved (end : Option End) (old : Wire) (bytes said unsaid : List �
 
 -- the input was cut off after these bytes: it ended, or a read failed
 abbrev pub IsCutOff : End → Wire → List ℕ → Wire → Type 0
-IsCutOff ends.EndOfInput old bytes new = HasRead 0 old bytes new × IsReadOut new.rest
-IsCutOff ends.ReadFailed old bytes new = HasRead 1 old bytes new
-IsCutOff end old bytes new = ⊥
+IsCutOff end old bytes new = ((end ≡ ends.EndOfInput) × HasRead 0 old bytes new × IsReadOut new.rest) ⊎ ((end ≡ ends.ReadFailed) × HasRead 1 old bytes new)
 
 -- why a line wasn't read to its LF: these bytes are too many, or the input was cut off after them
 abbrev pub IsLineStop : End → Wire → List ℕ → Wire → Type 0
-IsLineStop ends.LineTooLong old bytes new = IsTooLong bytes × HasRead 0 old bytes new
-IsLineStop end old bytes new = IsLine bytes × IsCutOff end old bytes new
+IsLineStop end old bytes new = ((end ≡ ends.LineTooLong) × IsTooLong bytes × HasRead 0 old bytes new) ⊎ (IsLine bytes × IsCutOff end old bytes new)
 
 -- what a line ends with, where it does
 abbrev pub line_end : Bool → List ℕ
@@ -199,36 +196,34 @@ HasSaid planned end old text new = ((end ≡ planned) × HasWritten old text new
 abbrev pub IsHeard : Result LineView Refusal → Result LineView Refusal → Type 0
 IsHeard said heard = (heard ≡ said) ⊎ ((heard ≡ Err refusals.Memory) × IsOkAnd said SaysPoints)
 
+-- a line was read to its LF, and was heard so
+pub record HasHeard (old : Wire) (heard : Result LineView Refusal) (new : Wire) : Type 0 where
+  pub line : List ℕ
+  pub line_is : IsLine line
+  pub read : HasRead 0 old (line ++ 10 ∷ []) new
+  pub heard_is : IsHeard (line_said line) heard
+
 -- what was said is written whole, and the stream goes on; or a write failed
 abbrev pub IsSaid : Option End → Wire → List ℕ → Wire → Type 0
 IsSaid None old text new = HasWritten old text new
-IsSaid (Some ends.WriteFailed) old text new = HasNotWritten old text new
-IsSaid end old text new = ⊥
+IsSaid (Some end) old text new = (end ≡ ends.WriteFailed) × HasNotWritten old text new
 
 -- a stream ends so after a write of this outcome, if it does
 abbrev pub end_after : Result (Unit {0}) WriteFault → Option End
 end_after (Ok done) = None
 end_after (Err fault) = Some ends.WriteFailed
 
--- the dump of a bitmap was said: its plain image after the number of its bytes, or want of memory
-pub record IsDumped (cells : Cells) (end : Option End) (wire wire_after : Wire) : Type 0 where
+-- the dump of a bitmap was put: its plain image after the number of its bytes, or want of memory
+pub record IsDumped (cells : Cells) (written : Result (Unit {0}) WriteFault) (wire wire_after : Wire) : Type 0 where
   pub answer : Answer
   pub body : List ℕ
   pub is_dump : IsDump cells answer body
-  pub said : IsSaid end wire (reply_line answer ++ body) wire_after
+  pub put : HasPut written wire (reply_line answer ++ body) wire_after
 
--- DUMP was answered a caller, and its answer was said: the dump of the version that it has pinned, or that it has none
-abbrev pub IsDumpSaid : StoreId → Option End → Wire → CallerValue → Wire → Type 0
-IsDumpSaid store end wire old wire_after =
-    elim old.pin as (λ _. Type 0) [ None ↦ IsSaid end wire (reply_line (answers.Refused refusals.NotPinned)) wire_after | Some version ↦ IsDumped (bitmap_held store old) end wire wire_after ]
-
--- a line, with the bytes that were kept, was answered, and its answer was said
-pub record HasAnswered {A E : Type 0} (store : StoreId) (heard : Result LineView Refusal) (kept : Result (Vec ℕ A) E) (end : Option End) (wire : Wire) (old : CallerValue) (wire_after : Wire) (new : CallerValue) : Type 0 where
-  pub answer : Answer
-  pub body : List ℕ
-  pub answered : (bytes : List ℕ) → AreKept kept bytes → IsLineAnswer store heard bytes old answer new
-  pub body_is : body ≡ body_of store old answer
-  pub said : IsSaid end wire (reply_line answer ++ body) wire_after
+-- what a caller is answered to DUMP was put: the dump of the version that it has pinned, or that it has none
+abbrev pub IsDumpSaid : StoreId → Result (Unit {0}) WriteFault → Wire → CallerValue → Wire → Type 0
+IsDumpSaid store written wire old wire_after =
+    elim old.pin as (λ _. Type 0) [ None ↦ HasPut written wire (reply_line (answers.Refused refusals.NotPinned)) wire_after | Some version ↦ IsDumped (bitmap_held store old) written wire wire_after ]
 
 -- a caller was served over a wire up to such an end: some bytes were read, and texts were said, but for one whose write failed,
 -- and these are a stream that is served so

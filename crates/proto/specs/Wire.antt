@@ -1,5 +1,6 @@
 -- What happens to the wire of a stream as it is read and written: this project's own rule.
-use Rattle.std.specs.Prelude.{◌≡◌, ℕ, ◌+◌, ◌<◌, ◌≤◌, List, [], length, take, Option, Some, None}
+use Rattle.std.specs.Prelude.{◌≡◌, ℕ, ◌+◌, ◌<◌, ◌≤◌, List, [], length, take, Option, Some, None, Result, Ok, Err}
+use Rattle.metric.specs.declared.stream.WriteFault.{WriteFault}
 use Rattle.metric.specs.Wire.{Wire}
 use Rattle.metric.specs.Stream.{Appends, AppendsFront, CanFail, Takes}
 
@@ -39,3 +40,8 @@ pub record HasNotWritten (old : Wire) (text : List ℕ) (new : Wire) : Type 0 wh
   pub front : AppendsFront old.held text new.held
   pub reads : new.failed_reads ≡ old.failed_reads
   pub writes : new.failed_writes ≡ old.failed_writes + 1
+
+-- this text was written, or its write failed
+abbrev pub HasPut : Result (Unit {0}) WriteFault → Wire → List ℕ → Wire → Type 0
+HasPut (Ok done) old text new = HasWritten old text new
+HasPut (Err fault) old text new = HasNotWritten old text new

@@ -8,7 +8,7 @@ ghost use Rattle.proto.specs.Numbers.{pair, points};
 ghost use Rattle.proto.specs.Words.{words_left};
 
 use crate::points::read_pair;
-use crate::words::next_word;
+use crate::split::next_word;
 use metric::{MetricKind, Rect};
 
 /// The metric that the next word names, and what is left after it.

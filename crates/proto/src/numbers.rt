@@ -6,7 +6,7 @@ ghost use Rattle.proto.specs.Numbers.{HasNoNumber, number, number_pair, number_t
 ghost use Rattle.proto.specs.Words.{words_left};
 
 use crate::number::read_number;
-use crate::words::next_word;
+use crate::split::next_word;
 
 /// The number that the next word is, and what is left after it.
 #[tactic(auto, unfolding(crate::specs::Numbers::numbers))]

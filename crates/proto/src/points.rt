@@ -7,7 +7,7 @@ ghost use Rattle.proto.specs.Numbers.{coordinate, points, only, pair, HasNoFirst
 ghost use Rattle.proto.specs.Words.{words_left, bytes_left};
 
 use crate::number::read_number;
-use crate::words::next_word;
+use crate::split::next_word;
 use metric::{Cell, Refusal};
 use std::alloc::Global;
 

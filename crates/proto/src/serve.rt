@@ -1,6 +1,6 @@
 //! Streams that are served: lines and what they count, each with its answer.
 
-ghost use Rattle.std.specs.Prelude.{◌≡◌, ◌≢◌, [], Some, IfOk};
+ghost use Rattle.std.specs.Prelude.{◌≡◌, ◌≢◌, Some};
 ghost use Rattle.proto.specs.Callers.{free};
 ghost use Rattle.proto.specs.Served.{IsServed};
 ghost use Rattle.proto.specs.Wire.{CanGoOn};
@@ -9,30 +9,20 @@ mod caller;
 mod counted;
 mod dump;
 mod end;
-mod exchange;
 mod line_buffer;
 mod say;
-mod stream_line;
+mod service;
 mod wire;
 
-use crate::text::Text;
 use caller::Caller;
 pub use end::End;
-use line_buffer::LineBuffer;
 use metric::Stream;
+pub use service::MOST_COUNTED;
+use service::Service;
 use session::{Session, Store};
 use shelf::StoreName;
-use std::alloc::{AllocError, Global};
+use std::alloc::Global;
 use std::sync::Wait;
-pub use stream_line::MOST_COUNTED;
-use stream_line::serve_line;
-
-/// The buffers of a line and of a reply line.
-fn buffers(alloc: Global) -> Result<(LineBuffer, Text), AllocError>
-    ensures { IfOk result (λ buffers. (buffers.0 ≡ []) × (buffers.1 ≡ [])) }
-{
-    Ok((LineBuffer::new(alloc)?, Text::new(alloc)?))
-}
 
 /// Serves a stream of protocol lines with a session: each line is read to its LF, with the bytes that it counts, and answered before the next one is read.
 ///
@@ -55,13 +45,13 @@ pub fn serve_stream<Id: StoreName, R: Wait, S: Stream>(
     ensures session { result.1 ≡ End.Memory → result.0 ≡ session }
     ensures untouched { result.1 ≡ End.Memory → S.wire stream.new ≡ S.wire stream.old }
 {
-    let (mut line, mut text) = match buffers(alloc) {
-        Ok(buffers) => buffers,
+    let mut service = match Service::new(rt, alloc, store) {
+        Ok(service) => service,
         Err(refused) => return (session, End::from(refused)),
     };
     let mut caller = Caller::new(session);
     'lines: for _ in rt.forever() {
-        let (next, end) = serve_line(rt, alloc, store, caller, stream, &mut line, &mut text);
+        let (next, end) = service.serve_line(caller, stream);
         caller = next;
         if let Some(end) = end {
             return (caller.into_session(), end);

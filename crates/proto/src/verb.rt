@@ -7,7 +7,7 @@ ghost use Rattle.proto.specs.Asked.{query_named};
 ghost use Rattle.proto.specs.Said.{bare_named, said, verb_in, verb_named, verb_said};
 ghost use Rattle.proto.specs.Words.{words_left};
 
-use crate::words::split_word;
+use crate::split::split_word;
 
 /// The command of a line, by its name alone.
 #[derive(Clone, Copy, Debug, PartialEq, Eq)]

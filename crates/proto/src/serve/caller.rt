@@ -5,18 +5,19 @@ ghost use Rattle.shelf.specs.Steps.{leaving};
 ghost use Rattle.desk.specs.Desks.{answer_of};
 ghost use Rattle.proto.specs.Asked.{asked_by};
 ghost use Rattle.proto.specs.Callers.{IsCommanded, IsPinAnswer, IsUnpinAnswer, free, told_as};
-ghost use Rattle.proto.specs.Exchanges.{IsQueryAnswer, WithPin};
+ghost use Rattle.proto.specs.declared.answer.Answer.TheVariants as answers;
+ghost use Rattle.proto.specs.Exchanges.{IsQueryAnswer, WithPin, with_pin};
 ghost use Rattle.proto.specs.Served.{IsDumpSaid};
 ghost use Rattle.proto.specs.Wire.{CanGoOn};
 
 use crate::answer::Answer;
 use crate::answering::answer_of;
 use crate::query::Query;
-use crate::serve::dump::{say_dump, say_not_pinned};
-use crate::serve::end::End;
+use crate::serve::dump::say_dump;
+use crate::serve::say::say;
 use crate::text::Text;
 use map_core::{Command, Reply};
-use metric::{Refusal, Stream};
+use metric::{Refusal, Stream, WriteFault};
 use session::{Pinned, Session, Store};
 use shelf::StoreName;
 use std::alloc::Global;
@@ -68,14 +69,14 @@ impl<Id: StoreName> Caller<Id> {
         }
     }
 
-    /// Whether it holds a pin.
-    pub fn is_pinned(&self) -> bool
-        ensures { result ≡ is_some self.now.pin }
+    /// What a line is answered that can't be taken: without a pin that comes before what is wrong with its points.
+    pub fn refuse(&self, refusal: Refusal) -> Answer
+        ensures { result ≡ answers.Refused (with_pin (is_some self.now.pin) refusal) }
     {
-        match &self.seat {
-            Seat::Free(_) => false,
-            Seat::Holding(_) => true,
-        }
+        Answer::Refused(match (&self.seat, refusal) {
+            (Seat::Free(_), Refusal::BadPath | Refusal::Memory) => Refusal::NotPinned,
+            (_, other) => other,
+        })
     }
 
     /// What a query of the version that it has pinned is answered.
@@ -89,14 +90,19 @@ impl<Id: StoreName> Caller<Id> {
         }
     }
 
-    /// Says what DUMP is answered: the plain image of the bitmap that it has pinned follows the number of its bytes. Answers how the stream ends there, if it does.
-    pub fn dump<S: Stream>(&mut self, alloc: Global, stream: &mut S, text: &mut Text) -> Option<End>
+    /// Says what DUMP is answered: the plain image of the bitmap that it has pinned follows the number of its bytes.
+    pub fn dump<S: Stream>(
+        &mut self,
+        alloc: Global,
+        stream: &mut S,
+        text: &mut Text,
+    ) -> Result<(), WriteFault>
         requires { CanGoOn (S.wire stream.old) }
         ensures caller { self.new ≡ self.old }
         ensures said { IsDumpSaid Id.store result (S.wire stream.old) self.old (S.wire stream.new) }
     {
         match &mut self.seat {
-            Seat::Free(_) => say_not_pinned(stream, text),
+            Seat::Free(_) => say(stream, text, &Answer::Refused(Refusal::NotPinned)),
             Seat::Holding(pinned) => say_dump(alloc, pinned.bitmap(), stream, text),
         }
     }

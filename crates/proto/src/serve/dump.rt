@@ -1,60 +1,38 @@
 //! What DUMP is answered: a reply line, and a plain image that is written in pieces.
 
-ghost use Rattle.std.specs.Prelude.{◌≡◌, ◌*◌, ◌≤◌, ◌++◌, vec_capacity, OnOk, OnErr};
+ghost use Rattle.std.specs.Prelude.{◌≡◌, ◌*◌, ◌≤◌, ◌++◌, vec_capacity};
 ghost use Rattle.std.specs.List.{range_with_len, flat_map};
 ghost use Rattle.pbm.specs.declared.header.Form.TheVariants.{Plain};
 ghost use Rattle.pbm.specs.Writing.{front_text, plain_digit, plain_text};
-ghost use Rattle.metric.specs.declared.refusal.Refusal.TheVariants.{NotPinned};
-ghost use Rattle.proto.specs.declared.answer.Answer.TheVariants as answers;
-ghost use Rattle.proto.specs.Served.{IsDumped, IsSaid, end_after};
+ghost use Rattle.proto.specs.Served.{IsDumped};
 ghost use Rattle.proto.specs.Replies.{reply_line};
-ghost use Rattle.proto.specs.Wire.{CanGoOn, HasNotWritten, HasWritten};
+ghost use Rattle.proto.specs.Wire.{CanGoOn, HasPut};
 
 use crate::answer::Answer;
-use crate::reply::reply_text;
-use crate::serve::end::End;
 use crate::serve::say::say;
 use crate::serve::wire::put;
 use crate::text::Text;
 use bits::Bitmap;
-use metric::{Refusal, Stream, WriteFault};
+use metric::{Stream, WriteFault};
 use pbm::{first_piece, next_piece, plain_length};
 use std::alloc::Global;
 
-/// Says what DUMP is answered of a bitmap: the number of its image's bytes, and the image; or want of memory for a piece of it. Answers how the stream ends there, if it does.
+/// Says what DUMP is answered of a bitmap: the number of its image's bytes, and the image; or want of memory for a piece of it.
 pub fn say_dump<S: Stream>(
     alloc: Global,
     bitmap: &Bitmap,
     stream: &mut S,
     text: &mut Text,
-) -> Option<End>
+) -> Result<(), WriteFault>
     requires { CanGoOn (S.wire stream.old) }
     ensures { IsDumped bitmap.now result (S.wire stream.old) (S.wire stream.new) }
 {
     match first_piece(alloc, bitmap) {
         Ok(mut piece) => {
             let answer = Answer::Dumped(plain_length(bitmap, piece.as_slice()) as u64);
-            end_of(put_dump(stream, text, &answer, bitmap, &mut piece))
+            put_dump(stream, text, &answer, bitmap, &mut piece)
         }
-        Err(refusal) => end_of(say(stream, text, &Answer::Refused(refusal))),
-    }
-}
-
-/// Says what DUMP is answered without a pin. Answers how the stream ends there, if it does.
-pub fn say_not_pinned<S: Stream>(stream: &mut S, text: &mut Text) -> Option<End>
-    requires { CanGoOn (S.wire stream.old) }
-    ensures { IsSaid result (S.wire stream.old) (reply_line (answers.Refused NotPinned)) (S.wire stream.new) }
-{
-    end_of(say(stream, text, &Answer::Refused(Refusal::NotPinned)))
-}
-
-/// How the stream ends where that came of a write, if it does.
-pub fn end_of(written: Result<(), WriteFault>) -> Option<End>
-    ensures { result ≡ end_after written }
-{
-    match written {
-        Ok(()) => None,
-        Err(_) => Some(End::WriteFailed),
+        Err(refusal) => say(stream, text, &Answer::Refused(refusal)),
     }
 }
 
@@ -69,31 +47,11 @@ fn put_dump<S: Stream>(
     requires wire { CanGoOn (S.wire stream.old) }
     requires first { piece.old.items ≡ front_text Plain bitmap.now }
     requires room { 65536 ≤ vec_capacity piece.old }
-    ensures whole { OnOk result (HasWritten (S.wire stream.old) (reply_line answer.now ++ plain_text bitmap.now) (S.wire stream.new)) }
-    ensures front { OnErr result (HasNotWritten (S.wire stream.old) (reply_line answer.now ++ plain_text bitmap.now) (S.wire stream.new)) }
+    ensures { HasPut result (S.wire stream.old) (reply_line answer.now ++ plain_text bitmap.now) (S.wire stream.new) }
 {
-    match say(stream, text, answer) {
-        Ok(()) => put_image(stream, bitmap, piece),
-        Err(fault) => Err(fault),
-    }
-}
-
-/// Writes the image whose first piece is there.
-fn put_image<S: Stream>(
-    stream: &mut S,
-    bitmap: &Bitmap,
-    piece: &mut Vec<u8>,
-) -> Result<(), WriteFault>
-    requires wire { CanGoOn (S.wire stream.old) }
-    requires first { piece.old.items ≡ front_text Plain bitmap.now }
-    requires room { 65536 ≤ vec_capacity piece.old }
-    ensures whole { OnOk result (HasWritten (S.wire stream.old) (plain_text bitmap.now) (S.wire stream.new)) }
-    ensures front { OnErr result (HasNotWritten (S.wire stream.old) (plain_text bitmap.now) (S.wire stream.new)) }
-{
-    match put(stream, piece.as_slice()) {
-        Ok(()) => put_rows(stream, bitmap, piece),
-        Err(fault) => Err(fault),
-    }
+    say(stream, text, answer)?;
+    put(stream, piece.as_slice())?;
+    put_rows(stream, bitmap, piece)
 }
 
 /// Writes the lines of all rows, a piece after another in the same buffer.
@@ -104,19 +62,15 @@ fn put_rows<S: Stream>(
 ) -> Result<(), WriteFault>
     requires wire { CanGoOn (S.wire stream.old) }
     requires room { 65536 ≤ vec_capacity piece.old }
-    ensures whole { OnOk result (HasWritten (S.wire stream.old)
-        (flat_map (plain_digit bitmap.now) (range_with_len 0 (bitmap.now.height * bitmap.now.width))) (S.wire stream.new)) }
-    ensures front { OnErr result (HasNotWritten (S.wire stream.old)
-        (flat_map (plain_digit bitmap.now) (range_with_len 0 (bitmap.now.height * bitmap.now.width))) (S.wire stream.new)) }
+    ensures { HasPut result (S.wire stream.old)
+        (flat_map (plain_digit bitmap.now) (range_with_len 0 (bitmap.now.height * bitmap.now.width))) (S.wire stream.new) }
 {
     let height = bitmap.height();
     let mut y = 0;
     'pieces: while y < height {
         let next = next_piece(bitmap, y, piece);
-        match put(stream, piece.as_slice()) {
-            Ok(()) => y = next,
-            Err(fault) => return Err(fault),
-        }
+        put(stream, piece.as_slice())?;
+        y = next;
     }
     Ok(())
 }

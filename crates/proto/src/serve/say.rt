@@ -1,9 +1,8 @@
 //! What a client is told: a reply line.
 
-ghost use Rattle.std.specs.Prelude.{OnOk, OnErr};
 ghost use Rattle.proto.specs.Replies.{reply_line};
 ghost use Rattle.proto.specs.Served.{HasSaid};
-ghost use Rattle.proto.specs.Wire.{CanGoOn, HasNotWritten, HasWritten};
+ghost use Rattle.proto.specs.Wire.{CanGoOn, HasPut};
 
 use crate::answer::Answer;
 use crate::reply::reply_text;
@@ -15,11 +14,19 @@ use metric::{Stream, WriteFault};
 /// Writes a reply line.
 pub fn say<S: Stream>(stream: &mut S, text: &mut Text, answer: &Answer) -> Result<(), WriteFault>
     requires { CanGoOn (S.wire stream.old) }
-    ensures whole { OnOk result (HasWritten (S.wire stream.old) (reply_line answer.now) (S.wire stream.new)) }
-    ensures front { OnErr result (HasNotWritten (S.wire stream.old) (reply_line answer.now) (S.wire stream.new)) }
+    ensures { HasPut result (S.wire stream.old) (reply_line answer.now) (S.wire stream.new) }
 {
     reply_text(answer, text);
     put(stream, text.as_bytes())
+}
+
+/// Writes a reply line and passes it on at once.
+fn say_now<S: Stream>(stream: &mut S, text: &mut Text, answer: &Answer) -> Result<(), WriteFault>
+    requires { CanGoOn (S.wire stream.old) }
+    ensures { HasPut result (S.wire stream.old) (reply_line answer.now) (S.wire stream.new) }
+{
+    say(stream, text, answer)?;
+    pass_on(stream)
 }
 
 /// Writes the last reply line of a stream, which is passed on at once. Answers how the stream ends: as it was to, or by a failed write.
@@ -27,21 +34,8 @@ pub fn say_last<S: Stream>(stream: &mut S, text: &mut Text, answer: &Answer, end
     requires { CanGoOn (S.wire stream.old) }
     ensures { HasSaid end result (S.wire stream.old) (reply_line answer.now) (S.wire stream.new) }
 {
-    reply_text(answer, text);
-    match put_now(stream, text.as_bytes()) {
+    match say_now(stream, text, answer) {
         Ok(()) => end,
         Err(_) => End::WriteFailed,
-    }
-}
-
-/// Writes a text and passes it on.
-fn put_now<S: Stream>(stream: &mut S, text: &[u8]) -> Result<(), WriteFault>
-    requires { CanGoOn (S.wire stream.old) }
-    ensures whole { OnOk result (HasWritten (S.wire stream.old) text.now (S.wire stream.new)) }
-    ensures front { OnErr result (HasNotWritten (S.wire stream.old) text.now (S.wire stream.new)) }
-{
-    match put(stream, text) {
-        Ok(()) => pass_on(stream),
-        Err(fault) => Err(fault),
     }
 }

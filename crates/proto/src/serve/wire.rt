@@ -1,12 +1,13 @@
 //! Single steps on a stream: bytes that are read, a text that is written.
 
-ghost use Rattle.std.specs.Prelude.{◌<◌, [], length, IfOk, IfErr, OnOk, OnErr};
+ghost use Rattle.std.specs.Prelude.{◌≡◌, ◌⊎◌, ◌<◌, [], length, Ok, IsErr, IfOk, IfErr};
 ghost use Rattle.metric.specs.Stream.{StopsAt};
+ghost use Rattle.proto.specs.declared.serve.end.End.TheVariants.{EndOfInput, ReadFailed};
 ghost use Rattle.proto.specs.Served.{IsCutOff};
-ghost use Rattle.proto.specs.Wire.{CanGoOn, HasNotWritten, HasTaken, HasWritten};
+ghost use Rattle.proto.specs.Wire.{CanGoOn, HasPut, HasTaken};
 
 use crate::serve::end::End;
-use metric::{Stream, WriteFault};
+use metric::{ReadFault, Stream, WriteFault};
 
 /// Takes the next bytes of a stream into the front of a block that has a place, and answers how
 /// many: one at least. Otherwise it answers how the stream ends.
@@ -16,11 +17,7 @@ pub fn take_block<S: Stream>(stream: &mut S, block: &mut [u8]) -> Result<usize, 
     ensures taken { IfOk result (λ count. HasTaken count block.new (S.wire stream.old) (S.wire stream.new)) }
     ensures cut { IfErr result (λ end. IsCutOff end (S.wire stream.old) [] (S.wire stream.new)) }
 {
-    match stream.next_block(block) {
-        Ok(0) => Err(End::EndOfInput),
-        Ok(count) => Ok(count),
-        Err(_) => Err(End::ReadFailed),
-    }
+    some_of(stream.next_block(block))
 }
 
 /// The same, but takes none after the first byte that is `stop`.
@@ -31,7 +28,15 @@ pub fn take_until<S: Stream>(stream: &mut S, stop: u8, block: &mut [u8]) -> Resu
     ensures stops { IfOk result (λ count. StopsAt stop count block.new) }
     ensures cut { IfErr result (λ end. IsCutOff end (S.wire stream.old) [] (S.wire stream.new)) }
 {
-    match stream.next_until(stop, block) {
+    some_of(stream.next_until(stop, block))
+}
+
+/// How many bytes a read took into a block that has a place, if any, or how the stream ends.
+fn some_of(taken: Result<usize, ReadFault>) -> Result<usize, End>
+    ensures some { IfOk result (λ count. (taken ≡ Ok count) × (0 < count)) }
+    ensures none { IfErr result (λ end. ((end ≡ EndOfInput) × (taken ≡ Ok 0)) ⊎ ((end ≡ ReadFailed) × IsErr taken)) }
+{
+    match taken {
         Ok(0) => Err(End::EndOfInput),
         Ok(count) => Ok(count),
         Err(_) => Err(End::ReadFailed),
@@ -41,8 +46,7 @@ pub fn take_until<S: Stream>(stream: &mut S, stop: u8, block: &mut [u8]) -> Resu
 /// Writes a text.
 pub fn put<S: Stream>(stream: &mut S, text: &[u8]) -> Result<(), WriteFault>
     requires { CanGoOn (S.wire stream.old) }
-    ensures whole { OnOk result (HasWritten (S.wire stream.old) text.now (S.wire stream.new)) }
-    ensures front { OnErr result (HasNotWritten (S.wire stream.old) text.now (S.wire stream.new)) }
+    ensures { HasPut result (S.wire stream.old) text.now (S.wire stream.new) }
 {
     stream.write_all(text)
 }
@@ -50,8 +54,7 @@ pub fn put<S: Stream>(stream: &mut S, text: &[u8]) -> Result<(), WriteFault>
 /// Passes on what the stream may have kept back.
 pub fn pass_on<S: Stream>(stream: &mut S) -> Result<(), WriteFault>
     requires { CanGoOn (S.wire stream.old) }
-    ensures whole { OnOk result (HasWritten (S.wire stream.old) [] (S.wire stream.new)) }
-    ensures front { OnErr result (HasNotWritten (S.wire stream.old) [] (S.wire stream.new)) }
+    ensures { HasPut result (S.wire stream.old) [] (S.wire stream.new) }
 {
     stream.flush()
 }

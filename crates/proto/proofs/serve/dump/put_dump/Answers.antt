@@ -1,12 +1,27 @@
--- A write that fails within the reply line or the image leaves a beginning of both together.
-use Rattle.std.proofs.lemmas.Result.{on_err_weaker}
-use Rattle.pbm.specs.Writing.{plain_text}
+-- What was written before a failed write is a beginning of the reply line and the image together.
+use Rattle.std.proofs.lemmas.Result.{err_from_is_err_and}
+use Rattle.pbm.specs.declared.header.Form.TheVariants.{Plain}
+use Rattle.pbm.specs.Writing.{front_text, plain_text}
 use Rattle.proto.specs.Replies.{reply_line}
-use Rattle.proto.proofs.Wires.{failed_first, failed_on}
+use Rattle.proto.proofs.Dumping.{rows_text}
+use Rattle.proto.proofs.Wires.{failed_first, failed_on, put_on}
 use Rattle.proto.proofs.serve.dump.put_dump.Goals as goal
 
-pub returns-in-Err-clause-front : goal.returns-in-Err-clause-front
-returns-in-Err-clause-front g c = failed_first _ _ (reply_line c.args.answer.now) (plain_text c.args.bitmap.now) c.in-Err.ensures.front
+pub returns-in_err-say : goal.returns-in_err-say
+returns-in_err-say g c =
+    let p = err_from_is_err_and c.from_residual.result c.from_residual.ensures.1 in
+    rw (p.1) (failed_first _ _ (reply_line c.args.answer.now) (plain_text c.args.bitmap.now) c.in_err-say.ensures)
 
-pub returns-in-Ok-clause-front : goal.returns-in-Ok-clause-front
-returns-in-Ok-clause-front g c = on_err_weaker c.put_image.result (failed_on _ _ _ (reply_line c.args.answer.now) (plain_text c.args.bitmap.now) c.in-Ok.ensures.whole) c.put_image.ensures.front
+pub returns-in_err-put : goal.returns-in_err-put
+unfolding plain_text
+returns-in_err-put g c =
+    let p = err_from_is_err_and c.from_residual-in_err-put.result c.from_residual-in_err-put.ensures.1 in
+    let front = rw (c.as_slice.ensures.value, c.requires.first) at c.in_err-put.ensures in
+    rw (p.1) (failed_on _ _ _ (reply_line c.args.answer.now) (plain_text c.args.bitmap.now) c.in_ok-say.ensures (failed_first _ _ (front_text Plain c.args.bitmap.now) (rows_text c.args.bitmap.now c.args.bitmap.now.height) front))
+
+pub returns : goal.returns
+unfolding plain_text
+returns g c =
+    let front = rw (c.as_slice.ensures.value, c.requires.first) at c.in_ok-put.ensures in
+    put_on c.put_rows.result _ _ _ (reply_line c.args.answer.now) (plain_text c.args.bitmap.now) c.in_ok-say.ensures
+    (put_on c.put_rows.result _ _ _ (front_text Plain c.args.bitmap.now) (rows_text c.args.bitmap.now c.args.bitmap.now.height) front c.put_rows.ensures)

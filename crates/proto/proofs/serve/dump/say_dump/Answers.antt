@@ -1,23 +1,18 @@
 -- The image was counted and written, or there was no memory for a piece.
-use Rattle.std.proofs.Common.{[], ◌++◌, refl, ap}
+use Rattle.std.proofs.Common.{[], refl, ap}
 use Rattle.pbm.specs.Writing.{plain_text}
 use Rattle.proto.specs.declared.answer.Answer.TheVariants as answers
 use Rattle.proto.specs.Replies.{reply_line}
-use Rattle.proto.proofs.Dumping.{said_after, said_alone}
+use Rattle.proto.proofs.Wires.{put_alone}
 use Rattle.proto.proofs.serve.dump.say_dump.Goals as goal
 
 pub returns-in-Ok : goal.returns-in-Ok
-returns-in-Ok g c = record {
-  answer = answers.Dumped c.plain_length.result;
-  body = plain_text c.args.bitmap.now;
-  is_dump = (refl, c.plain_length.ensures);
-  said = said_after c.put_dump.result c.end_of.result _ _ (reply_line (answers.Dumped c.plain_length.result) ++ plain_text c.args.bitmap.now) c.end_of.ensures c.put_dump.ensures.whole c.put_dump.ensures.front;
-}
+returns-in-Ok g c = record { answer = answers.Dumped c.plain_length.result; body = plain_text c.args.bitmap.now; is_dump = (refl, c.plain_length.ensures); put = c.put_dump.ensures }
 
 pub returns-in-Err : goal.returns-in-Err
 returns-in-Err g c = record {
   answer = answers.Refused c.in-Err.refusal;
   body = [];
   is_dump = (ap answers.Refused c.in-Err.ensures.memory, refl);
-  said = said_alone c.say.result c.end_of-in-Err.result _ _ (reply_line (answers.Refused c.in-Err.refusal)) c.end_of-in-Err.ensures c.say.ensures.whole c.say.ensures.front;
+  put = put_alone c.say.result _ _ (reply_line (answers.Refused c.in-Err.refusal)) c.say.ensures;
 }

@@ -1,7 +1,7 @@
 -- A line with a blank has the word before its first blank and then those of the rest; one without a blank is a word.
 use Rattle.std.proofs.Common.{sym}
 use Rattle.proto.proofs.Splitting.{words-blank, words-one}
-use Rattle.proto.proofs.words.split_word.Goals as goal
+use Rattle.proto.proofs.split.split_word.Goals as goal
 
 pub returns-in-Some-clause-words : goal.returns-in-Some-clause-words
 returns-in-Some-clause-words c = words-blank c.args.bytes.now c.in-Some.end (sym c.in-Some.ensures)

@@ -1,4 +1,4 @@
-//! The words of a line, which stand between single blanks.
+//! How a line is split into words, which stand between single blanks.
 
 ghost use Rattle.std.specs.Prelude.{◌≡◌, ◌==◌, [], ◌∷◌, ◌<◌, ◌≤◌, ◌^◌, length, position, MatchOption, IfSome};
 ghost use Rattle.std.specs.Str.Lines.{strip_carriage_return};

@@ -1,0 +1,201 @@
+//! One line of a stream: read, answered, and its answer said.
+
+ghost use Rattle.std.specs.Prelude.{◌≡◌, ℕ, List, Ok};
+ghost use Rattle.proto.specs.Exchanges.{IsStampAnswer, line_said, line_seen_in};
+ghost use Rattle.proto.specs.Replies.{reply_line};
+ghost use Rattle.proto.specs.Said as saids;
+ghost use Rattle.proto.specs.Served.{AreKept, HasHeard, IsHeard, IsSaid, IsServed, end_after};
+ghost use Rattle.metric.specs.Wire.{Wire};
+ghost use Rattle.proto.specs.Wire.{CanGoOn};
+
+use crate::answer::Answer;
+use crate::line::{Line, parse_line};
+use crate::serve::caller::Caller;
+use crate::serve::counted::{Counted, read_counted};
+use crate::serve::end::End;
+use crate::serve::line_buffer::LineBuffer;
+use crate::serve::say::{say, say_last};
+use crate::split::without_cr;
+use crate::text::Text;
+use map_core::Command;
+use metric::{PbmFault, Refusal, Stream, WriteFault};
+use pbm::read_image;
+use session::Store;
+use shelf::StoreName;
+use std::alloc::{AllocError, Global};
+use std::sync::Wait;
+
+/// The most bytes of a stamp's image: the plain image of the largest map fits.
+pub const MOST_COUNTED: u32 = 17_100_000;
+
+/// What the lines of a stream are served with: the store, and the buffers of a line and of a reply line.
+#[derive(Drop)]
+pub struct Service<'a, Id: StoreName, R: Wait> {
+    rt: &'a R,
+    alloc: Global,
+    store: &'a Store<Id>,
+    line: LineBuffer,
+    text: Text,
+}
+
+impl<'a, Id: StoreName, R: Wait> Service<'a, Id, R> {
+    /// What lines are served with, its buffers made. Fails only when out of memory.
+    pub fn new(rt: &'a R, alloc: Global, store: &'a Store<Id>) -> Result<Self, AllocError> {
+        let line = LineBuffer::new(alloc)?;
+        let text = Text::new(alloc)?;
+        Ok(Service {
+            rt,
+            alloc,
+            store,
+            line,
+            text,
+        })
+    }
+
+    /// Serves one line of a stream. Answers how the stream ends there, if it does.
+    pub fn serve_line<S: Stream>(
+        &mut self,
+        caller: Caller<Id>,
+        stream: &mut S,
+    ) -> (Caller<Id>, Option<End>)
+        requires { CanGoOn (S.wire stream.old) }
+        ensures { IsServed Id.store result.1 (S.wire stream.old) caller (S.wire stream.new) result.0 }
+    {
+        match self.line.read(stream) {
+            Ok(()) => {
+                let asked = hear(self.alloc, self.line.as_bytes());
+                self.serve(caller, asked, stream)
+            }
+            Err(End::LineTooLong) => {
+                let answer = Answer::Refused(Refusal::LineTooLong);
+                let end = say_last(stream, &mut self.text, &answer, End::LineTooLong);
+                (caller, Some(end))
+            }
+            Err(end) => (caller, Some(end)),
+        }
+    }
+
+    /// Serves a line that was read to its LF, by what it says.
+    fn serve<S: Stream>(
+        &mut self,
+        caller: Caller<Id>,
+        asked: Result<Line, Refusal>,
+        stream: &mut S,
+    ) -> (Caller<Id>, Option<End>)
+        requires { CanGoOn (S.wire stream.old) }
+        ensures { (before : Wire) → HasHeard before (line_seen_in asked) (S.wire stream.old)
+            → IsServed Id.store result.1 before caller (S.wire stream.new) result.0 }
+    {
+        let mut caller = caller;
+        match asked {
+            Ok(Line::Quit) => {
+                let caller = Caller::new(caller.into_session());
+                let end = say_last(stream, &mut self.text, &Answer::Bye, End::Quit);
+                (caller, Some(end))
+            }
+            Ok(Line::Dump) => {
+                let end = end_of(caller.dump(self.alloc, stream, &mut self.text));
+                (caller, end)
+            }
+            Ok(Line::Stamp { x, y, length }) => self.serve_stamp(caller, x, y, length, stream),
+            Ok(Line::Command(command)) => {
+                let answer = caller.command(self.rt, self.store, command);
+                self.reply(caller, answer, stream)
+            }
+            Ok(Line::Query(query)) => {
+                let answer = caller.query(self.alloc, &query);
+                self.reply(caller, answer, stream)
+            }
+            Ok(Line::Pin) => {
+                let (caller, answer) = caller.pin(self.alloc);
+                self.reply(caller, answer, stream)
+            }
+            Ok(Line::Unpin) => {
+                let (caller, answer) = caller.unpin();
+                self.reply(caller, answer, stream)
+            }
+            Err(refusal) => {
+                let answer = caller.refuse(refusal);
+                self.reply(caller, answer, stream)
+            }
+        }
+    }
+
+    /// Serves a stamp, whose image has so many bytes, which follow its line.
+    fn serve_stamp<S: Stream>(
+        &mut self,
+        caller: Caller<Id>,
+        x: u16,
+        y: u16,
+        length: u32,
+        stream: &mut S,
+    ) -> (Caller<Id>, Option<End>)
+        requires { CanGoOn (S.wire stream.old) }
+        ensures { (before : Wire) → HasHeard before (Ok (saids.stamp x y length)) (S.wire stream.old)
+            → IsServed Id.store result.1 before caller (S.wire stream.new) result.0 }
+    {
+        if length > MOST_COUNTED {
+            let answer = Answer::Refused(Refusal::TooMuchData);
+            let end = say_last(stream, &mut self.text, &answer, End::TooMuchData);
+            return (caller, Some(end));
+        }
+        match read_counted(self.alloc, stream, length) {
+            Ok(kept) => {
+                let (caller, answer) = self.stamp(caller, x, y, kept);
+                self.reply(caller, answer, stream)
+            }
+            Err(end) => (caller, Some(end)),
+        }
+    }
+
+    /// What a stamp is answered, whose image stands at the front of the bytes that were kept.
+    fn stamp(&self, caller: Caller<Id>, x: u16, y: u16, kept: Counted) -> (Caller<Id>, Answer)
+        ensures { (bytes : List ℕ) → AreKept kept bytes → IsStampAnswer Id.store x y bytes caller result.1 result.0 }
+    {
+        let bytes = match kept {
+            Ok(bytes) => bytes,
+            Err(refused) => return (caller, Answer::Refused(Refusal::from(refused))),
+        };
+        let mut caller = caller;
+        match read_image(self.alloc, bytes.as_slice()) {
+            Ok((bitmap, _)) => {
+                let answer = caller.command(self.rt, self.store, Command::Stamp { x, y, bitmap });
+                (caller, answer)
+            }
+            Err(PbmFault::Memory) => (caller, Answer::Refused(Refusal::Memory)),
+            Err(fault) => (caller, Answer::Refused(Refusal::BadImage(fault))),
+        }
+    }
+
+    /// Says what a caller is answered, after which the stream goes on unless the write fails.
+    fn reply<S: Stream>(
+        &mut self,
+        caller: Caller<Id>,
+        answer: Answer,
+        stream: &mut S,
+    ) -> (Caller<Id>, Option<End>)
+        requires { CanGoOn (S.wire stream.old) }
+        ensures caller { result.0 ≡ caller }
+        ensures said { IsSaid result.1 (S.wire stream.old) (reply_line answer) (S.wire stream.new) }
+    {
+        let end = end_of(say(stream, &mut self.text, &answer));
+        (caller, end)
+    }
+}
+
+/// What a line of a stream says, without the CR at its end.
+fn hear(alloc: Global, line: &[u8]) -> Result<Line, Refusal>
+    ensures { IsHeard (line_said line.now) (line_seen_in result) }
+{
+    parse_line(alloc, without_cr(line))
+}
+
+/// How the stream ends where that came of a write, if it does.
+fn end_of(written: Result<(), WriteFault>) -> Option<End>
+    ensures { result ≡ end_after written }
+{
+    match written {
+        Ok(()) => None,
+        Err(_) => Some(End::WriteFailed),
+    }
+}
