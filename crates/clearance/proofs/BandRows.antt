@@ -45,13 +45,10 @@ IsNextGap-banded cells bands top bottom gap next banded is = record {
   below = λ b obstacle. is.below b (banded obstacle.0 b obstacle.1);
 }
 
--- rows that are passed over have no obstacle that could lower the least
-pub IsLeastWithin-passed : (distance : ℕ → ℕ → ℕ) (cells : Cells) (rect : Rect) (gap next limit least : ℕ) → IsBitmap cells → 0 < gap
-    → IsNextGap (λ b. (a : ℕ) × IsObstacle cells a b) rect.y0 (rect.y1 - 1) gap next
-    → IsLeastWithin distance (IsObstacle cells) rect gap limit least → IsLeastWithin distance (IsObstacle cells) rect next limit least
-IsLeastWithin-passed distance cells rect gap next limit least bitmap some is before =
-    IsLeastAmong-same distance (IsObstacle cells) rect (λ b. row_gap rect b < gap) (λ b. row_gap rect b < next) limit least least refl
-    (λ a b obstacle near.
+-- an obstacle's row that comes before the next gap comes before the gap from which rows were passed over
+pub row_gap-passed : (cells : Cells) (rect : Rect) (gap next : ℕ) → IsBitmap cells → 0 < gap → IsNextGap (λ b. (a : ℕ) × IsObstacle cells a b) rect.y0 (rect.y1 - 1) gap next
+    → (a b : ℕ) → IsObstacle cells a b → row_gap rect b < next → row_gap rect b < gap
+row_gap-passed cells rect gap next bitmap some is a b obstacle near =
     let rows = rect.has_cells.rows in
     let last = (obstacle_within cells bitmap a b obstacle).3 in
     elim (cases_lt (row_gap rect b) gap) [
@@ -63,7 +60,15 @@ IsLeastWithin-passed distance cells rect gap next limit least bitmap some is bef
           | inr own ↦ absurd (omega arith)
         ]
       ]
-    ]) before
+    ]
+
+-- rows that are passed over have no obstacle that could lower the least
+pub IsLeastWithin-passed : (distance : ℕ → ℕ → ℕ) (cells : Cells) (rect : Rect) (gap next limit least : ℕ) → IsBitmap cells → 0 < gap
+    → IsNextGap (λ b. (a : ℕ) × IsObstacle cells a b) rect.y0 (rect.y1 - 1) gap next
+    → IsLeastWithin distance (IsObstacle cells) rect gap limit least → IsLeastWithin distance (IsObstacle cells) rect next limit least
+IsLeastWithin-passed distance cells rect gap next limit least bitmap some is before =
+    IsLeastAmong-same distance (IsObstacle cells) rect (λ b. row_gap rect b < gap) (λ b. row_gap rect b < next) limit least least refl
+    (row_gap-passed cells rect gap next bitmap some is) before
 
 -- nor one that could be nearer than the best
 pub IsNearAmong-passed : (distance : ℕ → ℕ → ℕ) (cells : Cells) (x y gap next : ℕ) (best : Option Found) → IsBitmap cells

@@ -1,5 +1,5 @@
 -- The nearest of a map with its frame, from that of the frame and that of the map, and the least over a rectangle likewise.
-use Rattle.std.proofs.Common.{◌≡◌, ℕ, ◌+◌, ◌-◌, ◌<◌, ◌≤◌, ℤ, pos, negsuc, Some, None, Option, IfSome, inl, inr, refl, sym, ap, subst, ◌∙◌, arith}
+use Rattle.std.proofs.Common.{◌≡◌, ℕ, zero, suc, ◌+◌, ◌-◌, ◌<◌, ◌≤◌, ℤ, pos, negsuc, Some, None, Option, IfSome, inl, inr, refl, sym, ap, subst, ◌∙◌, arith}
 use Rattle.std.specs.Int.{abs_diff}
 use Rattle.std.proofs.lemmas.Bool.{cases_lt}
 use Rattle.metric.specs.Cellwise.{Key, key_of, IsAtMost}
@@ -16,8 +16,11 @@ use Rattle.bits.proofs.CellsLemmas.{has-outside}
 use Rattle.bits.proofs.Framing.{count, count_back, distance_less, frame_cell, framed_blocked, same_distance}
 use Rattle.clearance.specs.declared.found.Found.{Found}
 use Rattle.clearance.specs.Nearest.{IsFound}
+use Rattle.clearance.specs.Parts.{IsPart}
+use Rattle.clearance.specs.declared.part.Part.TheVariants.{Frame}
 use Rattle.clearance.specs.Rows.{IsFar}
 use Rattle.clearance.specs.Search.{IsInRect, IsLeastBelow, IsLeastInBits, IsReachedFrom}
+use Rattle.clearance.proofs.Searches.{IsFar-lower}
 use Rattle.clearance.specs.Frames.{IsBetterOfBoth, IsFoundBelow, IsLoweredByFrame, key_found, counted_with_frame}
 
 -- a key by its parts
@@ -143,33 +146,44 @@ frame_far d grows stays cells rect limit least x y a b bitmap columns rows low c
       | inr (inr (inr end)) ↦ let far = grown 0 (cells.height - (rect.y1 - 1)) (omega arith) (omega arith) in let most = low.bottom in omega arith
     ]
 
+-- a spot of the frame is no obstacle of the map
+frame_only : (cells : Cells) → IsBitmap cells → (a b : ℕ) → IsFrameCell (cells.width + 1) (cells.height + 1) a b → IsBlocked cells Wall (less_one a) (less_one b) → IsFrame cells (less_one a) (less_one b)
+frame_only cells bitmap a b frame (inr edge) = edge
+frame_only cells bitmap zero b frame (inl black) = absurd black
+frame_only cells bitmap (suc a) zero frame (inl black) = absurd black
+frame_only cells bitmap (suc a) (suc b) frame (inl black) =
+    let inside = has-outside cells bitmap a b black in
+    let column = inside.column in
+    let row = inside.row in
+    elim frame.edge [ inl first ↦ absurd (omega arith) | inr (inl last) ↦ absurd (omega arith) | inr (inr (inl top)) ↦ absurd (omega arith) | inr (inr (inr end)) ↦ absurd (omega arith) ]
+
 -- a cell of the frame is reached from a cell of the rectangle
-frame_reached : (d : ℕ → ℕ → ℕ) (cells : Cells) (rect : Rect) (least x y a b m g : ℕ) → IsInRect rect x y → IsFrameCell (cells.width + 1) (cells.height + 1) a b
-    → abs_diff (x + 1) a ≡ m → abs_diff (y + 1) b ≡ g → d m g ≡ least → IsReachedFrom d (IsBlocked cells Wall) (IsInRect rect) least
-frame_reached d cells rect least x y a b m g cell frame across down is = record {
+frame_reached : (d : ℕ → ℕ → ℕ) (cells : Cells) (rect : Rect) (least x y a b m g : ℕ) → IsBitmap cells → IsInRect rect x y → IsFrameCell (cells.width + 1) (cells.height + 1) a b
+    → abs_diff (x + 1) a ≡ m → abs_diff (y + 1) b ≡ g → d m g ≡ least → IsReachedFrom d (IsFrame cells) (IsInRect rect) least
+frame_reached d cells rect least x y a b m g bitmap cell frame across down is = record {
   x = x;
   y = y;
   cell = cell;
   a = less_one a;
   b = less_one b;
-  obstacle = framed_blocked cells a b (inl frame);
+  obstacle = frame_only cells bitmap a b frame (framed_blocked cells a b (inl frame));
   distance_is = distance_less d x y a b ∙ (same_distance d (abs_diff (x + 1) a) m (abs_diff (y + 1) b) g across down ∙ is);
 }
 
 -- one of the four sides of the frame is reached
-side_reached : (d : ℕ → ℕ → ℕ) (cells : Cells) (rect : Rect) (limit least : ℕ) → rect.x1 ≤ cells.width → rect.y1 ≤ cells.height → IsLoweredByFrame d cells.width cells.height rect limit least → least < limit
-    → IsReachedFrom d (IsBlocked cells Wall) (IsInRect rect) least
-side_reached d cells rect limit least columns rows low less =
+side_reached : (d : ℕ → ℕ → ℕ) (cells : Cells) (rect : Rect) (limit least : ℕ) → IsBitmap cells → rect.x1 ≤ cells.width → rect.y1 ≤ cells.height → IsLoweredByFrame d cells.width cells.height rect limit least → least < limit
+    → IsReachedFrom d (IsFrame cells) (IsInRect rect) least
+side_reached d cells rect limit least bitmap columns rows low less =
     let some_columns = rect.has_cells.columns in
     let some_rows = rect.has_cells.rows in
     let corner : IsInRect rect rect.x0 rect.y0 = record { left = omega arith; right = omega arith; top = omega arith; bottom = omega arith } in
     let right_corner : IsInRect rect (rect.x1 - 1) rect.y0 = record { left = omega arith; right = omega arith; top = omega arith; bottom = omega arith } in
     let lower_corner : IsInRect rect rect.x0 (rect.y1 - 1) = record { left = omega arith; right = omega arith; top = omega arith; bottom = omega arith } in
     elim (low.reached less) [
-      | inl left ↦ frame_reached d cells rect least rect.x0 rect.y0 0 (rect.y0 + 1) (rect.x0 + 1) 0 corner (record { column = omega arith; row = omega arith; edge = inl refl }) (omega arith) (omega arith) left
-      | inr (inl right) ↦ frame_reached d cells rect least (rect.x1 - 1) rect.y0 (cells.width + 1) (rect.y0 + 1) (cells.width - (rect.x1 - 1)) 0 right_corner (record { column = omega arith; row = omega arith; edge = inr (inl refl) }) (omega arith) (omega arith) right
-      | inr (inr (inl top)) ↦ frame_reached d cells rect least rect.x0 rect.y0 (rect.x0 + 1) 0 0 (rect.y0 + 1) corner (record { column = omega arith; row = omega arith; edge = inr (inr (inl refl)) }) (omega arith) (omega arith) top
-      | inr (inr (inr end)) ↦ frame_reached d cells rect least rect.x0 (rect.y1 - 1) (rect.x0 + 1) (cells.height + 1) 0 (cells.height - (rect.y1 - 1)) lower_corner (record { column = omega arith; row = omega arith; edge = inr (inr (inr refl)) }) (omega arith) (omega arith) end
+      | inl left ↦ frame_reached d cells rect least rect.x0 rect.y0 0 (rect.y0 + 1) (rect.x0 + 1) 0 bitmap corner (record { column = omega arith; row = omega arith; edge = inl refl }) (omega arith) (omega arith) left
+      | inr (inl right) ↦ frame_reached d cells rect least (rect.x1 - 1) rect.y0 (cells.width + 1) (rect.y0 + 1) (cells.width - (rect.x1 - 1)) 0 bitmap right_corner (record { column = omega arith; row = omega arith; edge = inr (inl refl) }) (omega arith) (omega arith) right
+      | inr (inr (inl top)) ↦ frame_reached d cells rect least rect.x0 rect.y0 (rect.x0 + 1) 0 0 (rect.y0 + 1) bitmap corner (record { column = omega arith; row = omega arith; edge = inr (inr (inl refl)) }) (omega arith) (omega arith) top
+      | inr (inr (inr end)) ↦ frame_reached d cells rect least rect.x0 (rect.y1 - 1) (rect.x0 + 1) (cells.height + 1) 0 (cells.height - (rect.y1 - 1)) bitmap lower_corner (record { column = omega arith; row = omega arith; edge = inr (inr (inr refl)) }) (omega arith) (omega arith) end
     ]
 
 -- the least among the obstacles of the bitmap is reached by their spots
@@ -190,6 +204,25 @@ record IsCountedFrame (cells : Cells) (c e : ℤ) : Type 0 where
 frame_counted : (cells : Cells) (c e : ℤ) → IsFrame cells c e → IsCountedFrame cells c e
 frame_counted cells c e frame = record { a = count c; b = count e; column = count_back c frame.left; row = count_back e frame.top; frame = frame_cell cells c e frame }
 
+-- a spot of the frame is no nearer to a rectangle's cell than the lowered limit
+frame_spot_far : (d : ℕ → ℕ → ℕ) → Grows d → StaysNearer d → (cells : Cells) (rect : Rect) (limit least : ℕ) → IsBitmap cells → rect.x1 ≤ cells.width → rect.y1 ≤ cells.height
+    → IsLoweredByFrame d cells.width cells.height rect limit least → (x y : ℕ) (a b : ℤ) → IsInRect rect x y → IsFrame cells a b → IsFar (spot_distance d x y a b) least
+frame_spot_far d grows stays cells rect limit least bitmap columns rows low x y a b cell frame =
+    let counted = frame_counted cells a b frame in
+    let far = frame_far d grows stays cells rect limit least x y counted.a counted.b bitmap columns rows low cell counted.frame in
+    let there = distance_less d x y counted.a counted.b in
+    let here : spot_distance d x y a b ≡ spot_distance d x y (less_one counted.a) (less_one counted.b) = ap (λ (s : ℤ). spot_distance d x y s b) counted.column ∙ ap (λ (s : ℤ). spot_distance d x y (less_one counted.a) s) counted.row in
+    record { not_below = omega arith; is_limit = low.small }
+
+-- the limit lowered by the frame is the least of the rectangle's cells and the frame
+pub IsLeastBelow-frame : (d : ℕ → ℕ → ℕ) → Grows d → StaysNearer d → (cells : Cells) (rect : Rect) (limit least : ℕ) → IsBitmap cells → rect.x1 ≤ cells.width → rect.y1 ≤ cells.height
+    → IsLoweredByFrame d cells.width cells.height rect limit least → IsLeastBelow d (IsPart cells Frame) rect limit least
+IsLeastBelow-frame d grows stays cells rect limit least bitmap columns rows low = record {
+  within = low.within;
+  far = frame_spot_far d grows stays cells rect limit least bitmap columns rows low;
+  reached = side_reached d cells rect limit least bitmap columns rows low;
+}
+
 -- no spot of a walled map is nearer than the least
 walled_far : (d : ℕ → ℕ → ℕ) → Grows d → StaysNearer d → (cells : Cells) (rect : Rect) (limit middle least : ℕ) → IsBitmap cells → rect.x1 ≤ cells.width → rect.y1 ≤ cells.height
     → IsLoweredByFrame d cells.width cells.height rect limit middle → IsLeastInBits d (IsObstacle cells) rect middle least
@@ -198,13 +231,7 @@ walled_far d grows stays cells rect limit middle least bitmap columns rows low i
 walled_far d grows stays cells rect limit middle least bitmap columns rows low is x y (pos a) (negsuc b) cell (inl none) = absurd none
 walled_far d grows stays cells rect limit middle least bitmap columns rows low is x y (negsuc a) b cell (inl none) = absurd none
 walled_far d grows stays cells rect limit middle least bitmap columns rows low is x y a b cell (inr frame) =
-    let counted = frame_counted cells a b frame in
-    let far = frame_far d grows stays cells rect limit middle x y counted.a counted.b bitmap columns rows low cell counted.frame in
-    let there = distance_less d x y counted.a counted.b in
-    let lower = is.within in
-    let small = low.small in
-    let here : spot_distance d x y a b ≡ spot_distance d x y (less_one counted.a) (less_one counted.b) = ap (λ (s : ℤ). spot_distance d x y s b) counted.column ∙ ap (λ (s : ℤ). spot_distance d x y (less_one counted.a) s) counted.row in
-    record { not_below = omega arith; is_limit = omega arith }
+    IsFar-lower (spot_distance d x y a b) middle least is.within (frame_spot_far d grows stays cells rect limit middle bitmap columns rows low x y a b cell frame)
 
 -- the least of the frame and then of the own obstacles of a map is that of the walled map
 pub IsLeastBelow-wall : (d : ℕ → ℕ → ℕ) → Grows d → StaysNearer d → (cells : Cells) (rect : Rect) (limit middle least : ℕ) → IsBitmap cells → rect.x1 ≤ cells.width → rect.y1 ≤ cells.height
@@ -217,7 +244,8 @@ IsLeastBelow-wall d grows stays cells rect limit middle least bitmap columns row
     | inr same ↦
         let most = is.within in
         let equal : middle ≡ least = omega arith in
-        subst (λ (n : ℕ). IsReachedFrom d (IsBlocked cells Wall) (IsInRect rect) n) equal (side_reached d cells rect limit middle columns rows low (omega arith))
+        let side = side_reached d cells rect limit middle bitmap columns rows low (omega arith) in
+        record { x = side.x; y = side.y; cell = side.cell; a = side.a; b = side.b; obstacle = inr side.obstacle; distance_is = side.distance_is ∙ equal }
   ];
 }
 

@@ -3,6 +3,7 @@ mod Bits
 mod Firsts
 mod FrameLemmas
 mod Borders
+mod LineFirsts
 mod NearestSearches
 mod PieceFirsts
 mod RectFirsts

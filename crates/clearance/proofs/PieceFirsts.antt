@@ -1,16 +1,18 @@
 -- The cells after a point, up to the next, as the lines of a strip, and as a piece of a path.
-use Rattle.std.proofs.Common.{◌≡◌, ℕ, ℤ, ◌+◌, ◌-◌, ◌^◌, ◌<◌, ◌≤◌, List, length, Option, refl, sym, subst, ◌∙◌, arith}
+use Rattle.std.proofs.Common.{◌≡◌, ℕ, ℤ, ◌+◌, ◌-◌, ◌^◌, ◌<◌, ◌≤◌, List, length, None, Option, refl, sym, subst, ◌∙◌, arith}
 use Rattle.metric.specs.declared.cell.Cell.{Cell}
 use Rattle.metric.specs.declared.near.Near.{Near}
 use Rattle.metric.specs.declared.rect.Rect.{Rect}
 use Rattle.metric.specs.Nearest.{spot_distance}
+use Rattle.clearance.specs.Lines.{IsFirstBefore}
+use Rattle.clearance.specs.declared.lines.Lines.{Lines}
 use Rattle.clearance.specs.Paths.{towards, cells_up_to}
 use Rattle.clearance.specs.Rows.{IsFar}
 use Rattle.clearance.specs.Search.{IsInRect, IsLeastBelow}
 use Rattle.clearance.specs.Segments.{cell_count}
-use Rattle.clearance.specs.Firsts.{IsCellNear, IsCellWithNear, IsListNear, cell_of_list, IsFirstOrNone, IsLeastOver}
+use Rattle.clearance.specs.Firsts.{IsCellNear, IsCellWithNear, cell_of_list, IsFirstOrNone, IsLeastOver}
 use Rattle.clearance.specs.Answers.{IsLeastOf}
-use Rattle.clearance.specs.Strips.{IsOnLine, IsSomeNear, IsFirstNear}
+use Rattle.clearance.specs.Strips.{IsOnLine, IsFirstNear}
 use Rattle.clearance.specs.declared.strip.Strip.{Strip}
 use Rattle.clearance.proofs.Firsts.{IsFirstOrNone-at, IsLeastOf-first}
 use Rattle.clearance.proofs.Walks.{cell_of_step, length-cells_up_to, get_or-cells_up_to}
@@ -76,16 +78,14 @@ IsLeastOver-piece distance Obstacle from to strip rect limit least count all onl
       (k - 1, within, reached.a, reached.b, reached.obstacle, subst (λ (c : Cell). spot_distance distance c.x c.y reached.a reached.b ≡ least) (sym here) reached.distance_is);
 }
 
--- of the piece's lines some has an obstacle near
-pub IsSomeNear-piece : (distance : ℕ → ℕ → ℕ) (Obstacle : ℤ → ℤ → Type 0) (from to : Cell) (strip : Strip) (limit count : ℕ)
-    → IsPieceStrip from to strip → count ≡ cell_count from to → IsListNear distance Obstacle (cells_up_to from to) limit → IsSomeNear distance Obstacle strip limit 1 count
-IsSomeNear-piece distance Obstacle from to strip limit count is count_is (i, within, near) =
+-- where no line is near, no cell is
+pub IsFirstOrNone-far : (distance : ℕ → ℕ → ℕ) (Obstacle : ℤ → ℤ → Type 0) (from to : Cell) (lines : Lines) (count step : ℕ) → IsFirstBefore distance Obstacle lines (count + 1) step → step ≡ count + 1
+    → lines.first ≡ 1 → IsPieceStrip from to lines.strip → count ≡ cell_count from to → IsFirstOrNone distance Obstacle (cells_up_to from to) lines.limit None
+IsFirstOrNone-far distance Obstacle from to lines count step is none first piece count_is = λ i a b within obstacle.
     let cell = cell_at from to i within in
-    let step = cell.0 in
-    let here : IsCellNear distance Obstacle limit (cell_of_step from to i).x (cell_of_step from to i).y = subst (λ (c : Cell). IsCellNear distance Obstacle limit c.x c.y) cell.1 near in
-    let first : 1 ≤ 1 + i = omega arith in
-    let last : 1 + i ≤ count = omega arith in
-    (1 + i, first, last, record { x = (cell_of_step from to i).x; y = (cell_of_step from to i).y; on_line = piece-line strip from to i is; a = here.a; b = here.b; obstacle = here.obstacle; nearer = here.nearer })
+    let few = cell.0 in
+    let far = is.before (1 + i) (omega arith) (omega arith) (cell_of_step from to i).x (cell_of_step from to i).y a b (piece-line lines.strip from to i piece) obstacle in
+    subst (λ (c : Cell). lines.limit ≤ spot_distance distance c.x c.y a b) (sym cell.1) far
 
 -- the first line is the first cell
 pub IsFirstOrNone-piece : (distance : ℕ → ℕ → ℕ) (Obstacle : ℤ → ℤ → Type 0) (from to : Cell) (strip : Strip) (limit count step : ℕ) (cell : Cell) (found : Option (Cell × Near))
@@ -115,13 +115,6 @@ IsFirstOrNone-piece distance Obstacle from to strip limit count step cell found 
     let far = first.before (1 + i) (omega arith) (omega arith) (cell_of_step from to i).x (cell_of_step from to i).y a b (piece-line strip from to i is) obstacle in
     subst (λ (c : Cell). limit ≤ spot_distance distance c.x c.y a b) (sym before.1) far)
     with
-
--- a piece whose least is below the limit has a cell that is near
-pub IsListNear-piece : (distance : ℕ → ℕ → ℕ) (Obstacle : ℤ → ℤ → Type 0) (cells : List Cell) (limit least : ℕ) → IsLeastOver distance Obstacle cells limit least → least < limit
-    → IsListNear distance Obstacle cells limit
-IsListNear-piece distance Obstacle cells limit least is less =
-    let (i, within, a, b, obstacle, dist) = is.reached less in
-    (i, within, record { a = a; b = b; obstacle = obstacle; nearer = rw dist less })
 
 -- where the least of all cells isn't one that a distance may have, there is no obstacle
 pub IsLeastOver-none : (distance : ℕ → ℕ → ℕ) (Obstacle : ℤ → ℤ → Type 0) (cells : List Cell) (limit least : ℕ) → 0 < length cells → IsLeastOver distance Obstacle cells limit least → 2 ^ 32 ≤ least

@@ -1,17 +1,20 @@
 -- The least distance of a rectangle's cells, as more rows are looked at.
-use Rattle.std.proofs.Common.{◌≡◌, ℕ, ◌+◌, ◌-◌, ◌*◌, ◌/◌, ◌%◌, ◌^◌, ◌<◌, ◌≤◌, ◌⊎◌, min, max, inl, inr, Bool, true, false, cond, List, length, get_or, refl, sym, ap, subst, ◌∙◌, arith}
+use Rattle.std.proofs.Common.{◌≡◌, ℕ, ℤ, pos, negsuc, ◌+◌, ◌-◌, ◌*◌, ◌/◌, ◌%◌, ◌^◌, ◌<◌, ◌≤◌, ◌⊎◌, min, max, inl, inr, Bool, true, false, cond, List, length, get_or, refl, sym, ap, subst, ◌∙◌, arith}
 use Rattle.std.specs.Int.{abs_diff, bit_at}
 use Rattle.std.proofs.lemmas.Bool.{cases_lt}
 use Rattle.std.proofs.lemmas.Nat.Bits.{bit_at-zero}
 use Rattle.metric.specs.declared.rect.Rect.{Rect}
 use Rattle.metric.specs.Distance.{Grows, distance_between}
 use Rattle.metric.specs.Crossing.{StaysNearer}
+use Rattle.metric.specs.Nearest.{spot_distance}
 use Rattle.metric.proofs.Growing.{of_grows, of_grows_with_dx}
 use Rattle.bits.specs.Cells.{Cells, has, IsBitmap, IsObstacle}
 use Rattle.bits.specs.Words.{IsRowOf}
 use Rattle.bits.proofs.CellsLemmas.{has-outside}
 use Rattle.clearance.specs.Rows.{IsMarked, IsFar, IsFirstMark, IsLastMark}
-use Rattle.clearance.specs.Search.{IsLeastInBits, column_gap, row_gap, rect_distance, IsLeastAmong, IsLeastWithin, IsLoweredBy, IsLoweredRight, IsLoweredLeft}
+use Rattle.clearance.specs.Parts.{IsBlackInRow, IsPart}
+use Rattle.clearance.specs.declared.part.Part.TheVariants.{Row}
+use Rattle.clearance.specs.Search.{IsInRect, IsLeastBelow, IsLeastInBits, column_gap, row_gap, rect_distance, IsLeastAmong, IsLeastWithin, IsLoweredBy, IsLoweredRight, IsLoweredLeft}
 use Rattle.clearance.proofs.RowSearches.{mark_within, unmarked_past}
 
 -- what is far stays so for a lower limit
@@ -233,6 +236,52 @@ IsLeastBelow-all distance grows stays cells rect IsRow limit least bitmap all is
             b = reached.b;
             obstacle = reached.obstacle;
             distance_is = rw (across, down) reached.distance_is;
+          };
+    }
+
+-- no spot of a row is nearer to the rectangle than the least
+row_far : (distance : ℕ → ℕ → ℕ) → Grows distance → StaysNearer distance → (cells : Cells) (rect : Rect) (y gap limit least : ℕ) → IsBitmap cells → row_gap rect y ≡ gap
+    → IsLoweredBy distance (IsObstacle cells) rect y gap limit least
+    → (x z : ℕ) (a b : ℤ) → IsInRect rect x z → IsBlackInRow cells y a b → IsFar (spot_distance distance x z a b) least
+row_far distance grows stays cells rect y gap limit least bitmap gap_is is x z (pos a) (pos b) cell (obstacle, row) =
+    let last = obstacle_within cells bitmap a b obstacle in
+    let column = last.2 in
+    let below = last.3 in
+    let x_low = cell.left in
+    let x_high = cell.right in
+    let y_low = cell.top in
+    let y_high = cell.bottom in
+    let right = rect.has_cells.right in
+    let bottom = rect.has_cells.bottom in
+    let far = is.far a (subst (λ (n : ℕ). IsObstacle cells a n) row obstacle) in
+    let grown = of_grows distance grows stays (column_gap rect a) (abs_diff x a) gap (abs_diff z b) (omega arith) (omega arith) (omega arith) (omega arith) in
+    IsFar-greater (distance (column_gap rect a) gap) (distance_between distance x z a b) least grown far
+row_far distance grows stays cells rect y gap limit least bitmap gap_is is x z (pos a) (negsuc b) cell none = absurd none
+row_far distance grows stays cells rect y gap limit least bitmap gap_is is x z (negsuc a) b cell none = absurd none
+
+-- the least that a row lowers is that of the rectangle's cells and the row's obstacles
+pub IsLeastBelow-row : (distance : ℕ → ℕ → ℕ) → Grows distance → StaysNearer distance → (cells : Cells) (rect : Rect) (y gap limit least : ℕ) → IsBitmap cells → row_gap rect y ≡ gap
+    → IsLoweredBy distance (IsObstacle cells) rect y gap limit least → IsLeastBelow distance (IsPart cells (Row y)) rect limit least
+IsLeastBelow-row distance grows stays cells rect y gap limit least bitmap gap_is is =
+    let columns = rect.has_cells.columns in
+    let rows = rect.has_cells.rows in
+    record {
+      within = is.within;
+      far = row_far distance grows stays cells rect y gap limit least bitmap gap_is is;
+      reached = λ less.
+          let (a, obstacle, dist) = is.reached less in
+          let x = max rect.x0 (min (rect.x1 - 1) a) in
+          let z = max rect.y0 (min (rect.y1 - 1) y) in
+          let across : abs_diff x a ≡ column_gap rect a = omega arith in
+          let down : abs_diff z y ≡ gap = omega arith in
+          record {
+            x = x;
+            y = z;
+            cell = record { left = omega arith; right = omega arith; top = omega arith; bottom = omega arith };
+            a = pos a;
+            b = pos y;
+            obstacle = (obstacle, refl);
+            distance_is = rw (across, down) dist;
           };
     }
 

@@ -20,7 +20,7 @@ towards-reaches : (from to low high n : ℕ) → low ≤ high → min (towards f
 towards-reaches from to low high n order first last = (grind (arith, nat_tests), grind (arith, nat_tests))
 
 -- a coordinate that stays
-towards-stays : (from to k : ℕ) → to ≡ from → towards from to k ≡ from
+pub towards-stays : (from to k : ℕ) → to ≡ from → towards from to k ≡ from
 towards-stays from to k same = grind (arith, nat_tests)
 
 -- the corners of the rectangle between two lines of a strip

@@ -55,10 +55,6 @@ cell_of_list cells place = slice_index_or cells place origin
 abbrev pub distance_at : (ℕ → ℕ → ℕ) → List Cell → ℕ → ℤ → ℤ → ℕ
 distance_at distance cells place a b = spot_distance distance (cell_of_list cells place).x (cell_of_list cells place).y a b
 
--- some cell of the list has an obstacle at a distance below the limit
-abbrev pub IsListNear : (ℕ → ℕ → ℕ) → (ℤ → ℤ → Type 0) → List Cell → ℕ → Type 0
-IsListNear distance Obstacle cells limit = (i : ℕ) × (i < length cells) × IsCellNear distance Obstacle limit (cell_of_list cells i).x (cell_of_list cells i).y
-
 -- no cell before this place of the list has an obstacle at a distance below the limit
 abbrev pub AreFarBefore : (ℕ → ℕ → ℕ) → (ℤ → ℤ → Type 0) → List Cell → ℕ → ℕ → Type 0
 AreFarBefore distance Obstacle cells limit place = (i : ℕ) (a b : ℤ) → i < place → Obstacle a b → limit ≤ distance_at distance cells i a b

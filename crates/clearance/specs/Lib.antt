@@ -2,7 +2,9 @@ pub mod Answers
 pub mod Bands
 pub mod Firsts
 pub mod Frames
+pub mod Lines
 pub mod Nearest
+pub mod Parts
 pub mod Paths
 pub mod Rows
 pub mod Search

@@ -1,4 +1,4 @@
-//! The first cell of a rectangle that has the least distance, found by halves.
+//! The first cell of a rectangle that has the least distance: its row first, then its column.
 
 ghost use Rattle.std.specs.Prelude.{◌≡◌};
 ghost use Rattle.bits.specs.Cells.{IsInside};
@@ -8,6 +8,7 @@ ghost use Rattle.clearance.specs.Firsts.{IsCellWithNear, IsFirstColumn, IsFirstO
 ghost use Rattle.clearance.specs.Search.{IsRectIn};
 
 use crate::border::{least_below, nearest_spot};
+use crate::lines::Lines;
 use crate::rows::Rows;
 use crate::search::NO_LIMIT;
 use crate::strip::Strip;
@@ -56,12 +57,17 @@ fn first_row<M: Metric, R: Rows>(rows: &mut R, edge: Edge, rect: Rect, limit: u6
     ensures rows { rows.new ≡ rows.old }
 {
     let (x, top, bottom) = (rect.x0, rect.y0, rect.y1 - 1);
-    let lines = Strip {
+    let strip = Strip {
         from: Cell { x, y: top },
         to: Cell { x, y: bottom },
         across: rect.x1 - x,
     };
-    top + lines.first_near::<M, R>(rows, edge, 0, bottom - top, limit)
+    let lines = Lines {
+        strip,
+        first: 0,
+        limit,
+    };
+    top + lines.first_near::<M, R>(rows, edge, bottom - top)
 }
 
 /// The first column of the rectangle in which the cell of the row `y` has an obstacle at a distance below the limit. There is one.
@@ -72,12 +78,17 @@ fn first_column<M: Metric, R: Rows>(rows: &mut R, edge: Edge, rect: Rect, y: u16
     ensures rows { rows.new ≡ rows.old }
 {
     let (left, right) = (rect.x0, rect.x1 - 1);
-    let columns = Strip {
+    let strip = Strip {
         from: Cell { x: left, y },
         to: Cell { x: right, y },
         across: 1,
     };
-    left + columns.first_near::<M, R>(rows, edge, 0, right - left, limit)
+    let lines = Lines {
+        strip,
+        first: 0,
+        limit,
+    };
+    left + lines.first_near::<M, R>(rows, edge, right - left)
 }
 
 /// The cell with its nearest obstacle; `None` where there is no obstacle.

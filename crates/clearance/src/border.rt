@@ -102,7 +102,7 @@ fn least_walled<M: Metric, R: Rows>(rows: &mut R, rect: Rect, limit: u64) -> u64
 }
 
 /// The limit, or a lesser distance of the rectangle to the frame of a map of this size.
-fn lowered_by_frame<M: Metric>(width: u16, height: u16, rect: Rect, limit: u64) -> u64
+pub fn lowered_by_frame<M: Metric>(width: u16, height: u16, rect: Rect, limit: u64) -> u64
     requires columns { rect.x1 ≤ width }
     requires rows { rect.y1 ≤ height }
     requires few_columns { width ≤ MOST_SIDE }

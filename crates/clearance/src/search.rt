@@ -94,7 +94,7 @@ fn lowered_below<M: Metric, R: Rows>(rows: &mut R, rect: Rect, gap: u16, least: 
 }
 
 /// The least so far, or a lesser distance to an obstacle in the row `y`, so many rows away.
-fn lowered<M: Metric, R: Rows>(rows: &mut R, rect: Rect, y: u16, gap: u16, least: u64) -> u64
+pub fn lowered<M: Metric, R: Rows>(rows: &mut R, rect: Rect, y: u16, gap: u16, least: u64) -> u64
     requires rect { IsRectIn (R.cells rows.old) rect }
     requires row { y < (R.cells rows.old).height }
     requires gap { gap ≤ LAST_FRAMED }

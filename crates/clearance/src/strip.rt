@@ -1,11 +1,9 @@
-//! Lines of cells side by side, and the first of them that has an obstacle near.
+//! Lines of cells side by side.
 
 ghost use Rattle.clearance.specs.Segments.{IsStrip};
 
-use crate::border::least_below;
-use crate::rows::Rows;
 use crate::segment::step_towards;
-use metric::{Cell, Edge, Metric, Rect};
+use metric::{Cell, Rect};
 
 /// Lines of `across` cells each, counted from 0: line 0 begins at `from`, and each further one is a step on towards `to`, which none passes.
 #[derive(Clone, Copy, Debug, PartialEq, Eq)]
@@ -18,10 +16,9 @@ pub struct Strip {
 
 impl Strip {
     ghost use Rattle.std.specs.Prelude.{◌≡◌, ℕ, ◌+◌, ◌<◌, ◌≤◌, max};
-    ghost use Rattle.bits.specs.Edges.{IsBlocked};
     ghost use Rattle.clearance.specs.Paths.{towards};
     ghost use Rattle.clearance.specs.Search.{IsInRect};
-    ghost use Rattle.clearance.specs.Strips.{IsFirstNear, IsOnLine, IsSomeNear, IsStripIn};
+    ghost use Rattle.clearance.specs.Strips.{IsOnLine};
 
     /// The first cell of a line.
     pub fn cell(self, line: u16) -> Cell
@@ -50,31 +47,5 @@ impl Strip {
             x1: one.x.max(other.x) + self.across,
             y1: one.y.max(other.y) + 1,
         }
-    }
-
-    /// The first of the lines from `first` to `last` that has an obstacle at a distance below the limit. One of them has.
-    pub fn first_near<M: Metric, R: Rows>(
-        self,
-        rows: &mut R,
-        edge: Edge,
-        first: u16,
-        last: u16,
-        limit: u64,
-    ) -> u16
-        requires strip { IsStripIn (R.cells rows.old) self }
-        requires some { IsSomeNear M.distance (IsBlocked (R.cells rows.old) edge) self limit first last }
-        ensures found { IsFirstNear M.distance (IsBlocked (R.cells rows.old) edge) self limit first last result }
-        ensures rows { rows.new ≡ rows.old }
-    {
-        let (mut low, mut high) = (first, last);
-        'halves: while low < high {
-            let middle = low + (high - low) / 2;
-            if least_below::<M, R>(rows, edge, self.rect(low, middle), limit) < limit {
-                high = middle;
-            } else {
-                low = middle + 1;
-            }
-        }
-        low
     }
 }

@@ -11,6 +11,7 @@ ghost use Rattle.clearance.specs.Segments.{IsStraight, IsWalk};
 use crate::area::with_nearest;
 use crate::border::least_below;
 use crate::bound::bound_along;
+use crate::lines::Lines;
 use crate::rows::{Rows, holds};
 use crate::search::NO_LIMIT;
 use crate::segment::count_cells;
@@ -159,14 +160,20 @@ fn first_of_piece<M: Metric, R: Rows>(
     ensures found { IsFirstOrNone M.distance (IsBlocked (R.cells rows.old) edge) (cells_up_to from to) limit result }
     ensures rows { rows.new ≡ rows.old }
 {
-    if least_of_piece::<M, R>(rows, edge, from, to, limit) >= limit {
-        return None;
-    }
     let cells = Strip {
         from,
         to,
         across: 1,
     };
-    let step = cells.first_near::<M, R>(rows, edge, 1, count_cells(from, to), limit);
+    let lines = Lines {
+        strip: cells,
+        first: 1,
+        limit,
+    };
+    let end = count_cells(from, to) + 1;
+    let step = lines.first_near::<M, R>(rows, edge, end);
+    if step == end {
+        return None;
+    }
     with_nearest::<M, R>(rows, edge, cells.cell(step))
 }

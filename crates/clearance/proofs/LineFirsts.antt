@@ -1,0 +1,227 @@
+-- The first line of a strip that has an obstacle near, as more obstacles are looked at.
+use Rattle.std.proofs.Common.{◌≡◌, ℕ, ℤ, pos, negsuc, ◌+◌, ◌-◌, ◌<◌, ◌≤◌, ◌⊎◌, inl, inr, subst, arith}
+use Rattle.std.specs.Int.{abs_diff}
+use Rattle.std.proofs.lemmas.Bool.{cases_lt}
+use Rattle.metric.specs.declared.rect.Rect.{Rect}
+use Rattle.metric.specs.declared.edge.Edge.TheVariants.{Open, Wall}
+use Rattle.metric.specs.Crossing.{StaysNearer}
+use Rattle.metric.specs.Distance.{Grows}
+use Rattle.metric.specs.Nearest.{spot_distance}
+use Rattle.metric.proofs.Growing.{of_grows}
+use Rattle.bits.specs.Cells.{Cells, IsBitmap, IsObstacle}
+use Rattle.bits.specs.Edges.{IsBlack, IsBlocked}
+use Rattle.clearance.specs.Lines.{IsFirstAmong, IsFirstBefore, IsLineRow}
+use Rattle.clearance.specs.Paths.{towards}
+use Rattle.clearance.specs.Parts.{IsBlackInRow, IsPart}
+use Rattle.clearance.specs.Search.{IsInRect, row_gap}
+use Rattle.clearance.specs.Strips.{IsFirstNear, IsLineNear, IsOnLine, IsSomeNear}
+use Rattle.clearance.specs.declared.lines.Lines.{Lines}
+use Rattle.clearance.specs.declared.part.Part.TheVariants.{Row, Frame}
+use Rattle.clearance.specs.declared.strip.Strip.{Strip}
+use Rattle.clearance.proofs.Searches.{obstacle_within}
+
+-- an obstacle of a row is one of the map
+black_of_row : (cells : Cells) (y : ℕ) (a b : ℤ) → IsBlackInRow cells y a b → IsBlack cells a b
+black_of_row cells y (pos a) (pos b) black = black.0
+black_of_row cells y (pos a) (negsuc b) none = absurd none
+black_of_row cells y (negsuc a) b none = absurd none
+
+-- a line that has an obstacle near still has it among more of them
+near_more : (distance : ℕ → ℕ → ℕ) (Fewer More : ℤ → ℤ → Type 0) (strip : Strip) (limit k : ℕ) → ((a b : ℤ) → Fewer a b → More a b)
+    → IsLineNear distance Fewer strip limit k → IsLineNear distance More strip limit k
+near_more distance Fewer More strip limit k more near =
+    record { x = near.x; y = near.y; on_line = near.on_line; a = near.a; b = near.b; obstacle = more near.a near.b near.obstacle; nearer = near.nearer }
+
+-- what is first among the obstacles of a row is so as far as this row has been looked at
+pub IsFirstAmong-row : (distance : ℕ → ℕ → ℕ) (cells : Cells) (lines : Lines) (y end line : ℕ) → IsFirstBefore distance (IsPart cells (Row y)) lines end line
+    → IsFirstAmong distance cells lines (λ b. b ≡ y) end line
+IsFirstAmong-row distance cells lines y end line is = record {
+  from = is.from;
+  within = is.within;
+  near = λ less. near_more distance (IsPart cells (Row y)) (IsBlocked cells Open) lines.strip lines.limit line (λ a b black. black_of_row cells y a b black) (is.near less);
+  far = λ k x z a b from before on_line obstacle row. is.before k from before x z (pos a) (pos b) on_line (obstacle, row);
+}
+
+-- where rows have no obstacle, all lines are left
+pub IsFirstAmong-none : (distance : ℕ → ℕ → ℕ) (cells : Cells) (lines : Lines) (IsRow : ℕ → Type 0) (end : ℕ) → lines.first ≤ end
+    → ((a b : ℕ) → IsObstacle cells a b → IsRow b → ⊥) → IsFirstAmong distance cells lines IsRow end end
+IsFirstAmong-none distance cells lines IsRow end order none = record {
+  from = order;
+  within = omega arith;
+  near = λ less. absurd (omega arith);
+  far = λ k x y a b from before on_line obstacle row. absurd (none a b obstacle row);
+}
+
+-- some rows and then others of the lines that are left are both of them
+pub IsFirstAmong-more : (distance : ℕ → ℕ → ℕ) (cells : Cells) (lines : Lines) (IsRow IsOther IsNext : ℕ → Type 0) (end line next : ℕ)
+    → IsFirstAmong distance cells lines IsRow end line → IsFirstAmong distance cells lines IsOther line next → ((b : ℕ) → IsNext b → IsRow b ⊎ IsOther b)
+    → IsFirstAmong distance cells lines IsNext end next
+IsFirstAmong-more distance cells lines IsRow IsOther IsNext end line next before more back =
+    let low = before.within in
+    let lower = more.within in
+    record {
+      from = more.from;
+      within = omega arith;
+      near = λ less. elim (cases_lt next line) [
+        | inl earlier ↦ more.near earlier
+        | inr same ↦
+            let equal : line ≡ next = omega arith in
+            subst (λ (n : ℕ). IsLineNear distance (IsBlocked cells Open) lines.strip lines.limit n) equal (before.near (omega arith))
+      ];
+      far = λ k x y a b from within on_line obstacle row. elim (back b row) [
+        | inl own ↦ before.far k x y a b from (omega arith) on_line obstacle own
+        | inr other ↦ more.far k x y a b from within on_line obstacle other
+      ];
+    }
+
+-- rows that have no more obstacles say no more
+pub IsFirstAmong-same : (distance : ℕ → ℕ → ℕ) (cells : Cells) (lines : Lines) (IsRow IsNext : ℕ → Type 0) (end line : ℕ)
+    → ((a b : ℕ) → IsObstacle cells a b → IsNext b → IsRow b)
+    → IsFirstAmong distance cells lines IsRow end line → IsFirstAmong distance cells lines IsNext end line
+IsFirstAmong-same distance cells lines IsRow IsNext end line back is = record {
+  from = is.from;
+  within = is.within;
+  near = is.near;
+  far = λ k x y a b from before on_line obstacle row. is.far k x y a b from before on_line obstacle (back a b obstacle row);
+}
+
+-- each line before this one lies in the rectangle
+abbrev pub AreLinesIn : Lines → ℕ → Rect → Type 0
+AreLinesIn lines line rect = (k x y : ℕ) → lines.first ≤ k → k < line → IsOnLine lines.strip k x y → IsInRect rect x y
+
+-- the rows of these lines are rows of the rectangle
+pub line_row_in : (lines : Lines) (line : ℕ) (rect : Rect) (b : ℕ) → AreLinesIn lines line rect → IsLineRow lines line b → (rect.y0 ≤ b) × (b < rect.y1)
+line_row_in lines line rect b all (k, from, before, row) =
+    let some = lines.strip.shape.some in
+    let cell = all k (towards lines.strip.from.x lines.strip.to.x k) b from before (record { left = omega arith; right = omega arith; row = row }) in
+    (cell.top, cell.bottom)
+
+-- the rectangle has cells of lines before this one alone
+abbrev pub HasLinesAlone : Lines → ℕ → Rect → Type 0
+HasLinesAlone lines line rect = (x y : ℕ) → IsInRect rect x y → (k : ℕ) × (lines.first ≤ k) × (k ≤ line - 1) × IsOnLine lines.strip k x y
+
+-- the rows of the rectangle are rows of these lines
+pub row_of_line : (lines : Lines) (line : ℕ) (rect : Rect) (b : ℕ) → 0 < line → HasLinesAlone lines line rect → rect.y0 ≤ b → b < rect.y1 → IsLineRow lines line b
+row_of_line lines line rect b some only top bottom =
+    let columns = rect.has_cells.columns in
+    let (k, from, before, on_line) = only rect.x0 b (record { left = omega arith; right = columns; top = top; bottom = bottom }) in
+    (k, from, omega arith, on_line.row)
+
+-- the rectangle of fewer lines lies no nearer to a row
+pub row_gap-fewer : (lines : Lines) (line fewer : ℕ) (rect less : Rect) (b : ℕ) → 0 < fewer → fewer ≤ line → AreLinesIn lines line rect → HasLinesAlone lines fewer less → row_gap rect b ≤ row_gap less b
+row_gap-fewer lines line fewer rect less b some order all only =
+    let columns = less.has_cells.columns in
+    let rows = less.has_cells.rows in
+    let (k, from, before, on_line) = only less.x0 less.y0 (record { left = omega arith; right = columns; top = omega arith; bottom = rows }) in
+    let (m, first, earlier, on_last) = only less.x0 (less.y1 - 1) (record { left = omega arith; right = columns; top = omega arith; bottom = omega arith }) in
+    let upper = (all k less.x0 less.y0 from (omega arith) on_line).top in
+    let lower = (all m less.x0 (less.y1 - 1) first (omega arith) on_last).bottom in
+    omega arith
+
+-- rows that are as far away as the limit have no obstacle near
+pub IsFirstAmong-far : (distance : ℕ → ℕ → ℕ) → Grows distance → StaysNearer distance → (cells : Cells) (lines : Lines) (rect : Rect) (gap end line : ℕ)
+    → IsBitmap cells → lines.limit ≤ distance 0 gap → AreLinesIn lines line rect
+    → IsFirstAmong distance cells lines (λ b. row_gap rect b < gap) end line → IsFirstAmong distance cells lines (λ b. b < 4096) end line
+IsFirstAmong-far distance grows stays cells lines rect gap end line bitmap low all is = record {
+  from = is.from;
+  within = is.within;
+  near = is.near;
+  far = λ k x y a b from before on_line obstacle row. elim (cases_lt (row_gap rect b) gap) [
+    | inl earlier ↦ is.far k x y a b from before on_line obstacle earlier
+    | inr beyond ↦
+        let last = obstacle_within cells bitmap a b obstacle in
+        let column = last.2 in
+        let row = last.3 in
+        let cell = all k x y from before on_line in
+        let x_low = cell.left in
+        let x_high = cell.right in
+        let y_low = cell.top in
+        let y_high = cell.bottom in
+        let right = rect.has_cells.right in
+        let bottom = rect.has_cells.bottom in
+        let grown = of_grows distance grows stays 0 (abs_diff x a) gap (abs_diff y b) (omega arith) (omega arith) (omega arith) (omega arith) in
+        omega arith
+  ];
+}
+
+-- no line before the first one has an obstacle near
+open_before : (distance : ℕ → ℕ → ℕ) (cells : Cells) (lines : Lines) (IsRow : ℕ → Type 0) (end line : ℕ) → ((a b : ℕ) → IsObstacle cells a b → IsRow b)
+    → IsFirstAmong distance cells lines IsRow end line
+    → (k : ℕ) → lines.first ≤ k → k < line → (x y : ℕ) (a b : ℤ) → IsOnLine lines.strip k x y → IsBlocked cells Open a b → lines.limit ≤ spot_distance distance x y a b
+open_before distance cells lines IsRow end line all is k from before x y (pos a) (pos b) on_line black = is.far k x y a b from before on_line black (all a b black)
+open_before distance cells lines IsRow end line all is k from before x y (pos a) (negsuc b) on_line none = absurd none
+open_before distance cells lines IsRow end line all is k from before x y (negsuc a) b on_line none = absurd none
+
+-- once all rows have been looked at, this is the first line that has an obstacle near
+pub IsFirstBefore-all : (distance : ℕ → ℕ → ℕ) (cells : Cells) (lines : Lines) (IsRow : ℕ → Type 0) (end line : ℕ) → ((a b : ℕ) → IsObstacle cells a b → IsRow b)
+    → IsFirstAmong distance cells lines IsRow end line → IsFirstBefore distance (IsBlocked cells Open) lines end line
+IsFirstBefore-all distance cells lines IsRow end line all is = record {
+  from = is.from;
+  within = is.within;
+  near = is.near;
+  before = open_before distance cells lines IsRow end line all is;
+}
+
+-- no line before the first one has an obstacle or a cell of the frame near
+walled_before : (distance : ℕ → ℕ → ℕ) (cells : Cells) (lines : Lines) (end framed line : ℕ)
+    → IsFirstBefore distance (IsPart cells Frame) lines end framed → IsFirstBefore distance (IsBlocked cells Open) lines framed line
+    → (k : ℕ) → lines.first ≤ k → k < line → (x y : ℕ) (a b : ℤ) → IsOnLine lines.strip k x y → IsBlocked cells Wall a b → lines.limit ≤ spot_distance distance x y a b
+walled_before distance cells lines end framed line frame own k from before x y a b on_line (inl black) = own.before k from before x y a b on_line black
+walled_before distance cells lines end framed line frame own k from before x y a b on_line (inr edge) =
+    let lower = own.within in
+    frame.before k from (omega arith) x y a b on_line edge
+
+-- the first line that has the frame near and then the map's own obstacles is that of the walled map
+pub IsFirstBefore-wall : (distance : ℕ → ℕ → ℕ) (cells : Cells) (lines : Lines) (end framed line : ℕ)
+    → IsFirstBefore distance (IsPart cells Frame) lines end framed → IsFirstBefore distance (IsBlocked cells Open) lines framed line
+    → IsFirstBefore distance (IsBlocked cells Wall) lines end line
+IsFirstBefore-wall distance cells lines end framed line frame own =
+    let low = frame.within in
+    let lower = own.within in
+    record {
+      from = own.from;
+      within = omega arith;
+      near = λ less. elim (cases_lt line framed) [
+        | inl earlier ↦ near_more distance (IsBlocked cells Open) (IsBlocked cells Wall) lines.strip lines.limit line (λ a b black. inl black) (own.near earlier)
+        | inr same ↦
+            let equal : framed ≡ line = omega arith in
+            let near = near_more distance (IsPart cells Frame) (IsBlocked cells Wall) lines.strip lines.limit framed (λ a b edge. inr edge) (frame.near (omega arith)) in
+            subst (λ (n : ℕ). IsLineNear distance (IsBlocked cells Wall) lines.strip lines.limit n) equal near
+      ];
+      before = walled_before distance cells lines end framed line frame own;
+    }
+
+-- the first of the lines up to the last one before the end, of which some are near
+pub IsFirstBefore-near : (distance : ℕ → ℕ → ℕ) (Obstacle : ℤ → ℤ → Type 0) (lines : Lines) (end line : ℕ) → lines.first < end
+    → IsFirstNear distance Obstacle lines.strip lines.limit lines.first (end - 1) line → IsFirstBefore distance Obstacle lines end line
+IsFirstBefore-near distance Obstacle lines end line some is =
+    let last = is.within in
+    record { from = is.from; within = omega arith; near = λ less. is.near; before = is.before }
+
+-- where the last line or one before it is near, the first one of them is
+pub IsFirstNear-some : (distance : ℕ → ℕ → ℕ) (Obstacle : ℤ → ℤ → Type 0) (lines : Lines) (last line : ℕ) → IsSomeNear distance Obstacle lines.strip lines.limit lines.first last
+    → IsFirstBefore distance Obstacle lines last line → IsFirstNear distance Obstacle lines.strip lines.limit lines.first last line
+IsFirstNear-some distance Obstacle lines last line (k, from, within, near) is =
+    let end = is.within in
+    record {
+      from = is.from;
+      within = is.within;
+      near = elim (cases_lt line last) [
+        | inl earlier ↦ is.near earlier
+        | inr none ↦ elim (cases_lt k line) [
+          | inl before ↦
+              let far = is.before k from before near.x near.y near.a near.b near.on_line near.obstacle in
+              let less = near.nearer in
+              absurd (omega arith)
+          | inr here ↦
+              let same : k ≡ line = omega arith in
+              subst (λ (n : ℕ). IsLineNear distance Obstacle lines.strip lines.limit n) same near
+        ]
+      ];
+      before = is.before;
+    }
+
+-- a line before the end is the first one that is near
+pub IsFirstNear-before : (distance : ℕ → ℕ → ℕ) (Obstacle : ℤ → ℤ → Type 0) (lines : Lines) (last line : ℕ) → line < last + 1
+    → IsFirstBefore distance Obstacle lines (last + 1) line → IsFirstNear distance Obstacle lines.strip lines.limit lines.first last line
+IsFirstNear-before distance Obstacle lines last line less is = record { from = is.from; within = omega arith; near = is.near less; before = is.before }
