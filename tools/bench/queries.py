@@ -22,7 +22,7 @@ import time
 import bench
 from program import HERE, ROOT, build
 
-LOOPS = ["metric/src/limits", "metric/src/edge"] + ["clearance/src/" + name for name in "bit band row rows words search nearest found frame border bound segment strip area walk".split()] + ["pbm/src/raw_raster"]
+LOOPS = ["metric/src/limits", "metric/src/edge"] + ["clearance/src/" + name for name in "bit band row rows words search nearest found frame border bound segment strip part lines area walk".split()] + ["pbm/src/raw_raster"]
 SIDE = 4096
 
 

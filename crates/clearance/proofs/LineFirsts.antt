@@ -1,5 +1,5 @@
 -- The first line of a strip that has an obstacle near, as more obstacles are looked at.
-use Rattle.std.proofs.Common.{◌≡◌, ℕ, ℤ, pos, negsuc, ◌+◌, ◌-◌, ◌<◌, ◌≤◌, ◌⊎◌, inl, inr, subst, arith}
+use Rattle.std.proofs.Common.{◌≡◌, ℕ, ℤ, pos, negsuc, ◌+◌, ◌-◌, ◌<◌, ◌≤◌, ◌⊎◌, max, inl, inr, subst, arith}
 use Rattle.std.specs.Int.{abs_diff}
 use Rattle.std.proofs.lemmas.Bool.{cases_lt}
 use Rattle.metric.specs.declared.rect.Rect.{Rect}
@@ -10,15 +10,16 @@ use Rattle.metric.specs.Nearest.{spot_distance}
 use Rattle.metric.proofs.Growing.{of_grows}
 use Rattle.bits.specs.Cells.{Cells, IsBitmap, IsObstacle}
 use Rattle.bits.specs.Edges.{IsBlack, IsBlocked}
-use Rattle.clearance.specs.Lines.{IsFirstAmong, IsFirstBefore, IsLineRow}
+use Rattle.clearance.specs.Lines.{IsFirstAmong, IsFirstBefore, IsLineRow, IsRectOf}
 use Rattle.clearance.specs.Paths.{towards}
 use Rattle.clearance.specs.Parts.{IsBlackInRow, IsPart}
-use Rattle.clearance.specs.Search.{IsInRect, row_gap}
-use Rattle.clearance.specs.Strips.{IsFirstNear, IsLineNear, IsOnLine, IsSomeNear}
+use Rattle.clearance.specs.Search.{IsInRect, IsLeastBelow, IsRectIn, row_gap}
+use Rattle.clearance.specs.Strips.{IsFirstNear, IsLineNear, IsOnLine, IsSomeNear, IsStripIn}
 use Rattle.clearance.specs.declared.lines.Lines.{Lines}
 use Rattle.clearance.specs.declared.part.Part.TheVariants.{Row, Frame}
 use Rattle.clearance.specs.declared.strip.Strip.{Strip}
 use Rattle.clearance.proofs.Searches.{obstacle_within}
+use Rattle.clearance.proofs.StripLines.{IsSomeNear-lower}
 
 -- an obstacle of a row is one of the map
 black_of_row : (cells : Cells) (y : ℕ) (a b : ℤ) → IsBlackInRow cells y a b → IsBlack cells a b
@@ -85,44 +86,101 @@ IsFirstAmong-same distance cells lines IsRow IsNext end line back is = record {
   far = λ k x y a b from before on_line obstacle row. is.far k x y a b from before on_line obstacle (back a b obstacle row);
 }
 
--- each line before this one lies in the rectangle
-abbrev pub AreLinesIn : Lines → ℕ → Rect → Type 0
-AreLinesIn lines line rect = (k x y : ℕ) → lines.first ≤ k → k < line → IsOnLine lines.strip k x y → IsInRect rect x y
+-- where no line is left, other rows say no more
+pub IsFirstAmong-left : (distance : ℕ → ℕ → ℕ) (cells : Cells) (lines : Lines) (IsRow IsNext : ℕ → Type 0) (end line : ℕ) → line ≤ lines.first
+    → IsFirstAmong distance cells lines IsRow end line → IsFirstAmong distance cells lines IsNext end line
+IsFirstAmong-left distance cells lines IsRow IsNext end line none is = record {
+  from = is.from;
+  within = is.within;
+  near = is.near;
+  far = λ k x y a b from before. absurd (omega arith);
+}
 
--- the rows of these lines are rows of the rectangle
-pub line_row_in : (lines : Lines) (line : ℕ) (rect : Rect) (b : ℕ) → AreLinesIn lines line rect → IsLineRow lines line b → (rect.y0 ≤ b) × (b < rect.y1)
-line_row_in lines line rect b all (k, from, before, row) =
+-- a rectangle from the first line to the one before the end is that of these lines
+pub IsRectOf-rect : (lines : Lines) (end : ℕ) (rect : Rect) → lines.first < end
+    → ((k x y : ℕ) → lines.first ≤ k → k ≤ end - 1 → IsOnLine lines.strip k x y → IsInRect rect x y)
+    → ((x y : ℕ) → IsInRect rect x y → (k : ℕ) × (lines.first ≤ k) × (k ≤ end - 1) × IsOnLine lines.strip k x y)
+    → rect.x1 ≤ max lines.strip.from.x lines.strip.to.x + lines.strip.across → rect.y1 ≤ max lines.strip.from.y lines.strip.to.y + 1 → IsRectOf lines end rect
+IsRectOf-rect lines end rect some all only right bottom = record {
+  some = some;
+  all = λ k x y from before on_line. all k x y from (omega arith) on_line;
+  only = λ x y cell. let (k, from, before, on_line) = only x y cell in (k, from, omega arith, on_line);
+  right = right;
+  bottom = bottom;
+}
+
+-- the rectangle of lines of a strip in a bitmap lies in it
+pub IsRectIn-lines : (cells : Cells) (lines : Lines) (end : ℕ) (rect : Rect) → IsStripIn cells lines.strip → IsRectOf lines end rect → IsRectIn cells rect
+IsRectIn-lines cells lines end rect strip of =
+    let right = of.right in
+    let bottom = of.bottom in
+    record { bitmap = strip.bitmap; columns = omega (arith, strip.columns); rows = omega (arith, strip.rows) }
+
+-- the rows of these lines are rows of their rectangle
+pub line_row_in : (lines : Lines) (end : ℕ) (rect : Rect) (b : ℕ) → IsRectOf lines end rect → IsLineRow lines end b → (rect.y0 ≤ b) × (b < rect.y1)
+line_row_in lines end rect b of (k, from, before, row) =
     let some = lines.strip.shape.some in
-    let cell = all k (towards lines.strip.from.x lines.strip.to.x k) b from before (record { left = omega arith; right = omega arith; row = row }) in
+    let cell = of.all k (towards lines.strip.from.x lines.strip.to.x k) b from before (record { left = omega arith; right = omega arith; row = row }) in
     (cell.top, cell.bottom)
 
--- the rectangle has cells of lines before this one alone
-abbrev pub HasLinesAlone : Lines → ℕ → Rect → Type 0
-HasLinesAlone lines line rect = (x y : ℕ) → IsInRect rect x y → (k : ℕ) × (lines.first ≤ k) × (k ≤ line - 1) × IsOnLine lines.strip k x y
-
--- the rows of the rectangle are rows of these lines
-pub row_of_line : (lines : Lines) (line : ℕ) (rect : Rect) (b : ℕ) → 0 < line → HasLinesAlone lines line rect → rect.y0 ≤ b → b < rect.y1 → IsLineRow lines line b
-row_of_line lines line rect b some only top bottom =
+-- the rows of the rectangle are rows of its lines
+pub row_of_line : (lines : Lines) (end : ℕ) (rect : Rect) (b : ℕ) → IsRectOf lines end rect → rect.y0 ≤ b → b < rect.y1 → IsLineRow lines end b
+row_of_line lines end rect b of top bottom =
     let columns = rect.has_cells.columns in
-    let (k, from, before, on_line) = only rect.x0 b (record { left = omega arith; right = columns; top = top; bottom = bottom }) in
-    (k, from, omega arith, on_line.row)
+    let (k, from, before, on_line) = of.only rect.x0 b (record { left = omega arith; right = columns; top = top; bottom = bottom }) in
+    (k, from, before, on_line.row)
 
 -- the rectangle of fewer lines lies no nearer to a row
-pub row_gap-fewer : (lines : Lines) (line fewer : ℕ) (rect less : Rect) (b : ℕ) → 0 < fewer → fewer ≤ line → AreLinesIn lines line rect → HasLinesAlone lines fewer less → row_gap rect b ≤ row_gap less b
-row_gap-fewer lines line fewer rect less b some order all only =
+pub row_gap-fewer : (lines : Lines) (end fewer : ℕ) (rect less : Rect) (b : ℕ) → fewer ≤ end → IsRectOf lines end rect → IsRectOf lines fewer less → row_gap rect b ≤ row_gap less b
+row_gap-fewer lines end fewer rect less b order of left =
     let columns = less.has_cells.columns in
     let rows = less.has_cells.rows in
-    let (k, from, before, on_line) = only less.x0 less.y0 (record { left = omega arith; right = columns; top = omega arith; bottom = rows }) in
-    let (m, first, earlier, on_last) = only less.x0 (less.y1 - 1) (record { left = omega arith; right = columns; top = omega arith; bottom = omega arith }) in
-    let upper = (all k less.x0 less.y0 from (omega arith) on_line).top in
-    let lower = (all m less.x0 (less.y1 - 1) first (omega arith) on_last).bottom in
+    let (k, from, before, on_line) = left.only less.x0 less.y0 (record { left = omega arith; right = columns; top = omega arith; bottom = rows }) in
+    let (m, first, earlier, on_last) = left.only less.x0 (less.y1 - 1) (record { left = omega arith; right = columns; top = omega arith; bottom = omega arith }) in
+    let upper = (of.all k less.x0 less.y0 from (omega arith) on_line).top in
+    let lower = (of.all m less.x0 (less.y1 - 1) first (omega arith) on_last).bottom in
     omega arith
+
+-- where some of the lines are near, the first of them is the first before the end
+pub IsFirstBefore-near : (distance : ℕ → ℕ → ℕ) (Obstacle : ℤ → ℤ → Type 0) (lines : Lines) (end line : ℕ) → lines.first < end
+    → IsFirstNear distance Obstacle lines.strip lines.limit lines.first (end - 1) line → IsFirstBefore distance Obstacle lines end line
+IsFirstBefore-near distance Obstacle lines end line some is =
+    let last = is.within in
+    record { from = is.from; within = omega arith; near = λ less. is.near; before = is.before }
+
+-- where the least over the lines' rectangle is below the limit, some of them are near
+pub IsSomeNear-rect : (distance : ℕ → ℕ → ℕ) (Obstacle : ℤ → ℤ → Type 0) (lines : Lines) (end least : ℕ) (rect : Rect) → IsRectOf lines end rect
+    → IsLeastBelow distance Obstacle rect lines.limit least → least < lines.limit → IsSomeNear distance Obstacle lines.strip lines.limit lines.first (end - 1)
+IsSomeNear-rect distance Obstacle lines end least rect of is less =
+    IsSomeNear-lower distance Obstacle lines.strip rect lines.limit lines.first (end - 1) least
+    (λ x y cell. let (k, from, before, on_line) = of.only x y cell in (k, from, omega arith, on_line)) is less
+
+-- where no line is left, there is none to look at
+pub IsFirstBefore-none : (distance : ℕ → ℕ → ℕ) (Obstacle : ℤ → ℤ → Type 0) (lines : Lines) (end : ℕ) → lines.first ≤ end → end ≤ lines.first → IsFirstBefore distance Obstacle lines end end
+IsFirstBefore-none distance Obstacle lines end order none = record {
+  from = order;
+  within = omega arith;
+  near = λ less. absurd (omega arith);
+  before = λ k from before. absurd (omega arith);
+}
+
+-- where it isn't, none is
+pub IsFirstBefore-far : (distance : ℕ → ℕ → ℕ) (Obstacle : ℤ → ℤ → Type 0) (lines : Lines) (end least : ℕ) (rect : Rect) → IsRectOf lines end rect
+    → IsLeastBelow distance Obstacle rect lines.limit least → lines.limit ≤ least → IsFirstBefore distance Obstacle lines end end
+IsFirstBefore-far distance Obstacle lines end least rect of is no_less =
+    let some = of.some in
+    record {
+      from = omega arith;
+      within = omega arith;
+      near = λ less. absurd (omega arith);
+      before = λ k from before x y a b on_line obstacle. let far = (is.far x y a b (of.all k x y from before on_line) obstacle).not_below in omega arith;
+    }
 
 -- rows that are as far away as the limit have no obstacle near
 pub IsFirstAmong-far : (distance : ℕ → ℕ → ℕ) → Grows distance → StaysNearer distance → (cells : Cells) (lines : Lines) (rect : Rect) (gap end line : ℕ)
-    → IsBitmap cells → lines.limit ≤ distance 0 gap → AreLinesIn lines line rect
+    → IsBitmap cells → lines.limit ≤ distance 0 gap → IsRectOf lines line rect
     → IsFirstAmong distance cells lines (λ b. row_gap rect b < gap) end line → IsFirstAmong distance cells lines (λ b. b < 4096) end line
-IsFirstAmong-far distance grows stays cells lines rect gap end line bitmap low all is = record {
+IsFirstAmong-far distance grows stays cells lines rect gap end line bitmap low of is = record {
   from = is.from;
   within = is.within;
   near = is.near;
@@ -132,7 +190,7 @@ IsFirstAmong-far distance grows stays cells lines rect gap end line bitmap low a
         let last = obstacle_within cells bitmap a b obstacle in
         let column = last.2 in
         let row = last.3 in
-        let cell = all k x y from before on_line in
+        let cell = of.all k x y from before on_line in
         let x_low = cell.left in
         let x_high = cell.right in
         let y_low = cell.top in
@@ -190,13 +248,6 @@ IsFirstBefore-wall distance cells lines end framed line frame own =
       ];
       before = walled_before distance cells lines end framed line frame own;
     }
-
--- the first of the lines up to the last one before the end, of which some are near
-pub IsFirstBefore-near : (distance : ℕ → ℕ → ℕ) (Obstacle : ℤ → ℤ → Type 0) (lines : Lines) (end line : ℕ) → lines.first < end
-    → IsFirstNear distance Obstacle lines.strip lines.limit lines.first (end - 1) line → IsFirstBefore distance Obstacle lines end line
-IsFirstBefore-near distance Obstacle lines end line some is =
-    let last = is.within in
-    record { from = is.from; within = omega arith; near = λ less. is.near; before = is.before }
 
 -- where the last line or one before it is near, the first one of them is
 pub IsFirstNear-some : (distance : ℕ → ℕ → ℕ) (Obstacle : ℤ → ℤ → Type 0) (lines : Lines) (last line : ℕ) → IsSomeNear distance Obstacle lines.strip lines.limit lines.first last

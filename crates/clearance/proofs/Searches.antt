@@ -119,6 +119,19 @@ IsLoweredBy-blank distance cells rect y gap before words bitmap row blank = reco
   reached = λ less. absurd (omega arith);
 }
 
+-- where a row is as far away as the least, the least stays
+pub IsLoweredBy-far : (distance : ℕ → ℕ → ℕ) → StaysNearer distance → (cells : Cells) (rect : Rect) (y gap before : ℕ) → IsBitmap cells → gap ≤ 4097 → before ≤ distance 0 gap → before < 2 ^ 32
+    → IsLoweredBy distance (IsObstacle cells) rect y gap before before
+IsLoweredBy-far distance stays cells rect y gap before bitmap row low small = record {
+  within = omega arith;
+  far = λ a obstacle.
+      let column = (obstacle_within cells bitmap a y obstacle).2 in
+      let right = rect.has_cells.right in
+      let grown = of_grows_with_dx distance stays 0 (column_gap rect a) gap (omega arith) (omega arith) row in
+      record { not_below = omega arith; is_limit = small };
+  reached = λ less. absurd (omega arith);
+}
+
 -- the marks on both sides are the row's obstacles
 pub IsLoweredBy-both : (distance : ℕ → ℕ → ℕ) (cells : Cells) (rect : Rect) (y gap before right least : ℕ) (words : List ℕ) → IsBitmap cells → IsRowOf cells y words
     → IsLoweredRight distance words rect gap before right → IsLoweredLeft distance words rect gap right least

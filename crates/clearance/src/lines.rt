@@ -5,6 +5,8 @@ ghost use Rattle.clearance.specs.Strips.{IsStripIn};
 use crate::band::{are_blank_bands, first_gap, next_gap};
 use crate::part::Part;
 use crate::rows::Rows;
+use crate::search::lowered;
+use crate::segment::step_towards;
 use crate::strip::Strip;
 use metric::{Edge, LAST_FRAMED, Metric, Rect};
 
@@ -17,13 +19,14 @@ pub struct Lines {
 }
 
 impl Lines {
-    ghost use Rattle.std.specs.Prelude.{◌≡◌, ℕ, ◌+◌, ◌-◌, ◌<◌, ◌≤◌, true, false};
+    ghost use Rattle.std.specs.Prelude.{◌≡◌, ◌+◌, ◌-◌, ◌<◌, ◌≤◌};
     ghost use Rattle.metric.specs.declared.edge.Edge.TheVariants.{Open, Wall};
     ghost use Rattle.bits.specs.Edges.{IsBlocked};
-    ghost use Rattle.clearance.specs.Lines.{IsFirstAmong, IsFirstBefore, IsLineRow};
+    ghost use Rattle.clearance.specs.Lines.{IsFirstAmong, IsFirstBefore, IsLineRow, IsRectOf};
     ghost use Rattle.clearance.specs.Parts.{IsPart, IsPartIn};
-    ghost use Rattle.clearance.specs.Search.{IsRectIn, row_gap};
-    ghost use Rattle.clearance.specs.Strips.{IsLineFar, IsSomeNear};
+    ghost use Rattle.clearance.specs.Search.{row_gap};
+    ghost use Rattle.clearance.specs.declared.part.Part.TheVariants.{Frame};
+    ghost use Rattle.clearance.specs.Strips.{IsFirstNear, IsSomeNear};
 
     /// The first of the lines before `end` that has an obstacle near; `end` where none has.
     pub fn first_near<M: Metric, R: Rows>(self, rows: &mut R, edge: Edge, end: u16) -> u16
@@ -32,76 +35,102 @@ impl Lines {
         ensures found { IsFirstBefore M.distance (IsBlocked (R.cells rows.old) edge) self end result }
         ensures rows { rows.new ≡ rows.old }
     {
+        if end <= self.first {
+            return end;
+        }
+        let rect = self.strip.rect(self.first, end - 1);
         match edge {
-            Edge::Open => self.first_in_bits::<M, R>(rows, end),
-            Edge::Wall => self.first_walled::<M, R>(rows, end),
+            Edge::Open => self.first_in_bits::<M, R>(rows, rect, end),
+            Edge::Wall => self.first_walled::<M, R>(rows, rect, end),
         }
     }
 
     /// The same where the border is a wall: the frame is looked at by arithmetic.
-    fn first_walled<M: Metric, R: Rows>(self, rows: &mut R, end: u16) -> u16
+    fn first_walled<M: Metric, R: Rows>(self, rows: &mut R, rect: Rect, end: u16) -> u16
         requires strip { IsStripIn (R.cells rows.old) self.strip }
-        requires order { self.first ≤ end }
+        requires lines { IsRectOf self end rect }
         ensures found { IsFirstBefore M.distance (IsBlocked (R.cells rows.old) Wall) self end result }
         ensures rows { rows.new ≡ rows.old }
     {
-        let framed = self.first_of::<M, R>(rows, Part::Frame, end);
-        self.first_in_bits::<M, R>(rows, framed)
+        let framed = self.first_framed::<M, R>(rows, rect, end);
+        if framed <= self.first {
+            return framed;
+        }
+        let left = self.rect_left(rect, end, framed);
+        self.first_in_bits::<M, R>(rows, left, framed)
     }
 
     /// The same where the border is open.
     ///
     /// The rows that may have an obstacle are looked at from the lines outwards. Each that has one near leaves fewer lines to those after it.
-    fn first_in_bits<M: Metric, R: Rows>(self, rows: &mut R, end: u16) -> u16
+    fn first_in_bits<M: Metric, R: Rows>(self, rows: &mut R, rect: Rect, end: u16) -> u16
         requires strip { IsStripIn (R.cells rows.old) self.strip }
-        requires order { self.first ≤ end }
+        requires lines { IsRectOf self end rect }
         ensures found { IsFirstBefore M.distance (IsBlocked (R.cells rows.old) Open) self end result }
         ensures rows { rows.new ≡ rows.old }
     {
-        let mut line = self.first_inside::<M, R>(rows, end);
+        let mut line = self.first_inside::<M, R>(rows, rect, end);
         if line <= self.first {
             return line;
         }
         let (bands, height) = (rows.bands(), rows.height());
-        let mut rect = self.strip.rect(self.first, line - 1);
-        let mut gap = first_gap(bands, rect.y0, rect.y1 - 1, 1);
+        let mut left = self.rect_left(rect, end, line);
+        let mut gap = first_gap(bands, left.y0, left.y1 - 1, 1);
         'gaps: while gap < height {
             if u64::from(M::of(0, gap)) >= self.limit {
                 return line;
             }
-            line = self.first_beside::<M, R>(rows, rect, gap, line);
-            if line <= self.first {
-                return line;
+            let next = self.first_beside::<M, R>(rows, left, gap, line);
+            if next <= self.first {
+                return next;
             }
-            gap = next_gap(bands, rect.y0, rect.y1 - 1, gap + 1);
-            rect = self.strip.rect(self.first, line - 1);
+            gap = next_gap(bands, left.y0, left.y1 - 1, gap + 1);
+            left = self.rect_left(left, line, next);
+            line = next;
         }
         line
     }
 
     /// The first of the lines before `end` that has an obstacle near in one of their own rows; `end` where none has.
-    fn first_inside<M: Metric, R: Rows>(self, rows: &mut R, end: u16) -> u16
+    fn first_inside<M: Metric, R: Rows>(self, rows: &mut R, rect: Rect, end: u16) -> u16
         requires strip { IsStripIn (R.cells rows.old) self.strip }
-        requires order { self.first ≤ end }
+        requires lines { IsRectOf self end rect }
         ensures found { IsFirstAmong M.distance (R.cells rows.old) self (IsLineRow self result) end result }
         ensures rows { rows.new ≡ rows.old }
     {
-        if end <= self.first {
-            return end;
-        }
-        let rect = self.strip.rect(self.first, end - 1);
         if are_blank_bands(rows.bands(), rect.y0, rect.y1 - 1) {
             return end;
         }
-        let mut line = end;
+        let (from, to) = (self.strip.from.y, self.strip.to.y);
+        let (mut line, mut left) = (end, rect);
         'lines: for index in self.first..self.after_rows(end) {
             if line <= index {
                 return line;
             }
-            let y = self.strip.cell(index).y;
-            line = self.first_of::<M, R>(rows, Part::Row(y), line);
+            let y = step_towards(from, to, index);
+            let next = self.first_in_row::<M, R>(rows, y, 0, left, line);
+            if next <= self.first {
+                return next;
+            }
+            left = self.rect_left(left, line, next);
+            line = next;
         }
         line
+    }
+
+    /// The rectangle of the lines before `end`, from that of those before `before`.
+    #[inline(always)]
+    fn rect_left(self, rect: Rect, before: u16, end: u16) -> Rect
+        requires some { self.first < end }
+        requires order { end ≤ before }
+        requires lines { IsRectOf self before rect }
+        ensures lines { IsRectOf self end result }
+    {
+        if end < before {
+            self.strip.rect(self.first, end - 1)
+        } else {
+            rect
+        }
     }
 
     /// The end of those lines before `end` which have each row that the lines before `end` have.
@@ -118,84 +147,110 @@ impl Lines {
         }
     }
 
-    /// The first of the lines before `end` that has an obstacle near in one of the two rows `gap` rows above and below the rectangle; `end` where none has.
+    /// The first of the lines before `end` that has an obstacle near in one of the two rows `gap` rows above and below their rectangle; `end` where none has.
     fn first_beside<M: Metric, R: Rows>(self, rows: &mut R, rect: Rect, gap: u16, end: u16) -> u16
         requires strip { IsStripIn (R.cells rows.old) self.strip }
-        requires order { self.first ≤ end }
-        requires rect { IsRectIn (R.cells rows.old) rect }
+        requires lines { IsRectOf self end rect }
         requires some { 0 < gap }
         requires gap { gap ≤ LAST_FRAMED }
         ensures found { IsFirstAmong M.distance (R.cells rows.old) self (λ b. row_gap rect b ≡ gap) end result }
         ensures rows { rows.new ≡ rows.old }
     {
         let above = self.first_above::<M, R>(rows, rect, gap, end);
-        self.first_below::<M, R>(rows, rect, gap, above)
+        if above <= self.first {
+            return above;
+        }
+        let left = self.rect_left(rect, end, above);
+        self.first_below::<M, R>(rows, rect.y1 - 1 + gap, left, above)
     }
 
     /// The same of the row above the rectangle alone.
+    #[inline(always)]
     fn first_above<M: Metric, R: Rows>(self, rows: &mut R, rect: Rect, gap: u16, end: u16) -> u16
         requires strip { IsStripIn (R.cells rows.old) self.strip }
-        requires order { self.first ≤ end }
-        requires rect { IsRectIn (R.cells rows.old) rect }
+        requires lines { IsRectOf self end rect }
         ensures found { IsFirstAmong M.distance (R.cells rows.old) self (λ b. b + gap ≡ rect.y0) end result }
         ensures rows { rows.new ≡ rows.old }
     {
         if gap <= rect.y0 {
-            self.first_of::<M, R>(rows, Part::Row(rect.y0 - gap), end)
+            self.first_in_row::<M, R>(rows, rect.y0 - gap, gap, rect, end)
         } else {
             end
         }
     }
 
-    /// The same of the row below the rectangle alone.
-    fn first_below<M: Metric, R: Rows>(self, rows: &mut R, rect: Rect, gap: u16, end: u16) -> u16
+    /// The same of the row `y` below the rectangle alone.
+    #[inline(always)]
+    fn first_below<M: Metric, R: Rows>(self, rows: &mut R, y: u16, rect: Rect, end: u16) -> u16
         requires strip { IsStripIn (R.cells rows.old) self.strip }
-        requires order { self.first ≤ end }
-        requires gap { gap ≤ LAST_FRAMED }
-        ensures found { IsFirstAmong M.distance (R.cells rows.old) self (λ b. b ≡ rect.y1 - 1 + gap) end result }
+        requires lines { IsRectOf self end rect }
+        requires below { rect.y1 ≤ y }
+        ensures found { IsFirstAmong M.distance (R.cells rows.old) self (λ b. b ≡ y) end result }
         ensures rows { rows.new ≡ rows.old }
     {
-        let y = rect.y1 - 1 + gap;
         if y < rows.height() {
-            self.first_of::<M, R>(rows, Part::Row(y), end)
+            self.first_in_row::<M, R>(rows, y, y - (rect.y1 - 1), rect, end)
         } else {
             end
         }
     }
 
-    /// The first of the lines before `end` that has one of these obstacles near, found by halves; `end` where none has.
-    fn first_of<M: Metric, R: Rows>(self, rows: &mut R, part: Part, end: u16) -> u16
+    /// The first of the lines before `end` that has an obstacle of the row `y` near; `end` where none has. The row lies so many rows outside of the lines' rectangle.
+    #[inline(always)]
+    fn first_in_row<M: Metric, R: Rows>(
+        self,
+        rows: &mut R,
+        y: u16,
+        gap: u16,
+        rect: Rect,
+        end: u16,
+    ) -> u16
+        requires strip { IsStripIn (R.cells rows.old) self.strip }
+        requires row { y < (R.cells rows.old).height }
+        requires gap { gap ≡ row_gap rect y }
+        requires lines { IsRectOf self end rect }
+        ensures found { IsFirstAmong M.distance (R.cells rows.old) self (λ b. b ≡ y) end result }
+        ensures rows { rows.new ≡ rows.old }
+    {
+        if lowered::<M, R>(rows, rect, y, gap, self.limit) < self.limit {
+            self.first_by_quarters::<M, R>(rows, Part::Row(y), end - 1)
+        } else {
+            end
+        }
+    }
+
+    /// The first of the lines before `end` that has the frame near; `end` where none has. The rectangle is that of the lines.
+    fn first_framed<M: Metric, R: Rows>(self, rows: &mut R, rect: Rect, end: u16) -> u16
+        requires strip { IsStripIn (R.cells rows.old) self.strip }
+        requires lines { IsRectOf self end rect }
+        ensures found { IsFirstBefore M.distance (IsPart (R.cells rows.old) Frame) self end result }
+        ensures rows { rows.new ≡ rows.old }
+    {
+        if Part::Frame.least_below::<M, R>(rows, rect, self.limit) < self.limit {
+            self.first_by_quarters::<M, R>(rows, Part::Frame, end - 1)
+        } else {
+            end
+        }
+    }
+
+    /// The first of the lines up to `last` that has one of these obstacles near. One of them has, and mostly one of the first.
+    fn first_by_quarters<M: Metric, R: Rows>(self, rows: &mut R, part: Part, last: u16) -> u16
         requires strip { IsStripIn (R.cells rows.old) self.strip }
         requires part { IsPartIn (R.cells rows.old) part }
-        requires order { self.first ≤ end }
-        ensures found { IsFirstBefore M.distance (IsPart (R.cells rows.old) part) self end result }
+        requires some { IsSomeNear M.distance (IsPart (R.cells rows.old) part) self.strip self.limit self.first last }
+        ensures found { IsFirstNear M.distance (IsPart (R.cells rows.old) part) self.strip self.limit self.first last result }
         ensures rows { rows.new ≡ rows.old }
     {
-        if end <= self.first || !self.is_near::<M, R>(rows, part, self.first, end - 1) {
-            return end;
-        }
-        let (mut low, mut high) = (self.first, end - 1);
-        'halves: while low < high {
-            let middle = low + (high - low) / 2;
-            if self.is_near::<M, R>(rows, part, low, middle) {
-                high = middle;
+        let (mut low, mut high) = (self.first, last);
+        'quarters: while low < high {
+            let quarter = low + (high - low) / 4;
+            let rect = self.strip.rect(low, quarter);
+            if part.least_below::<M, R>(rows, rect, self.limit) < self.limit {
+                high = quarter;
             } else {
-                low = middle + 1;
+                low = quarter + 1;
             }
         }
         low
-    }
-
-    /// Whether one of the lines from `low` to `high` has one of these obstacles near.
-    fn is_near<M: Metric, R: Rows>(self, rows: &mut R, part: Part, low: u16, high: u16) -> bool
-        requires strip { IsStripIn (R.cells rows.old) self.strip }
-        requires part { IsPartIn (R.cells rows.old) part }
-        requires order { low ≤ high }
-        ensures yes { result ≡ true → IsSomeNear M.distance (IsPart (R.cells rows.old) part) self.strip self.limit low high }
-        ensures no { result ≡ false → (k : ℕ) → low ≤ k → k ≤ high → IsLineFar M.distance (IsPart (R.cells rows.old) part) self.strip self.limit k }
-        ensures rows { rows.new ≡ rows.old }
-    {
-        let rect = self.strip.rect(low, high);
-        part.least_below::<M, R>(rows, rect, self.limit) < self.limit
     }
 }

@@ -28,7 +28,13 @@ impl Part {
         ensures rows { rows.new ≡ rows.old }
     {
         match self {
-            Part::Row(y) => lowered::<M, R>(rows, rect, y, rows_apart(rect, y), limit),
+            Part::Row(y) => {
+                let gap = rows_apart(rect, y);
+                if u64::from(M::of(0, gap)) >= limit {
+                    return limit;
+                }
+                lowered::<M, R>(rows, rect, y, gap, limit)
+            }
             Part::Frame => {
                 let (width, height) = (rows.width(), rows.height());
                 lowered_by_frame::<M>(width, height, rect, limit)

@@ -57,7 +57,7 @@ pub fn first_of_path<M: Metric, R: Rows>(
 
 /// The least of the limit and of the distances of the cells after a point, along all points that follow it.
 ///
-/// A stretch whose cells are all too far is passed over as a whole. The half that lies nearer to an obstacle comes first, so that it lowers the limit for the other.
+/// A stretch whose cells are all too far is passed over as a whole. The half that lies nearer to an obstacle comes first, so that it lowers the limit for the other; of two pieces the second, which is longer at the start of a path.
 fn least_along<M: Metric, R: Rows>(
     rows: &mut R,
     edge: Edge,
@@ -83,7 +83,7 @@ fn least_along<M: Metric, R: Rows>(
     let middle = front[front.len() - 1];
     let near = bound_along::<M, R>(rows, edge, from, front, limit);
     let other = bound_along::<M, R>(rows, edge, middle, back, limit);
-    if other < near {
+    if other < near || points.len() == 2 {
         let lowered = least_along::<M, R>(rows, edge, middle, back, limit);
         return least_along::<M, R>(rows, edge, from, front, lowered);
     }

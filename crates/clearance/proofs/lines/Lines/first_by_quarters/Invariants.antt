@@ -2,16 +2,16 @@
 use Rattle.std.proofs.Common.{◌≡◌, ◌-◌, ◌<◌, ◌≤◌, ℕ}
 use Rattle.clearance.specs.Parts.{IsPart}
 use Rattle.clearance.specs.Strips.{IsLineFar, IsSomeNear}
-use Rattle.clearance.proofs.lines.Lines.first_of.Given as goal
+use Rattle.clearance.proofs.lines.Lines.first_by_quarters.Given as goal
 
-abbrev pub invariant-halves : goal.invariant-halves
-invariant-halves g l = record {
+abbrev pub invariant-quarters : goal.invariant-quarters
+invariant-quarters g l = record {
   rows : l.rows ≡ l.fn.rows;
   from : l.self.first ≤ l.low;
-  within : l.high ≤ l.end - 1;
+  within : l.high ≤ l.last;
   some : IsSomeNear g.M.Metric.distance (IsPart (g.R.Rows.cells l.fn.rows) l.part) l.self.strip l.self.limit l.low l.high;
   before : (k : ℕ) → l.self.first ≤ k → k < l.low → IsLineFar g.M.Metric.distance (IsPart (g.R.Rows.cells l.fn.rows) l.part) l.self.strip l.self.limit k;
 }
 
-abbrev pub decreases-halves : goal.decreases-halves
-decreases-halves g l = l.high - l.low
+abbrev pub decreases-quarters : goal.decreases-quarters
+decreases-quarters g l = l.high - l.low
