@@ -8,7 +8,8 @@ import sys
 import threading
 import unittest
 
-sys.path.append(str(pathlib.Path(__file__).resolve().parent.parent.parent / "tools"))
+TOOLS = pathlib.Path(__file__).resolve().parent.parent.parent / "tools"
+sys.path += [str(TOOLS), str(TOOLS / "stress")]
 
 import clearmap
 import stress_python_client as stress

@@ -25,7 +25,7 @@ try() { # try COMMAND ..: says how it ended, and what it wrote where it failed
 }
 export CLEARMAP="$built"
 for test in replies pins lost; do try "$python" "tools/gateway/test_$test.py"; done
-printf '#!/bin/sh\nexec %s %s "$@"\n' "$python" "$PWD/tools/served_by_gateway.py" \
+printf '#!/bin/sh\nexec %s %s "$@"\n' "$python" "$PWD/tools/stress/served_by_gateway.py" \
     > "$scratch/program"
 chmod +x "$scratch/program"
 export CLEARMAP="$scratch/program" BUILT="$built"
