@@ -65,13 +65,12 @@ pub record IsCollected (s : Story) (floor freed : ℕ) (kept : Kept) : Type 0 wh
 
 -- this reply belongs to a command that is accepted after a log
 abbrev pub IsReply : Story → Command → Reply → Type 0
-IsReply s (Paint r black) (Painted place changed) = (place ≡ s.places + 1) × (changed ≡ cells_changed s.draft (Paint r black))
-IsReply s (Stamp x y b) (Painted place changed) = (place ≡ s.places + 1) × (changed ≡ cells_changed s.draft (Stamp x y b))
-IsReply s Publish (Published place version) = (place ≡ s.places + 1) × (version ≡ newest s + 1)
-IsReply s Revert (Reverted place) = place ≡ s.places + 1
-IsReply s Collect (Collected place floor freed kept) = (place ≡ s.places + 1) × IsCollected s floor freed kept
-IsReply s Checkpoint (Checkpointed place) = place ≡ s.places + 1
-IsReply s c reply = ⊥
+IsReply s (Paint r black) reply = reply ≡ Painted (s.places + 1) (cells_changed s.draft (Paint r black))
+IsReply s (Stamp x y b) reply = reply ≡ Painted (s.places + 1) (cells_changed s.draft (Stamp x y b))
+IsReply s Publish reply = reply ≡ Published (s.places + 1) (newest s + 1)
+IsReply s Revert reply = reply ≡ Reverted (s.places + 1)
+IsReply s Collect reply = (floor freed : ℕ) × (kept : Kept) × (reply ≡ Collected (s.places + 1) floor freed kept) × IsCollected s floor freed kept
+IsReply s Checkpoint reply = reply ≡ Checkpointed (s.places + 1)
 
 -- this is an accepted answer to a command after a log
 pub record IsAnswer (g : Setting) (s : Story) (c : Command) (reply : Reply) : Type 0 where

@@ -39,11 +39,11 @@ scanned_choice k s m tidy words = record {
 pub reply_is_answer : (k : Base) (s : Story) (m : Blocks) → IsTidy k s m → (c : Command) (words : List ℕ) → refused k.setting s c ≡ None
     → IsAnswer k.setting s c (reply_of s c words)
 unfolding reply_of
-reply_is_answer k s m tidy (Paint r black) words accepted = record { accepted = accepted; reply_is = (refl, refl) }
-reply_is_answer k s m tidy (Stamp x y b) words accepted = record { accepted = accepted; reply_is = (refl, refl) }
-reply_is_answer k s m tidy Publish words accepted = record { accepted = accepted; reply_is = (refl, refl) }
+reply_is_answer k s m tidy (Paint r black) words accepted = record { accepted = accepted; reply_is = refl }
+reply_is_answer k s m tidy (Stamp x y b) words accepted = record { accepted = accepted; reply_is = refl }
+reply_is_answer k s m tidy Publish words accepted = record { accepted = accepted; reply_is = refl }
 reply_is_answer k s m tidy Revert words accepted = record { accepted = accepted; reply_is = refl }
 reply_is_answer k s m tidy Checkpoint words accepted = record { accepted = accepted; reply_is = refl }
 reply_is_answer k s m tidy Collect words accepted =
     let choice = scanned_choice k s m tidy words in
-    record { accepted = accepted; reply_is = (refl, record { part = choice.part; newest_in = choice.newest_in; floor_is = refl; freed_is = let freed = freed_is k s m tidy (kept_scanned s words) choice in omega arith }) }
+    record { accepted = accepted; reply_is = (_, _, _, refl, record { part = choice.part; newest_in = choice.newest_in; floor_is = refl; freed_is = let freed = freed_is k s m tidy (kept_scanned s words) choice in omega arith }) }

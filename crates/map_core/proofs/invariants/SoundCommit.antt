@@ -10,7 +10,6 @@ use Rattle.map_core.specs.declared.command.Entry.{Entry}
 use Rattle.map_core.specs.declared.command.Command.{Command}
 use Rattle.map_core.specs.declared.command.Command.TheVariants.{Paint, Stamp, Publish, Revert, Collect, Checkpoint}
 use Rattle.map_core.specs.declared.command.Reply.{Reply}
-use Rattle.map_core.specs.declared.command.Reply.TheVariants.{Painted, Published, Reverted, Collected, Checkpointed}
 use Rattle.map_core.specs.Kept.{first_free, IsIn}
 use Rattle.map_core.specs.Story.{Story, opened, newest, bitmap_of, IsKept}
 use Rattle.map_core.specs.Legal.{IsAnswer, told}
@@ -89,11 +88,9 @@ kept_before k s m Publish reply shape answer v is_kept =
       | inr new ↦ inr (refl, new)
     ]
 kept_before k s m Revert reply shape answer v is_kept = inl is_kept
-kept_before k s m Collect (Collected place f freed kept_now) shape answer v is_kept = inl (kept_of s kept_now record { part = answer.reply_is.1.part; newest_in = answer.reply_is.1.newest_in } v is_kept)
-kept_before k s m Collect (Painted place changed) shape answer v is_kept = absurd answer.reply_is
-kept_before k s m Collect (Published place version) shape answer v is_kept = absurd answer.reply_is
-kept_before k s m Collect (Reverted place) shape answer v is_kept = absurd answer.reply_is
-kept_before k s m Collect (Checkpointed place) shape answer v is_kept = absurd answer.reply_is
+kept_before k s m Collect reply shape answer v is_kept =
+    let (f, freed, kept_now, is, collected) = answer.reply_is in
+    inl (kept_of s kept_now record { part = collected.part; newest_in = collected.newest_in } v (subst (λ (r : Reply). IsKept (told s Collect r) v) is is_kept))
 kept_before k s m Checkpoint reply shape answer v is_kept = inl is_kept
 
 -- the block of a position that has changed is one of the draft's, at the place of that position

@@ -1,5 +1,5 @@
 -- What holds of the empty log holds after any legal log: one lemma for each command.
-use Rattle.std.proofs.Common.{◌≡◌, ℕ, ◌+◌, ◌<◌, ◌≤◌, Bool, true, false, if◌then◌else◌, List, [], ◌∷◌, ◌++◌, length, refl, sym, ◌∙◌, arith}
+use Rattle.std.proofs.Common.{◌≡◌, ℕ, ◌+◌, ◌<◌, ◌≤◌, Bool, true, false, if◌then◌else◌, List, [], ◌∷◌, ◌++◌, length, refl, subst, sym, ◌∙◌, arith}
 use Rattle.std.specs.Prelude.{Some, None, nat_le}
 use Rattle.std.proofs.lemmas.Bool.{cases_lt}
 use Rattle.std.proofs.lemmas.Bool.Decides.{nat_tests}
@@ -8,7 +8,6 @@ use Rattle.metric.specs.declared.refusal.Refusal.TheVariants.{VersionsFull, LogF
 use Rattle.map_core.specs.declared.command.Command.{Command}
 use Rattle.map_core.specs.declared.command.Command.TheVariants.{Paint, Stamp, Publish, Revert, Collect, Checkpoint}
 use Rattle.map_core.specs.declared.command.Reply.{Reply}
-use Rattle.map_core.specs.declared.command.Reply.TheVariants.{Painted, Published, Reverted, Collected, Checkpointed}
 use Rattle.map_core.specs.declared.command.Entry.{Entry}
 use Rattle.map_core.specs.declared.setting.Setting.{Setting}
 use Rattle.map_core.specs.Kept.{IsApart}
@@ -45,11 +44,10 @@ IsTidy-told k s m (Paint r black) reply few tidy answer = IsTidy-draw k s m (Pai
 IsTidy-told k s m (Stamp x y b) reply few tidy answer = IsTidy-draw k s m (Stamp x y b) tidy answer.accepted
 IsTidy-told k s m Publish reply few tidy answer = IsTidy-publish k s m tidy few (room_for k.setting s answer.accepted)
 IsTidy-told k s m Revert reply few tidy answer = IsTidy-revert k s m tidy
-IsTidy-told k s m Collect (Collected place f freed kept_now) few tidy answer = IsTidy-keeping k s m tidy (s.places + 1) kept_now record { part = answer.reply_is.1.part; newest_in = answer.reply_is.1.newest_in }
-IsTidy-told k s m Collect (Painted place changed) few tidy answer = absurd answer.reply_is
-IsTidy-told k s m Collect (Published place version) few tidy answer = absurd answer.reply_is
-IsTidy-told k s m Collect (Reverted place) few tidy answer = absurd answer.reply_is
-IsTidy-told k s m Collect (Checkpointed place) few tidy answer = absurd answer.reply_is
+IsTidy-told k s m Collect reply few tidy answer =
+    let (f, freed, kept_now, is, collected) = answer.reply_is in
+    subst (λ (r : Reply). IsTidy k (told s Collect r) (moved s Collect r m)) (sym is)
+    (IsTidy-keeping k s m tidy (s.places + 1) kept_now record { part = collected.part; newest_in = collected.newest_in })
 IsTidy-told k s m Checkpoint reply few tidy answer = IsTidy-checkpoint k s m tidy
 
 -- what holds after a legal log holds after more legal entries

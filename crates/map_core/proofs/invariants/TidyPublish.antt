@@ -3,7 +3,7 @@ use Rattle.std.proofs.Common.{◌≡◌, ℕ, suc, ◌+◌, ◌<◌, ◌≤◌, 
 use Rattle.std.specs.Prelude.{Option, None, is_some}
 use Rattle.std.specs.List.{AllByRecursion}
 use Rattle.std.proofs.lemmas.Bool.{cases_lt}
-use Rattle.std.proofs.lemmas.List.{length-append, length-map, length-replicate, length-set, get_or_append_left, get_or_push}
+use Rattle.std.proofs.lemmas.List.{length-append, length-map, length-replicate, length-set, get_or_append_left, get_or_push, get_or-set_same}
 use mathlib.Core.Logic.{inl, inr}
 use Rattle.bits.specs.Cells.{Cells}
 use Rattle.bits.specs.Tiles.{row_word}
@@ -15,7 +15,7 @@ use Rattle.map_core.specs.Words.{Base, tiles}
 use Rattle.map_core.specs.Safe.{times}
 use Rattle.map_core.specs.Tidy.{IsOfMap, IsRetired, IsAmongRetired, HasNewest, AreSlots, IsShaped, IsTidy}
 use Rattle.map_core.proofs.accounts.CameLemmas.{came-push, came-le, came-same, changed_before-push, changed_before_new}
-use Rattle.map_core.proofs.logs.KeptLemmas.{first_free-le, members-add, IsIn-add, IsIn-new, added_at}
+use Rattle.map_core.proofs.logs.KeptLemmas.{first_free-le, members-add, IsIn-add, added_at}
 use Rattle.map_core.proofs.accounts.RetiredLemmas.{All-append, All-each, All-replaced, Among-append_left, Among-append_right, Among-replaced, used_at, used_by}
 use Rattle.map_core.proofs.accounts.TimesLemmas.{times-append, blocks_of-append, own_list-none, is_some-none, times-mapped, length-mapped, length-replaced, mapped-None}
 
@@ -137,7 +137,7 @@ slot_found k s slots few room =
 -- the new version is kept
 new_kept : (s : Story) → first_free s.kept.slots < length s.kept.slots → IsKept (published_story s) (newest s + 1)
 unfolding IsKept
-new_kept s h = IsIn-new s.kept (newest s + 1) h
+new_kept s h = record { slot = first_free s.kept.slots; there = get_or-set_same s.kept.slots (first_free s.kept.slots) (suc (newest s + 1)) 0 h }
 
 -- a version that a slot has is kept
 is_kept : (s : Story) (i v : ℕ) → get_or s.kept.slots i 0 ≡ suc v → IsKept s v

@@ -4,7 +4,7 @@ use Rattle.std.specs.Prelude.{Option, Some, None}
 use Rattle.std.specs.List.{list_any}
 use Rattle.std.proofs.lemmas.Bool.{cases_eq, eq-eqb, ne_eqb, or_left}
 use Rattle.std.proofs.lemmas.Bool.Decides.{nat_tests}
-use Rattle.std.proofs.lemmas.List.{get_or-set_same, get_or-set_other}
+use Rattle.std.proofs.lemmas.List.{get_or-set_other}
 use mathlib.Core.Logic.{inl, inr}
 use Rattle.map_core.specs.declared.kept.Kept.{Kept}
 use Rattle.map_core.specs.declared.kept.Seen.{Seen}
@@ -74,10 +74,6 @@ IsIn-add kept w v h = record {
   slot = h.slot;
   there = get_or-set_other kept.slots (first_free kept.slots) h.slot (suc w) 0 (slot_other kept.slots h.slot v h.there) ∙ h.there;
 }
-
--- a version that is added is kept, where a slot is free
-pub IsIn-new : (kept : Kept) (w : ℕ) → first_free kept.slots < length kept.slots → IsIn (with_version kept w) w
-IsIn-new kept w h = record { slot = first_free kept.slots; there = get_or-set_same kept.slots (first_free kept.slots) (suc w) 0 h }
 
 -- once a version is added, what a slot has is what it had, or it is the new version
 pub added_at : (slots : List ℕ) (w i v : ℕ) → get_or (set slots (first_free slots) (suc w)) i 0 ≡ suc v → (get_or slots i 0 ≡ suc v) ⊎ ((i ≡ first_free slots) × (v ≡ w))

@@ -1,6 +1,6 @@
 -- An order, on a world by its parts.
 use Rattle.std.proofs.Common.{◌≡◌, ℕ, ◌+◌, ◌-◌, ◌*◌, ◌<◌, ◌≤◌, true, false, List, [], length, refl, ap, subst, sym, ◌∙◌, arith}
-use Rattle.std.specs.Prelude.{Option, Some, None, Ok, Err, Result, OnOk, is_err, is_some}
+use Rattle.std.specs.Prelude.{Option, Some, None, Ok, is_some}
 use mathlib.Core.Logic.{inr}
 use Rattle.metric.specs.declared.refusal.Refusal.{Refusal}
 use Rattle.metric.specs.declared.refusal.Refusal.TheVariants.{Memory}
@@ -119,11 +119,6 @@ order_done w c copy steps whole free accepted same count =
 -- an order that finds no memory leaves the world, under another name too
 pub starved_still : (w v : State) (c : Command) → v ≡ w → IsWhole w → w.keeper.hand ≡ None → None ≡ refused w.base.setting (story_of w) c → SafeStep w (Order c) (Ok (says.Refused Memory)) v
 starved_still w v c same whole free is = subst (λ (x : State). SafeStep w (Order c) (Ok (says.Refused Memory)) x) (sym same) (order_starved w c whole free is)
-
--- what holds on success holds where there was no error
-pub when_ok : {A E : Type 0} (r : Result A E) (P : Type 0) → OnOk r P → is_err r ≡ false → P
-when_ok (Ok x) P h none = h
-when_ok (Err x) P h none = absurd (cc)
 
 -- what holds of a world holds of it under another name
 pub under_name : (P : State → Type 0) (w v : State) → v ≡ w → P w → P v
