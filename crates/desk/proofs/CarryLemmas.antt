@@ -1,58 +1,42 @@
 -- A command that the keeper commits is carried out: the reply that is computed is the one that its log has.
-use Rattle.std.proofs.Common.{◌≡◌, ℕ, ◌+◌, ◌^◌, ◌<◌, List, [], ◌∷◌, ◌++◌, get_or, refl, ap, subst, sym, ◌∙◌, arith}
-use Rattle.std.specs.Prelude.{false, Some, None}
+use Rattle.std.proofs.Common.{◌≡◌, ℕ, ◌<◌, List, [], ◌∷◌, ◌++◌, get_or, refl, ap, subst, sym, ◌∙◌}
+use Rattle.std.specs.Prelude.{Some, None}
 use Rattle.std.proofs.lemmas.Option.{same_Some}
 use Rattle.map_core.specs.declared.command.Command.{Command}
 use Rattle.map_core.specs.declared.command.Command.TheVariants.{Paint, Stamp, Publish, Revert, Collect, Checkpoint}
 use Rattle.map_core.specs.declared.command.Entry.{Entry}
 use Rattle.map_core.specs.declared.command.Reply.{Reply}
-use Rattle.map_core.specs.Story.{newest}
+use Rattle.map_core.specs.Story.{Story, newest}
 use Rattle.map_core.specs.Blocks.{Blocks}
-use Rattle.map_core.specs.Drawing.{draws}
 use Rattle.map_core.specs.Legal.{refused}
-use Rattle.map_core.specs.Ledger.{refused_by_ledger}
 use Rattle.map_core.specs.Steps.{steps_before}
 use Rattle.map_core.specs.Words.{Base, slot_of}
 use Rattle.map_core.specs.Views.{story, blocks}
 use Rattle.shelf.specs.Store.{StoreId, readers_of}
 use Rattle.shelf.specs.Roles.{Task, KeeperView, entries}
-use Rattle.shelf.specs.Steps.{with_command, committed, signed_of, newest_slot, MayCommit}
+use Rattle.shelf.specs.Steps.{with_command, committed, newest_slot, MayCommit}
 use Rattle.shelf.proofs.logs.LogParts.{entries-push}
 use Rattle.map_core.proofs.logs.Replies.{HasKept, the_reply}
 use Rattle.desk.specs.declared.holding.Holding.{Holding}
-use Rattle.desk.specs.Holdings.{IsToldByLog, IsOneStep, Does}
+use Rattle.desk.specs.Holdings.{IsOneStep, Does}
 use Rattle.map_core.specs.Drawing.{IsDraw}
 use Rattle.desk.specs.declared.holding.judged.Judged.{Judged}
-use Rattle.desk.specs.declared.holding.judged.Judged.TheVariants as kinds
-use Rattle.desk.specs.Judging.{IsJudged, IsAtOnce}
-use Rattle.desk.specs.Carries.{CanCarry, IsCarried, signed}
-use Rattle.map_core.proofs.logs.LedgerLemmas.{place_of_ledger}
-use Rattle.desk.proofs.HoldDraw.{judged_other}
-use Rattle.desk.proofs.HoldOpen.{can_answer}
+use Rattle.desk.specs.Judging.{IsJudged}
+use Rattle.desk.specs.Carries.{CanCarry, IsCarried, IsInHand, IsWorked, signed, task_of, with_task}
+use Rattle.desk.proofs.HoldDraw.{judged_none}
 
--- a command is in hand, of which so many steps are done, and whose scan saw these words
-abbrev pub task_of : ℕ → Command → ℕ → List ℕ → Task
-task_of by c done words = record { by = by; hand = record { command = c; done = done; scanned = words } }
+-- a command that is judged is accepted
+pub accepted : (z : StoreId) (k : KeeperView) (h : Holding) (c : Command) (j : Judged) → CanCarry z k h → IsJudged h c j → refused z.base.setting (story z.base (entries k.log)) c ≡ None
+accepted z k h c j able judged = sym (judged_none h c j judged z.base (entries k.log) able.told)
 
--- the keeper has this task in hand
-abbrev pub with_task : KeeperView → Task → KeeperView
-with_task k t = record k { task = Some t }
+-- a command that the keeper has taken in hand is in hand
+pub taken_in_hand : (z : StoreId) (k u : KeeperView) (h : Holding) (by : ℕ) (c : Command) → CanCarry z k h → u ≡ with_command k by c → IsInHand z u h by c
+taken_in_hand z k u h by c able is =
+    subst (λ (q : KeeperView). IsInHand z q h by c) (sym is) record { keeper_is = ap (λ (q : KeeperView). with_command q by c) able.keeper_is; told = able.told }
 
--- a keeper that can carry a command out has none in hand
-pub none_in_hand : (z : StoreId) (k : KeeperView) (h : Holding) → CanCarry z k h → k.task ≡ None
-none_in_hand z k h able = ap (λ (u : KeeperView). u.task) able.keeper_is
-
--- a keeper that can carry a command out has met the reader of each commit
-pub all_met : (z : StoreId) (k : KeeperView) (h : Holding) → CanCarry z k h → k.unmet ≡ None
-all_met z k h able = ap (λ (u : KeeperView). u.unmet) able.keeper_is
-
--- a keeper that can carry a command out has dealt each reader of its store
-pub is_dealt : (z : StoreId) (k : KeeperView) (h : Holding) (by : ℕ) → CanCarry z k h → by < readers_of z → by < k.dealt
-is_dealt z k h by able below = subst (λ (n : ℕ). by < n) (sym (ap (λ (u : KeeperView). u.dealt) able.keeper_is)) below
-
--- a publish or a collect that the ledger doesn't refuse is accepted
-pub accepted : (z : StoreId) (k : KeeperView) (h : Holding) (c : Command) → CanCarry z k h → draws c ≡ false → refused_by_ledger h.ledger c ≡ None → refused z.base.setting (story z.base (entries k.log)) c ≡ None
-accepted z k h c able other by = sym (judged_other z.base (entries k.log) h c able.told other by)
+-- a keeper with a command in hand has it as its task, of which no step is done
+pub has_task : (z : StoreId) (k : KeeperView) (h : Holding) (by : ℕ) (c : Command) → IsInHand z k h by c → k ≡ with_task k (task_of by c 0 [])
+has_task z k h by c hand = hand.keeper_is ∙ sym (ap (λ (q : KeeperView). with_task q (task_of by c 0 [])) hand.keeper_is)
 
 -- a command of one step has none before its last
 no_steps : (z : Base) (m : Blocks) (c : Command) → IsOneStep c → 0 ≡ steps_before z m c
@@ -64,76 +48,76 @@ no_steps z m Revert one = refl
 no_steps z m Collect one = absurd one
 no_steps z m Checkpoint one = refl
 
--- a command of one step that a reader asked for may be committed as soon as it is in hand
-pub may_commit : (z : Base) (k u : KeeperView) (by : ℕ) (c : Command) → u ≡ with_command k by c → IsOneStep c → by < k.dealt → k.unmet ≡ None → MayCommit z u
-may_commit z k u by c is one caller met =
-    subst (λ (q : KeeperView). MayCommit z q) (sym is)
-    record { task = task_of by c 0 []; in_hand = refl; all_done = no_steps z (blocks z (entries k.log)) c one; caller = caller; met = met }
-
--- a keeper that commits its task becomes what `committed` says of it
-pub committed_is : (z : Base) (k u l : KeeperView) (t : Task) → u ≡ with_task k t → ((t : Task) → u.task ≡ Some t → l ≡ committed z u t) → l ≡ committed z (with_task k t) t
-committed_is z k u l t is step = step t (ap (λ (q : KeeperView). q.task) is) ∙ ap (λ (q : KeeperView). committed z q t) is
-
--- a command that does to what is held what its reply says is carried out, with that reply, once it is committed
-pub carried_is : (z : StoreId) (k after : KeeperView) (h new : Holding) (by done : ℕ) (c : Command) (words : List ℕ) (reply : Reply) → IsToldByLog z.base (entries k.log) h → Does h c reply new
-    → HasKept (story z.base (entries k.log)) c reply words → after ≡ committed z.base (with_task k (task_of by c done words)) (task_of by c done words) → IsCarried k h by c reply after new
-carried_is z k after h new by done c words reply told does kept is =
-    let same = the_reply (story z.base (entries k.log)) c reply words (does z.base (entries k.log) told).0.reply_is kept in
+-- a command of one step is worked once what it does is done
+pub worked_at_once : (z : StoreId) (k : KeeperView) (h new : Holding) (by : ℕ) (c d : Command) (reply : Reply) → IsInHand z k h by c → c ≡ d → IsOneStep d → Does h d reply new → IsWorked z k h by c reply k new
+worked_at_once z k h new by c d reply hand is once done =
+    let one : IsOneStep c = subst IsOneStep (sym is) once in
+    let does : Does h c reply new = subst (λ (e : Command). Does h e reply new) (sym is) done in
     record {
-      keeper_is = is ∙ ap (λ (r : Reply). record k { log = k.log ++ signed by c r ∷ []; task = None; unmet = Some by }) (sym same);
+      done = 0;
+      words = [];
+      keeper_is = has_task z k h by c hand;
+      all_done = no_steps z.base (blocks z.base (entries k.log)) c one;
+      reply_is = the_reply (story z.base (entries k.log)) c reply [] (does z.base (entries k.log) hand.told).0.reply_is (no_scan (story z.base (entries k.log)) c reply one);
       does = does;
     }
+  where
+    no_scan : (s : Story) (c : Command) (reply : Reply) → IsOneStep c → HasKept s c reply []
+    no_scan s (Paint r black) reply one = tt
+    no_scan s (Stamp x y b) reply one = tt
+    no_scan s Publish reply one = absurd one
+    no_scan s Revert reply one = tt
+    no_scan s Collect reply one = absurd one
+    no_scan s Checkpoint reply one = tt
 
--- after a commit the slot that is held as newest's is the slot of the log's newest version
-slot_committed : (z : StoreId) (k : KeeperView) (h new : Holding) (by done : ℕ) (c : Command) (words : List ℕ) (reply : Reply) → IsToldByLog z.base (entries k.log) h → Does h c reply new
-    → HasKept (story z.base (entries k.log)) c reply words → new.ledger.slot ≡ newest_slot z.base (committed z.base (with_task k (task_of by c done words)) (task_of by c done words)).log
+-- a paint or a stamp has one step
+pub drawn_once : (c : Command) → IsDraw c → IsOneStep c
+drawn_once (Paint r black) draws = tt
+drawn_once (Stamp x y b) draws = tt
+drawn_once Publish draws = absurd draws
+drawn_once Revert draws = tt
+drawn_once Collect draws = absurd draws
+drawn_once Checkpoint draws = tt
+
+-- a command that is worked, and that a reader asked for, may be committed
+pub may_commit : (z : StoreId) (k u : KeeperView) (h new : Holding) (by : ℕ) (c : Command) (reply : Reply) → IsInHand z k h by c → by < readers_of z → IsWorked z k h by c reply u new → MayCommit z.base u
+may_commit z k u h new by c reply hand below worked =
+    subst (λ (q : KeeperView). MayCommit z.base q) (sym worked.keeper_is)
+    record {
+      task = task_of by c worked.done worked.words;
+      in_hand = refl;
+      all_done = worked.all_done;
+      caller = subst (λ (n : ℕ). by < n) (sym (ap (λ (q : KeeperView). q.dealt) hand.keeper_is)) below;
+      met = ap (λ (q : KeeperView). q.unmet) hand.keeper_is;
+    }
+
+-- the commit of a command that is worked puts its entry into the log
+commits : (z : StoreId) (k u : KeeperView) (h new : Holding) (by : ℕ) (c : Command) (reply : Reply) → IsWorked z k h by c reply u new → (t : Task) → u.task ≡ Some t
+    → committed z.base u t ≡ record k { log = k.log ++ signed by c reply ∷ []; task = None; unmet = Some by }
+commits z k u h new by c reply worked t there =
+    let task = task_of by c worked.done worked.words in
+    let one : t ≡ task = same_Some _ _ (sym there ∙ ap (λ (q : KeeperView). q.task) worked.keeper_is) in
+    ap (λ (q : KeeperView × Task). committed z.base q.0 q.1) (λ j. (worked.keeper_is j, one j))
+    ∙ ap (λ (r : Reply). record k { log = k.log ++ signed by c r ∷ []; task = None; unmet = Some by }) (sym worked.reply_is)
+
+-- after the commit of a command that is worked the slot that is held as newest's is the slot of the log's newest version
+pub slot_told : (z : StoreId) (k u : KeeperView) (h new : Holding) (by : ℕ) (c : Command) (reply : Reply) → IsInHand z k h by c → IsWorked z k h by c reply u new
+    → (t : Task) → u.task ≡ Some t → new.ledger.slot ≡ newest_slot z.base (committed z.base u t).log
 unfolding slot_of
-slot_committed z k h new by done c words reply told does kept =
-    let same = the_reply (story z.base (entries k.log)) c reply words (does z.base (entries k.log) told).0.reply_is kept in
-    (does z.base (entries k.log) told).1.holds.summary.ledger_is.slot_is
-    ∙ (ap (λ (r : Reply). slot_after z.base (entries k.log ++ record { command = c; reply = r } ∷ [])) same
-    ∙ sym (ap (slot_after z.base) (entries-push k.log (signed_of z.base (with_task k (task_of by c done words)) (task_of by c done words)))))
+slot_told z k u h new by c reply hand worked t there =
+    (worked.does z.base (entries k.log) hand.told).1.holds.summary.ledger_is.slot_is
+    ∙ sym (ap (λ (q : KeeperView). newest_slot z.base q.log) (commits z k u h new by c reply worked t there) ∙ ap (slot_after z.base) (entries-push k.log (signed by c reply)))
   where
     slot_after : Base → List Entry → ℕ
     slot_after base log = get_or (story base log).slots (newest (story base log)) 0
 
--- the slot that the keeper is told for a commit is the slot of the newest version after it
-pub slot_told : (z : StoreId) (k u : KeeperView) (h new : Holding) (by done : ℕ) (c : Command) (words : List ℕ) (reply : Reply) → IsToldByLog z.base (entries k.log) h → Does h c reply new
-    → HasKept (story z.base (entries k.log)) c reply words → u ≡ with_task k (task_of by c done words)
-    → (t : Task) → u.task ≡ Some t → new.ledger.slot ≡ newest_slot z.base (committed z.base u t).log
-slot_told z k u h new by done c words reply told does kept is t there =
-    let one : task_of by c done words ≡ t = same_Some _ _ (sym (ap (λ (q : KeeperView). q.task) is) ∙ there) in
-    slot_committed z k h new by done c words reply told does kept
-    ∙ ap (λ (q : KeeperView × Task). newest_slot z.base (committed z.base q.0 q.1).log) (λ j. (sym is j, one j))
-
--- a command that is judged as done at once has one step
-pub one_step : (h : Holding) (c : Command) (j : Judged) → IsJudged h c j → IsAtOnce j → IsOneStep c
-one_step h c (kinds.Draw stroke) judged once = drawn_once c judged.kind.0
-  where
-    drawn_once : (c : Command) → IsDraw c → IsOneStep c
-    drawn_once (Paint r black) draws = tt
-    drawn_once (Stamp x y b) draws = tt
-    drawn_once Publish draws = absurd draws
-    drawn_once Revert draws = tt
-    drawn_once Collect draws = absurd draws
-    drawn_once Checkpoint draws = tt
-one_step h c kinds.Revert judged once = subst IsOneStep (sym judged.kind) tt
-one_step h c kinds.Checkpoint judged once = subst IsOneStep (sym judged.kind) tt
-one_step h c kinds.Publish judged once = absurd once
-one_step h c kinds.Collect judged once = absurd once
-
--- a command of one step needs no scan for its reply
-pub no_scan : (z : StoreId) (k : KeeperView) (c : Command) (reply : Reply) → IsOneStep c → HasKept (story z.base (entries k.log)) c reply []
-no_scan z k (Paint r black) reply one = tt
-no_scan z k (Stamp x y b) reply one = tt
-no_scan z k Publish reply one = absurd one
-no_scan z k Revert reply one = tt
-no_scan z k Collect reply one = absurd one
-no_scan z k Checkpoint reply one = tt
-
--- where the ledger doesn't refuse a command, one version more can be counted
-pub next_version : (z : Base) (k : KeeperView) (h : Holding) (c : Command) → IsToldByLog z (entries k.log) h → refused_by_ledger h.ledger c ≡ None → h.ledger.newest + 1 < 2 ^ 32
-next_version z k h c tells by =
-    let left = place_of_ledger h.ledger c by in
-    let fewer = (can_answer z (entries k.log) h tells).balanced.newest_in in
-    omega arith
+-- a command that was in hand and worked is carried out once it is committed
+pub carried : (z : StoreId) (k q u l : KeeperView) (h new : Holding) (by : ℕ) (c : Command) (reply : Reply) → q ≡ with_command k by c → IsWorked z q h by c reply u new
+    → ((t : Task) → u.task ≡ Some t → l ≡ committed z.base u t) → IsCarried k h by c reply l new
+carried z k q u l h new by c reply order worked step =
+    let task = task_of by c worked.done worked.words in
+    let there : u.task ≡ Some task = ap (λ (p : KeeperView). p.task) worked.keeper_is in
+    record {
+      keeper_is = step task there ∙ (commits z q u h new by c reply worked task there ∙ ap (λ (p : KeeperView). record p { log = p.log ++ signed by c reply ∷ []; task = None; unmet = Some by }) order);
+      does = worked.does;
+    }

@@ -111,7 +111,10 @@ collect_done old new kept_now freed reply by part newest_in sweeps home entered 
     let answer : IsAnswer k.setting s Collect (Collected place least freed kept_now) = record {
       accepted = refused_next k s old.ledger held tidy.draft Collect by;
       reply_is = (
-        ap (λ (n : ℕ). n + 1) held.places_is,
+        _,
+        _,
+        _,
+        ap (λ (n : ℕ). Collected (n + 1) least freed kept_now) held.places_is,
         record { part = choice.part; newest_in = choice.newest_in; floor_is = ap (λ (n : ℕ). least_kept n kept_now) held.newest_is; freed_is = freed_told k s m old new freed kept_now tidy tells.holds choice sweeps },
       );
     } in

@@ -1,6 +1,6 @@
 -- What is held after a paint or a stamp, and after a revert.
 use Rattle.std.proofs.Common.{◌≡◌, ℕ, ◌+◌, ◌-◌, Bool, true, false, if◌then◌else◌, List, [], ◌∷◌, ◌++◌, length, drop, map, replicate, refl, ap, subst, sym, ◌∙◌, arith}
-use Rattle.std.specs.Prelude.{Option, Some, None, is_some, nat_lt, Result, Ok, Err, IfErr}
+use Rattle.std.specs.Prelude.{Option, Some, None, is_some, nat_lt}
 use Rattle.std.proofs.lemmas.List.{length-map}
 use Rattle.bits.specs.Cells.{Cells}
 use Rattle.metric.specs.declared.refusal.Refusal.{Refusal}
@@ -14,7 +14,7 @@ use Rattle.map_core.specs.declared.ledger.Ledger.{Ledger}
 use Rattle.map_core.specs.declared.setting.Setting.{Setting}
 use Rattle.map_core.specs.Drawing.{touched, differing, cells_changed, is_inside, draws as is_draw, IsDraw}
 use Rattle.map_core.specs.Story.{Story, newest, bitmap_of, trues, new_ones, inuse}
-use Rattle.map_core.specs.Legal.{needed, refused, refused_blocks, IsReply, IsAnswer, told, after_draw}
+use Rattle.map_core.specs.Legal.{needed, refused, refused_blocks, IsAnswer, told, after_draw}
 use Rattle.map_core.specs.Blocks.{Blocks, directory_of, own_after, moved, drawn_blocks}
 use Rattle.map_core.specs.Ledger.{refused_by_ledger, refused_draw_blocks}
 use Rattle.map_core.specs.Summary.{Summary, IsSummary}
@@ -22,6 +22,8 @@ use Rattle.map_core.specs.Words.{Base}
 use Rattle.map_core.specs.Views.{story, blocks}
 use Rattle.map_core.specs.Tidy.{IsTidy}
 use Rattle.map_core.proofs.logs.LedgerLemmas.{refused_first, refused_next, refused_for_none, inside_told, told_draw, ledger_draw, ledger_revert, ledger_checkpoint}
+use Rattle.map_core.proofs.accounts.FreedLemmas.{reply_is_answer}
+use Rattle.map_core.proofs.steps.DrawWorld.{reply_draw}
 use Rattle.map_core.proofs.logs.SummaryDraw.{IsDrawnOn, moved_draw, summary_draw, summary_revert, summary_checkpoint}
 use Rattle.map_core.proofs.invariants.TidyDraft.{free_is}
 use Rattle.grid.specs.Grids.{Draws, Reverts, draft, own_blocks, needed_by, refused_by}
@@ -29,8 +31,7 @@ use Rattle.grid.specs.Pieces.{block_if}
 use Rattle.desk.specs.declared.holding.Holding.{Holding}
 use Rattle.desk.specs.declared.holding.judged.Judged.{Judged}
 use Rattle.desk.specs.declared.holding.judged.Judged.TheVariants as kinds
-use Rattle.grid.specs.declared.stroke.Stroke.{Stroke}
-use Rattle.desk.specs.Judging.{IsJudged, drawing_of}
+use Rattle.desk.specs.Judging.{IsJudged}
 use Rattle.desk.specs.Holdings.{summary_of, Holds, IsToldByLog, Judges, Does}
 use Rattle.desk.proofs.HoldLemmas.{tidy_told, told_more, holds_draft}
 
@@ -101,11 +102,9 @@ judged_none h c kinds.Collect judged = λ k log tells. judged_other k log h c te
 judged_none h c kinds.Checkpoint judged = λ k log tells. judged_other k log h c tells (ap is_draw judged.kind) judged.by
 
 -- a refusal of the grid says why a paint or a stamp is refused that the ledger doesn't refuse
-pub drawing_why : (h : Holding) (c as' : Command) (stroke : Result Stroke Refusal) (judged : Result Judged Refusal) → IsDraw c → refused_by_ledger h.ledger c ≡ None → c ≡ as'
-    → IfErr stroke (λ refusal. refused_by h.grid h.arena.free as' ≡ Some refusal) → judged ≡ drawing_of stroke → IfErr judged (λ refusal. Judges h c (Some refusal))
-drawing_why h c as' (Ok stroke) judged draws by same why is = subst (λ (r : Result Judged Refusal). IfErr r (λ refusal. Judges h c (Some refusal))) (sym is) tt
-drawing_why h c as' (Err refusal) judged draws by same why is =
-    subst (λ (r : Result Judged Refusal). IfErr r (λ x. Judges h c (Some x))) (sym is) (λ k log tells. judged_draw k log h c (Some refusal) tells draws by (ap (refused_by h.grid h.arena.free) same ∙ why))
+pub drawing_why : (h : Holding) (c as' : Command) (refusal : Refusal) → IsDraw as' → refused_by_ledger h.ledger c ≡ None → c ≡ as' → refused_by h.grid h.arena.free as' ≡ Some refusal → Judges h c (Some refusal)
+drawing_why h c as' refusal draws by same why = λ k log tells.
+    judged_draw k log h c (Some refusal) tells (subst IsDraw (sym same) draws) by (ap (refused_by h.grid h.arena.free) same ∙ why)
 
 -- a paint or a stamp that the grid has drawn does what its reply says
 pub draw_done : (old new : Holding) (c : Command) (changed : ℕ) (reply : Reply) → IsDraw c → refused_by_ledger old.ledger c ≡ None → refused_by old.grid old.arena.free c ≡ None
@@ -117,10 +116,8 @@ draw_done old new c changed reply draws by passed drew home entered said k log t
     let m = blocks k log in
     let tidy = tidy_told k log old tells in
     let kept = tells.holds.summary in
-    let answer : IsAnswer k.setting s c reply = record {
-      accepted = sym (judged_draw k log old c None tells draws by passed);
-      reply_is = replies s old.ledger c changed reply draws said (drew.changed_is ∙ ap (λ (b : Cells). cells_changed b c) kept.draft_is) kept.ledger_is.places_is;
-    } in
+    let reply_is = reply_draw k s old.ledger c [] changed reply kept.ledger_is draws said (drew.changed_is ∙ ap (λ (b : Cells). cells_changed b c) kept.draft_is) in
+    let answer : IsAnswer k.setting s c reply = subst (λ (x : Reply). IsAnswer k.setting s c x) (sym reply_is) (reply_is_answer k s m tidy c [] (sym (judged_draw k log old c None tells draws by passed))) in
     let ledger = ledger_draw k s old.ledger new.ledger c reply kept.ledger_is draws entered in
     let u : Summary = record (summary_of old) { ledger = new.ledger; draft = draft new.grid; own = own_blocks new.grid; free = new.arena.free } in
     let summary = summary_draw k s m (summary_of old) c reply new.ledger (draft new.grid) (own_blocks new.grid) new.arena.free kept tidy.shape.changed draws ledger
@@ -133,14 +130,6 @@ draw_done old new c changed reply draws by passed drew home entered said k log t
           (subst (λ (t : Story). IsSummary k t (drawn_blocks s c m) u) (told_draw s c reply draws) (subst (λ (n : Blocks). IsSummary k (told s c reply) n u) (moved_draw s c reply m draws) summary))
           refl refl (λ v. refl) refl))),
     )
-  where
-    replies : (s : Story) (l : Ledger) (c : Command) (changed : ℕ) (reply : Reply) → IsDraw c → reply ≡ Painted (l.places + 1) changed → changed ≡ cells_changed s.draft c → l.places ≡ s.places → IsReply s c reply
-    replies s l (Paint r black) changed reply draws said count places = subst (λ (x : Reply). IsReply s (Paint r black) x) (sym said) (ap (λ (n : ℕ). n + 1) places, count)
-    replies s l (Stamp x y b) changed reply draws said count places = subst (λ (x' : Reply). IsReply s (Stamp x y b) x') (sym said) (ap (λ (n : ℕ). n + 1) places, count)
-    replies s l Publish changed reply draws said count places = absurd draws
-    replies s l Revert changed reply draws said count places = absurd draws
-    replies s l Collect changed reply draws said count places = absurd draws
-    replies s l Checkpoint changed reply draws said count places = absurd draws
 
 -- a revert of the grid does what its reply says
 pub revert_done : (old new : Holding) (reply : Reply) → refused_by_ledger old.ledger Revert ≡ None → Reverts old.grid old.arena.free new.grid new.arena.free → new.arena.home ≡ old.arena.home
@@ -153,7 +142,7 @@ revert_done old new reply by reverted home entered said k log tells =
     let kept = tells.holds.summary in
     let answer : IsAnswer k.setting s Revert reply = record {
       accepted = refused_next k s old.ledger kept.ledger_is tidy.draft Revert by;
-      reply_is = subst (λ (x : Reply). IsReply s Revert x) (sym said) (ap (λ (n : ℕ). n + 1) kept.ledger_is.places_is);
+      reply_is = said ∙ ap (λ (n : ℕ). Reverted (n + 1)) kept.ledger_is.places_is;
     } in
     let ledger = ledger_revert k s old.ledger new.ledger reply kept.ledger_is entered in
     let summary = summary_revert k s m (summary_of old) reply new.ledger (draft new.grid) (own_blocks new.grid) new.arena.free kept ledger
@@ -175,7 +164,7 @@ checkpoint_done old new ledger reply by new_is entered said k log tells =
     let now : Holding = record old { ledger = ledger } in
     let answer : IsAnswer k.setting s Checkpoint reply = record {
       accepted = refused_next k s old.ledger kept.ledger_is tidy.draft Checkpoint by;
-      reply_is = subst (λ (x : Reply). IsReply s Checkpoint x) (sym said) (ap (λ (n : ℕ). n + 1) kept.ledger_is.places_is);
+      reply_is = said ∙ ap (λ (n : ℕ). Checkpointed (n + 1)) kept.ledger_is.places_is;
     } in
     let next = ledger_checkpoint k s old.ledger ledger reply kept.ledger_is entered in
     let summary = summary_checkpoint k s m (summary_of old) reply ledger kept next in (

@@ -1,5 +1,5 @@
 -- What is held after a publish.
-use Rattle.std.proofs.Common.{◌≡◌, ℕ, ◌+◌, List, ◌++◌, replicate, ap, subst, sym, ◌∙◌, arith}
+use Rattle.std.proofs.Common.{◌≡◌, ℕ, ◌+◌, List, ◌++◌, replicate, ap, sym, ◌∙◌, arith}
 use Rattle.std.specs.Prelude.{Option, None}
 use Rattle.std.proofs.lemmas.List.{length-map}
 use mathlib.Core.Logic.{inl, inr}
@@ -9,7 +9,7 @@ use Rattle.map_core.specs.declared.command.Reply.{Reply}
 use Rattle.map_core.specs.declared.command.Reply.TheVariants.{Published}
 use Rattle.map_core.specs.Kept.{first_free, with_version}
 use Rattle.map_core.specs.Story.{Story, bitmap_of, IsKept}
-use Rattle.map_core.specs.Legal.{IsReply, IsAnswer, told}
+use Rattle.map_core.specs.Legal.{IsAnswer, told}
 use Rattle.map_core.specs.Blocks.{Blocks, mapped, moved}
 use Rattle.map_core.specs.Ledger.{refused_by_ledger}
 use Rattle.map_core.specs.Summary.{IsSummary, came_after, retired_by}
@@ -91,6 +91,6 @@ publish_done old new reply by seals arena entered said k log tells =
     let kept = tells.holds.summary in
     let answer : IsAnswer k.setting s Publish reply = record {
       accepted = refused_next k s old.ledger kept.ledger_is tidy.draft Publish by;
-      reply_is = subst (λ (x : Reply). IsReply s Publish x) (sym said) (ap (λ (n : ℕ). n + 1) kept.ledger_is.places_is, ap (λ (n : ℕ). n + 1) kept.ledger_is.newest_is);
+      reply_is = said ∙ ap (λ (q : ℕ × ℕ). Published (q.0 + 1) (q.1 + 1)) (λ i. (kept.ledger_is.places_is i, kept.ledger_is.newest_is i));
     } in
     (answer, told_more k log old new Publish reply tells answer (holds_sealed k s (blocks k log) old new reply tidy tells.holds seals arena entered))

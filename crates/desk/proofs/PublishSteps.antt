@@ -1,10 +1,9 @@
 -- What is held is what a publish stores, tile by tile.
-use Rattle.std.proofs.Common.{◌≡◌, ℕ, ◌+◌, ◌*◌, ◌<◌, List, [], length, take, get_or, refl, ap, subst, sym, ◌∙◌, arith}
+use Rattle.std.proofs.Common.{◌≡◌, ℕ, ◌+◌, ◌*◌, ◌<◌, List, [], length, take, get_or, refl, ap, sym, ◌∙◌, arith}
 use Rattle.std.specs.Prelude.{Option, Some, None}
 use Rattle.std.proofs.lemmas.List.{length-map, take_all}
 use Rattle.bits.specs.Cells.{Cells}
 use Rattle.bits.specs.TileWords.{tile_words}
-use Rattle.map_core.specs.declared.command.Command.{Command}
 use Rattle.map_core.specs.declared.command.Command.TheVariants.{Publish}
 use Rattle.map_core.specs.declared.command.Reply.{Reply}
 use Rattle.map_core.specs.declared.kept.Kept.{Kept}
@@ -15,15 +14,16 @@ use Rattle.map_core.specs.Words.{Base, tiles, next_slot}
 use Rattle.map_core.specs.Views.{story, blocks}
 use Rattle.grid.specs.Grids.{draft, own_blocks, newest_blocks}
 use Rattle.grid.specs.Pieces.{block_if}
-use Rattle.shelf.specs.Store.{StoreId, readers_of}
-use Rattle.shelf.specs.Roles.{Task, KeeperView, entries}
-use Rattle.shelf.specs.Steps.{with_command, writing, committed, newest_slot, one_own, IsOwn, MayCommit}
+use Rattle.shelf.specs.Store.{StoreId}
+use Rattle.shelf.specs.Roles.{KeeperView, entries}
+use Rattle.shelf.specs.Steps.{writing, one_own, IsOwn}
+use Rattle.map_core.specs.Steps.{steps_before}
+use Rattle.map_core.proofs.logs.Replies.{the_reply}
 use Rattle.map_core.proofs.shared_words.PublishWords.{own_more}
-use Rattle.shelf.proofs.steps.WriteSteps.{is_own, may_publish, publish_done}
+use Rattle.shelf.proofs.steps.WriteSteps.{is_own}
 use Rattle.desk.specs.declared.holding.Holding.{Holding}
 use Rattle.desk.specs.Holdings.{IsToldByLog, Does}
-use Rattle.desk.specs.Carries.{CanCarry, IsCarried}
-use Rattle.desk.proofs.CarryLemmas.{all_met, is_dealt, carried_is, slot_told}
+use Rattle.desk.specs.Carries.{IsInHand, IsWorked}
 use Rattle.desk.proofs.HoldLemmas.{tidy_told}
 
 -- the draft has a place of its own for each position
@@ -68,42 +68,15 @@ pub next_slot_is : (z : Base) (k : KeeperView) (h : Holding) (slot : ℕ) → Is
 unfolding next_slot
 next_slot_is z k h slot told is = is ∙ ap (λ (q : Kept). first_free q.slots) told.holds.summary.ledger_is.kept_is
 
--- the keeper that has taken a publish in hand has stored nothing yet
-pub publish_begun : (k u : KeeperView) (by : ℕ) (c : Command) → u ≡ with_command k by c → c ≡ Publish → u ≡ writing u by 0
-publish_begun k u by c is publish =
-    let begun : u ≡ writing k by 0 = is ∙ ap (with_command k by) publish in
-    begun ∙ sym (ap (λ (q : KeeperView). writing q by 0) begun)
-
--- what is held is still told once the keeper has taken a command in hand
-pub told_ordered : (z : Base) (k u : KeeperView) (h : Holding) (by : ℕ) (c : Command) → u ≡ with_command k by c → IsToldByLog z (entries k.log) h → IsToldByLog z (entries u.log) h
-told_ordered z k u h by c is told = subst (λ (q : KeeperView). IsToldByLog z (entries q.log) h) (sym is) told
-
--- before its commit a publish has stored all of its words
-pub record IsWritten (z : Base) (k u : KeeperView) (by stored : ℕ) : Type 0 where
-  pub keeper_is : u ≡ writing k by (64 * stored + tiles z)
-  pub count : stored ≡ length (own_list (blocks z (entries k.log)).own)
-
--- a publish that has stored the rows of its own tiles, and then the directory, has stored all its words
-pub written : (z : Base) (k a b u : KeeperView) (by stored : ℕ) (c : Command) → a ≡ with_command k by c → b ≡ writing a by (64 * stored) → stored ≡ length (own_list (blocks z (entries a.log)).own)
-    → u ≡ writing b by (64 * stored + tiles z) → IsWritten z k u by stored
-written z k a b u by stored c order rows count directory = record {
-  keeper_is = directory ∙ ap (λ (q : KeeperView). writing q by (64 * stored + tiles z)) (rows ∙ ap (λ (q : KeeperView). writing q by (64 * stored)) order);
-  count = count ∙ ap (λ (q : KeeperView). length (own_list (blocks z (entries q.log)).own)) order;
+-- a publish that has stored the rows of its own tiles, and then the directory, is worked once what it does is done
+pub publish_worked : (z : StoreId) (k a u : KeeperView) (h new : Holding) (by stored : ℕ) (reply : Reply) → IsInHand z k h by Publish → a ≡ writing k by (64 * stored)
+    → stored ≡ length (own_list (blocks z.base (entries k.log)).own) → u ≡ writing a by (64 * stored + tiles z.base) → Does h Publish reply new → IsWorked z k h by Publish reply u new
+unfolding steps_before
+publish_worked z k a u h new by stored reply hand rows count directory does = record {
+  done = 64 * stored + tiles z.base;
+  words = [];
+  keeper_is = directory ∙ ap (λ (q : KeeperView). writing q by (64 * stored + tiles z.base)) rows;
+  all_done = ap (λ (n : ℕ). 64 * n + tiles z.base) count;
+  reply_is = the_reply (story z.base (entries k.log)) Publish reply [] (does z.base (entries k.log) hand.told).0.reply_is tt;
+  does = does;
 }
-
--- a keeper that has stored all words of a publish may commit it
-pub may_commit_written : (z : StoreId) (k u : KeeperView) (h : Holding) (by stored : ℕ) → CanCarry z k h → by < readers_of z → IsWritten z.base k u by stored → MayCommit z.base u
-may_commit_written z k u h by stored able caller done =
-    may_publish z.base k u by (64 * stored + tiles z.base) done.keeper_is (ap (λ (n : ℕ). 64 * n + tiles z.base) done.count) (is_dealt z k h by able caller) (all_met z k h able)
-
--- the slot that the keeper is told for a publish is the slot of the new version
-pub slot_published : (z : StoreId) (k u : KeeperView) (h new : Holding) (by stored : ℕ) (reply : Reply) → CanCarry z k h → IsWritten z.base k u by stored → Does h Publish reply new
-    → (t : Task) → u.task ≡ Some t → new.ledger.slot ≡ newest_slot z.base (committed z.base u t).log
-slot_published z k u h new by stored reply able done does = slot_told z k u h new by (64 * stored + tiles z.base) Publish [] reply able.told does tt done.keeper_is
-
--- a publish that has stored all its words is carried out once it is committed
-pub publish_carried : (z : StoreId) (k u l : KeeperView) (h new : Holding) (by stored : ℕ) (c : Command) (reply : Reply) → CanCarry z k h → c ≡ Publish → IsWritten z.base k u by stored
-    → Does h Publish reply new → ((t : Task) → u.task ≡ Some t → l ≡ committed z.base u t) → IsCarried k h by c reply l new
-publish_carried z k u l h new by stored c reply able publish done does step =
-    subst (λ (d : Command). IsCarried k h by d reply l new) (sym publish)
-    (carried_is z k l h new by (64 * stored + tiles z.base) Publish [] reply able.told does tt (publish_done z.base k u l by (64 * stored + tiles z.base) done.keeper_is step))

@@ -11,21 +11,21 @@ use Rattle.map_core.specs.declared.kept.Seen.{Seen}
 use Rattle.map_core.specs.Kept.{IsIn, kept_after}
 use Rattle.map_core.specs.Legal.{told, kept_told}
 use Rattle.map_core.specs.Story.{Story, newest, IsKept}
-use Rattle.map_core.specs.Steps.{kept_scanned}
+use Rattle.map_core.specs.Steps.{kept_scanned, steps_before}
 use Rattle.map_core.specs.Words.{Base, pin_word, seen_in}
 use Rattle.map_core.specs.Views.{story}
 use Rattle.map_core.proofs.steps.StepLemmas.{story-push}
 use Rattle.map_core.proofs.logs.KeptLemmas.{seen_in-pin_word}
-use Rattle.map_core.proofs.logs.Replies.{HasKept}
+use Rattle.map_core.proofs.logs.Replies.{the_reply}
 use Rattle.shelf.specs.Store.{StoreId, readers_of}
 use Rattle.shelf.specs.Roles.{KeeperView, entries}
-use Rattle.shelf.specs.Steps.{with_command, scanning, collected, MayCommit}
-use Rattle.shelf.proofs.steps.WorkSteps.{may_collect}
+use Rattle.shelf.specs.Steps.{scanning}
 use Rattle.desk.specs.declared.holding.Holding.{Holding}
 use Rattle.desk.specs.Holdings.{IsToldByLog, Does}
-use Rattle.desk.specs.Carries.{CanCarry, IsCarried}
+use Rattle.desk.specs.Carries.{IsInHand, IsWorked}
 use Rattle.map_core.specs.Ledger.{refused_by_ledger}
-use Rattle.desk.proofs.CarryLemmas.{next_version, all_met, is_dealt, carried_is}
+use Rattle.map_core.proofs.logs.LedgerLemmas.{place_of_ledger}
+use Rattle.desk.proofs.HoldOpen.{can_answer}
 use Rattle.desk.proofs.HoldLemmas.{tidy_told}
 
 -- a scan up to a reader has seen as many words as that reader's number
@@ -67,36 +67,25 @@ kept_replied z log h new reply kept tells does is =
     let after = (does z log tells).1 in
     sym (after.holds.summary.ledger_is.kept_is ∙ ap (λ (s : Story). s.kept) (story-push z log e)) ∙ is
 
--- the keeper that has taken a collect in hand has loaded nothing yet
-pub collect_begun : (k u : KeeperView) (by : ℕ) (c : Command) → u ≡ with_command k by c → c ≡ Collect → u ≡ scanning u by []
-collect_begun k u by c is collect =
-    let begun : u ≡ scanning k by [] = is ∙ ap (with_command k by) collect in
-    begun ∙ sym (ap (λ (q : KeeperView). scanning q by []) begun)
-
--- a keeper that has scanned all words since the order of a collect is the keeper before the order, with that scan in hand
-pub scanned_all : (k a u : KeeperView) (by : ℕ) (c : Command) (seen : List (Option Seen)) → a ≡ with_command k by c → u ≡ scanning a by (map pin_word seen) → u ≡ scanning k by (map pin_word seen)
-scanned_all k a u by c seen order is = is ∙ ap (λ (q : KeeperView). scanning q by (map pin_word seen)) order
-
 -- where the ledger doesn't refuse the command in hand, one version more can be counted
-pub few_versions : (z : Base) (k u : KeeperView) (h : Holding) (by : ℕ) (c : Command) → u ≡ with_command k by c → IsToldByLog z (entries k.log) h → refused_by_ledger h.ledger c ≡ None → newest (story z (entries u.log)) + 1 < 2 ^ 32
-few_versions z k u h by c is tells judged =
-    let few = next_version z k h c tells judged in
-    subst (λ (n : ℕ). n + 1 < 2 ^ 32) (tells.holds.summary.ledger_is.newest_is ∙ ap (λ (q : KeeperView). newest (story z (entries q.log))) (sym is)) few
+pub few_versions : (z : Base) (k : KeeperView) (h : Holding) (c : Command) → IsToldByLog z (entries k.log) h → refused_by_ledger h.ledger c ≡ None → newest (story z (entries k.log)) + 1 < 2 ^ 32
+few_versions z k h c tells judged =
+    let left = place_of_ledger h.ledger c judged in
+    let fewer = (can_answer z (entries k.log) h tells).balanced.newest_in in
+    let is = tells.holds.summary.ledger_is.newest_is in
+    omega arith
 
--- a collect that has seen each reader's word may be committed
-pub may_commit_scanned : (z : StoreId) (k u : KeeperView) (h : Holding) (by : ℕ) (seen : List (Option Seen)) → CanCarry z k h → by < readers_of z → u ≡ scanning k by (map pin_word seen)
-    → length seen ≡ readers_of z → MayCommit z.base u
-may_commit_scanned z k u h by seen able caller is all =
-    may_collect z.base k u by (map pin_word seen) is (length-map seen pin_word ∙ all) (is_dealt z k h by able caller) (all_met z k h able)
-
--- the reply of a collect has the versions that its scan keeps
-pub kept_of_reply : (z : StoreId) (k : KeeperView) (h new : Holding) (kept : Kept) (seen : List (Option Seen)) (reply : Reply) → CanCarry z k h → Does h Collect reply new → new.ledger.kept ≡ kept
-    → kept ≡ kept_scanned (story z.base (entries k.log)) (map pin_word seen) → HasKept (story z.base (entries k.log)) Collect reply (map pin_word seen)
-kept_of_reply z k h new kept seen reply able does kept_is of_scan = kept_replied z.base (entries k.log) h new reply kept able.told does kept_is ∙ of_scan
-
--- a collect that has seen each reader's word is carried out once it is committed
-pub collect_carried : (z : StoreId) (k l : KeeperView) (h new : Holding) (by : ℕ) (kept : Kept) (seen : List (Option Seen)) (c : Command) (reply : Reply) → CanCarry z k h → c ≡ Collect
-    → Does h Collect reply new → new.ledger.kept ≡ kept → kept ≡ kept_scanned (story z.base (entries k.log)) (map pin_word seen) → l ≡ collected z.base k by (map pin_word seen) → IsCarried k h by c reply l new
-collect_carried z k l h new by kept seen c reply able collect does kept_is of_scan is =
-    subst (λ (d : Command). IsCarried k h by d reply l new) (sym collect)
-    (carried_is z k l h new by (length (map pin_word seen)) Collect (map pin_word seen) reply able.told does (kept_of_reply z k h new kept seen reply able does kept_is of_scan) is)
+-- a collect that has seen each reader's word is worked once what it does is done
+pub collect_worked : (z : StoreId) (k u : KeeperView) (h new : Holding) (by : ℕ) (kept : Kept) (seen : List (Option Seen)) (reply : Reply) → IsInHand z k h by Collect → u ≡ scanning k by (map pin_word seen)
+    → length seen ≡ readers_of z → Does h Collect reply new → new.ledger.kept ≡ kept → kept ≡ kept_scanned (story z.base (entries k.log)) (map pin_word seen) → IsWorked z k h by Collect reply u new
+unfolding steps_before
+collect_worked z k u h new by kept seen reply hand scanned all does kept_is of_scan =
+    let log = entries k.log in
+    record {
+      done = length (map pin_word seen);
+      words = map pin_word seen;
+      keeper_is = scanned;
+      all_done = length-map seen pin_word ∙ all;
+      reply_is = the_reply (story z.base log) Collect reply (map pin_word seen) (does z.base log hand.told).0.reply_is (kept_replied z.base log h new reply kept hand.told does kept_is ∙ of_scan);
+      does = does;
+    }

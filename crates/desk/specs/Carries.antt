@@ -5,9 +5,11 @@ use Rattle.map_core.specs.declared.command.Command.TheVariants.{Collect}
 use Rattle.map_core.specs.declared.command.Reply.{Reply}
 use Rattle.map_core.specs.declared.kept.Seen.{Seen}
 use Rattle.map_core.specs.Kept.{kept_after}
+use Rattle.map_core.specs.Steps.{reply_of, steps_before}
+use Rattle.map_core.specs.Views.{story, blocks}
 use Rattle.shelf.specs.declared.store_entry.StoreEntry.{StoreEntry}
 use Rattle.shelf.specs.Store.{StoreId, readers_of}
-use Rattle.shelf.specs.Roles.{KeeperView, entries, resting}
+use Rattle.shelf.specs.Roles.{Task, KeeperView, entries, resting}
 use Rattle.desk.specs.declared.holding.Holding.{Holding}
 use Rattle.desk.specs.Holdings.{IsToldByLog, Does}
 
@@ -15,6 +17,28 @@ use Rattle.desk.specs.Holdings.{IsToldByLog, Does}
 pub record CanCarry (store : StoreId) (k : KeeperView) (h : Holding) : Type 0 where
   pub keeper_is : k ≡ resting (readers_of store) k.log
   pub told : IsToldByLog store.base (entries k.log) h
+
+-- a command is in hand, of which so many steps are done, and whose scan saw these words
+abbrev pub task_of : ℕ → Command → ℕ → List ℕ → Task
+task_of by c done words = record { by = by; hand = record { command = c; done = done; scanned = words } }
+
+-- the keeper has this task in hand
+abbrev pub with_task : KeeperView → Task → KeeperView
+with_task k t = record k { task = Some t }
+
+-- a command is in hand, of which no step is done: but for it the keeper rests at a log that tells what is held
+pub record IsInHand (store : StoreId) (k : KeeperView) (h : Holding) (by : ℕ) (c : Command) : Type 0 where
+  pub keeper_is : k ≡ with_task (resting (readers_of store) k.log) (task_of by c 0 [])
+  pub told : IsToldByLog store.base (entries k.log) h
+
+-- a command is worked: its last step alone is left, and what is held is answered so, with the reply that this step commits
+pub record IsWorked (store : StoreId) (k : KeeperView) (h : Holding) (by : ℕ) (c : Command) (reply : Reply) (after : KeeperView) (new : Holding) : Type 0 where
+  pub done : ℕ
+  pub words : List ℕ
+  pub keeper_is : after ≡ with_task k (task_of by c done words)
+  pub all_done : done ≡ steps_before store.base (blocks store.base (entries k.log)) c
+  pub reply_is : reply ≡ reply_of (story store.base (entries k.log)) c words
+  pub does : Does h c reply new
 
 -- the entry of a command is kept with its caller
 abbrev pub signed : ℕ → Command → Reply → StoreEntry

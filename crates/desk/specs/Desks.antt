@@ -82,9 +82,9 @@ pub record IsCommandRefused (store : StoreId) (old : DeskView) (seat : ReaderVie
   pub seat_is : seat_after ≡ record seat { seen = old.log }
 
 -- a command is answered so, whatever is returned with it where it is refused
-abbrev pub answer_of : {Back : Type 0} → Result Reply (Back × Refusal) → Result Reply Refusal
-answer_of (Ok reply) = Ok reply
-answer_of (Err back) = Err back.1
+abbrev pub outcome_of : {Back : Type 0} → Result Reply (Back × Refusal) → Result Reply Refusal
+outcome_of (Ok reply) = Ok reply
+outcome_of (Err back) = Err back.1
 
 -- a command is answered: it is accepted or refused, and then the seat has seen the whole log, which is legal
 pub record IsApplied (store : StoreId) (old : DeskView) (seat : ReaderView) (c : Command) (answer : Result Reply Refusal) (new : DeskView) (seat_after : ReaderView) : Type 0 where

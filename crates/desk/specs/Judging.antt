@@ -1,11 +1,9 @@
 -- A command that is judged by what a desk holds: this project's own rule.
-use Rattle.std.specs.Prelude.{◌≡◌, None, Result, Ok, Err}
-use Rattle.metric.specs.declared.refusal.Refusal.{Refusal}
+use Rattle.std.specs.Prelude.{◌≡◌, None}
 use Rattle.map_core.specs.declared.command.Command.{Command}
 use Rattle.map_core.specs.declared.command.Command.TheVariants.{Publish, Revert, Collect, Checkpoint}
 use Rattle.map_core.specs.Drawing.{IsDraw}
 use Rattle.map_core.specs.Ledger.{refused_by_ledger}
-use Rattle.grid.specs.declared.stroke.Stroke.{Stroke}
 use Rattle.grid.specs.Strokes.{IsStroke}
 use Rattle.desk.specs.declared.holding.Holding.{Holding}
 use Rattle.desk.specs.declared.holding.judged.Judged.{Judged}
@@ -23,14 +21,3 @@ IsKind h c kinds.Checkpoint = c ≡ Checkpoint
 pub record IsJudged (h : Holding) (c : Command) (j : Judged) : Type 0 where
   pub by : refused_by_ledger h.ledger c ≡ None
   pub kind : IsKind h c j
-
--- a paint or a stamp does this, if it isn't refused
-abbrev pub drawing_of : Result Stroke Refusal → Result Judged Refusal
-drawing_of (Ok stroke) = Ok (kinds.Draw stroke)
-drawing_of (Err refusal) = Err refusal
-
--- what is judged is done in one step, which is its last
-abbrev pub IsAtOnce : Judged → Type 0
-IsAtOnce kinds.Publish = ⊥
-IsAtOnce kinds.Collect = ⊥
-IsAtOnce j = Unit {0}

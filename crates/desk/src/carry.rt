@@ -5,8 +5,8 @@ mod publish;
 
 ghost use Rattle.std.specs.Prelude.{◌≡◌, ◌<◌, length};
 ghost use Rattle.shelf.specs.Store.{readers_of};
-ghost use Rattle.desk.specs.Judging.{IsAtOnce, IsJudged};
-ghost use Rattle.desk.specs.Carries.{CanCarry, IsCarried, KeepsScanned};
+ghost use Rattle.desk.specs.Judging.{IsJudged};
+ghost use Rattle.desk.specs.Carries.{CanCarry, IsCarried, IsInHand, IsWorked, KeepsScanned};
 
 use crate::carry::collect::carry_collect;
 use crate::carry::publish::carry_publish;
@@ -14,23 +14,28 @@ use crate::holding::{Holding, Judged};
 use map_core::{Reply, Seen};
 use shelf::{KeeperSeat, Request, StoreName};
 
-/// Carries out what is done in one step: a paint, a stamp, a revert or a checkpoint that is judged.
-fn carry_at_once<Id: StoreName>(
+/// Does all steps but the last of the command in hand, and what it does to what is held.
+fn work<Id: StoreName>(
     keeper: &mut KeeperSeat<Id>,
     holding: &mut Holding,
+    announced: &mut Vec<Option<Seen>>,
     asked: &Request,
     judged: Judged,
 ) -> Reply
-    requires able { CanCarry Id.store keeper.old holding.old }
-    requires caller { asked.now.by < readers_of Id.store }
+    requires in_hand { IsInHand Id.store keeper.old holding.old asked.now.by asked.now.command }
+    requires place_each { length announced.old.items ≡ readers_of Id.store }
     requires judged { IsJudged holding.old asked.now.command judged }
-    requires at_once { IsAtOnce judged }
-    ensures { IsCarried keeper.old holding.old asked.now.by asked.now.command result keeper.new holding.new }
+    ensures worked { IsWorked Id.store keeper.old holding.old asked.now.by asked.now.command result keeper.new holding.new }
+    ensures scanned { KeepsScanned holding.old asked.now.command holding.new announced.new.items }
+    ensures place_each { length announced.new.items ≡ readers_of Id.store }
 {
-    let reply = holding.do_at_once(judged);
-    keeper.order(asked);
-    keeper.commit(holding.ledger.slot);
-    reply
+    match judged {
+        Judged::Draw(stroke) => holding.draw(stroke),
+        Judged::Publish => carry_publish(keeper, holding, asked.by),
+        Judged::Revert => holding.revert(),
+        Judged::Collect => carry_collect(keeper, holding, announced, asked.by),
+        Judged::Checkpoint => holding.checkpoint(),
+    }
 }
 
 /// Carries out a command that is judged, for whose entry there is room. Nothing refuses it, and it takes no memory.
@@ -51,9 +56,8 @@ pub fn carry<Id: StoreName>(
     ensures scanned { KeepsScanned holding.old asked.now.command holding.new announced.new.items }
     ensures place_each { length announced.new.items ≡ readers_of Id.store }
 {
-    match judged {
-        Judged::Publish => carry_publish(keeper, holding, asked),
-        Judged::Collect => carry_collect(keeper, holding, announced, asked),
-        _ => carry_at_once(keeper, holding, asked, judged),
-    }
+    keeper.order(asked);
+    let reply = work(keeper, holding, announced, asked, judged);
+    keeper.commit(holding.ledger.slot);
+    reply
 }

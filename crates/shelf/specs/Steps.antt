@@ -234,10 +234,6 @@ pub record LearnsIt (z : Base) (x : ReaderView) (seen : List StoreEntry) (word :
   pub sees : Sees z x word log
   pub learned : IsPrefix seen log
 
--- the keeper has committed a collect, whose scan saw these words
-abbrev pub collected : Base → KeeperView → ℕ → List ℕ → KeeperView
-collected z k by words = committed z (scanning k by words) record { by = by; hand = record { command = Collect; done = length words; scanned = words } }
-
 -- the keeper's seat takes a reader's view
 abbrev pub together : Role → Role → Role
 together (keeping k) (reading x) = meeting k x

@@ -9,13 +9,13 @@ ghost use Rattle.map_core.specs.Words.{pin_word};
 ghost use Rattle.map_core.specs.Views.{story};
 ghost use Rattle.shelf.specs.Store.{readers_of};
 ghost use Rattle.shelf.specs.Roles.{entries};
-ghost use Rattle.shelf.specs.Steps.{scanning, collected};
-ghost use Rattle.desk.specs.Carries.{CanCarry, IsCarried, KeepsScanned};
+ghost use Rattle.shelf.specs.Steps.{scanning};
+ghost use Rattle.desk.specs.Carries.{IsInHand, IsWorked, KeepsScanned};
 
 use crate::holding::Holding;
 use epoch::kept_after;
 use map_core::{Reply, Seen};
-use shelf::{KeeperSeat, Request, StoreName};
+use shelf::{KeeperSeat, StoreName};
 
 /// Loads each reader's word, by number, and leaves there what it announces.
 fn scan_all<Id: StoreName>(
@@ -37,33 +37,28 @@ fn scan_all<Id: StoreName>(
     }
 }
 
-/// Carries out a collect that the ledger doesn't refuse. It keeps the versions that what its scan saw asks for, which is left in `announced`.
+/// Carries out a collect in hand, up to its commit. It keeps the versions that what its scan saw asks for, which is left in `announced`.
 pub fn carry_collect<Id: StoreName>(
     keeper: &mut KeeperSeat<Id>,
     holding: &mut Holding,
     announced: &mut Vec<Option<Seen>>,
-    asked: &Request,
+    by: u32,
 ) -> Reply
-    requires able { CanCarry Id.store keeper.old holding.old }
-    requires caller { asked.now.by < readers_of Id.store }
+    requires in_hand { IsInHand Id.store keeper.old holding.old by Collect }
     requires place_each { length announced.old.items ≡ readers_of Id.store }
-    requires command { asked.now.command ≡ Collect }
-    requires judged { refused_by_ledger holding.old.ledger asked.now.command ≡ None }
-    ensures carried { IsCarried keeper.old holding.old asked.now.by asked.now.command result keeper.new holding.new }
-    ensures scanned { keeper.new ≡ collected Id.store.base keeper.old asked.now.by (map pin_word announced.new.items) }
+    requires judged { refused_by_ledger holding.old.ledger Collect ≡ None }
+    ensures worked { IsWorked Id.store keeper.old holding.old by Collect result keeper.new holding.new }
+    ensures scanned { keeper.new ≡ scanning keeper.old by (map pin_word announced.new.items) }
     ensures kept { holding.new.ledger.kept ≡ kept_scanned (story Id.store.base (entries keeper.old.log))
         (map pin_word announced.new.items) }
-    ensures keeps { KeepsScanned holding.old asked.now.command holding.new announced.new.items }
+    ensures keeps { KeepsScanned holding.old Collect holding.new announced.new.items }
     ensures place_each { length announced.new.items ≡ readers_of Id.store }
 {
-    keeper.order(asked);
-    scan_all(keeper, asked.by, holding.ledger.setting.sessions, announced);
+    scan_all(keeper, by, holding.ledger.setting.sessions, announced);
     let kept = kept_after(
         &holding.ledger.kept,
         holding.ledger.newest,
         announced.as_slice(),
     );
-    let reply = holding.collect(kept);
-    keeper.commit(holding.ledger.slot);
-    reply
+    holding.collect(kept)
 }

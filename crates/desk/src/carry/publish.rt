@@ -8,16 +8,15 @@ ghost use Rattle.map_core.specs.Kept.{members};
 ghost use Rattle.map_core.specs.Ledger.{refused_by_ledger};
 ghost use Rattle.map_core.specs.Words.{tiles};
 ghost use Rattle.map_core.specs.Views.{story, blocks};
-ghost use Rattle.shelf.specs.Store.{readers_of};
 ghost use Rattle.shelf.specs.Roles.{entries};
 ghost use Rattle.map_core.specs.Words.{IsPlan};
 ghost use Rattle.shelf.specs.Steps.{writing, one_own, IsOwn};
 ghost use Rattle.desk.specs.Holdings.{IsToldByLog};
-ghost use Rattle.desk.specs.Carries.{CanCarry, IsCarried};
+ghost use Rattle.desk.specs.Carries.{IsInHand, IsWorked};
 
 use crate::holding::Holding;
 use map_core::{Plan, Reply};
-use shelf::{KeeperSeat, Request, StoreName};
+use shelf::{KeeperSeat, StoreName};
 
 /// Stores the rows of one of the draft's own blocks, the one at this place among them, counted from 0.
 fn write_rows<Id: StoreName>(
@@ -107,23 +106,18 @@ fn write_directory<Id: StoreName>(
     }
 }
 
-/// Carries out a publish that the ledger doesn't refuse.
+/// Carries out a publish in hand, up to its commit.
 pub fn carry_publish<Id: StoreName>(
     keeper: &mut KeeperSeat<Id>,
     holding: &mut Holding,
-    asked: &Request,
+    by: u32,
 ) -> Reply
-    requires able { CanCarry Id.store keeper.old holding.old }
-    requires caller { asked.now.by < readers_of Id.store }
-    requires command { asked.now.command ≡ Publish }
-    requires judged { refused_by_ledger holding.old.ledger asked.now.command ≡ None }
-    ensures { IsCarried keeper.old holding.old asked.now.by asked.now.command result keeper.new holding.new }
+    requires in_hand { IsInHand Id.store keeper.old holding.old by Publish }
+    requires judged { refused_by_ledger holding.old.ledger Publish ≡ None }
+    ensures { IsWorked Id.store keeper.old holding.old by Publish result keeper.new holding.new }
 {
     let plan = keeper.plan();
-    keeper.order(asked);
-    let stored = write_tiles(keeper, plan, holding, asked.by);
-    write_directory(keeper, plan, holding, asked.by, stored);
-    let reply = holding.publish();
-    keeper.commit(holding.ledger.slot);
-    reply
+    let stored = write_tiles(keeper, plan, holding, by);
+    write_directory(keeper, plan, holding, by, stored);
+    holding.publish()
 }

@@ -3,7 +3,7 @@
 ghost use Rattle.std.specs.Prelude.{◌≡◌, ℕ, IfErr};
 ghost use Rattle.bits.specs.Cells.{Cells};
 ghost use Rattle.map_core.specs.declared.command.Command.TheVariants.{Stamp};
-ghost use Rattle.desk.specs.Desks.{IsStamp, answer_of};
+ghost use Rattle.desk.specs.Desks.{IsStamp, outcome_of};
 
 use bits::Bitmap;
 use map_core::{Command, Reply};
@@ -11,7 +11,7 @@ use metric::Refusal;
 
 /// What a command was answered; a command that was returned is let go.
 pub fn answered(applied: Result<Reply, (Command, Refusal)>) -> Result<Reply, Refusal>
-    ensures { result ≡ answer_of applied }
+    ensures { result ≡ outcome_of applied }
 {
     match applied {
         Ok(reply) => Ok(reply),
@@ -24,7 +24,7 @@ pub fn stamp_answered(
     applied: Result<Reply, (Command, Refusal)>,
 ) -> Result<Reply, (Bitmap, Refusal)>
     requires { IfErr applied (λ back. IsStamp back.0) }
-    ensures answer { answer_of result ≡ answer_of applied }
+    ensures answer { outcome_of result ≡ outcome_of applied }
     ensures back { (x y : ℕ) (b : Cells) → IfErr applied (λ back. back.0 ≡ Stamp x y b) → IfErr result (λ back. back.0 ≡ b) }
 {
     match applied {

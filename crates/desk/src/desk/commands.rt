@@ -9,7 +9,7 @@ ghost use Rattle.desk.specs.Holdings.{CanAnswer, Refuses};
 ghost use Rattle.desk.specs.Judging.{IsJudged};
 ghost use Rattle.map_core.specs.Legal.{IsLegal};
 ghost use Rattle.shelf.specs.Roles.{entries};
-ghost use Rattle.desk.specs.Desks.{IsApplied, IsSteady, answer_of, base_place, entries_kept_after, kept_part};
+ghost use Rattle.desk.specs.Desks.{IsApplied, IsSteady, outcome_of, base_place, entries_kept_after, kept_part};
 
 use crate::carry::carry;
 use crate::desk::Desk;
@@ -32,10 +32,7 @@ fn admit<'a>(
     ensures refused { IfErr result (λ refusal. Refuses holding.now command.now refusal) }
     ensures items { log.new.items ≡ log.old.items }
 {
-    let judged = match holding.judge(command) {
-        Ok(judged) => judged,
-        Err(refusal) => return Err(refusal),
-    };
+    let judged = holding.judge(command)?;
     if command.takes_room() {
         log.reserve(1)?;
     }
@@ -65,7 +62,7 @@ impl<Id: StoreName> Desk<Id> {
         command: Command,
     ) -> Result<Reply, (Command, Refusal)>
         requires { IsSteady seat.old }
-        ensures applied { IsApplied Id.store self.old seat.old command (answer_of result) self.new seat.new }
+        ensures applied { IsApplied Id.store self.old seat.old command (outcome_of result) self.new seat.new }
         ensures back { IfErr result (λ back. back.0 ≡ command) }
     {
         meet(&mut self.keeper, seat);
@@ -119,7 +116,7 @@ impl<Id: StoreName> Desk<Id> {
         bitmap: Bitmap,
     ) -> Result<Reply, (Bitmap, Refusal)>
         requires { IsSteady seat.old }
-        ensures applied { IsApplied Id.store self.old seat.old (Stamp x y bitmap) (answer_of result) self.new seat.new }
+        ensures applied { IsApplied Id.store self.old seat.old (Stamp x y bitmap) (outcome_of result) self.new seat.new }
         ensures back { IfErr result (λ back. back.0 ≡ bitmap) }
     {
         stamp_answered(self.apply(seat, Command::Stamp { x, y, bitmap }))

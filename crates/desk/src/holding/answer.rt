@@ -7,16 +7,16 @@ ghost use Rattle.map_core.specs.Kept.{IsIn, IsPartOfKept};
 ghost use Rattle.map_core.specs.Ledger.{refused_by_ledger};
 ghost use Rattle.desk.specs.declared.holding.judged.Judged.TheVariants as kinds;
 ghost use Rattle.desk.specs.Holdings.{CanAnswer, Does};
-ghost use Rattle.desk.specs.Judging.{IsAtOnce, IsJudged};
+ghost use Rattle.desk.specs.Judging.{IsJudged};
 
-use crate::holding::{Holding, Judged};
+use crate::holding::Holding;
 use epoch::collect;
 use grid::Stroke;
 use map_core::{Kept, Reply};
 
 impl Holding {
     /// A paint or a stamp that is judged.
-    fn draw(&mut self, stroke: Stroke) -> Reply
+    pub fn draw(&mut self, stroke: Stroke) -> Reply
         requires able { CanAnswer self.old }
         requires judged { (c : Command) × IsJudged self.old c (kinds.Draw stroke) }
         ensures { (c : Command) → IsJudged self.old c (kinds.Draw stroke.entry) → Does self.old c result self.new }
@@ -36,7 +36,7 @@ impl Holding {
     }
 
     /// A revert that the ledger doesn't refuse.
-    fn revert(&mut self) -> Reply
+    pub fn revert(&mut self) -> Reply
         requires able { CanAnswer self.old }
         requires judged { refused_by_ledger self.old.ledger Revert ≡ None }
         ensures { Does self.old Revert result self.new }
@@ -46,7 +46,7 @@ impl Holding {
     }
 
     /// A checkpoint that the ledger doesn't refuse: draft, versions and blocks stay.
-    fn checkpoint(&mut self) -> Reply
+    pub fn checkpoint(&mut self) -> Reply
         requires able { CanAnswer self.old }
         requires judged { refused_by_ledger self.old.ledger Checkpoint ≡ None }
         ensures { Does self.old Checkpoint result self.new }
@@ -65,20 +65,5 @@ impl Holding {
     {
         let freed = collect(&mut self.grid, &mut self.arena, &kept);
         self.ledger.enter_collect(kept, freed)
-    }
-
-    /// Does what was judged in its one step: a paint, a stamp, a revert or a checkpoint. It takes no memory.
-    pub fn do_at_once(&mut self, judged: Judged) -> Reply
-        requires able { CanAnswer self.old }
-        requires judged { (c : Command) × IsJudged self.old c judged }
-        requires at_once { IsAtOnce judged }
-        ensures { (c : Command) → IsJudged self.old c judged.entry → Does self.old c result self.new }
-    {
-        match judged {
-            Judged::Draw(stroke) => self.draw(stroke),
-            Judged::Revert => self.revert(),
-            Judged::Checkpoint => self.checkpoint(),
-            Judged::Publish | Judged::Collect => unreachable!(),
-        }
     }
 }

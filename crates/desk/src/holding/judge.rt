@@ -3,22 +3,11 @@
 ghost use Rattle.std.specs.Prelude.{◌≡◌, Some, None, IfOk, IfErr};
 ghost use Rattle.map_core.specs.Ledger.{refused_by_ledger};
 ghost use Rattle.desk.specs.Holdings.{CanAnswer, Judges};
-ghost use Rattle.desk.specs.Judging.{IsJudged, IsKind, drawing_of};
+ghost use Rattle.desk.specs.Judging.{IsJudged, IsKind};
 
 use crate::holding::{Holding, Judged};
-use grid::Stroke;
 use map_core::Command;
 use metric::Refusal;
-
-/// What a paint or a stamp does, if it isn't refused.
-fn drawing(stroke: Result<Stroke, Refusal>) -> Result<Judged, Refusal>
-    ensures { result ≡ drawing_of stroke.entry }
-{
-    match stroke {
-        Ok(stroke) => Ok(Judged::Draw(stroke)),
-        Err(refusal) => Err(refusal),
-    }
-}
 
 impl Holding {
     /// What a command does that the ledger doesn't refuse, or that it is refused for want of blocks.
@@ -30,10 +19,12 @@ impl Holding {
     {
         match command {
             Command::Paint { rect, black } => {
-                drawing(self.grid.judge_paint(&self.arena, *rect, *black))
+                let stroke = self.grid.judge_paint(&self.arena, *rect, *black)?;
+                Ok(Judged::Draw(stroke))
             }
             Command::Stamp { x, y, bitmap } => {
-                drawing(self.grid.judge_stamp(&self.arena, *x, *y, bitmap))
+                let stroke = self.grid.judge_stamp(&self.arena, *x, *y, bitmap)?;
+                Ok(Judged::Draw(stroke))
             }
             Command::Publish => Ok(Judged::Publish),
             Command::Revert => Ok(Judged::Revert),

@@ -19,7 +19,7 @@ use Rattle.shelf.specs.declared.table.Basis.{Basis}
 use Rattle.map_core.specs.declared.plan.Plan.{Plan}
 use Rattle.shelf.specs.Roles.{ReaderView, Role, reading, entries, as_reader}
 use Rattle.shelf.specs.Seats.{IsOf, ReaderSays, reader_on}
-use Rattle.shelf.specs.Steps.{confirming, loaded, Sees, newest_slot}
+use Rattle.shelf.specs.Steps.{loaded, Sees, newest_slot}
 
 -- a seat stays its store's where it stays at its table
 pub still_of : (store : StoreId) (table : TableId) (basis : Basis) (seat new : TableId) (plan : Plan) → IsOf store table basis seat plan → new ≡ seat → IsOf store table basis new plan
@@ -60,10 +60,6 @@ says_loaded z x y number made version word v log says sees told is =
       made_is = says.made_is;
       version_is = newest_is;
     }
-
--- after an announcement of one version, what a reader's seat keeps next to its view is what the view says
-pub says_confirmed : (z : Base) (x y : ReaderView) (number made version v : ℕ) → ReaderSays z x number made version → y ≡ confirming v x → ReaderSays z y number made version
-says_confirmed z x y number made version v says is = rw is record { below = says.below; number_is = says.number_is; made_is = says.made_is; version_is = says.version_is }
 
 -- a reader that holds, or has announced nothing, holds after a load what it held
 pub hold_stays : (x : ReaderView) (n : ℕ) → (x.announced ≡ None) ⊎ ((v : ℕ) × (x.holds ≡ Some v)) → next_hold (as_reader x) n ≡ x.holds

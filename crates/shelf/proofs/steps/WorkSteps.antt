@@ -1,10 +1,9 @@
 -- The steps of a scan are done one after another.
-use Rattle.std.proofs.Common.{◌≡◌, ℕ, ◌+◌, ◌<◌, List, [], ◌∷◌, ◌++◌, length, length-append, refl, ap, sym, ◌∙◌, subst, arith, Some, None}
+use Rattle.std.proofs.Common.{◌≡◌, ℕ, ◌+◌, ◌<◌, List, [], ◌∷◌, ◌++◌, length, length-append, refl, ap, sym, ◌∙◌, arith, Some}
 use Rattle.map_core.specs.declared.command.Command.TheVariants.{Collect}
 use Rattle.map_core.specs.Words.{Base}
-use Rattle.map_core.specs.Steps.{steps_before}
 use Rattle.shelf.specs.Roles.{Task, KeeperView}
-use Rattle.shelf.specs.Steps.{scanned, scanning, committed, collected, IsNextScan, MayCommit}
+use Rattle.shelf.specs.Steps.{scanned, scanning, IsNextScan}
 
 -- where a collect's scan has loaded n words, the word of reader n is the next to load
 pub next_scan : (z : Base) (k0 k : KeeperView) (by : ℕ) (words : List ℕ) (reader sessions : ℕ) → k ≡ scanning k0 by words → length words ≡ reader → reader < sessions → sessions ≡ z.setting.sessions
@@ -26,16 +25,3 @@ scan_more k0 k l by words word items is step grown =
     step t (ap (λ (q : KeeperView). q.task) is)
     ∙ (ap (λ (q : KeeperView). scanned q t word) is
     ∙ ap (λ (q : ℕ × List ℕ). record k0 { task = Some record { by = by; hand = record { command = Collect; done = q.0; scanned = q.1 } } }) (λ i. (more i, sym grown i)))
-
--- a collect whose scan has seen a word of each reader may be committed
-pub may_collect : (z : Base) (k0 k : KeeperView) (by : ℕ) (words : List ℕ) → k ≡ scanning k0 by words → length words ≡ z.setting.sessions → by < k0.dealt → k0.unmet ≡ None → MayCommit z k
-unfolding steps_before
-may_collect z k0 k by words is all caller met =
-    subst (λ (q : KeeperView). MayCommit z q) (sym is)
-    record { task = record { by = by; hand = record { command = Collect; done = length words; scanned = words } }; in_hand = refl; all_done = all; caller = caller; met = met }
-
--- committing a collect makes the keeper the one that `collected` says, by the words that its scan saw
-pub collect_done : (z : Base) (k0 k l : KeeperView) (by : ℕ) (words : List ℕ) → k ≡ scanning k0 by words → ((t : Task) → k.task ≡ Some t → l ≡ committed z k t) → l ≡ collected z k0 by words
-collect_done z k0 k l by words is step =
-    let t : Task = record { by = by; hand = record { command = Collect; done = length words; scanned = words } } in
-    step t (ap (λ (q : KeeperView). q.task) is) ∙ ap (λ (q : KeeperView). committed z q t) is

@@ -9,7 +9,7 @@ use Rattle.map_core.specs.Views.{story, blocks}
 use Rattle.map_core.specs.Steps.{Write, steps_before, own_positions, map_write, write_of}
 use Rattle.map_core.proofs.shared_words.PublishWords.{write_of-tile, write_of-map, own_at}
 use Rattle.shelf.specs.Roles.{Task, KeeperView, entries}
-use Rattle.shelf.specs.Steps.{writing, committed, IsOwn, IsNextWrite, MayCommit}
+use Rattle.shelf.specs.Steps.{writing, IsOwn, IsNextWrite}
 
 -- where a publish has stored n words, its n-th word is the next to store
 next_write : (z : Base) (k0 k : KeeperView) (by n : ℕ) (at word : ℕ) → k ≡ writing k0 by n → n < steps_before z (blocks z (entries k0.log)) Publish
@@ -59,20 +59,3 @@ is_own z k0 k by n own p j b is own_is count there =
   where
     zero_up : (p : ℕ) → 0 + p ≡ p
     zero_up p = omega arith
-
--- the keeper may commit a publish all of whose words are stored
-pub may_publish : (z : Base) (k0 k : KeeperView) (by n : ℕ) → k ≡ writing k0 by n → n ≡ 64 * length (own_list (blocks z (entries k0.log)).own) + tiles z → by < k0.dealt → k0.unmet ≡ None → MayCommit z k
-unfolding steps_before
-may_publish z k0 k by n is all caller met =
-    subst (λ (q : KeeperView). MayCommit z q) (sym is)
-    record { task = record { by = by; hand = record { command = Publish; done = n; scanned = [] } }; in_hand = refl; all_done = all; caller = caller; met = met }
-
--- the keeper has committed a publish, all of whose words are stored
-abbrev pub published_by : Base → KeeperView → ℕ → ℕ → KeeperView
-published_by z k by n = committed z (writing k by n) record { by = by; hand = record { command = Publish; done = n; scanned = [] } }
-
--- committing a publish makes the keeper the one that `published_by` says
-pub publish_done : (z : Base) (k0 k l : KeeperView) (by n : ℕ) → k ≡ writing k0 by n → ((t : Task) → k.task ≡ Some t → l ≡ committed z k t) → l ≡ published_by z k0 by n
-publish_done z k0 k l by n is step =
-    let t : Task = record { by = by; hand = record { command = Publish; done = n; scanned = [] } } in
-    step t (ap (λ (q : KeeperView). q.task) is) ∙ ap (λ (q : KeeperView). committed z q t) is

@@ -5,7 +5,7 @@ use Rattle.map_core.proofs.shared_words.PlaceLemmas.{pin-within}
 use Rattle.shelf.specs.Seats.{reader_on}
 use Rattle.shelf.specs.Steps.{confirming}
 use Rattle.shelf.proofs.seats.OwnTable.{at_own, within_own, its_role}
-use Rattle.shelf.proofs.seats.ReaderSeats.{still_of, one_view, says_confirmed}
+use Rattle.shelf.proofs.seats.ReaderSeats.{still_of, one_view}
 use Rattle.shelf.proofs.steps.ReaderSteps.{confirms_it, confirmed_held, confirmed_word}
 use Rattle.shelf.proofs.reader.ReaderSeat.confirm.Goals as goal
 
@@ -33,7 +33,7 @@ invariant_of-self g c =
     let at = c.into_badge.ensures.0 ∙ (c.store.ensures.0 ∙ (c.into_seat-seat.ensures.0 ∙ ap (λ b. b.table_id) c.replace.ensures.value)) in (
       still_of _ _ _ _ _ _ of at,
       one_view _ _ views,
-      says_confirmed g.Id.StoreName.store.base _ _ _ _ _ _ c.self.invariant.2 (ap reader_on views),
+      (rw (ap reader_on views) record { below = c.self.invariant.2.below; number_is = c.self.invariant.2.number_is; made_is = c.self.invariant.2.made_is; version_is = c.self.invariant.2.version_is }),
     )
 
 pub returns : goal.returns
