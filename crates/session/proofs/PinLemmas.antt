@@ -1,5 +1,5 @@
 -- What a session's seat is once it has pinned or learned, and that a pin stays.
-use Rattle.std.proofs.Common.{◌≡◌, ℕ, ◌<◌, ◌≤◌, List, false, refl, ap, sym, subst, ◌∙◌, arith}
+use Rattle.std.proofs.Common.{◌≡◌, ℕ, ◌<◌, List, false, refl, ap, sym, subst, ◌∙◌, arith}
 use Rattle.std.specs.Prelude.{Bool, Option, Some, None, ◌⊎◌}
 use mathlib.Core.Logic.{inl}
 use mathlib.Core.List.{IsPrefix}
@@ -8,7 +8,7 @@ use Rattle.bits.specs.Cells.{Cells}
 use Rattle.map_core.specs.declared.command.Entry.{Entry}
 use Rattle.map_core.specs.declared.kept.Seen.{Seen}
 use Rattle.map_core.specs.declared.kept.Seen.TheVariants.{From, Exact}
-use Rattle.map_core.specs.Story.{newest, bitmap_of}
+use Rattle.map_core.specs.Story.{newest}
 use Rattle.map_core.specs.Words.{Base, slot_of}
 use Rattle.map_core.specs.Views.{Reader, story}
 use Rattle.map_core.specs.Views as core
@@ -59,10 +59,6 @@ pinned_seat z x a b d y version quiet free first told last is confirmed =
     confirmed ∙ (ap (confirming version) (taken_seat z x a b d quiet free first told last)
     ∙ ap (λ (n : ℕ). record x { seen = d.seen; announced = Some (Exact version); holds = Some n }) (sym is))
 
--- a bitmap that was published is of the map's size
-published_size : (z : Base) (x : ReaderView) (v : ℕ) → IsReady z → IsLegal z.setting z.opening (entries x.seen) → v ≤ newest (story z (entries x.seen)) → IsOfMap z (bitmap_of (story z (entries x.seen)) v)
-published_size z x v ready legal within = (IsTidy-legal z (entries x.seen) ready legal).published v within
-
 -- the bitmap of a pin stays where its session sees more of the log
 pub bitmap_stays : (store : StoreId) (p : PinView) (y : ReaderView) (slot : ℕ) (bitmap : Cells) (is_read : Bool) → IsPin store p slot bitmap is_read → IsPrefix p.seat.seen y.seen
     → bitmap_pinned store record { seat = y; version = p.version } ≡ bitmap_pinned store p
@@ -109,7 +105,7 @@ pin_made store x a b d y version slot bitmap ready quiet free first told last is
         below = below;
       };
       ready = ready;
-      of_map = published_size z y version ready (subst (λ (l : List StoreEntry). IsLegal z.setting z.opening (entries l)) seen legal) (omega arith);
+      of_map = ((IsTidy-legal z (entries y.seen) ready (subst (λ (l : List StoreEntry). IsLegal z.setting z.opening (entries l)) seen legal)).published version (omega arith));
       width_is = width;
       height_is = height;
       bitmap_is = λ read. absurd (cc);

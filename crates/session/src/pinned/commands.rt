@@ -2,7 +2,7 @@
 
 ghost use Rattle.std.specs.Prelude.{◌≡◌, IfErr};
 ghost use Rattle.map_core.specs.declared.command.Command.TheVariants.{Paint, Stamp, Publish, Revert, Collect, Checkpoint};
-ghost use Rattle.desk.specs.Desks.{answer_of};
+ghost use Rattle.desk.specs.Desks.{outcome_of};
 ghost use Rattle.session.specs.Sessions.{IsPinApplied};
 
 use crate::pinned::Pinned;
@@ -19,7 +19,7 @@ impl<Id: StoreName> Pinned<Id> {
         desk: &mut Desk<Id>,
         command: Command,
     ) -> Result<Reply, (Command, Refusal)>
-        ensures applied { IsPinApplied Id.store desk.old self.old command (answer_of result) desk.new self.new }
+        ensures applied { IsPinApplied Id.store desk.old self.old command (outcome_of result) desk.new self.new }
         ensures back { IfErr result (λ back. back.0 ≡ command) }
     {
         desk.apply(&mut self.seat, command)
@@ -40,7 +40,7 @@ impl<Id: StoreName> Pinned<Id> {
         y: u16,
         bitmap: Bitmap,
     ) -> Result<Reply, (Bitmap, Refusal)>
-        ensures applied { IsPinApplied Id.store desk.old self.old (Stamp x y bitmap) (answer_of result) desk.new self.new }
+        ensures applied { IsPinApplied Id.store desk.old self.old (Stamp x y bitmap) (outcome_of result) desk.new self.new }
         ensures back { IfErr result (λ back. back.0 ≡ bitmap) }
     {
         stamp_answered(self.apply(desk, Command::Stamp { x, y, bitmap }))
