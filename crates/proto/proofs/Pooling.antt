@@ -11,10 +11,6 @@ use Rattle.proto.specs.Served.{IsServed}
 use Rattle.proto.specs.Pools.{AreBoth, AreEach, AreRelated, AreStreamsServed, HasWorked, IsStreamServed}
 use Rattle.metric.specs.Wire.{Wire}
 
--- a worker that has served no stream has its session as it was
-pub HasWorked-none : {S : Type 0} (fresh : S → Type 0) (wire : S → Wire) (store : StoreId) (old : ReaderView) → HasWorked fresh wire store old old
-HasWorked-none fresh wire store old = record { streams = []; served = refl }
-
 -- streams that were served, and one more that was served after them, are streams that were served
 AreStreamsServed-more : {S : Type 0} (fresh : S → Type 0) (wire : S → Wire) (store : StoreId) (streams : List S) (stream : S) (old between new : ReaderView) →
     AreStreamsServed fresh wire store streams old between → IsStreamServed fresh wire store stream between new → AreStreamsServed fresh wire store (streams ++ stream ∷ []) old new

@@ -2,7 +2,7 @@
 
 ghost use Rattle.std.specs.Prelude.{◌≡◌, Some, is_some};
 ghost use Rattle.shelf.specs.Steps.{leaving};
-ghost use Rattle.desk.specs.Desks.{answer_of};
+ghost use Rattle.desk.specs.Desks.{outcome_of};
 ghost use Rattle.proto.specs.Asked.{asked_by};
 ghost use Rattle.proto.specs.Callers.{IsCommanded, IsPinAnswer, IsUnpinAnswer, free, told_as};
 ghost use Rattle.proto.specs.declared.answer.Answer.TheVariants as answers;
@@ -161,7 +161,7 @@ impl<Id: StoreName> Caller<Id> {
 
 /// What a command is answered.
 fn told(applied: Result<Reply, (Command, Refusal)>) -> Answer
-    ensures { result ≡ told_as (answer_of applied) }
+    ensures { result ≡ told_as (outcome_of applied) }
 {
     match applied {
         Ok(reply) => Answer::Done(reply),

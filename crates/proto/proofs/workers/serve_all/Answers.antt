@@ -1,9 +1,10 @@
 -- A worker starts with no stream served, and each turn adds a fresh one.
-use Rattle.proto.proofs.Pooling.{HasWorked-next, HasWorked-none}
+use Rattle.proto.proofs.Pooling.{HasWorked-next}
 use Rattle.proto.proofs.workers.serve_all.Goals as goal
+use Rattle.std.proofs.Common.{refl, []}
 
 pub streams-init : goal.streams-init
-streams-init g c = HasWorked-none _ _ _ _
+streams-init g c = record { streams = []; served = refl }
 
 pub streams-preserved : goal.streams-preserved
 streams-preserved g c =
