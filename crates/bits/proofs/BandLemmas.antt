@@ -6,7 +6,7 @@ use Rattle.std.proofs.Math.ListN.{get_or-eq_default}
 use Rattle.std.proofs.lemmas.List.{get_or-replicate, length-replicate}
 use Rattle.std.proofs.lemmas.Nat.Bits.{bit_at-zero, bit_at-lt, bit_at_or, bit_at_ones}
 use Rattle.std.specs.Int.RustNames.{bit_or}
-use Rattle.bits.specs.Bands.{IsBanded, AreBandsKept}
+use Rattle.bits.specs.Bands.{IsBanded, AreBandsKept, AreTiled, IsTiled}
 use Rattle.bits.specs.Cells.{Cells, has, cells_where, with_cell, IsSide, IsBitmap, IsObstacle}
 use Rattle.bits.specs.Stored.{cells_stored}
 use Rattle.bits.specs.Words.{words_across}
@@ -34,6 +34,81 @@ IsBanded-where cells test bands next bitmap before kept come = λ a b obstacle.
       | inl old ↦ kept (b / 64) (omega arith) (before a b old)
       | inr here ↦ here
     ]
+
+-- the same of tiles
+AreTiled-where : (cells : Cells) (test : ℕ → ℕ → Bool) (tiles next : List ℕ) → IsBitmap cells → AreTiled cells tiles
+    → ((band k : ℕ) → k < 64 → bit_at (get_or tiles band 0) k ≡ 1 → bit_at (get_or next band 0) k ≡ 1)
+    → ((a b : ℕ) → a < cells.width → test a b ≡ true → IsObstacle cells a b ⊎ (bit_at (get_or next (b / 64) 0) (a / 64) ≡ 1))
+    → AreTiled (cells_where cells.width cells.height test) next
+AreTiled-where cells test tiles next bitmap before kept come = λ a b obstacle.
+    let inside = has-outside _ (IsBitmap-cells_where cells.width cells.height test bitmap.width_is bitmap.height_is) a b obstacle in
+    let few = bitmap.width_is.few in
+    let column = inside.column in
+    elim (come a b inside.column (sym (has-cells_where cells.width cells.height test a b inside.column inside.row) ∙ obstacle)) [
+      | inl old ↦ kept (b / 64) (a / 64) (omega arith) (before a b old)
+      | inr here ↦ here
+    ]
+
+-- a cell that is written lies in a tile
+pub AreTiled-with_cell : (cells : Cells) (x y index : ℕ) (black : Bool) (tiles next : List ℕ) → IsBitmap cells → AreTiled cells tiles → index ≡ x / 64
+    → ((band k : ℕ) → k < 64 → bit_at (get_or tiles band 0) k ≡ 1 → bit_at (get_or next band 0) k ≡ 1) → (black ≡ true → bit_at (get_or next (y / 64) 0) index ≡ 1)
+    → AreTiled (with_cell cells x y black) next
+AreTiled-with_cell cells x y index black tiles next bitmap before index_is kept here = AreTiled-where cells _ tiles next bitmap before kept (λ a b inside is.
+    elim (chosen (a == x && b == y) black (has cells a b) is) [
+      | inl written ↦
+          let places = and_parts (a == x) (b == y) written.0 in
+          let column : a ≡ x = eqb-true a x places.0 in
+          let row : b ≡ y = eqb-true b y places.1 in
+          inr (rw (row, column, ← index_is) (here written.1))
+      | inr old ↦ inl old
+    ])
+
+-- a word that is written
+pub AreTiled-with_word : (cells : Cells) (y index word : ℕ) (tiles next : List ℕ) → IsBitmap cells → AreTiled cells tiles
+    → ((band k : ℕ) → k < 64 → bit_at (get_or tiles band 0) k ≡ 1 → bit_at (get_or next band 0) k ≡ 1)
+    → ((i : ℕ) → bit_at word i ≡ 1 → bit_at (get_or next (y / 64) 0) index ≡ 1)
+    → AreTiled (with_word cells y index word) next
+AreTiled-with_word cells y index word tiles next bitmap before kept here = AreTiled-where cells _ tiles next bitmap before kept (λ a b inside is.
+    elim (chosen (b == y && a / 64 == index) (bit_at word (a % 64) == 1) (has cells a b) is) [
+      | inl written ↦
+          let places = and_parts (b == y) (a / 64 == index) written.0 in
+          let row : b ≡ y = eqb-true b y places.0 in
+          let column : a / 64 ≡ index = eqb-true (a / 64) index places.1 in
+          inr (rw (row, column) (here (a % 64) (eqb-true (bit_at word (a % 64)) 1 written.1)))
+      | inr old ↦ inl old
+    ])
+
+-- a row that is written
+pub AreTiled-with_row : (cells : Cells) (y across : ℕ) (words tiles next : List ℕ) → IsBitmap cells → AreTiled cells tiles → across ≡ words_across cells.width
+    → ((band k : ℕ) → k < 64 → bit_at (get_or tiles band 0) k ≡ 1 → bit_at (get_or next band 0) k ≡ 1)
+    → ((k i : ℕ) → k < across → bit_at (get_or words k 0) i ≡ 1 → bit_at (get_or next (y / 64) 0) k ≡ 1)
+    → AreTiled (with_row cells y words) next
+AreTiled-with_row cells y across words tiles next bitmap before wide kept here = AreTiled-where cells _ tiles next bitmap before kept (λ a b inside is.
+    elim (chosen (b == y) (is_bit (get_or words (a / 64) 0) (a % 64)) (has cells a b) is) [
+      | inl written ↦
+          let row : b ≡ y = eqb-true b y written.0 in
+          inr (rw row (here (a / 64) (a % 64) (omega arith) (eqb-true (bit_at (get_or words (a / 64) 0) (a % 64)) 1 written.1)))
+      | inr old ↦ inl old
+    ])
+
+-- a tile that is written
+pub AreTiled-with_tile : (cells : Cells) (k across top index all : ℕ) (words tiles next : List ℕ) → IsBitmap cells → AreTiled cells tiles → 64 ≤ length words
+    → across ≡ words_across cells.width → top ≡ 64 * (k / across) → index ≡ k % across
+    → ((band i : ℕ) → i < 64 → bit_at (get_or tiles band 0) i ≡ 1 → bit_at (get_or next band 0) i ≡ 1)
+    → ((j i : ℕ) → j < length words → bit_at (get_or words j 0) i ≡ 1 → bit_at all i ≡ 1)
+    → ((i : ℕ) → bit_at all i ≡ 1 → bit_at (get_or next (top / 64) 0) index ≡ 1)
+    → AreTiled (with_tile cells k words) next
+AreTiled-with_tile cells k across top index all words tiles next bitmap before many wide top_is index_is kept joined here = AreTiled-where cells _ tiles next bitmap before kept (λ a b inside is.
+    elim (chosen (tile_of cells a b == k) (is_bit (get_or words (b % 64) 0) (a % 64)) (has cells a b) is) [
+      | inl written ↦
+          let tile : tile_of cells a b ≡ k = eqb-true (tile_of cells a b) k written.0 in
+          let parts = tile_parts cells a b k across inside wide tile in
+          let down : b / 64 ≡ k / across = parts.0 in
+          let band : b / 64 ≡ top / 64 = omega arith in
+          let column : a / 64 ≡ index = parts.1 ∙ sym index_is in
+          inr (rw (band, column) (here (a % 64) (joined (b % 64) (a % 64) (omega arith) (eqb-true (bit_at (get_or words (b % 64) 0) (a % 64)) 1 written.1))))
+      | inr old ↦ inl old
+    ])
 
 -- a cell that is written
 pub IsBanded-with_cell : (cells : Cells) (x y : ℕ) (black : Bool) (bands next : ℕ) → IsBitmap cells → IsBanded cells bands
@@ -111,6 +186,14 @@ IsBanded-none width height bands wide high = λ a b obstacle.
     let both : true ≡ false = sym obstacle ∙ none in
     absurd (cc)
 
+-- where there is no obstacle, no tile needs a bit
+AreTiled-none : (width height : ℕ) (tiles : List ℕ) → IsSide width → IsSide height → AreTiled (cells_where width height (λ x y. false)) tiles
+AreTiled-none width height tiles wide high = λ a b obstacle.
+    let inside = has-outside _ (IsBitmap-cells_where width height (λ x y. false) wide high) a b obstacle in
+    let none : has (cells_where width height (λ x y. false)) a b ≡ false = has-cells_where width height (λ x y. false) a b inside.column inside.row in
+    let both : true ≡ false = sym obstacle ∙ none in
+    absurd (cc)
+
 -- a word that is 0 has no cell
 no_cell : (word i : ℕ) → word ≡ 0 → (bit_at word i == 1) ≡ false
 no_cell word i zero = let nil : bit_at word i ≡ 0 = rw zero (bit_at-zero i) in rw nil refl
@@ -128,8 +211,8 @@ cells_stored-none width height count words none = rw none (cells_where-same widt
     (λ x y column row. no_cell _ (x % 64) (read_none count (y * words_across width + x / 64))))
 
 -- where all words are 0 no band needs a bit
-pub IsKept-none : (width height count : ℕ) (words : List ℕ) → IsSide width → IsSide height → words ≡ replicate count 0 → count ≡ height * words_across width → AreBandsKept width height words 0
-IsKept-none width height count words wide high none many = record {
+pub IsKept-none : (width height count : ℕ) (words tiles : List ℕ) → IsSide width → IsSide height → words ≡ replicate count 0 → count ≡ height * words_across width → AreBandsKept width height words 0 tiles
+IsKept-none width height count words tiles wide high none many = record {
   stored = record {
     width_is = wide;
     height_is = high;
@@ -137,7 +220,16 @@ IsKept-none width height count words wide high none many = record {
     edge = λ x y past room row. rw none (no_cell _ (x % 64) (read_none count (y * words_across width + x / 64)));
   };
   banded = rw (cells_stored-none width height count words none) (IsBanded-none width height 0 wide high);
+  tiled = rw (cells_stored-none width height count words none) (AreTiled-none width height tiles wide high);
 }
+
+-- where each tile has a bit, nothing is known
+pub IsTiled-all : (cells : Cells) (band : ℕ) → IsBitmap cells → IsTiled cells band (2 ^ 64 - 1)
+IsTiled-all cells band bitmap = λ x y obstacle here.
+    let inside = has-outside cells bitmap x y obstacle in
+    let column = inside.column in
+    let few = bitmap.width_is.few in
+    bit_at_ones 64 (x / 64) (omega arith)
 
 -- where each band has a bit, nothing is known
 pub IsBanded-all : (cells : Cells) → IsBitmap cells → IsBanded cells (2 ^ 64 - 1)

@@ -1,9 +1,9 @@
-//! Which bands of 64 rows may have an obstacle, as the bits of a word.
+//! Which bands of 64 rows may have an obstacle, and which of their tiles, as the bits of words.
 
-ghost use Rattle.std.specs.Prelude.{◌≡◌, ℕ, ◌<◌, ◌/◌, true, length, slice_index};
+ghost use Rattle.std.specs.Prelude.{◌≡◌, ℕ, ◌<◌, ◌≤◌, ◌/◌, true, length, slice_index};
 ghost use Rattle.std.specs.Int.{bit_at};
 
-use crate::word::{has_bit, with_bit};
+use crate::word::{has_bit, low_bits, with_bit};
 use metric::{BAND_ROWS, MOST_SIDE};
 
 /// The bands once this word has been written to the row `y`: each keeps its bit, and the row's own has one where an obstacle has come.
@@ -13,10 +13,20 @@ pub fn marked(bands: u64, y: u16, word: u64) -> u64
     ensures here { (i : ℕ) → bit_at word i ≡ 1 → bit_at result (y / BAND_ROWS) ≡ 1 }
     ensures kept { (band : ℕ) → band < BAND_ROWS → bit_at bands band ≡ 1 → bit_at result band ≡ 1 }
 {
+    with_mark(bands, y / BAND_ROWS, word)
+}
+
+/// The bits once this word has been written to the place `index`: each keeps its mark, and the place has one where an obstacle has come.
+#[inline(always)]
+fn with_mark(bits: u64, index: u16, word: u64) -> u64
+    requires { index < 64 }
+    ensures here { (i : ℕ) → bit_at word i ≡ 1 → bit_at result index ≡ 1 }
+    ensures kept { (k : ℕ) → k < 64 → bit_at bits k ≡ 1 → bit_at result k ≡ 1 }
+{
     if word != 0 {
-        with_bit(bands, u32::from(y / BAND_ROWS), true)
+        with_bit(bits, u32::from(index), true)
     } else {
-        bands
+        bits
     }
 }
 
@@ -32,8 +42,47 @@ pub fn marked_by(bands: u64, y: u16, words: &[u64]) -> u64
     marked(bands, y, all_bits(words))
 }
 
+/// Marks the tile of the row `y` in the columns of word `index`, where this word has an obstacle. Each tile keeps its mark.
+#[inline(always)]
+pub fn mark(marks: &mut [u64; 64], y: u16, index: u16, word: u64)
+    requires row { y < MOST_SIDE }
+    requires index { index < 64 }
+    ensures here { (i : ℕ) → bit_at word i ≡ 1 → bit_at (slice_index marks.new (y / BAND_ROWS)) index ≡ 1 }
+    ensures kept { (band k : ℕ) → k < 64 → bit_at (slice_index marks.old band) k ≡ 1 → bit_at (slice_index marks.new band) k ≡ 1 }
+{
+    let band = usize::from(y / BAND_ROWS);
+    marks[band] = with_mark(marks[band], index, word);
+}
+
+/// Marks the tiles of the row `y` in which one of the first `across` words has an obstacle. Each tile keeps its mark.
+pub fn mark_row(marks: &mut [u64; 64], y: u16, row: &[u64; 64], across: u16)
+    requires row { y < MOST_SIDE }
+    requires across { across ≤ 64 }
+    ensures here { (k i : ℕ) → k < across → bit_at (slice_index row.now k) i ≡ 1 → bit_at (slice_index marks.new (y / BAND_ROWS)) k ≡ 1 }
+    ensures kept { (band k : ℕ) → k < 64 → bit_at (slice_index marks.old band) k ≡ 1 → bit_at (slice_index marks.new band) k ≡ 1 }
+{
+    let band = usize::from(y / BAND_ROWS);
+    marks[band] = with_marks(marks[band], row, across);
+}
+
+/// The marks of a band's tiles, with those in which one of the first `across` words has an obstacle.
+fn with_marks(tiles: u64, row: &[u64; 64], across: u16) -> u64
+    requires { across ≤ 64 }
+    ensures here { (k i : ℕ) → k < across → bit_at (slice_index row.now k) i ≡ 1 → bit_at result k ≡ 1 }
+    ensures kept { (k : ℕ) → k < 64 → bit_at tiles k ≡ 1 → bit_at result k ≡ 1 }
+{
+    if low_bits(tiles, across) == low_bits(u64::MAX, across) {
+        return tiles;
+    }
+    let mut all = tiles;
+    'words: for index in 0..across {
+        all = with_mark(all, index, row[usize::from(index)]);
+    }
+    all
+}
+
 /// The bits that are 1 in any of the words.
-fn all_bits(words: &[u64]) -> u64
+pub fn all_bits(words: &[u64]) -> u64
     ensures { (k i : ℕ) → k < length words.now → bit_at (slice_index words.now k) i ≡ 1 → bit_at result i ≡ 1 }
 {
     let mut all = 0;

@@ -2,28 +2,29 @@
 
 ghost use Rattle.std.specs.Prelude.{◌≡◌, ℕ, ◌+◌, ◌*◌, ◌/◌, ◌%◌, ◌<◌, ◌≤◌, ◌↔◌, IsTrue, IfOk, IfErr, false};
 ghost use Rattle.bits.specs.Cells.{has, cells_where, with_cell, IsSide, IsBitmap, IsInside};
-ghost use Rattle.bits.specs.Bands.{IsBanded};
+ghost use Rattle.bits.specs.Bands.{IsBanded, IsTiled};
 ghost use Rattle.bits.specs.Words.{words_across, IsRowOf};
 ghost use Rattle.bits.specs.Writes.{with_row, with_word};
 ghost use Rattle.metric.specs.declared.refusal.Refusal.TheVariants.{Memory};
 
-use crate::band::{marked, marked_by};
+use crate::band::{mark, mark_row, marked, marked_by};
 use crate::word::{has_bit, with_bit};
 use crate::write::{write_row, write_word};
-use metric::{Cell, Rect, Refusal, WORD_BITS};
+use metric::{Cell, Rect, Refusal, WORD_BITS, WORD_CELLS};
 use std::alloc::Global;
 use std::marker::Model;
 
 /// A bitmap. Contracts see it as its size and its set of obstacles.
 ///
 /// Its rows lie one after another, each in as many words as it needs; bit i of a row's word k is the cell of column 64 k + i.
-/// Bit k of the bands is 1 where the rows 64 k to 64 k + 63 may have an obstacle.
+/// Bit k of the bands is 1 where the rows 64 k to 64 k + 63 may have an obstacle, and bit k of a band's marks where its tile in the columns 64 k to 64 k + 63 may have one.
 #[derive(Debug, Drop)]
 pub struct Bitmap {
     pub(crate) width: u16,
     pub(crate) height: u16,
     pub(crate) words: Vec<u64>,
     pub(crate) bands: u64,
+    pub(crate) marks: [u64; 64],
 }
 
 impl Model for Bitmap {
@@ -36,7 +37,7 @@ impl Model for Bitmap {
 
     ghost view = { λ b. cells_stored b.width b.height b.words.items };
 
-    ghost invariant = { λ b. AreBandsKept b.width b.height b.words.items b.bands };
+    ghost invariant = { λ b. AreBandsKept b.width b.height b.words.items b.bands b.marks };
 }
 
 impl Bitmap {
@@ -54,6 +55,7 @@ impl Bitmap {
             height,
             words,
             bands: 0,
+            marks: [0; 64],
         })
     }
 
@@ -125,6 +127,12 @@ impl Bitmap {
         let (index, place) = self.place_of(cell);
         self.words[index] = with_bit(self.words[index], place, black);
         self.bands = marked(self.bands, cell.y, u64::from(black));
+        mark(
+            &mut self.marks,
+            cell.y,
+            cell.x / WORD_CELLS,
+            u64::from(black),
+        );
     }
 
     /// Writes the cells of row `y` that word `index` of it holds: bit i is the cell of column 64 `index` + i. Bits past the edge are left out.
@@ -137,6 +145,7 @@ impl Bitmap {
         let words = self.words.as_mut_slice();
         write_word(words, self.width, self.height, y, index, word);
         self.bands = marked(self.bands, y, word);
+        mark(&mut self.marks, y, index, word);
     }
 
     /// Writes the row `y`, as `set_word` does each word of it: as many of these as it needs.
@@ -148,6 +157,7 @@ impl Bitmap {
         let words = self.words.as_mut_slice();
         write_row(words, self.width, self.height, y, row);
         self.bands = marked_by(self.bands, y, row);
+        mark_row(&mut self.marks, y, row, self.width.div_ceil(WORD_CELLS));
     }
 
     /// The words of row `y`, as many as it needs. Bits past the edge are 0.
@@ -170,6 +180,17 @@ impl Bitmap {
         self.bands
     }
 
+    /// Which tiles of the band may have an obstacle: where bit k is 0, the columns 64 k to 64 k + 63 of the rows 64 `band` to 64 `band` + 63 are blank.
+    ///
+    /// A tile in which an obstacle was written keeps its bit as its band does.
+    #[inline(always)]
+    pub fn marked_tiles(&self, band: u16) -> u64
+        requires { band < 64 }
+        ensures { IsTiled self.now band result }
+    {
+        self.marks[usize::from(band)]
+    }
+
     /// A copy. Refused for want of memory alone.
     pub fn try_copy(&self, alloc: Global) -> Result<Self, Refusal>
         ensures copy { IfOk result (λ copy. copy ≡ self.now) }
@@ -181,6 +202,7 @@ impl Bitmap {
             height: self.height,
             words,
             bands: self.bands,
+            marks: self.marks,
         })
     }
 
@@ -194,6 +216,7 @@ impl Bitmap {
             .as_mut_slice()
             .copy_from_slice(other.words.as_slice());
         self.bands = other.bands;
+        self.marks = other.marks;
     }
 
     /// Frees each cell, and with them all bands. It takes no memory.
@@ -202,5 +225,6 @@ impl Bitmap {
     {
         self.words.fill(0);
         self.bands = 0;
+        self.marks = [0; 64];
     }
 }

@@ -6,7 +6,7 @@ ghost use Rattle.bits.specs.Cells.{IsBitmap};
 ghost use Rattle.bits.specs.Words.{words_across};
 ghost use Rattle.bits.specs.Writes.{with_tile};
 
-use crate::band::marked_by;
+use crate::band::{all_bits, mark, marked_by};
 use crate::bitmap::Bitmap;
 use crate::write::write_tile;
 use metric::{MOST_TILES, TILE_SIDE};
@@ -52,9 +52,11 @@ impl Bitmap {
         ensures written { self.new ≡ with_tile self.old position words.now }
         ensures bitmap { IsBitmap self.new }
     {
-        let top = TILE_SIDE * (position / self.tiles_across());
+        let across = self.tiles_across();
+        let top = TILE_SIDE * (position / across);
         let cells = self.words.as_mut_slice();
         write_tile(cells, self.width, self.height, position, words);
         self.bands = marked_by(self.bands, top, words);
+        mark(&mut self.marks, top, position % across, all_bits(words));
     }
 }

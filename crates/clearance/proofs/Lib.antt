@@ -3,6 +3,7 @@ mod Bits
 mod Firsts
 mod FrameLemmas
 mod Borders
+mod LineBands
 mod LineFirsts
 mod NearestSearches
 mod PieceFirsts
@@ -14,4 +15,5 @@ pub mod RowWords
 mod Searches
 mod Stretches
 mod StripLines
+mod TileRows
 mod Walks

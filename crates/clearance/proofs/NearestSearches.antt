@@ -10,9 +10,13 @@ use Rattle.metric.proofs.Growing.{of_grows, of_grows_with_dx}
 use Rattle.bits.specs.Cells.{Cells, IsBitmap, IsObstacle}
 use Rattle.bits.specs.Words.{IsRowOf}
 use Rattle.clearance.specs.Rows.{IsFar, IsFirstMark, IsLastMark, IsNextNearer, IsLastNearer}
+use Rattle.metric.specs.declared.rect.Rect.{Rect}
+use Rattle.clearance.specs.Bands.{IsMarkedRow, IsNextGap}
+use Rattle.clearance.specs.Search.{column_gap, row_gap}
 use Rattle.clearance.specs.declared.found.Found.{Found}
-use Rattle.clearance.specs.Nearest.{IsFound, IsNearCell, IsNearAmong, limit_of, IsWithin, IsWithinOrAbove, IsRowFirst, IsRowUpTo, IsSeenInRow, IsAhead, IsBetter}
+use Rattle.clearance.specs.Nearest.{IsFound, IsNearCell, IsNearAmong, limit_of, IsWithin, IsWithinOrAbove, IsRowFirst, IsRowUpTo, IsSeenInRow, IsAhead, IsBetter, IsCellRect}
 use Rattle.clearance.proofs.RowSearches.{mark_within}
+use Rattle.clearance.proofs.TileRows.{AreBandsLive}
 use Rattle.clearance.proofs.Searches.{marked_obstacle, obstacle_marked, obstacle_within, unmarked_row}
 
 -- the obstacles that have been looked at, said otherwise
@@ -294,3 +298,41 @@ pub IsNear-all : (distance : ℕ → ℕ → ℕ) (cells : Cells) (x y gap : ℕ
     → IsNearAmong distance (IsObstacle cells) (IsWithin y gap) x y best → IsNearCell distance (IsObstacle cells) x y best
 IsNear-all distance cells x y gap best bitmap row ended =
     IsNearAmong-all distance (IsObstacle cells) (IsWithin y gap) x y best (λ a b obstacle. let last = (obstacle_within cells bitmap a b obstacle).1 in omega arith)
+
+-- the best of more obstacles is no farther
+pub limit_of-falls : (distance : ℕ → ℕ → ℕ) (Obstacle IsSeen IsNext : ℕ → ℕ → Type 0) (x y : ℕ) (best next : Option Found) → ((a b : ℕ) → IsSeen a b → IsNext a b) → limit_of next ≤ 2 ^ 32
+    → IsNearAmong distance Obstacle IsSeen x y best → IsNearAmong distance Obstacle IsNext x y next → limit_of next ≤ limit_of best
+limit_of-falls distance Obstacle IsSeen IsNext x y None next there few before after = few
+limit_of-falls distance Obstacle IsSeen IsNext x y (Some best) None there few before none = absurd (none best.cell.x best.cell.y (before.obstacle.0, there best.cell.x best.cell.y before.obstacle.1))
+limit_of-falls distance Obstacle IsSeen IsNext x y (Some best) (Some next) there few before after =
+    let one = before.distance_is in
+    let other = after.distance_is in
+    elim (after.least best.cell.x best.cell.y (before.obstacle.0, there best.cell.x best.cell.y before.obstacle.1)).order [ inl less ↦ omega arith | inr same ↦ let equal = same.0 in omega arith ]
+
+-- rows that are passed over have no obstacle that could be nearer than the best
+pub IsNearAmong-live : (distance : ℕ → ℕ → ℕ) (cells : Cells) (x y gap next bands : ℕ) (here : Rect) (best : Option Found) → IsBitmap cells → IsCellRect x y here → 0 < gap → gap ≤ next
+    → IsNextGap (IsMarkedRow bands) y y gap next → AreBandsLive distance cells here gap (limit_of best) bands
+    → IsNearAmong distance (IsObstacle cells) (IsWithin y gap) x y best → IsNearAmong distance (IsObstacle cells) (IsWithin y next) x y best
+IsNearAmong-live distance cells x y gap next bands here best bitmap rect some order is live before =
+    let left = rect.left in
+    let top = rect.top in
+    let right = rect.right in
+    let bottom = rect.bottom in
+    IsNearAmong-far distance (IsObstacle cells) (IsWithin y gap) (IsWithin y next) x y best
+    (λ a b obstacle seen. omega arith)
+    (λ a b obstacle near. elim (cases_lt (abs_diff y b) gap) [
+      | inl earlier ↦ inl earlier
+      | inr away ↦ elim (live a b obstacle (omega arith)) [
+        | inl marked ↦
+            let last = (obstacle_within cells bitmap a b obstacle).3 in
+            elim (cases_lt b y) [
+              | inl up ↦ let passed = is.above b marked (omega arith) in absurd (omega arith)
+              | inr down ↦ let passed = is.below b marked (omega arith) (omega arith) in absurd (omega arith)
+            ]
+        | inr far ↦
+            let across : column_gap here a ≡ abs_diff x a = omega arith in
+            let down : row_gap here b ≡ abs_diff y b = omega arith in
+            inr (rw (across, down) at far)
+      ]
+    ])
+    before

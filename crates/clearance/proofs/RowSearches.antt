@@ -44,6 +44,26 @@ mark_within words x few marked = elim (cases_lt x (64 * length words)) [
   | inr past ↦ absurd (unmarked_past words x past marked)
 ]
 
+-- tiles that are passed over to the right have no mark
+pub unmarked_tiles : (words : List ℕ) (start from next tiles : ℕ) → ((x : ℕ) → IsMarked words x → bit_at tiles (x / 64) ≡ 1) → ((k : ℕ) → from ≤ k → k < next → bit_at tiles k ≡ 1 → ⊥)
+    → AreUnmarked words start (64 * from) → AreUnmarked words start (64 * next)
+unmarked_tiles words start from next tiles tiled none before = record {
+  none = λ x first end marked. elim (cases_lt x (64 * from)) [
+    | inl earlier ↦ before.none x first earlier marked
+    | inr later ↦ none (x / 64) (omega arith) (omega arith) (tiled x marked)
+  ];
+}
+
+-- tiles that are passed over to the left have no mark
+pub unmarked_tiles_below : (words : List ℕ) (after end last tiles : ℕ) → ((x : ℕ) → IsMarked words x → bit_at tiles (x / 64) ≡ 1) → ((k : ℕ) → after ≤ k → k < end → bit_at tiles k ≡ 1 → ⊥)
+    → AreUnmarked words (64 * end) last → AreUnmarked words (64 * after) last
+unmarked_tiles_below words after end last tiles tiled none before = record {
+  none = λ x first within marked. elim (cases_lt x (64 * end)) [
+    | inl earlier ↦ none (x / 64) (omega arith) (omega arith) (tiled x marked)
+    | inr later ↦ before.none x later within marked
+  ];
+}
+
 -- a word of which a part is zero has no mark there, to its end
 pub unmarked_word : (words : List ℕ) (start k place front : ℕ) → ((i : ℕ) → place ≤ i → i < 64 → bit_at front i ≡ bit_at (get_or words k 0) i) → front ≡ 0
     → AreUnmarked words start (64 * k + place) → AreUnmarked words start (64 * (k + 1))

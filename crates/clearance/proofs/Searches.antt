@@ -22,7 +22,7 @@ pub IsFar-lower : (dist limit lower : ℕ) → lower ≤ limit → IsFar dist li
 IsFar-lower dist limit lower less far = record { not_below = let low = far.not_below in omega arith; is_limit = let small = far.is_limit in omega arith }
 
 -- what is far stays so for a greater distance
-IsFar-greater : (dist more limit : ℕ) → dist ≤ more → IsFar dist limit → IsFar more limit
+pub IsFar-greater : (dist more limit : ℕ) → dist ≤ more → IsFar dist limit → IsFar more limit
 IsFar-greater dist more limit grown far = record { not_below = let low = far.not_below in omega arith; is_limit = far.is_limit }
 
 -- with the first mark from the first column of the rectangle on the least is the lowered one

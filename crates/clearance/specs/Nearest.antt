@@ -2,6 +2,7 @@
 use Rattle.std.specs.Prelude.{◌≡◌, ℕ, ◌+◌, ◌^◌, ◌<◌, ◌≤◌, ◌⊎◌, Option, Some, None}
 use Rattle.std.specs.Int.{abs_diff}
 use Rattle.metric.specs.declared.cell.Cell.{Cell}
+use Rattle.metric.specs.declared.rect.Rect.{Rect}
 use Rattle.metric.specs.Cellwise.{IsNearestCell}
 use Rattle.bits.specs.Cells.{Cells, IsBitmap, IsInside, IsObstacle}
 use Rattle.clearance.specs.declared.found.Found.{Found}
@@ -58,3 +59,10 @@ IsAhead one other = (one.dist < other.dist) ⊎ ((one.dist ≡ other.dist) × (o
 abbrev pub IsBetter : Option Found → Found → Found → Type 0
 IsBetter None next better = better ≡ next
 IsBetter (Some best) next better = ((better ≡ best) × IsAhead best next) ⊎ ((better ≡ next) × (IsAhead best next → ⊥))
+
+-- the rectangle of one cell
+pub record IsCellRect (x y : ℕ) (rect : Rect) : Type 0 where
+  pub left : rect.x0 ≡ x
+  pub top : rect.y0 ≡ y
+  pub right : rect.x1 ≡ x + 1
+  pub bottom : rect.y1 ≡ y + 1

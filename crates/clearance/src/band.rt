@@ -13,7 +13,7 @@ use metric::{BAND_ROWS, MOST_SIDE};
 const NO_ROW: u16 = MOST_SIDE;
 
 /// How many rows are looked at one after another before the bands are asked for again.
-const STRETCH: u16 = 16;
+pub const STRETCH: u16 = 16;
 
 /// Whether the row's band is known to be blank.
 #[inline(always)]

@@ -1,6 +1,6 @@
 //! The lowest and the highest bit of a word.
 
-ghost use Rattle.std.specs.Prelude.{◌≡◌, ℕ, ◌<◌, ◌≤◌};
+ghost use Rattle.std.specs.Prelude.{◌≡◌, ◌≢◌, ℕ, ◌<◌, ◌≤◌};
 ghost use Rattle.std.specs.Int.{bit_at};
 
 /// The place of the lowest bit that is 1.
@@ -52,4 +52,12 @@ pub fn bits_through(word: u64, place: u16) -> u64
     } else {
         word
     }
+}
+
+/// The word with the bit at this place made 0.
+pub fn without_bit(word: u64, place: u16) -> u64
+    requires { place < 64 }
+    ensures { (i : ℕ) → i < 64 → i ≢ place → bit_at result i ≡ bit_at word i }
+{
+    word & !(1 << place)
 }

@@ -10,7 +10,7 @@ ghost use Rattle.clearance.specs.Search.{IsLeastBelow, IsRectIn};
 
 use crate::found::Found;
 use crate::frame::{better, frame_nearest};
-use crate::nearest::nearest;
+use crate::nearest::{cell_rect, nearest};
 use crate::rows::{Rows, holds};
 use crate::search::least_in_bits;
 use metric::{Cell, Edge, MOST_SIDE, Metric, Near, Rect};
@@ -66,13 +66,7 @@ fn own_below<M: Metric, R: Rows>(rows: &mut R, cell: Cell, limit: u64) -> Option
     ensures found { IsFoundBelow M.distance (IsObstacle (R.cells rows.old)) cell.x cell.y limit result }
     ensures rows { rows.new ≡ rows.old }
 {
-    let here = Rect {
-        x0: cell.x,
-        y0: cell.y,
-        x1: cell.x + 1,
-        y1: cell.y + 1,
-    };
-    if least_in_bits::<M, R>(rows, here, limit) >= limit {
+    if least_in_bits::<M, R>(rows, cell_rect(cell), limit) >= limit {
         return None;
     }
     nearest::<M, R>(rows, cell)

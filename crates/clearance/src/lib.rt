@@ -20,6 +20,7 @@ mod rows;
 mod search;
 mod segment;
 mod strip;
+mod tiles;
 mod walk;
 mod words;
 

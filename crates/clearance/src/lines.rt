@@ -8,6 +8,7 @@ use crate::rows::Rows;
 use crate::search::lowered;
 use crate::segment::step_towards;
 use crate::strip::Strip;
+use crate::tiles::near_bands;
 use metric::{Edge, LAST_FRAMED, Metric, Rect};
 
 /// The lines of a strip from one on, and the limit below which an obstacle is near to a line.
@@ -73,7 +74,7 @@ impl Lines {
         if line <= self.first {
             return line;
         }
-        let (bands, height) = (rows.bands(), rows.height());
+        let (mut bands, height) = (rows.bands(), rows.height());
         let mut left = self.rect_left(rect, end, line);
         let mut gap = first_gap(bands, left.y0, left.y1 - 1, 1);
         'gaps: while gap < height {
@@ -84,6 +85,7 @@ impl Lines {
             if next <= self.first {
                 return next;
             }
+            bands = near_bands::<M, R>(rows, bands, left, gap + 1, self.limit);
             gap = next_gap(bands, left.y0, left.y1 - 1, gap + 1);
             left = self.rect_left(left, line, next);
             line = next;

@@ -3,14 +3,15 @@
 ghost use Rattle.std.specs.Prelude.{◌≡◌, ◌+◌, ◌<◌, ◌≤◌, ◌↔◌, IsTrue};
 ghost use Rattle.std.specs.Int.{abs_diff};
 ghost use Rattle.bits.specs.Cells.{IsInside, IsObstacle};
-ghost use Rattle.clearance.specs.Nearest.{IsAhead, IsBetter, IsNearCell, IsRowFirst, IsRowUpTo, IsSeenInRow, IsSought, IsWithin, IsWithinOrAbove, limit_of};
+ghost use Rattle.clearance.specs.Nearest.{IsAhead, IsBetter, IsCellRect, IsNearCell, IsRowFirst, IsRowUpTo, IsSeenInRow, IsSought, IsWithin, IsWithinOrAbove, limit_of};
 
 use crate::band::{first_gap, next_gap};
 use crate::found::Found;
 use crate::rows::Rows;
-use crate::search::{NO_LIMIT, is_passed};
+use crate::search::{FAR_GAP, NO_LIMIT, is_passed};
+use crate::tiles::{SearchedRow, near_bands};
 use crate::words::{last_nearer, next_nearer};
-use metric::{Cell, MOST_SIDE, Metric};
+use metric::{Cell, MOST_SIDE, Metric, Rect};
 
 /// The nearest obstacle of the cell; `None` where the map has no obstacle.
 ///
@@ -21,7 +22,8 @@ pub fn nearest<M: Metric, R: Rows>(rows: &mut R, cell: Cell) -> Option<Found>
     ensures rows { rows.new ≡ rows.old }
 {
     let mut best = None;
-    let (bands, height) = (rows.bands(), rows.height());
+    let (mut bands, height) = (rows.bands(), rows.height());
+    let here = cell_rect(cell);
     let mut gap = first_gap(bands, cell.y, cell.y, 0);
     'gaps: while gap < height {
         if u64::from(M::of(0, gap)) >= limit_of(best) {
@@ -29,14 +31,31 @@ pub fn nearest<M: Metric, R: Rows>(rows: &mut R, cell: Cell) -> Option<Found>
         }
         best = with_row_above::<M, R>(rows, cell, gap, best);
         best = with_row_below::<M, R>(rows, cell, gap, best);
+        bands = near_bands::<M, R>(rows, bands, here, gap + 1, limit_of(best));
         gap = next_gap(bands, cell.y, cell.y, gap + 1);
     }
     best
 }
 
+/// The rectangle of one cell.
+#[inline(always)]
+pub fn cell_rect(cell: Cell) -> Rect
+    requires column { cell.x < MOST_SIDE }
+    requires row { cell.y < MOST_SIDE }
+    ensures { IsCellRect cell.x cell.y result }
+{
+    Rect {
+        x0: cell.x,
+        y0: cell.y,
+        x1: cell.x + 1,
+        y1: cell.y + 1,
+    }
+}
+
 /// A limit above the distance of the best so far: an obstacle as near as that may be better.
 fn limit_of(best: Option<Found>) -> u64
-    ensures { result ≡ limit_of best }
+    ensures is { result ≡ limit_of best }
+    ensures few { result ≤ NO_LIMIT }
 {
     match best {
         Some(near) => u64::from(near.dist) + 1,
@@ -96,9 +115,38 @@ fn with_row<M: Metric, R: Rows>(
     ensures sought { IsSought M.distance (R.cells rows.new) cell (IsRowUpTo cell.y row) result }
     ensures rows { rows.new ≡ rows.old }
 {
+    if gap < FAR_GAP {
+        let searched = SearchedRow {
+            y: row,
+            by_tiles: false,
+        };
+        return with_searched::<M, R>(rows, cell, searched, gap, best);
+    }
     if is_passed(rows, row, gap) {
         return best;
     }
+    let searched = SearchedRow {
+        y: row,
+        by_tiles: true,
+    };
+    with_searched::<M, R>(rows, cell, searched, gap, best)
+}
+
+/// The same of a row that isn't passed over.
+#[inline(always)]
+fn with_searched<M: Metric, R: Rows>(
+    rows: &mut R,
+    cell: Cell,
+    row: SearchedRow,
+    gap: u16,
+    best: Option<Found>,
+) -> Option<Found>
+    requires row { row.y < (R.cells rows.old).height }
+    requires gap { gap ≡ abs_diff cell.y row.y }
+    requires sought { IsSought M.distance (R.cells rows.old) cell (λ a b. IsRowFirst cell.y row.y b) best }
+    ensures sought { IsSought M.distance (R.cells rows.new) cell (IsRowUpTo cell.y row.y) result }
+    ensures rows { rows.new ≡ rows.old }
+{
     let right = with_right::<M, R>(rows, cell, row, gap, best);
     with_left::<M, R>(rows, cell, row, gap, right)
 }
@@ -108,14 +156,14 @@ fn with_row<M: Metric, R: Rows>(
 fn with_right<M: Metric, R: Rows>(
     rows: &mut R,
     cell: Cell,
-    row: u16,
+    row: SearchedRow,
     gap: u16,
     best: Option<Found>,
 ) -> Option<Found>
-    requires row { row < (R.cells rows.old).height }
-    requires gap { gap ≡ abs_diff cell.y row }
-    requires sought { IsSought M.distance (R.cells rows.old) cell (λ a b. IsRowFirst cell.y row b) best }
-    ensures sought { IsSought M.distance (R.cells rows.new) cell (IsSeenInRow cell.y row (λ a. cell.x ≤ a)) result }
+    requires row { row.y < (R.cells rows.old).height }
+    requires gap { gap ≡ abs_diff cell.y row.y }
+    requires sought { IsSought M.distance (R.cells rows.old) cell (λ a b. IsRowFirst cell.y row.y b) best }
+    ensures sought { IsSought M.distance (R.cells rows.new) cell (IsSeenInRow cell.y row.y (λ a. cell.x ≤ a)) result }
     ensures rows { rows.new ≡ rows.old }
 {
     match next_nearer::<M, R>(rows, row, cell.x, cell.x, gap, limit_of(best)) {
@@ -123,7 +171,7 @@ fn with_right<M: Metric, R: Rows>(
             let dist = M::of(x - cell.x, gap);
             let next = Found {
                 dist,
-                cell: Cell { x, y: row },
+                cell: Cell { x, y: row.y },
             };
             Some(better(best, next))
         }
@@ -136,14 +184,14 @@ fn with_right<M: Metric, R: Rows>(
 fn with_left<M: Metric, R: Rows>(
     rows: &mut R,
     cell: Cell,
-    row: u16,
+    row: SearchedRow,
     gap: u16,
     right: Option<Found>,
 ) -> Option<Found>
-    requires row { row < (R.cells rows.old).height }
-    requires gap { gap ≡ abs_diff cell.y row }
-    requires sought { IsSought M.distance (R.cells rows.old) cell (IsSeenInRow cell.y row (λ a. cell.x ≤ a)) right }
-    ensures sought { IsSought M.distance (R.cells rows.new) cell (IsRowUpTo cell.y row) result }
+    requires row { row.y < (R.cells rows.old).height }
+    requires gap { gap ≡ abs_diff cell.y row.y }
+    requires sought { IsSought M.distance (R.cells rows.old) cell (IsSeenInRow cell.y row.y (λ a. cell.x ≤ a)) right }
+    ensures sought { IsSought M.distance (R.cells rows.new) cell (IsRowUpTo cell.y row.y) result }
     ensures rows { rows.new ≡ rows.old }
 {
     let (mut best, mut end) = (right, cell.x);
@@ -151,7 +199,7 @@ fn with_left<M: Metric, R: Rows>(
         let dist = M::of(cell.x - x, gap);
         let next = Found {
             dist,
-            cell: Cell { x, y: row },
+            cell: Cell { x, y: row.y },
         };
         best = Some(better(best, next));
         end = x;

@@ -2,7 +2,7 @@
 
 ghost use Rattle.std.specs.Prelude.{◌≡◌, ◌<◌, ◌≤◌, ◌↔◌, IsTrue, true, slice_index};
 ghost use Rattle.bits.specs.Cells.{Cells, IsBitmap, IsInside};
-ghost use Rattle.bits.specs.Bands.{IsBanded};
+ghost use Rattle.bits.specs.Bands.{IsBanded, IsTiled};
 ghost use Rattle.bits.specs.Words.{words_across};
 ghost use Rattle.clearance.specs.Rows.{IsBlankRow, words_of_row};
 
@@ -46,6 +46,15 @@ pub trait Rows {
     /// Which bands of 64 rows may have an obstacle: where bit k is 0, the rows 64 k to 64 k + 63 are blank. To know of none, answer `u64::MAX`.
     fn bands(&self) -> u64
         ensures { IsBanded (cells self.now) result };
+
+    /// Which tiles of a band may have an obstacle: where bit k is 0, the columns 64 k to 64 k + 63 of the rows 64 `band` to 64 `band` + 63 are blank. Of a map that knows of none, `u64::MAX`.
+    fn tiles(&self, band: u16) -> u64
+        requires { band < 64 }
+        ensures { IsTiled (cells self.now) band result }
+    {
+        let _width = self.width();
+        u64::MAX
+    }
 }
 
 impl<'a> Rows for &'a Bitmap {
@@ -81,6 +90,12 @@ impl<'a> Rows for &'a Bitmap {
     fn bands(&self) -> u64 {
         let bitmap: &Bitmap = *self;
         bitmap.bands()
+    }
+
+    #[inline(always)]
+    fn tiles(&self, band: u16) -> u64 {
+        let bitmap: &Bitmap = *self;
+        bitmap.marked_tiles(band)
     }
 }
 

@@ -7,6 +7,7 @@ ghost use Rattle.clearance.specs.Search.{IsLeastInBits, IsLeastWithin, IsLowered
 
 use crate::band::{are_blank_bands, first_gap, is_in_blank_band, next_gap};
 use crate::rows::Rows;
+use crate::tiles::{SearchedRow, near_bands};
 use crate::words::{last_nearer, next_nearer};
 use metric::{LAST_FRAMED, Metric, Rect};
 
@@ -17,7 +18,7 @@ pub const NO_LIMIT: u64 = 1 << 32;
 const SPARSE_GAP: u16 = 128;
 
 /// From so many rows away on, a row in a band that is known to be blank isn't looked at: where obstacles are many there is one nearer.
-const FAR_GAP: u16 = 32;
+pub const FAR_GAP: u16 = 32;
 
 /// The least of `limit` and of the distances of the rectangle's cells to the bitmap's obstacles.
 ///
@@ -28,7 +29,7 @@ pub fn least_in_bits<M: Metric, R: Rows>(rows: &mut R, rect: Rect, limit: u64) -
     ensures rows { rows.new ≡ rows.old }
 {
     let mut least = least_inside::<M, R>(rows, rect, limit);
-    let (bands, height) = (rows.bands(), rows.height());
+    let (mut bands, height) = (rows.bands(), rows.height());
     let (top, bottom) = (rect.y0, rect.y1 - 1);
     let mut gap = first_gap(bands, top, bottom, 1);
     'gaps: while gap < height {
@@ -37,6 +38,7 @@ pub fn least_in_bits<M: Metric, R: Rows>(rows: &mut R, rect: Rect, limit: u64) -
         }
         least = lowered_above::<M, R>(rows, rect, gap, least);
         least = lowered_below::<M, R>(rows, rect, gap, least);
+        bands = near_bands::<M, R>(rows, bands, rect, gap + 1, least);
         gap = next_gap(bands, top, bottom, gap + 1);
     }
     least
@@ -94,6 +96,8 @@ fn lowered_below<M: Metric, R: Rows>(rows: &mut R, rect: Rect, gap: u16, least: 
 }
 
 /// The least so far, or a lesser distance to an obstacle in the row `y`, so many rows away.
+///
+/// Rows near by are looked at word by word. In the rectangle's own, and in those that are far away, blank tiles are passed over.
 pub fn lowered<M: Metric, R: Rows>(rows: &mut R, rect: Rect, y: u16, gap: u16, least: u64) -> u64
     requires rect { IsRectIn (R.cells rows.old) rect }
     requires row { y < (R.cells rows.old).height }
@@ -101,11 +105,34 @@ pub fn lowered<M: Metric, R: Rows>(rows: &mut R, rect: Rect, y: u16, gap: u16, l
     ensures least { IsLoweredBy M.distance (IsObstacle (R.cells rows.old)) rect y gap least result }
     ensures rows { rows.new ≡ rows.old }
 {
+    if 0 < gap && gap < FAR_GAP {
+        let row = SearchedRow { y, by_tiles: false };
+        return lowered_by::<M, R>(rows, rect, row, gap, least);
+    }
     if is_passed(rows, y, gap) {
         return least;
     }
-    let right = lowered_right::<M, R>(rows, rect, y, gap, least);
-    lowered_left::<M, R>(rows, rect, y, gap, right)
+    let row = SearchedRow { y, by_tiles: true };
+    lowered_by::<M, R>(rows, rect, row, gap, least)
+}
+
+/// The least so far, or a lesser distance to an obstacle in the row, so many rows away.
+#[inline(always)]
+fn lowered_by<M: Metric, R: Rows>(
+    rows: &mut R,
+    rect: Rect,
+    row: SearchedRow,
+    gap: u16,
+    least: u64,
+) -> u64
+    requires rect { IsRectIn (R.cells rows.old) rect }
+    requires row { row.y < (R.cells rows.old).height }
+    requires gap { gap ≤ LAST_FRAMED }
+    ensures least { IsLoweredBy M.distance (IsObstacle (R.cells rows.old)) rect row.y gap least result }
+    ensures rows { rows.new ≡ rows.old }
+{
+    let right = lowered_right::<M, R>(rows, rect, row, gap, least);
+    lowered_left::<M, R>(rows, rect, row, gap, right)
 }
 
 /// Whether the row `y`, so many rows away, is known to be free, or looked at as a whole and found to be free.
@@ -120,15 +147,21 @@ pub fn is_passed<R: Rows>(rows: &mut R, y: u16, gap: u16) -> bool
 
 /// The least so far, or a lesser distance to an obstacle of the row in the rectangle's columns or to the right of them.
 #[inline(always)]
-fn lowered_right<M: Metric, R: Rows>(rows: &mut R, rect: Rect, y: u16, gap: u16, least: u64) -> u64
+fn lowered_right<M: Metric, R: Rows>(
+    rows: &mut R,
+    rect: Rect,
+    row: SearchedRow,
+    gap: u16,
+    least: u64,
+) -> u64
     requires rect { IsRectIn (R.cells rows.old) rect }
-    requires row { y < (R.cells rows.old).height }
+    requires row { row.y < (R.cells rows.old).height }
     requires gap { gap ≤ LAST_FRAMED }
-    ensures least { IsLoweredRight M.distance (words_of_row (R.cells rows.old) y) rect gap least result }
+    ensures least { IsLoweredRight M.distance (words_of_row (R.cells rows.old) row.y) rect gap least result }
     ensures rows { rows.new ≡ rows.old }
 {
     let last = rect.x1 - 1;
-    match next_nearer::<M, R>(rows, y, rect.x0, last, gap, least) {
+    match next_nearer::<M, R>(rows, row, rect.x0, last, gap, least) {
         Some(column) => u64::from(M::of(column.saturating_sub(last), gap)),
         None => least,
     }
@@ -136,14 +169,20 @@ fn lowered_right<M: Metric, R: Rows>(rows: &mut R, rect: Rect, y: u16, gap: u16,
 
 /// The least so far, or a lesser distance to an obstacle of the row to the left of the rectangle.
 #[inline(always)]
-fn lowered_left<M: Metric, R: Rows>(rows: &mut R, rect: Rect, y: u16, gap: u16, least: u64) -> u64
+fn lowered_left<M: Metric, R: Rows>(
+    rows: &mut R,
+    rect: Rect,
+    row: SearchedRow,
+    gap: u16,
+    least: u64,
+) -> u64
     requires rect { IsRectIn (R.cells rows.old) rect }
-    requires row { y < (R.cells rows.old).height }
+    requires row { row.y < (R.cells rows.old).height }
     requires gap { gap ≤ LAST_FRAMED }
-    ensures least { IsLoweredLeft M.distance (words_of_row (R.cells rows.old) y) rect gap least result }
+    ensures least { IsLoweredLeft M.distance (words_of_row (R.cells rows.old) row.y) rect gap least result }
     ensures rows { rows.new ≡ rows.old }
 {
-    match last_nearer::<M, R>(rows, y, rect.x0, rect.x0, gap, least) {
+    match last_nearer::<M, R>(rows, row, rect.x0, rect.x0, gap, least) {
         Some(column) => u64::from(M::of(rect.x0 - column, gap)),
         None => least,
     }

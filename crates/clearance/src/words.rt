@@ -6,41 +6,45 @@ ghost use Rattle.clearance.specs.Rows.{IsLastNearer, IsNextNearer, IsWhereNearer
 
 use crate::bit::{bits_below, bits_from, highest_bit, lowest_bit};
 use crate::rows::Rows;
+use crate::tiles::{SearchedRow, after_last_tile, next_tile, tiles_of};
 use metric::{LAST_FRAMED, MOST_SIDE, Metric, WORD_CELLS};
 
-/// The first obstacle of the row `y` from the column `start` on, where its distance is below `limit`.
+/// The first obstacle of the row from the column `start` on, where its distance is below `limit`.
 ///
 /// Distances are measured from the column `edge`, so many rows away; a column before `edge` is no columns away.
 #[inline(always)]
 pub fn next_nearer<M: Metric, R: Rows>(
     rows: &mut R,
-    y: u16,
+    row: SearchedRow,
     start: u16,
     edge: u16,
     gap: u16,
     limit: u64,
 ) -> Option<u16>
     requires bitmap { IsBitmap (R.cells rows.old) }
-    requires row { y < (R.cells rows.old).height }
+    requires row { row.y < (R.cells rows.old).height }
     requires start { start < (R.cells rows.old).width }
     requires gap { gap ≤ LAST_FRAMED }
-    ensures next { IsNextNearer M.distance (words_of_row (R.cells rows.old) y) start edge gap limit result }
+    ensures next { IsNextNearer M.distance (words_of_row (R.cells rows.old) row.y) start edge gap limit result }
     ensures rows { rows.new ≡ rows.old }
 {
     let own = start / WORD_CELLS;
-    let front = bits_from(rows.word(y, usize::from(own)), start % WORD_CELLS);
+    let front = bits_from(rows.word(row.y, usize::from(own)), start % WORD_CELLS);
     if front != 0 {
         return right_nearer::<M>(own * WORD_CELLS + lowest_bit(front), edge, gap, limit);
     }
-    'words: for index in usize::from(own) + 1..rows.across() {
-        let first = index as u16 * WORD_CELLS;
+    let (across, tiles) = (rows.across(), tiles_of(rows, row));
+    let mut index = next_tile(tiles, own + 1);
+    'words: while usize::from(index) < across {
+        let first = index * WORD_CELLS;
         if u64::from(M::of(first.saturating_sub(edge), gap)) >= limit {
             return None;
         }
-        let word = rows.word(y, index);
+        let word = rows.word(row.y, usize::from(index));
         if word != 0 {
             return right_nearer::<M>(first + lowest_bit(word), edge, gap, limit);
         }
+        index = next_tile(tiles, index + 1);
     }
     None
 }
@@ -59,40 +63,44 @@ fn right_nearer<M: Metric>(column: u16, edge: u16, gap: u16, limit: u64) -> Opti
     }
 }
 
-/// The last obstacle of the row `y` before the column `end`, where its distance is below `limit`.
+/// The last obstacle of the row before the column `end`, where its distance is below `limit`.
 ///
 /// Distances are measured from the column `edge`, so many rows away.
 #[inline(always)]
 pub fn last_nearer<M: Metric, R: Rows>(
     rows: &mut R,
-    y: u16,
+    row: SearchedRow,
     end: u16,
     edge: u16,
     gap: u16,
     limit: u64,
 ) -> Option<u16>
-    requires row { y < (R.cells rows.old).height }
+    requires row { row.y < (R.cells rows.old).height }
     requires end { end < (R.cells rows.old).width }
     requires edge { end ≤ edge }
     requires within { edge < MOST_SIDE }
     requires gap { gap ≤ LAST_FRAMED }
-    ensures last { IsLastNearer M.distance (words_of_row (R.cells rows.old) y) end edge gap limit result }
+    ensures last { IsLastNearer M.distance (words_of_row (R.cells rows.old) row.y) end edge gap limit result }
     ensures rows { rows.new ≡ rows.old }
 {
     let own = end / WORD_CELLS;
-    let back = bits_below(rows.word(y, usize::from(own)), end % WORD_CELLS);
+    let back = bits_below(rows.word(row.y, usize::from(own)), end % WORD_CELLS);
     if back != 0 {
         return left_nearer::<M>(own * WORD_CELLS + highest_bit(back), edge, gap, limit);
     }
-    'words: for away in 1..own + 1 {
-        let first = (own - away) * WORD_CELLS;
+    let tiles = tiles_of(rows, row);
+    let mut after = after_last_tile(tiles, own);
+    'words: while 0 < after {
+        let index = after - 1;
+        let first = index * WORD_CELLS;
         if u64::from(M::of(edge - (first + 63), gap)) >= limit {
             return None;
         }
-        let word = rows.word(y, usize::from(own - away));
+        let word = rows.word(row.y, usize::from(index));
         if word != 0 {
             return left_nearer::<M>(first + highest_bit(word), edge, gap, limit);
         }
+        after = after_last_tile(tiles, index);
     }
     None
 }

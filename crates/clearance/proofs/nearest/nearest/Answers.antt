@@ -1,8 +1,10 @@
 -- The rows outwards; once rows are farther away than the best, no row says more.
-use Rattle.std.proofs.Common.{◌≡◌, ◌+◌, ◌∙◌, None, arith, refl}
-use Rattle.bits.specs.Bands.{IsBanded}
+use Rattle.std.proofs.Common.{◌≡◌, ◌+◌, ◌^◌, ◌≤◌, ◌∙◌, None, arith, refl}
+use Rattle.bits.specs.Cells.{IsObstacle}
+use Rattle.clearance.specs.Nearest.{IsWithin, limit_of}
 use Rattle.clearance.proofs.BandRows.{IsNearAmong-passed, IsNextGap-banded}
-use Rattle.clearance.proofs.NearestSearches.{IsNear-beyond, IsNear-all}
+use Rattle.clearance.proofs.NearestSearches.{IsNear-beyond, IsNear-all, IsNearAmong-live, limit_of-falls}
+use Rattle.clearance.proofs.TileRows.{AreBandsLive-banded, AreBandsLive-later, AreBandsLive-thinned}
 use Rattle.clearance.proofs.nearest.nearest.Goals as goal
 
 pub gaps-init : goal.gaps-init
@@ -18,27 +20,38 @@ gaps-init g c =
             (IsNextGap-banded cells c.bands-bands.result c.args.cell.y c.args.cell.y 0 c.first_gap-gap.result c.bands-bands.ensures c.first_gap-gap.ensures)
             (λ a b both. let less = both.1 in absurd (omega arith));
       };
+      live = AreBandsLive-banded g.M.Metric.distance cells c.cell_rect-here.result c.first_gap-gap.result (2 ^ 32) c.bands-bands.result c.bands-bands.ensures;
     }
 
 pub gaps-preserved : goal.gaps-preserved
 gaps-preserved g c =
-    let sought = c.with_row_below-best.ensures.sought in
+    let cells = g.R.Rows.cells c.args.rows.now in
+    let x = c.args.cell.x in
+    let y = c.args.cell.y in
+    let gap = c.gaps.gap in
+    let best = c.with_row_below-best.result in
     let rows : c.with_row_below-best.new.rows ≡ c.args.rows.now = c.with_row_below-best.ensures.rows ∙ (c.with_row_above-best.ensures.rows ∙ c.gaps.invariant.rows) in
-    let banded : IsBanded (g.R.Rows.cells c.with_row_below-best.new.rows) c.bands-bands.result = rw rows c.bands-bands.ensures in
+    let sought = rw rows at c.with_row_below-best.ensures.sought in
+    let before = rw (c.gaps.invariant.rows) at c.gaps.invariant.sought in
+    let thinned = rw (c.limit_of-in-gaps.ensures.is, rows) at c.near_bands-bands.ensures in
+    let few : limit_of best ≤ 2 ^ 32 = rw (c.limit_of-in-gaps.ensures.is) at c.limit_of-in-gaps.ensures.few in
+    let falls = limit_of-falls g.M.Metric.distance (IsObstacle cells) (IsWithin y gap) (IsWithin y (gap + 1)) x y c.gaps.best best (λ a b seen. omega arith) few before.near sought.near in
+    let live = AreBandsLive-thinned g.M.Metric.distance cells c.cell_rect-here.result gap (limit_of c.gaps.best) c.gaps.bands (gap + 1) (limit_of best) c.near_bands-bands.result (omega arith) falls c.gaps.invariant.live thinned in
+    let from = c.next_gap-gap.ensures.from in
     record {
       rows = rows;
       few = c.next_gap-gap.ensures.few;
-      sought = record {
+      sought = rw rows (record {
         bitmap = sought.bitmap;
         inside = sought.inside;
-        near = IsNearAmong-passed _ _ c.args.cell.x c.args.cell.y (c.gaps.gap + 1) c.next_gap-gap.result c.with_row_below-best.result sought.bitmap
-            (IsNextGap-banded _ c.bands-bands.result c.args.cell.y c.args.cell.y (c.gaps.gap + 1) c.next_gap-gap.result banded c.next_gap-gap.ensures) sought.near;
-      };
+        near = IsNearAmong-live g.M.Metric.distance cells x y (gap + 1) c.next_gap-gap.result c.near_bands-bands.result c.cell_rect-here.result best sought.bitmap c.cell_rect-here.ensures (omega arith) from c.next_gap-gap.ensures live sought.near;
+      });
+      live = AreBandsLive-later g.M.Metric.distance cells c.cell_rect-here.result (gap + 1) (limit_of best) c.near_bands-bands.result c.next_gap-gap.result from live;
     }
 
 pub returns-then-from-limit_of-clause-near : goal.returns-then-from-limit_of-clause-near
 returns-then-from-limit_of-clause-near g c =
-    let limit = c.limit_of.ensures in
+    let limit = c.limit_of.ensures.is in
     let sought = rw (c.gaps.invariant.rows) at c.gaps.invariant.sought in
     IsNear-beyond _ g.met.M.Metric.grows g.met.M.Metric.stays_nearer (g.R.Rows.cells c.args.rows.now) c.args.cell.x c.args.cell.y c.gaps.gap c.gaps.best sought.bitmap c.requires.column c.requires.row
     (omega arith) (omega arith) sought.near

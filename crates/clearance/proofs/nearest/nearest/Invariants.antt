@@ -1,6 +1,7 @@
 -- The obstacles less than so many rows away have been looked at.
 use Rattle.std.proofs.Common.{◌≡◌, ◌-◌, ◌≤◌}
-use Rattle.clearance.specs.Nearest.{IsSought, IsWithin}
+use Rattle.clearance.specs.Nearest.{IsSought, IsWithin, limit_of}
+use Rattle.clearance.proofs.TileRows.{AreBandsLive}
 use Rattle.clearance.proofs.nearest.nearest.Given as goal
 
 abbrev pub invariant-gaps : goal.invariant-gaps
@@ -8,6 +9,7 @@ invariant-gaps g l = record {
   rows : l.rows ≡ l.fn.rows;
   few : l.gap ≤ 4096;
   sought : IsSought g.M.Metric.distance (g.R.Rows.cells l.rows) l.cell (IsWithin l.cell.y l.gap) l.best;
+  live : AreBandsLive g.M.Metric.distance (g.R.Rows.cells l.fn.rows) l.here l.gap (limit_of l.best) l.bands;
 }
 
 abbrev pub decreases-gaps : goal.decreases-gaps

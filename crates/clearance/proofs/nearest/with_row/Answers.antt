@@ -5,12 +5,6 @@ use Rattle.clearance.proofs.NearestSearches.{IsNearAmong-blank}
 use Rattle.clearance.proofs.RowWords.{IsRowOf-words, length-words_of_row}
 use Rattle.clearance.proofs.nearest.with_row.Goals as goal
 
-pub with_right-right-requires : goal.with_right-right-requires
-with_right-right-requires g c = rw (c.is_passed.ensures.rows) c.requires
-
-pub with_left-requires-clause-row : goal.with_left-requires-clause-row
-with_left-requires-clause-row g c = rw (c.with_right-right.ensures.rows, c.is_passed.ensures.rows) c.requires.row
-
 pub returns-then-is_passed-clause-sought : goal.returns-then-is_passed-clause-sought
 returns-then-is_passed-clause-sought g c =
     let cells = g.R.Rows.cells c.args.rows.now in

@@ -2,6 +2,7 @@
 use Rattle.std.proofs.Common.{◌≡◌, ◌-◌, ◌<◌, ◌≤◌}
 use Rattle.bits.specs.Cells.{IsObstacle}
 use Rattle.clearance.specs.Search.{IsLeastWithin}
+use Rattle.clearance.proofs.TileRows.{AreBandsLive}
 use Rattle.clearance.proofs.search.least_in_bits.Given as goal
 
 abbrev pub invariant-gaps : goal.invariant-gaps
@@ -10,6 +11,7 @@ invariant-gaps g l = record {
   some : 0 < l.gap;
   few : l.gap ≤ 4096;
   least : IsLeastWithin g.M.Metric.distance (IsObstacle (g.R.Rows.cells l.fn.rows)) l.rect l.gap l.limit l.least;
+  live : AreBandsLive g.M.Metric.distance (g.R.Rows.cells l.fn.rows) l.rect l.gap l.least l.bands;
 }
 
 abbrev pub decreases-gaps : goal.decreases-gaps

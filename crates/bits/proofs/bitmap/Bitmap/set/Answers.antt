@@ -1,7 +1,7 @@
 -- The write changes the cell's bit, and no other.
 use Rattle.std.proofs.Common.{refl}
 use Rattle.bits.proofs.StoredLemmas.{IsBitmap-cells_stored, IsStored_written, cells_stored_written}
-use Rattle.bits.proofs.BandLemmas.{IsBanded-with_cell}
+use Rattle.bits.proofs.BandLemmas.{AreTiled-with_cell, IsBanded-with_cell}
 use Rattle.bits.proofs.bitmap.Bitmap.set.Goals as goal
 
 pub returns-clause-written : goal.returns-clause-written
@@ -30,6 +30,8 @@ invariant_of-self c = record {
   };
   banded = rw (returns-clause-written c) (rw (← c.self.view_is) (IsBanded-with_cell _ c.args.cell.x c.args.cell.y c.args.black _ _
       (IsBitmap-cells_stored _ _ _ c.self.invariant.stored) c.self.invariant.banded c.marked-self-inside.ensures.kept (λ black. c.marked-self-inside.ensures.here 0 (rw (c.from.ensures, black) refl))));
+  tiled = rw (returns-clause-written c) (rw (← c.self.view_is) (AreTiled-with_cell _ c.args.cell.x c.args.cell.y _ c.args.black _ _
+      (IsBitmap-cells_stored _ _ _ c.self.invariant.stored) c.self.invariant.tiled refl c.mark.ensures.kept (λ black. c.mark.ensures.here 0 (rw (c.from-2.ensures, black) refl))));
 }
 
 pub returns-clause-bitmap : goal.returns-clause-bitmap

@@ -4,6 +4,7 @@ use Rattle.std.proofs.lemmas.Bool.{cases_lt}
 use Rattle.clearance.specs.Lines.{IsLineRow}
 use Rattle.clearance.specs.Search.{row_gap}
 use Rattle.clearance.proofs.BandRows.{IsNextGap-banded, row_gap-passed}
+use Rattle.clearance.proofs.LineBands.{AreLinesLive-banded, AreLinesLive-thinned, IsFirstAmong-live}
 use Rattle.clearance.proofs.LineFirsts.{IsFirstAmong-far, IsFirstAmong-more, IsFirstAmong-same, IsFirstBefore-all, IsRectIn-lines, row_gap-fewer, row_of_line}
 use Rattle.clearance.proofs.Searches.{row_gap-within, row_within}
 use Rattle.clearance.proofs.lines.Lines.first_in_bits.Goals as goal
@@ -25,6 +26,7 @@ gaps-init g c =
           (λ a b obstacle near.
           let own = row_gap-passed cells left 1 c.first_gap-gap.result c.requires.strip.bitmap (omega arith) next a b obstacle near in
           row_of_line c.args.self c.first_inside-line.result left b c.rect_left-left.ensures.lines (omega arith) (omega arith)) c.first_inside-line.ensures.found;
+      live = AreLinesLive-banded g.M.Metric.distance cells c.args.self c.first_inside-line.result c.bands-bands.result banded;
     }
 
 pub returns-then-from-self-clause-found : goal.returns-then-from-self-clause-found
@@ -38,25 +40,29 @@ returns-then-from-self-clause-found g c =
 pub gaps-preserved : goal.gaps-preserved
 gaps-preserved g c =
     let cells = g.R.Rows.cells c.args.rows.now in
+    let bitmap = c.requires.strip.bitmap in
     let rect = c.gaps.left in
     let less = c.rect_left-left-in-gaps.result in
     let line = c.first_beside-next.result in
     let gap = c.gaps.gap in
-    let banded = rw (c.first_inside-line.ensures.rows) at c.bands-bands.ensures in
     let from = c.next_gap-gap.ensures.from in
-    let next = IsNextGap-banded cells c.bands-bands.result rect.y0 (rect.y1 - 1) (gap + 1) c.next_gap-gap.result banded c.next_gap-gap.ensures in
     let beside = rw (c.gaps.invariant.rows) at c.first_beside-next.ensures.found in
+    let thinned = rw (c.first_beside-next.ensures.rows, c.gaps.invariant.rows) at c.near_bands-bands.ensures in
     let both = IsFirstAmong-more g.M.Metric.distance cells c.args.self (λ b. row_gap rect b < gap) (λ b. row_gap rect b ≡ gap) (λ b. row_gap rect b < gap + 1) c.args.end c.gaps.line line
     c.gaps.invariant.found beside (λ b near. elim (cases_lt (row_gap rect b) gap) [ inl earlier ↦ inl earlier | inr here ↦ inr (omega arith) ]) in
+    let live = AreLinesLive-thinned g.M.Metric.distance g.met.M.Metric.grows g.met.M.Metric.stays_nearer cells c.args.self rect (gap + 1) c.args.end c.gaps.line line c.gaps.bands c.near_bands-bands.result
+    bitmap c.gaps.invariant.left beside.within both c.gaps.invariant.live thinned in
     record {
       rows = c.first_beside-next.ensures.rows ∙ c.gaps.invariant.rows;
       left = c.rect_left-left-in-gaps.ensures.lines;
       some = omega arith;
       few = c.next_gap-gap.ensures.few;
-      found = IsFirstAmong-same g.M.Metric.distance cells c.args.self (λ b. row_gap rect b < gap + 1) (λ b. row_gap less b < c.next_gap-gap.result) c.args.end line
+      found = IsFirstAmong-same g.M.Metric.distance cells c.args.self (λ b. row_gap rect b < c.next_gap-gap.result) (λ b. row_gap less b < c.next_gap-gap.result) c.args.end line
           (λ a b obstacle near.
           let wider = row_gap-fewer c.args.self c.gaps.line line rect less b beside.within c.gaps.invariant.left c.rect_left-left-in-gaps.ensures.lines in
-          row_gap-passed cells rect (gap + 1) c.next_gap-gap.result c.requires.strip.bitmap (omega arith) next a b obstacle (omega arith)) both;
+          omega arith)
+          (IsFirstAmong-live g.M.Metric.distance cells c.args.self rect (gap + 1) c.next_gap-gap.result c.args.end line c.near_bands-bands.result bitmap (omega arith) c.next_gap-gap.ensures live both);
+      live = live;
     }
 
 pub returns-clause-found : goal.returns-clause-found

@@ -2,6 +2,7 @@
 use Rattle.std.proofs.Common.{◌≡◌, ◌-◌, ◌<◌, ◌≤◌}
 use Rattle.clearance.specs.Lines.{IsFirstAmong, IsRectOf}
 use Rattle.clearance.specs.Search.{row_gap}
+use Rattle.clearance.proofs.LineBands.{AreLinesLive}
 use Rattle.clearance.proofs.lines.Lines.first_in_bits.Given as goal
 
 abbrev pub invariant-gaps : goal.invariant-gaps
@@ -11,6 +12,7 @@ invariant-gaps g l = record {
   some : 0 < l.gap;
   few : l.gap ≤ 4096;
   found : IsFirstAmong g.M.Metric.distance (g.R.Rows.cells l.fn.rows) l.self (λ b. row_gap l.left b < l.gap) l.end l.line;
+  live : AreLinesLive g.M.Metric.distance (g.R.Rows.cells l.fn.rows) l.self l.line l.bands;
 }
 
 abbrev pub decreases-gaps : goal.decreases-gaps

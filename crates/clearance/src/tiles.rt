@@ -1,0 +1,123 @@
+//! The tiles of 64 columns that a search passes over, by those of a band that may have an obstacle.
+
+ghost use Rattle.std.specs.Prelude.{◌≡◌, ℕ, ◌<◌, ◌≤◌, true};
+ghost use Rattle.std.specs.Int.{bit_at};
+ghost use Rattle.clearance.specs.Bands.{AreTilesFar, IsThinned, IsTiledRow};
+
+use crate::band::STRETCH;
+use crate::bit::{bits_below, bits_from, highest_bit, lowest_bit, without_bit};
+use crate::rows::Rows;
+use metric::{BAND_ROWS, LAST_FRAMED, Metric, Rect, WORD_CELLS};
+
+/// One more than the last tile of a row, and so none.
+const NO_TILE: u16 = WORD_CELLS;
+
+/// A row, and whether its blank tiles are passed over, or each word is looked at.
+#[derive(Clone, Copy, Debug, PartialEq, Eq)]
+pub struct SearchedRow {
+    pub y: u16,
+    pub by_tiles: bool,
+}
+
+/// Which tiles of the row may have an obstacle: all of them, where each word is looked at.
+#[inline(always)]
+pub fn tiles_of<R: Rows>(rows: &R, row: SearchedRow) -> u64
+    requires { row.y < (R.cells rows.now).height }
+    ensures { IsTiledRow (R.cells rows.now) row.y result }
+{
+    let inside = row.y < rows.height();
+    prove!(inside);
+    if row.by_tiles {
+        rows.tiles(row.y / BAND_ROWS)
+    } else {
+        u64::MAX
+    }
+}
+
+/// The first tile from `from` on that may have an obstacle; 64 where there is none.
+#[inline(always)]
+pub fn next_tile(tiles: u64, from: u16) -> u16
+    requires { from ≤ 64 }
+    ensures from { from ≤ result }
+    ensures few { result ≤ 64 }
+    ensures none { (k : ℕ) → from ≤ k → k < result → bit_at tiles k ≡ 1 → ⊥ }
+{
+    if tiles == u64::MAX || from == NO_TILE {
+        return from;
+    }
+    let later = bits_from(tiles, from);
+    if later == 0 {
+        NO_TILE
+    } else {
+        lowest_bit(later)
+    }
+}
+
+/// One more than the last tile before `end` that may have an obstacle; 0 where there is none.
+#[inline(always)]
+pub fn after_last_tile(tiles: u64, end: u16) -> u16
+    requires { end < 64 }
+    ensures few { result ≤ end }
+    ensures none { (k : ℕ) → result ≤ k → k < end → bit_at tiles k ≡ 1 → ⊥ }
+{
+    if tiles == u64::MAX {
+        return end;
+    }
+    let earlier = bits_below(tiles, end);
+    if earlier == 0 {
+        0
+    } else {
+        highest_bit(earlier) + 1
+    }
+}
+
+/// Whether the tiles that may have an obstacle are all as far from the rectangle as `least`, in rows that lie `gap` or more rows away.
+pub fn are_tiles_far<M: Metric>(tiles: u64, rect: Rect, gap: u16, least: u64) -> bool
+    requires { gap ≤ LAST_FRAMED }
+    ensures { result ≡ true → AreTilesFar M.distance rect gap least tiles }
+{
+    let (own, last) = (rect.x0 / WORD_CELLS, rect.x1 - 1);
+    let next = next_tile(tiles, own);
+    if next < NO_TILE && u64::from(M::of((next * WORD_CELLS).saturating_sub(last), gap)) < least {
+        return false;
+    }
+    let after = after_last_tile(tiles, own);
+    after == 0 || u64::from(M::of(rect.x0 + 1 - after * WORD_CELLS, gap)) >= least
+}
+
+/// The bands without those of the rows `gap` rows above and below the rectangle, where their tiles are all as far from it as `least`. They are asked for at each sixteenth gap.
+#[inline(always)]
+pub fn near_bands<M: Metric, R: Rows>(rows: &R, bands: u64, rect: Rect, gap: u16, least: u64) -> u64
+    requires gap { gap ≤ LAST_FRAMED }
+    ensures { IsThinned M.distance (R.cells rows.now) rect gap least bands result }
+{
+    if gap % STRETCH != 0 {
+        return bands;
+    }
+    let y = rect.y0.saturating_sub(gap);
+    let left = without_far_band::<M, R>(rows, bands, y, rect, gap, least);
+    without_far_band::<M, R>(rows, left, rect.y1 - 1 + gap, rect, gap, least)
+}
+
+/// The bands without that of the row `y`, where its tiles are all as far from the rectangle as `least`, in rows that lie `gap` or more rows away.
+fn without_far_band<M: Metric, R: Rows>(
+    rows: &R,
+    bands: u64,
+    y: u16,
+    rect: Rect,
+    gap: u16,
+    least: u64,
+) -> u64
+    requires gap { gap ≤ LAST_FRAMED }
+    ensures { IsThinned M.distance (R.cells rows.now) rect gap least bands result }
+{
+    if rows.height() <= y {
+        return bands;
+    }
+    let band = y / BAND_ROWS;
+    if are_tiles_far::<M>(rows.tiles(band), rect, gap, least) {
+        without_bit(bands, band)
+    } else {
+        bands
+    }
+}
