@@ -18,7 +18,7 @@ pub fn marked(bands: u64, y: u16, word: u64) -> u64
 
 /// The bits once this word has been written to the place `index`: each keeps its mark, and the place has one where an obstacle has come.
 #[inline(always)]
-fn with_mark(bits: u64, index: u16, word: u64) -> u64
+pub fn with_mark(bits: u64, index: u16, word: u64) -> u64
     requires { index < 64 }
     ensures here { (i : ℕ) → bit_at word i ≡ 1 → bit_at result index ≡ 1 }
     ensures kept { (k : ℕ) → k < 64 → bit_at bits k ≡ 1 → bit_at result k ≡ 1 }
@@ -42,31 +42,8 @@ pub fn marked_by(bands: u64, y: u16, words: &[u64]) -> u64
     marked(bands, y, all_bits(words))
 }
 
-/// Marks the tile of the row `y` in the columns of word `index`, where this word has an obstacle. Each tile keeps its mark.
-#[inline(always)]
-pub fn mark(marks: &mut [u64; 64], y: u16, index: u16, word: u64)
-    requires row { y < MOST_SIDE }
-    requires index { index < 64 }
-    ensures here { (i : ℕ) → bit_at word i ≡ 1 → bit_at (slice_index marks.new (y / BAND_ROWS)) index ≡ 1 }
-    ensures kept { (band k : ℕ) → k < 64 → bit_at (slice_index marks.old band) k ≡ 1 → bit_at (slice_index marks.new band) k ≡ 1 }
-{
-    let band = usize::from(y / BAND_ROWS);
-    marks[band] = with_mark(marks[band], index, word);
-}
-
-/// Marks the tiles of the row `y` in which one of the first `across` words has an obstacle. Each tile keeps its mark.
-pub fn mark_row(marks: &mut [u64; 64], y: u16, row: &[u64; 64], across: u16)
-    requires row { y < MOST_SIDE }
-    requires across { across ≤ 64 }
-    ensures here { (k i : ℕ) → k < across → bit_at (slice_index row.now k) i ≡ 1 → bit_at (slice_index marks.new (y / BAND_ROWS)) k ≡ 1 }
-    ensures kept { (band k : ℕ) → k < 64 → bit_at (slice_index marks.old band) k ≡ 1 → bit_at (slice_index marks.new band) k ≡ 1 }
-{
-    let band = usize::from(y / BAND_ROWS);
-    marks[band] = with_marks(marks[band], row, across);
-}
-
 /// The marks of a band's tiles, with those in which one of the first `across` words has an obstacle.
-fn with_marks(tiles: u64, row: &[u64; 64], across: u16) -> u64
+pub fn with_marks(tiles: u64, row: &[u64; 64], across: u16) -> u64
     requires { across ≤ 64 }
     ensures here { (k i : ℕ) → k < across → bit_at (slice_index row.now k) i ≡ 1 → bit_at result k ≡ 1 }
     ensures kept { (k : ℕ) → k < 64 → bit_at tiles k ≡ 1 → bit_at result k ≡ 1 }

@@ -7,7 +7,8 @@ ghost use Rattle.bits.specs.Words.{words_across, IsRowOf};
 ghost use Rattle.bits.specs.Writes.{with_row, with_word};
 ghost use Rattle.metric.specs.declared.refusal.Refusal.TheVariants.{Memory};
 
-use crate::band::{mark, mark_row, marked, marked_by};
+use crate::band::{marked, marked_by};
+use crate::tile_marks::TileMarks;
 use crate::word::{has_bit, with_bit};
 use crate::write::{write_row, write_word};
 use metric::{Cell, Rect, Refusal, WORD_BITS, WORD_CELLS};
@@ -24,7 +25,7 @@ pub struct Bitmap {
     pub(crate) height: u16,
     pub(crate) words: Vec<u64>,
     pub(crate) bands: u64,
-    pub(crate) marks: [u64; 64],
+    pub(crate) marks: TileMarks,
 }
 
 impl Model for Bitmap {
@@ -50,12 +51,13 @@ impl Bitmap {
     {
         let across = usize::from(width).div_ceil(WORD_BITS);
         let words = vec![in alloc; 0u64; across * usize::from(height)]?;
+        let marks = TileMarks::blank(alloc)?;
         Ok(Bitmap {
             width,
             height,
             words,
             bands: 0,
-            marks: [0; 64],
+            marks,
         })
     }
 
@@ -127,12 +129,8 @@ impl Bitmap {
         let (index, place) = self.place_of(cell);
         self.words[index] = with_bit(self.words[index], place, black);
         self.bands = marked(self.bands, cell.y, u64::from(black));
-        mark(
-            &mut self.marks,
-            cell.y,
-            cell.x / WORD_CELLS,
-            u64::from(black),
-        );
+        self.marks
+            .mark(cell.y, cell.x / WORD_CELLS, u64::from(black));
     }
 
     /// Writes the cells of row `y` that word `index` of it holds: bit i is the cell of column 64 `index` + i. Bits past the edge are left out.
@@ -145,7 +143,7 @@ impl Bitmap {
         let words = self.words.as_mut_slice();
         write_word(words, self.width, self.height, y, index, word);
         self.bands = marked(self.bands, y, word);
-        mark(&mut self.marks, y, index, word);
+        self.marks.mark(y, index, word);
     }
 
     /// Writes the row `y`, as `set_word` does each word of it: as many of these as it needs.
@@ -157,7 +155,8 @@ impl Bitmap {
         let words = self.words.as_mut_slice();
         write_row(words, self.width, self.height, y, row);
         self.bands = marked_by(self.bands, y, row);
-        mark_row(&mut self.marks, y, row, self.width.div_ceil(WORD_CELLS));
+        let across = self.width.div_ceil(WORD_CELLS);
+        self.marks.mark_row(y, row, across);
     }
 
     /// The words of row `y`, as many as it needs. Bits past the edge are 0.
@@ -188,7 +187,7 @@ impl Bitmap {
         requires { band < 64 }
         ensures { IsTiled self.now band result }
     {
-        self.marks[usize::from(band)]
+        self.marks.of(band)
     }
 
     /// A copy. Refused for want of memory alone.
@@ -197,12 +196,13 @@ impl Bitmap {
         ensures memory { IfErr result (λ refusal. refusal ≡ Memory) }
     {
         let words = Vec::from_slice(alloc, self.words.as_slice())?;
+        let marks = self.marks.try_copy(alloc)?;
         Ok(Bitmap {
             width: self.width,
             height: self.height,
             words,
             bands: self.bands,
-            marks: self.marks,
+            marks,
         })
     }
 
@@ -216,7 +216,7 @@ impl Bitmap {
             .as_mut_slice()
             .copy_from_slice(other.words.as_slice());
         self.bands = other.bands;
-        self.marks = other.marks;
+        self.marks.copy_from(&other.marks);
     }
 
     /// Frees each cell, and with them all bands. It takes no memory.
@@ -225,6 +225,6 @@ impl Bitmap {
     {
         self.words.fill(0);
         self.bands = 0;
-        self.marks = [0; 64];
+        self.marks.clear();
     }
 }

@@ -9,6 +9,7 @@ mod lay;
 mod stamp;
 mod tile;
 mod tile_bits;
+mod tile_marks;
 mod word;
 mod write;
 

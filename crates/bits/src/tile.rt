@@ -6,7 +6,7 @@ ghost use Rattle.bits.specs.Cells.{IsBitmap};
 ghost use Rattle.bits.specs.Words.{words_across};
 ghost use Rattle.bits.specs.Writes.{with_tile};
 
-use crate::band::{all_bits, mark, marked_by};
+use crate::band::{all_bits, marked_by};
 use crate::bitmap::Bitmap;
 use crate::write::write_tile;
 use metric::{MOST_TILES, TILE_SIDE};
@@ -57,6 +57,6 @@ impl Bitmap {
         let cells = self.words.as_mut_slice();
         write_tile(cells, self.width, self.height, position, words);
         self.bands = marked_by(self.bands, top, words);
-        mark(&mut self.marks, top, position % across, all_bits(words));
+        self.marks.mark(top, position % across, all_bits(words));
     }
 }

@@ -24,11 +24,11 @@ invariant_of-self c =
     let written = rw lent at c.write_tile.ensures.written in
     let len : vec_len c.self.inside.words ≡ length c.self.inside.words.items = search rules in
     let same = with_items_is c.self.inside.words c.write_tile.new.words (c.write_tile.ensures.stored.as_many ∙ sym (len ∙ c.self.invariant.stored.as_many)) in
-    subst (λ (words : List ℕ). AreBandsKept c.self.inside.width c.self.inside.height words c.marked_by-self-inside.result c.mark.new.marks) (sym same) record {
+    subst (λ (words : List ℕ). AreBandsKept c.self.inside.width c.self.inside.height words c.marked_by-self-inside.result c.mark.new.self) (sym same) record {
       stored = c.write_tile.ensures.stored;
       banded = subst (λ (cells : Cells). IsBanded cells c.marked_by-self-inside.result) (sym written) (IsBanded-with_tile _ c.args.position c.tiles_across-across.result _ c.args.words.now _ c.marked_by-self-inside.result (IsBitmap-cells_stored _ _ _ c.self.invariant.stored) c.self.invariant.banded (omega arith)
           (c.tiles_across-across.ensures.across ∙ ap (λ (cells : Cells). words_across cells.width) (sym c.self.view_is)) refl c.marked_by-self-inside.ensures.kept c.marked_by-self-inside.ensures.here);
-      tiled = subst (λ (cells : Cells). AreTiled cells c.mark.new.marks) (sym written) (AreTiled-with_tile _ c.args.position c.tiles_across-across.result _ _ c.all_bits.result c.args.words.now _ _ (IsBitmap-cells_stored _ _ _ c.self.invariant.stored) c.self.invariant.tiled (omega arith)
+      tiled = subst (λ (cells : Cells). AreTiled cells c.mark.new.self) (sym written) (AreTiled-with_tile _ c.args.position c.tiles_across-across.result _ _ c.all_bits.result c.args.words.now _ _ (IsBitmap-cells_stored _ _ _ c.self.invariant.stored) c.self.invariant.tiled (omega arith)
           (c.tiles_across-across.ensures.across ∙ ap (λ (cells : Cells). words_across cells.width) (sym c.self.view_is)) refl refl c.mark.ensures.kept c.all_bits.ensures c.mark.ensures.here);
     }
 

@@ -23,11 +23,11 @@ invariant_of-self c =
     let written = rw lent at c.write_row.ensures.written in
     let len : vec_len c.self.inside.words ≡ length c.self.inside.words.items = search rules in
     let same = with_items_is c.self.inside.words c.write_row.new.words (c.write_row.ensures.stored.as_many ∙ sym (len ∙ c.self.invariant.stored.as_many)) in
-    subst (λ (words : List ℕ). AreBandsKept c.self.inside.width c.self.inside.height words c.marked_by-self-inside.result c.mark_row.new.marks) (sym same) record {
+    subst (λ (words : List ℕ). AreBandsKept c.self.inside.width c.self.inside.height words c.marked_by-self-inside.result c.mark_row.new.self) (sym same) record {
       stored = c.write_row.ensures.stored;
       banded = subst (λ (cells : Cells). IsBanded cells c.marked_by-self-inside.result) (sym written) (IsBanded-with_row _ c.args.y c.args.row.now _ c.marked_by-self-inside.result (IsBitmap-cells_stored _ _ _ c.self.invariant.stored) c.self.invariant.banded (omega arith)
           c.marked_by-self-inside.ensures.kept c.marked_by-self-inside.ensures.here);
-      tiled = subst (λ (cells : Cells). AreTiled cells c.mark_row.new.marks) (sym written) (AreTiled-with_row _ c.args.y _ c.args.row.now _ _ (IsBitmap-cells_stored _ _ _ c.self.invariant.stored) c.self.invariant.tiled (omega arith) c.mark_row.ensures.kept c.mark_row.ensures.here);
+      tiled = subst (λ (cells : Cells). AreTiled cells c.mark_row.new.self) (sym written) (AreTiled-with_row _ c.args.y _ c.args.row.now _ _ (IsBitmap-cells_stored _ _ _ c.self.invariant.stored) c.self.invariant.tiled (omega arith) c.mark_row.ensures.kept c.mark_row.ensures.here);
     }
 
 pub returns-clause-bitmap : goal.returns-clause-bitmap

@@ -1,0 +1,90 @@
+//! Which tiles of a bitmap may have an obstacle: a word for each band of 64 rows, and in it a bit for each 64 columns.
+
+ghost use Rattle.std.specs.Prelude.{◌≡◌, ℕ, ◌<◌, ◌≤◌, ◌/◌, slice_index, IfOk};
+ghost use Rattle.std.specs.Int.{bit_at};
+
+use crate::band::{with_mark, with_marks};
+use metric::{BAND_ROWS, MOST_SIDE};
+use std::alloc::{AllocError, Global};
+use std::marker::Model;
+
+/// How many bands a bitmap has at most.
+const MOST_BANDS: usize = 64;
+
+/// The marks of the tiles of 64 bands. Contracts see the words.
+#[derive(Debug, Drop)]
+pub struct TileMarks {
+    bands: Vec<u64>,
+}
+
+impl Model for TileMarks {
+    ghost use Rattle.std.specs.Prelude.{◌≡◌, ℕ, List, length};
+
+    ghost Value = { List ℕ };
+
+    ghost view = { λ m. m.bands.items };
+
+    ghost invariant = { λ m. length m.bands.items ≡ 64 };
+}
+
+impl TileMarks {
+    /// Marks of no tile.
+    pub fn blank(alloc: Global) -> Result<Self, AllocError> {
+        let bands = vec![in alloc; 0u64; MOST_BANDS]?;
+        Ok(TileMarks { bands })
+    }
+
+    /// A copy.
+    pub fn try_copy(&self, alloc: Global) -> Result<Self, AllocError>
+        ensures { IfOk result (λ copy. copy ≡ self.now) }
+    {
+        let bands = Vec::from_slice(alloc, self.bands.as_slice())?;
+        Ok(TileMarks { bands })
+    }
+
+    /// Makes these marks the same as others.
+    pub fn copy_from(&mut self, other: &TileMarks)
+        ensures { self.new ≡ other.now }
+    {
+        self.bands
+            .as_mut_slice()
+            .copy_from_slice(other.bands.as_slice());
+    }
+
+    /// Takes all marks away.
+    pub fn clear(&mut self) {
+        self.bands.fill(0);
+    }
+
+    /// The marks of a band.
+    #[inline(always)]
+    pub fn of(&self, band: u16) -> u64
+        requires { band < 64 }
+        ensures { result ≡ slice_index self.now band }
+    {
+        self.bands[usize::from(band)]
+    }
+
+    /// Marks the tile of the row `y` in the columns of word `index`, where this word has an obstacle. Each tile keeps its mark.
+    #[inline(always)]
+    pub fn mark(&mut self, y: u16, index: u16, word: u64)
+        requires row { y < MOST_SIDE }
+        requires index { index < 64 }
+        ensures here { (i : ℕ) → bit_at word i ≡ 1 → bit_at (slice_index self.new (y / BAND_ROWS)) index ≡ 1 }
+        ensures kept { (band k : ℕ) → k < 64 → bit_at (slice_index self.old band) k ≡ 1 → bit_at (slice_index self.new band) k ≡ 1 }
+    {
+        let band = usize::from(y / BAND_ROWS);
+        self.bands[band] = with_mark(self.bands[band], index, word);
+    }
+
+    /// Marks the tiles of the row `y` in which one of the first `across` words has an obstacle. Each tile keeps its mark.
+    pub fn mark_row(&mut self, y: u16, row: &[u64; 64], across: u16)
+        requires row { y < MOST_SIDE }
+        requires across { across ≤ 64 }
+        ensures here { (k i : ℕ) → k < across → bit_at (slice_index row.now k) i ≡ 1 → bit_at (slice_index self.new (y / BAND_ROWS)) k ≡ 1 }
+        ensures kept { (band k : ℕ) → k < 64 → bit_at (slice_index self.old band) k ≡ 1 → bit_at (slice_index self.new band) k ≡ 1 }
+    {
+        let band = usize::from(y / BAND_ROWS);
+        self.bands[band] = with_marks(self.bands[band], row, across);
+    }
+}
