@@ -1,28 +1,37 @@
 //! The sizes of a store, and where its words stand.
 
-ghost use Rattle.std.specs.Prelude.{◌≡◌};
-ghost use Rattle.bits.specs.Cells.{IsBitmap};
-ghost use Rattle.map_core.specs.Words.{Base, IsPlan, pin_at, map_at, tile_at};
+ghost use Rattle.std.specs.Prelude.{◌≡◌, ◌+◌, ◌*◌};
 
 use crate::setting::Setting;
 use bits::Bitmap;
 
-/// The setting of a store, and how many positions its map has.
+/// The setting of a store, how many positions its map has, and where its directories and the rows of its blocks begin among the words.
 #[derive(Clone, Copy)]
 pub struct Plan {
     pub setting: Setting,
     pub tiles: u16,
+    pub directories: usize,
+    pub rows: usize,
+    ghost directories_are: { directories ≡ 8 + 8 * setting.sessions },
+    ghost rows_are: { rows ≡ 8 + 8 * setting.sessions + setting.versions * tiles },
 }
 
 impl Plan {
+    ghost use Rattle.bits.specs.Cells.{IsBitmap};
+    ghost use Rattle.map_core.specs.Words.{Base, IsPlan, pin_at, map_at, tile_at};
+
     /// The sizes of a store on this map.
     pub fn of(setting: Setting, map: &Bitmap) -> Plan
         ensures plan { IsPlan record { setting = setting; opening = map.now } result }
         ensures bitmap { IsBitmap map.now }
     {
+        let tiles = map.tiles();
+        let directories = 8 + 8 * setting.sessions as usize;
         Plan {
             setting,
-            tiles: map.tiles(),
+            tiles,
+            directories,
+            rows: directories + setting.versions as usize * usize::from(tiles),
         }
     }
 
@@ -34,18 +43,18 @@ impl Plan {
     }
 
     /// Where the word stands that has the block of a position in a slot.
+    #[inline(always)]
     pub fn map_at(self, slot: u32, position: u32) -> usize
         ensures { (k : Base) → IsPlan k self → result ≡ map_at k slot position }
     {
-        8 + 8 * self.setting.sessions as usize
-            + (slot as usize * usize::from(self.tiles) + position as usize)
+        self.directories + (slot as usize * usize::from(self.tiles) + position as usize)
     }
 
     /// Where the word stands that has a row of a block.
+    #[inline(always)]
     pub fn tile_at(self, block: u32, row: u32) -> usize
         ensures { (k : Base) → IsPlan k self → result ≡ tile_at k block row }
     {
-        let directories = self.setting.versions as usize * usize::from(self.tiles);
-        8 + 8 * self.setting.sessions as usize + directories + (block as usize * 64 + row as usize)
+        self.rows + (block as usize * 64 + row as usize)
     }
 }
