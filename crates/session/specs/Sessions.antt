@@ -1,5 +1,5 @@
 -- What contracts see of pins and of sessions: this project's own rule.
-use Rattle.std.specs.Prelude.{◌≡◌, ◌+◌, ◌<◌, ◌≤◌, ℕ, Bool, true, All, List, drop, length, map, sum_by, Result, Some, None}
+use Rattle.std.specs.Prelude.{◌≡◌, ◌+◌, ◌<◌, ◌≤◌, ℕ, Bool, true, false, All, List, drop, length, map, sum_by, Result, Some, None}
 use Rattle.std.specs.List.{range_with_len}
 use mathlib.Core.List.{IsPrefix}
 use Rattle.bits.specs.Cells.{Cells}
@@ -15,6 +15,8 @@ use Rattle.shelf.specs.declared.store_entry.StoreEntry.{StoreEntry}
 use Rattle.shelf.specs.Store.{StoreId, readers_of}
 use Rattle.shelf.specs.Roles.{ReaderView, entries, reader_at_opening, made_by}
 use Rattle.map_core.specs.Legal.{IsLegal}
+use Rattle.session.specs.declared.pinned.looks.Looks.{Looks}
+use Rattle.session.specs.declared.pinned.looks.Looks.TheVariants as looks
 use Rattle.desk.specs.Desks.{DeskView, IsApplied, base_place}
 
 -- a pin has its session's seat, and the version that it holds
@@ -71,6 +73,11 @@ pub record IsSession (store : StoreId) (x : ReaderView) (size : Size) : Type 0 w
   pub ready : IsReady store.base
   pub width_is : size.width ≡ store.base.opening.width
   pub height_is : size.height ≡ store.base.opening.height
+
+-- whether a pin's queries ask the bitmap that it has read
+abbrev pub is_whole : Looks → Bool
+is_whole (looks.Words left) = false
+is_whole looks.Whole = true
 
 -- a pin holds a version that was published in what it has seen, has announced that one alone, and knows its slot;
 -- it has the version's bitmap once it is read, and until then a bitmap of the same size

@@ -10,6 +10,7 @@ ghost use Rattle.std.specs.Borrow.{sem};
 ghost use Rattle.session.specs.Sessions.{bitmap_pinned, newest_of_session};
 
 mod commands;
+mod looks;
 mod queries;
 mod rows;
 
@@ -17,6 +18,7 @@ use crate::reading::read_once;
 use crate::room::Room;
 use crate::session::Session;
 use bits::Bitmap;
+pub(crate) use looks::Looks;
 use metric::Edge;
 use shelf::{ReaderSeat, StoreName, Ticket};
 use std::marker::Model;
@@ -31,19 +33,17 @@ pub struct Pinned<Id: StoreName> {
     pub(crate) slot: u32,
     // The version's bitmap once it is read, and until then room for it.
     pub(crate) bitmap: Bitmap,
-    pub(crate) read: bool,
-    // How many words queries may look at, one by one, before the version is read.
-    pub(crate) looks: u32,
+    pub(crate) looks: Looks,
 }
 
 impl<Id: StoreName> Model for Pinned<Id> {
-    ghost use Rattle.session.specs.Sessions.{PinView, IsPin};
+    ghost use Rattle.session.specs.Sessions.{PinView, IsPin, is_whole};
 
     ghost Value = { PinView };
 
     ghost view = { λ p. record { seat = p.seat; version = p.version } };
 
-    ghost invariant = { λ p. IsPin Id.store record { seat = p.seat; version = p.version } p.slot p.bitmap p.read };
+    ghost invariant = { λ p. IsPin Id.store record { seat = p.seat; version = p.version } p.slot p.bitmap (is_whole p.looks) };
 }
 
 impl<Id: StoreName> Pinned<Id> {
@@ -74,7 +74,7 @@ impl<Id: StoreName> Pinned<Id> {
 
     /// Whether its version has been read.
     fn is_read(&self) -> bool {
-        self.read
+        self.looks.is_whole()
     }
 
     /// The bitmap of the version that it holds, where the version has been read as a whole: by `bitmap`, or by queries that had looked at eight words for each tile of the
@@ -82,7 +82,10 @@ impl<Id: StoreName> Pinned<Id> {
     pub fn bitmap_read(&self) -> Option<&Bitmap>
         ensures { IfSome result (λ bitmap. bitmap.now ≡ bitmap_pinned Id.store self.now) }
     {
-        if self.read { Some(&self.bitmap) } else { None }
+        match self.looks {
+            Looks::Whole => Some(&self.bitmap),
+            Looks::Words { .. } => None,
+        }
     }
 
     /// The bitmap that was published as the version that it holds. It is read from the shared words when it is first asked for: 65 loads for
@@ -92,8 +95,9 @@ impl<Id: StoreName> Pinned<Id> {
         ensures* pin { sem 𝓛 (KeepsPin Id.row Id.StoreName self.entry) }
     {
         let (version, slot) = (self.version, self.slot);
-        read_once(&mut self.seat, version, slot, self.read, &mut self.bitmap);
-        self.read = true;
+        let is_read = self.looks.is_whole();
+        read_once(&mut self.seat, version, slot, is_read, &mut self.bitmap);
+        self.looks = Looks::Whole;
         &self.bitmap
     }
 
@@ -119,7 +123,6 @@ impl<Id: StoreName> Pinned<Id> {
             version: _,
             slot: _,
             bitmap,
-            read: _,
             looks: _,
         } = self;
         seat.leave();

@@ -10,7 +10,7 @@ ghost use Rattle.session.specs.Sessions.{newest_of_session};
 
 mod commands;
 
-use crate::pinned::Pinned;
+use crate::pinned::{Looks, Pinned};
 use crate::room::Room;
 use metric::Refusal;
 use shelf::{ReaderSeat, StoreName, Ticket};
@@ -79,7 +79,9 @@ impl<Id: StoreName> Session<Id> {
             Ok(bitmap) => bitmap,
             Err(refusal) => return Err((Session { seat, room }, refusal)),
         };
-        let looks = LOOKS * u32::from(bitmap.tiles());
+        let looks = Looks::Words {
+            left: LOOKS * u32::from(bitmap.tiles()),
+        };
         seat.take();
         seat.announce();
         let now = seat.take();
@@ -89,7 +91,6 @@ impl<Id: StoreName> Session<Id> {
             version: now.version,
             slot: now.slot,
             bitmap,
-            read: false,
             looks,
         })
     }

@@ -2,7 +2,7 @@
 
 ghost use Rattle.std.specs.Prelude.{◌≡◌, ◌<◌, ◌≤◌};
 
-use crate::pinned::Pinned;
+use crate::pinned::{Looks, Pinned};
 use crate::reading::look_word;
 use clearance::Rows;
 use shelf::StoreName;
@@ -26,23 +26,20 @@ impl<Id: StoreName> Rows for Pinned<Id> {
 
     #[inline(always)]
     fn word(&mut self, y: u16, index: usize) -> u64 {
-        if self.looks == 0 {
-            return self.bitmap().row_words(y)[index];
+        match self.looks {
+            Looks::Whole => self.bitmap.row_words(y)[index],
+            Looks::Words { left: 0 } => self.bitmap().row_words(y)[index],
+            Looks::Words { left } => {
+                self.looks = Looks::Words { left: left - 1 };
+                let across = self.bitmap.width().div_ceil(64);
+                let (version, slot) = (self.version, self.slot);
+                look_word(&mut self.seat, version, slot, across, y, index as u16)
+            }
         }
-        self.looks -= 1;
-        let across = self.bitmap.width().div_ceil(64);
-        look_word(
-            &mut self.seat,
-            self.version,
-            self.slot,
-            across,
-            y,
-            index as u16,
-        )
     }
 
     fn is_blank(&mut self, y: u16) -> bool {
-        if self.looks == 0 {
+        if let Looks::Whole | Looks::Words { left: 0 } = self.looks {
             let mut rows = self.bitmap();
             return rows.is_blank(y);
         }
@@ -56,10 +53,9 @@ impl<Id: StoreName> Rows for Pinned<Id> {
 
     /// A fresh pin knows of no band that is blank, and one that was read knows what its bitmap does.
     fn bands(&self) -> u64 {
-        if self.read {
-            self.bitmap.bands()
-        } else {
-            u64::MAX
+        match self.looks {
+            Looks::Whole => self.bitmap.bands(),
+            Looks::Words { .. } => u64::MAX,
         }
     }
 }
