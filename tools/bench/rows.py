@@ -58,10 +58,17 @@ def alone(text):
     return text[:start] + "    let _ = count;\n    let nears = rows::<M>(alloc, bitmap, edge, 0, height);\n" + text[end:]
 
 
+def without_batches(text):
+    """The program for crates that know no batches."""
+    return text.replace("&Batch::new(bitmap, edge, 0, height)", "bitmap, edge, 0, height").replace("Batch, ", "")
+
+
 def program_text(root):
     """The program for the crates of a clone."""
     field = root / "crates" / "field"
     text = (HERE / "rows" / "main.rt.in").read_text()
+    if not (root / "crates" / "column" / "src" / "batch.rt").exists():
+        text = without_batches(text)
     if not (field / "src" / "obstacle_table.rt").exists():
         text = without_table(text)
     return text if (field / "src" / "workers.rt").exists() else alone(text)

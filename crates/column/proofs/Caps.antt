@@ -1,6 +1,6 @@
 -- Maps with the frame's first and last row, and what they have in common with maps with the whole frame.
-use Rattle.std.proofs.Common.{◌≡◌, ℕ, ◌+◌, ◌-◌, ◌*◌, ◌<◌, ◌≤◌, ◌==◌, ◌||◌, Bool, true, false, List, Option, Some, None, length, get_or, inl, inr, refl, sym, ◌∙◌, ◌++◌, take, drop, arith}
-use Rattle.std.proofs.lemmas.List.{get_or-append_right, get_or-drop, get_or-take, get_or_append_left, length-take-le}
+use Rattle.std.proofs.Common.{◌≡◌, ℕ, ◌+◌, ◌-◌, ◌*◌, ◌<◌, ◌≤◌, ◌==◌, ◌||◌, Bool, true, false, List, Option, Some, None, length, get_or, inl, inr, refl, sym, ◌∙◌, ◌++◌, take, arith}
+use Rattle.std.proofs.lemmas.List.{get_or-append_right, get_or_append_left, length-take-le}
 use Rattle.std.proofs.lemmas.Bool.{cases_lt, or_left}
 use Rattle.std.proofs.lemmas.Bool.Decides.{nat_tests}
 use Rattle.metric.specs.Edge.{shift}
@@ -9,10 +9,10 @@ use Rattle.metric.specs.declared.edge.Edge.TheVariants.{Open, Wall}
 use Rattle.bits.specs.Cells.{Cells, IsBitmap, has}
 use Rattle.bits.specs.Edges.{IsMap, framed}
 use Rattle.bits.proofs.CellsLemmas.{has-cells_where, has-cells_where_below, has-cells_where_right}
-use Rattle.bits.proofs.Framing.{framed_map, framed_size, has-framed, shift_few, wall_test}
+use Rattle.bits.proofs.Framing.{framed_map, framed_size, shift_few, wall_test}
 use Rattle.column.specs.Capped.{capped, is_cap, is_side}
 use Rattle.column.specs.Columns.{IsNearestRow, IsRowOfTable, row_of}
-use Rattle.column.specs.Sweeps.{marked}
+use Rattle.column.specs.Marks.{marked}
 use Rattle.column.proofs.Nearest.{IsRowAtMost-by, row_of-some}
 
 -- a cell of a capped map is an obstacle if it is in the frame's rows or an obstacle of the map
@@ -101,14 +101,6 @@ has-side Wall cells x y column row side = has-cells_where (cells.width + 2) (cel
     side_test : (w h x y : ℕ) (black : Bool) → (x == 0 || x + 1 == w + 2 * 1) ≡ true → (((x == 0 || y == 0) || (x == w + 1 || y == h + 1)) || black) ≡ true
     side_test w h x y black side = grind (arith, nat_tests)
 
--- each cell of the frame's rows is an obstacle
-pub has-framed_cap : (edge : Edge) (cells : Cells) (x y : ℕ) → x < cells.width + 2 * shift edge → y < cells.height + 2 * shift edge → is_cap edge cells.height y ≡ true → has (framed edge cells) x y ≡ true
-has-framed_cap Open cells x y column row cap = absurd (cc)
-has-framed_cap Wall cells x y column row cap = has-cells_where (cells.width + 2) (cells.height + 2) (wall_test cells) x y (omega (arith, column)) (omega (arith, row)) ∙ row_test cells.width cells.height x y (has cells (x - 1) (y - 1)) cap
-  where
-    row_test : (w h x y : ℕ) (black : Bool) → (y == 0 || y == h + 1) ≡ true → (((x == 0 || y == 0) || (x == w + 1 || y == h + 1)) || black) ≡ true
-    row_test w h x y black cap = grind (arith, nat_tests)
-
 -- a column that is none of the frame's is one of the map
 side_not : (edge : Edge) (width x : ℕ) → is_side edge (width + 2 * shift edge) x ≡ false → x < width + 2 * shift edge → (shift edge ≤ x) × (x - shift edge < width)
 side_not Open width x free within = (omega arith, omega (arith, within))
@@ -143,34 +135,9 @@ IsRowOfTable-framed edge cells y inner old new bitmap within row marks len many 
           rw marks_here (framed_entry edge cells y inner old x bitmap within row copied inside (is_side edge (cells.width + 2 * shift edge) x) refl);
     }
 
--- a row of the map that is marked, with the frame's columns, is marked as the map with its frame says
-pub marked_framed : (edge : Edge) (cells : Cells) (x y : ℕ) (old new begun : List ℕ) → y < cells.height + 2 * shift edge → is_cap edge cells.height y ≡ false
-    → ((k : ℕ) → k < length begun → get_or new k 0 ≡ marked (is_side edge (length begun) k) y (get_or begun k 0)) → length begun ≡ cells.width + 2 * shift edge → x < cells.width + 2 * shift edge
-    → ((k : ℕ) → k < cells.width → get_or begun (k + shift edge) 0 ≡ marked (has cells k (y - shift edge)) y (get_or old (k + shift edge) 0))
-    → get_or new x 0 ≡ marked (has (framed edge cells) x y) y (get_or old x 0)
-marked_framed edge cells x y old new begun within free marks many column inner =
-    rw many at (marks x (omega (arith, column, many))) ∙ by_side (is_side edge (cells.width + 2 * shift edge) x) refl
-  where
-    by_side : (side : Bool) → is_side edge (cells.width + 2 * shift edge) x ≡ side → marked side y (get_or begun x 0) ≡ marked (has (framed edge cells) x y) y (get_or old x 0)
-    by_side true is = rw (has-side edge cells x y column within is) refl
-    by_side false is =
-        let own = side_not edge cells.width x is column in
-        let row = cap_not edge cells.height y free within in
-        let back : x - shift edge + shift edge ≡ x = let low = own.0 in omega (arith, low) in
-        let down : y - shift edge + shift edge ≡ y = let low = row.0 in omega (arith, low) in
-        let below : y - shift edge < cells.height = let high = row.1 in let low = row.0 in omega (arith, high, low) in
-        let test : has (framed edge cells) x y ≡ has cells (x - shift edge) (y - shift edge) = rw (back, down) at (has-framed edge cells (x - shift edge) (y - shift edge) own.1 below) in
-        rw test (rw back at (inner (x - shift edge) own.1))
-
 -- an element of a part that was written into a list is read at its place in the list
 pub written_inside : (old sub rest : List ℕ) (n k x : ℕ) → n ≤ length old → n ≡ k → x < length sub → get_or (take n old ++ (sub ++ rest)) (x + k) 0 ≡ get_or sub x 0
 written_inside old sub rest n k x within same inside =
     let front : length (take n old) ≡ n = length-take-le n old within in
     let place : x + k - n ≡ x = omega (arith, same) in
     get_or-append_right (take n old) (sub ++ rest) n (x + k) 0 front (omega (arith, same)) ∙ (rw place (get_or_append_left sub rest 0 x inside))
-
--- an element of a part of a list is the list's element at that place
-pub read_inside : (old : List ℕ) (n m k x : ℕ) → n ≡ k → x < m → get_or (take m (drop n old)) x 0 ≡ get_or old (x + k) 0
-read_inside old n m k x same inside =
-    let place : n + x ≡ x + k = omega (arith, same) in
-    get_or-take m (drop n old) x 0 inside ∙ (get_or-drop n old x 0 ∙ rw place refl)

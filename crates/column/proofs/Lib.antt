@@ -1,9 +1,9 @@
 mod Caps
-mod EdgeLemmas
+mod SoughtLemmas
 mod Marking
 mod Nearest
 mod Seeking
-pub mod Sweeping
+pub mod Places
 mod Tables
 mod LineLemmas
 mod SpotRows

@@ -1,13 +1,16 @@
 -- Lines are carried from row to row, and the nearest obstacle is found between two of them.
 use Rattle.std.proofs.Common.{◌≡◌, ℕ, ◌+◌, ◌-◌, ◌*◌, ◌<◌, ◌≤◌, ◌⊎◌, ◌∙◌, min, inl, inr, Bool, true, false, List, Option, Some, None, length, get_or, arith, refl}
 use Rattle.std.specs.Int.{abs_diff}
-use Rattle.std.proofs.Math.Nat.{mul-le-mul_right}
 use Rattle.std.proofs.lemmas.Bool.{cases_lt, cases_eq}
-use Rattle.bits.specs.Cells.{Cells, has}
-use Rattle.bits.specs.Edges.{IsMap}
+use Rattle.metric.specs.Edge.{shift}
+use Rattle.metric.specs.declared.edge.Edge.{Edge}
+use Rattle.bits.specs.Cells.{Cells, IsBitmap, has}
+use Rattle.bits.proofs.Framing.{shift_few}
+use Rattle.column.specs.Capped.{capped}
 use Rattle.column.specs.Columns.{IsNearestRow, IsRowOfTable, row_of}
-use Rattle.column.specs.Lines.{AreEdges, AreLinesBehind, IsLineBefore, IsLineFrom, IsRowBefore, IsRowFrom}
-use Rattle.column.specs.Sweeps.{marked, nearer}
+use Rattle.column.specs.Lines.{AreBandLines, AreLinesBehind, IsLineBefore, IsLineFrom, IsRowBefore, IsRowFrom}
+use Rattle.column.specs.Marks.{marked, nearer}
+use Rattle.column.proofs.Places.{place_below}
 use Rattle.column.proofs.Nearest.{IsRowAtMost-by, nearer_by, row_of-none, row_of-some}
 
 -- past a free cell the lowest obstacle before a row stays
@@ -34,25 +37,34 @@ from_marked : (cells : Cells) (x y entry : ℕ) → y < 65535 → IsRowFrom cell
 from_marked cells x y entry small behind true is = let row : row_of y ≡ Some y = row_of-some y (λ same. omega arith) in rw row (is, omega arith, λ b within black. omega arith)
 from_marked cells x y entry small behind false is = from_free cells x y (row_of entry) is behind
 
--- the rows of a map are no mark
-row_small : (cells : Cells) (y : ℕ) → IsMap cells → y < cells.height → y < 65535
-row_small cells y map within = let few = map.height_few in omega (arith, few)
+-- the rows of a bitmap, counted with the frame, are no mark
+row_small : (edge : Edge) (cells : Cells) (y : ℕ) → IsBitmap cells → y < cells.height → y + shift edge < 65535
+row_small edge cells y bitmap within = let few = bitmap.height_is.few in let least = shift_few edge in omega (arith, few, least, within)
 
--- the line of the obstacles before a row, once that row is marked in it, is the line before the next row
-pub IsLineBefore-next : (cells : Cells) (y : ℕ) (old new : List ℕ) → IsMap cells → y < cells.height → length new ≡ length old
-    → ((x : ℕ) → x < cells.width → get_or new x 0 ≡ marked (has cells x y) y (get_or old x 0)) → IsLineBefore cells y old → IsLineBefore cells (y + 1) new
-IsLineBefore-next cells y old new map within len marks line = record {
-  as_many = len ∙ line.as_many;
-  each = λ x column. rw (marks x column) (before_marked cells x y (get_or old x 0) (row_small cells y map within) (line.each x column) (has cells x y) refl);
-}
+-- the line of the obstacles before a row of the map, once that row is marked in it, is the line before the next row
+pub IsLineBefore-marked : (edge : Edge) (cells : Cells) (y : ℕ) (old new : List ℕ) → IsBitmap cells → y < cells.height → length new ≡ length old
+    → ((x : ℕ) → x < cells.width → get_or new x 0 ≡ marked (has (capped edge cells) x (y + shift edge)) (y + shift edge) (get_or old x 0))
+    → IsLineBefore (capped edge cells) (y + shift edge) old → IsLineBefore (capped edge cells) (y + 1 + shift edge) new
+IsLineBefore-marked edge cells y old new bitmap within len marks line =
+    let next : y + 1 + shift edge ≡ y + shift edge + 1 = omega arith in
+    let small = row_small edge cells y bitmap within in
+    rw next (record {
+      as_many = len ∙ line.as_many;
+      each = λ x column. rw (marks x column) (before_marked (capped edge cells) x (y + shift edge) (get_or old x 0) small (line.each x column) (has (capped edge cells) x (y + shift edge)) refl);
+    })
 
--- the line of the obstacles after a row, once that row is marked in it, is the line from that row on
-pub IsLineFrom-next : (cells : Cells) (y : ℕ) (old new : List ℕ) → IsMap cells → y < cells.height → length new ≡ length old
-    → ((x : ℕ) → x < cells.width → get_or new x 0 ≡ marked (has cells x y) y (get_or old x 0)) → IsLineFrom cells (y + 1) old → IsLineFrom cells y new
-IsLineFrom-next cells y old new map within len marks line = record {
-  as_many = len ∙ line.as_many;
-  each = λ x column. rw (marks x column) (from_marked cells x y (get_or old x 0) (row_small cells y map within) (line.each x column) (has cells x y) refl);
-}
+-- the line of the obstacles from a row on, once the row of the map before it is marked in it, is the line from that row on
+pub IsLineFrom-marked : (edge : Edge) (cells : Cells) (y : ℕ) (old new : List ℕ) → IsBitmap cells → 0 < y → y - 1 < cells.height → length new ≡ length old
+    → ((x : ℕ) → x < cells.width → get_or new x 0 ≡ marked (has (capped edge cells) x (y - 1 + shift edge)) (y - 1 + shift edge) (get_or old x 0))
+    → IsLineFrom (capped edge cells) (y + shift edge) old → IsLineFrom (capped edge cells) (y - 1 + shift edge) new
+IsLineFrom-marked edge cells y old new bitmap some within len marks line =
+    let next : y + shift edge ≡ y - 1 + shift edge + 1 = omega (arith, some) in
+    let small = row_small edge cells (y - 1) bitmap within in
+    let below : IsLineFrom (capped edge cells) (y - 1 + shift edge + 1) old = rw next at line in
+    record {
+      as_many = len ∙ below.as_many;
+      each = λ x column. rw (marks x column) (from_marked (capped edge cells) x (y - 1 + shift edge) (get_or old x 0) small (below.each x column) (has (capped edge cells) x (y - 1 + shift edge)) refl);
+    }
 
 -- where no obstacle lies below a row, the nearest is the lowest at or above it
 only_before : (cells : Cells) (x y : ℕ) (row : Option ℕ) → IsRowBefore cells x (y + 1) row → IsRowFrom cells x (y + 1) None → IsNearestRow cells x y row
@@ -114,34 +126,30 @@ IsRowOfTable-between cells y before behind entries above below across picked = r
   each = λ x column. rw (picked x (rw across column)) (nearest_between cells x y (get_or before x 0) (get_or behind x 0) (above.each x column) (below.each x column));
 }
 
--- a row's places end where a later row's begin
-rows_apart : (y b width x : ℕ) → y < b → y * width + width ≤ b * width + x
-rows_apart y b width x below = let rows : (y + 1) * width ≤ b * width = mul-le-mul_right width (omega arith) in omega (arith, rows)
-
 -- a band has its lines from row y on once the line below row y has been put in its place
-pub AreLinesBehind-next : (cells : Cells) (first y to : ℕ) (line old new : List ℕ) → first ≤ y → IsLineFrom cells (y + 1) line
+pub AreLinesBehind-next : (cells : Cells) (edge : Edge) (first y to : ℕ) (line old new : List ℕ) → first ≤ y → IsLineFrom (capped edge cells) (y + 1 + shift edge) line
     → ((x : ℕ) → x < cells.width → get_or new ((y - first) * cells.width + x) 0 ≡ get_or line x 0)
     → ((k : ℕ) → (k < (y - first) * cells.width) ⊎ ((y - first) * cells.width + cells.width ≤ k) → get_or new k 0 ≡ get_or old k 0)
-    → AreLinesBehind cells first (y + 1) to old → AreLinesBehind cells first y to new
-AreLinesBehind-next cells first y to line old new order behind copied others lines = record {
+    → AreLinesBehind cells edge first (y + 1) to old → AreLinesBehind cells edge first y to new
+AreLinesBehind-next cells edge first y to line old new order behind copied others lines = record {
   each = λ x b column from below. elim (cases_eq b y) [
     | inl here ↦ rw (here, copied x column) (behind.each x column)
     | inr apart ↦
-        let place : (y - first) * cells.width + cells.width ≤ (b - first) * cells.width + x = rows_apart (y - first) (b - first) cells.width x (omega (arith, order, from, apart)) in
+        let place : (y - first) * cells.width + cells.width ≤ (b - first) * cells.width + x = place_below (y - first) (b - first) cells.width x (omega (arith, order, from, apart)) in
         rw (others ((b - first) * cells.width + x) (inr place)) (lines.each x b column (omega arith) below)
   ];
 }
 
--- a map has its edges from one band on once the line below that band has been put in its place
-pub AreEdges-next : (cells : Cells) (from to band : ℕ) (line old new : List ℕ) → IsLineFrom cells (min (from + 64 * (band + 1)) to) line
+-- a batch has the lines of its bands from one band on once the line below that band has been put in its place
+pub AreBandLines-next : (cells : Cells) (edge : Edge) (from to band : ℕ) (line old new : List ℕ) → IsLineFrom (capped edge cells) (min (from + 64 * (band + 1)) to + shift edge) line
     → ((x : ℕ) → x < cells.width → get_or new (band * cells.width + x) 0 ≡ get_or line x 0)
     → ((k : ℕ) → (k < band * cells.width) ⊎ (band * cells.width + cells.width ≤ k) → get_or new k 0 ≡ get_or old k 0)
-    → AreEdges cells from to (band + 1) old → AreEdges cells from to band new
-AreEdges-next cells from to band line old new behind copied others edges = record {
+    → AreBandLines cells edge from to (band + 1) old → AreBandLines cells edge from to band new
+AreBandLines-next cells edge from to band line old new behind copied others lines = record {
   each = λ x b column at_least inside. elim (cases_eq b band) [
     | inl here ↦ rw (here, copied x column) (behind.each x column)
     | inr apart ↦
-        let place : band * cells.width + cells.width ≤ b * cells.width + x = rows_apart band b cells.width x (omega (arith, at_least, apart)) in
-        rw (others (b * cells.width + x) (inr place)) (edges.each x b column (omega (arith, at_least, apart)) inside)
+        let place : band * cells.width + cells.width ≤ b * cells.width + x = place_below band b cells.width x (omega (arith, at_least, apart)) in
+        rw (others (b * cells.width + x) (inr place)) (lines.each x b column (omega (arith, at_least, apart)) inside)
   ];
 }

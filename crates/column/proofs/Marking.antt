@@ -10,7 +10,7 @@ use Rattle.std.proofs.lemmas.Nat.Bits.{bit_at_and, bit_at_not, bit_at-lt, bit_at
 use Rattle.std.specs.Simd.Lanes.{zip2}
 use Rattle.std.proofs.lemmas.List.{get_or-replicate}
 use Rattle.std.proofs.lemmas.Simd.{get_or-zip2}
-use Rattle.column.specs.Sweeps.{marked, first_marked}
+use Rattle.column.specs.Marks.{marked, first_marked}
 
 -- by its bit, a column is missing still where it was missing and the word has no obstacle there
 bit_missing : (b m entry y : ℕ) → b < 2 → m < 2 → y < 4098 → (m == 1) ≡ (entry == 65535) → (min m (1 - b) == 1) ≡ (marked (min b m == 1) y entry == 65535)

@@ -9,7 +9,7 @@ use Rattle.std.proofs.lemmas.Bool.Decides.{nat_tests}
 use Rattle.bits.specs.Cells.{Cells, has}
 use Rattle.bits.specs.Edges.{IsMap}
 use Rattle.column.specs.Columns.{IsNearestRow, IsRowOfTable, row_of}
-use Rattle.column.specs.Sweeps.{AreMissing, IsNearestWithin, IsSeen, first_marked}
+use Rattle.column.specs.Marks.{AreMissing, IsNearestWithin, IsSeen, first_marked}
 use Rattle.column.proofs.Nearest.{row_of-none, row_of-some, IsRowAtMost-by}
 
 -- a mask of ones tells of each entry without a row that it stands for none

@@ -1,6 +1,6 @@
 -- A table of nearest rows, and the bitmap that it was made of.
-use Rattle.std.proofs.Common.{◌≡◌, ℕ, ◌+◌, ◌*◌, ◌<◌, ◌≤◌, ◌==◌, ◌∙◌, Bool, true, false, List, Option, Some, None, length, get_or, arith, sym, ap}
-use Rattle.std.proofs.lemmas.Bool.{cases_eq, eq-eqb, ne_eqb}
+use Rattle.std.proofs.Common.{◌≡◌, ℕ, ◌+◌, ◌*◌, ◌<◌, ◌≤◌, ◌⊎◌, ◌==◌, ◌∙◌, Bool, true, false, List, Option, Some, None, length, get_or, arith, sym, ap}
+use Rattle.std.proofs.lemmas.Bool.{cases_eq, cases_lt, eq-eqb, ne_eqb}
 use Rattle.std.proofs.Math.Nat.{mul-le-mul}
 use mathlib.Core.Logic.{inl, inr}
 use Rattle.metric.specs.Edge.{shift}
@@ -10,9 +10,8 @@ use Rattle.bits.specs.Edges.{framed}
 use Rattle.bits.proofs.CellsLemmas.{cells_where-same, cells_where-has, IsBitmap-cells_where}
 use Rattle.bits.proofs.Framing.{framed_size, has-framed, shift_few}
 use Rattle.column.specs.Columns.{IsNearestRow, IsRowOfTable, row_of}
-use Rattle.column.specs.Sweeps.{IsSweptUp}
-use Rattle.column.specs.Tabled.{Bordered, cells_tabled, place_in, IsTabled}
-use Rattle.column.proofs.Sweeping.{row_ends}
+use Rattle.column.specs.Tabled.{Bordered, HasRows, IsTabled, cells_tabled, place_in}
+use Rattle.column.proofs.Places.{place_above, row_ends}
 use Rattle.column.proofs.Nearest.{row_of-none, row_of-some}
 
 -- the nearest row of a column, seen from an obstacle's row, is that row
@@ -46,37 +45,47 @@ entry_tells cells x y entry small nearest false is = elim (cases_eq entry y) [
   | inr apart ↦ ne_eqb entry y apart
 ]
 
--- after both sweeps the table stands for the bitmap
-pub cells_tabled-swept : (cells : Cells) (width height : ℕ) (edge : Edge) (entries : List ℕ) → IsBitmap cells → width ≡ cells.width → height ≡ cells.height → IsSweptUp (framed edge cells) 0 entries
+-- once all rows have their entries the table stands for the bitmap
+pub cells_tabled-all : (cells : Cells) (width height : ℕ) (edge : Edge) (entries : List ℕ) → IsBitmap cells → width ≡ cells.width → height ≡ cells.height → HasRows cells edge cells.width cells.height entries
     → cells_tabled width height edge entries ≡ cells
-cells_tabled-swept cells width height edge entries bitmap width_is height_is swept =
-    let size = framed_size edge cells in
-    let wide = size.0 in
-    let high = size.1 in
+cells_tabled-all cells width height edge entries bitmap width_is height_is rows =
     let few = bitmap.height_is.few in
     let least = shift_few edge in
     rw (width_is, height_is)
     (cells_where-same cells.width cells.height (λ x y. get_or entries (place_in cells.width edge x y) 0 == y + shift edge) (has cells)
     (λ x y column row.
-    let nearest = rw wide at (swept.nearest (x + shift edge) (y + shift edge) (omega (arith, wide, column)) (omega arith) (omega (arith, high, row))) in
+    let nearest = rows.each (x + shift edge) y (omega (arith, column)) row in
     entry_tells (framed edge cells) (x + shift edge) (y + shift edge) (get_or entries (place_in cells.width edge x y) 0) (omega (arith, row, few, least)) nearest (has cells x y) (has-framed edge cells x y column row))
     ∙ sym (cells_where-has cells bitmap))
 
--- after both sweeps the entries are a table of nearest rows of the bitmap
-pub IsTabled-swept : (cells : Cells) (width height : ℕ) (edge : Edge) (entries : List ℕ) → IsBitmap cells → width ≡ cells.width → height ≡ cells.height → IsSweptUp (framed edge cells) 0 entries
-    → IsTabled width height edge entries
-IsTabled-swept cells width height edge entries bitmap width_is height_is swept =
-    let tabled = cells_tabled-swept cells width height edge entries bitmap width_is height_is swept in
-    let size = framed_size edge cells in
-    let wide = size.0 in
-    let high = size.1 in
+-- once all rows have their entries these are a table of nearest rows of the bitmap
+pub IsTabled-all : (cells : Cells) (width height : ℕ) (edge : Edge) (entries : List ℕ) → IsBitmap cells → width ≡ cells.width → height ≡ cells.height → length entries ≡ cells.height * (cells.width + 2 * shift edge)
+    → HasRows cells edge cells.width cells.height entries → IsTabled width height edge entries
+IsTabled-all cells width height edge entries bitmap width_is height_is many rows =
+    let tabled = cells_tabled-all cells width height edge entries bitmap width_is height_is rows in
     record {
       width_is = rw width_is bitmap.width_is;
       height_is = rw height_is bitmap.height_is;
-      as_many = rw (width_is, height_is) (rw (wide, high) at swept.as_many);
-      each = λ x y column row.
-          let nearest = rw wide at (swept.nearest x y (omega (arith, wide, column, width_is)) (omega arith) (omega (arith, high, row, height_is))) in
-          rw (tabled, width_is) nearest;
+      as_many = rw (width_is, height_is) many;
+      rows = rw (tabled, width_is, height_is) rows;
+    }
+
+-- one row more has its entries once they are put in their place
+pub HasRows-more : (cells : Cells) (edge : Edge) (y : ℕ) (line old new : List ℕ) → IsRowOfTable (framed edge cells) (y + shift edge) line
+    → ((x : ℕ) → x < length line → get_or new (y * (cells.width + 2 * shift edge) + x) 0 ≡ get_or line x 0)
+    → ((k : ℕ) → (k < y * (cells.width + 2 * shift edge)) ⊎ (y * (cells.width + 2 * shift edge) + length line ≤ k) → get_or new k 0 ≡ get_or old k 0)
+    → HasRows cells edge cells.width y old → HasRows cells edge cells.width (y + 1) new
+HasRows-more cells edge y line old new row copied others rows =
+    let wide = (framed_size edge cells).0 in
+    let across : ℕ = cells.width + 2 * shift edge in
+    record {
+      each = λ x b column below. elim (cases_lt b y) [
+        | inl above ↦ rw (others (b * across + x) (inl (place_above b y across x above column))) (rows.each x b column above)
+        | inr high ↦
+            let here : b ≡ y = omega (arith, high, below) in
+            let within : x < (framed edge cells).width = rw wide column in
+            rw (here, copied x (rw row.as_many within)) (row.each x within)
+      ];
     }
 
 -- what a table stands for is a bitmap
@@ -89,7 +98,7 @@ bordered cells edge = record { cells = cells; edge = edge }
 
 -- the entries of a row of a table are its row
 pub IsRowOfTable-tabled : (width height : ℕ) (edge : Edge) (entries line : List ℕ) (y : ℕ) → IsTabled width height edge entries → y < height → length line ≡ width + 2 * shift edge
-    → ((x : ℕ) → x < width + 2 * shift edge → get_or line x 0 ≡ get_or entries ((y + shift edge) * (width + 2 * shift edge) + x) 0) → IsRowOfTable (framed edge (cells_tabled width height edge entries)) (y + shift edge) line
+    → ((x : ℕ) → x < width + 2 * shift edge → get_or line x 0 ≡ get_or entries (y * (width + 2 * shift edge) + x) 0) → IsRowOfTable (framed edge (cells_tabled width height edge entries)) (y + shift edge) line
 IsRowOfTable-tabled width height edge entries line y tabled row len read =
     let size = framed_size edge (cells_tabled width height edge entries) in
     let wide = size.0 in
@@ -97,19 +106,18 @@ IsRowOfTable-tabled width height edge entries line y tabled row len read =
       as_many = len ∙ sym wide;
       each = λ x column.
           let inside : x < width + 2 * shift edge = omega (arith, column, wide) in
-          rw (read x inside) (tabled.each x (y + shift edge) inside (omega (arith, row)));
+          rw (read x inside) (tabled.rows.each x y inside row);
     }
 
 -- a row of a table lies within it, and in fewer entries than a number of 32 bits counts
 pub line_within : (width height : ℕ) (edge : Edge) (entries : List ℕ) (y : ℕ) → IsTabled width height edge entries → y < height
-    → ((y + shift edge) * (width + 2 * shift edge) + (width + 2 * shift edge) ≤ length entries) × ((y + shift edge) * (width + 2 * shift edge) + (width + 2 * shift edge) < 4294967296)
+    → (y * (width + 2 * shift edge) + (width + 2 * shift edge) ≤ length entries) × (y * (width + 2 * shift edge) + (width + 2 * shift edge) < 4294967296)
 line_within width height edge entries y tabled row =
-    let within = row_ends (y + shift edge) (height + 2 * shift edge) (width + 2 * shift edge) (omega (arith, row)) in
+    let within = row_ends y height (width + 2 * shift edge) row in
     let many = tabled.as_many in
+    let high = tabled.height_is.few in
     let few = tabled.width_is.few in
-    let few_rows = tabled.height_is.few in
     let least = shift_few edge in
-    let high : height + 2 * shift edge ≤ 4098 = omega (arith, few_rows, least) in
     let wide : width + 2 * shift edge ≤ 4098 = omega (arith, few, least) in
-    let all : (height + 2 * shift edge) * (width + 2 * shift edge) ≤ 4098 * 4098 = mul-le-mul high wide in
+    let all : height * (width + 2 * shift edge) ≤ 4096 * 4098 = mul-le-mul high wide in
     (omega (arith, within, many), omega (arith, within, all))

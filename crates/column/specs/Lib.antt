@@ -1,6 +1,7 @@
 pub mod Capped
+pub mod Carrying
 pub mod Columns
 pub mod Lines
 pub mod Spots
-pub mod Sweeps
+pub mod Marks
 pub mod Tabled

@@ -1,6 +1,9 @@
 -- Lines of entries that are carried from row to row, and what a band of rows knows of the obstacles below it: this project's own rule.
 use Rattle.std.specs.Prelude.{◌≡◌, ℕ, ◌+◌, ◌-◌, ◌*◌, ◌<◌, ◌≤◌, min, List, length, slice_index, Option, Some, None}
+use Rattle.metric.specs.Edge.{shift}
+use Rattle.metric.specs.declared.edge.Edge.{Edge}
 use Rattle.bits.specs.Cells.{Cells, IsObstacle}
+use Rattle.column.specs.Capped.{capped}
 use Rattle.column.specs.Columns.{row_of}
 
 -- this is the row of the lowest obstacle of column x before the row y; none where there is none
@@ -23,10 +26,12 @@ pub record IsLineFrom (cells : Cells) (y : ℕ) (line : List ℕ) : Type 0 where
   pub as_many : length line ≡ cells.width
   pub each : (x : ℕ) → x < cells.width → IsRowFrom cells x y (row_of (slice_index line x))
 
--- the lines have for each row from one to before another and each column the nearest obstacle below it; they are counted from a first row
-pub record AreLinesBehind (cells : Cells) (first from to : ℕ) (lines : List ℕ) : Type 0 where
-  pub each : (x y : ℕ) → x < cells.width → from ≤ y → y < to → IsRowFrom cells x (y + 1) (row_of (slice_index lines ((y - first) * cells.width + x)))
+-- the lines have for each row of the map from one to before another and each column the nearest obstacle below it; they are counted from a first row
+pub record AreLinesBehind (cells : Cells) (edge : Edge) (first from to : ℕ) (lines : List ℕ) : Type 0 where
+  pub each : (x y : ℕ) → x < cells.width → from ≤ y → y < to
+      → IsRowFrom (capped edge cells) x (y + 1 + shift edge) (row_of (slice_index lines ((y - first) * cells.width + x)))
 
--- the edges have for each band of 64 rows from one on, and each column, the nearest obstacle below the band, of the rows before another
-pub record AreEdges (cells : Cells) (from to bands : ℕ) (edges : List ℕ) : Type 0 where
-  pub each : (x band : ℕ) → x < cells.width → bands ≤ band → from + 64 * band < to → IsRowFrom cells x (min (from + 64 * (band + 1)) to) (row_of (slice_index edges (band * cells.width + x)))
+-- the lines have for each band of 64 rows of the map from one on, and each column, the nearest obstacle below the band, of the rows before another
+pub record AreBandLines (cells : Cells) (edge : Edge) (from to bands : ℕ) (lines : List ℕ) : Type 0 where
+  pub each : (x band : ℕ) → x < cells.width → bands ≤ band → from + 64 * band < to
+      → IsRowFrom (capped edge cells) x (min (from + 64 * (band + 1)) to + shift edge) (row_of (slice_index lines (band * cells.width + x)))

@@ -1,4 +1,4 @@
--- How a bitmap lies in a table of nearest rows: this project's own rule. The rows of entries lie one after another, those of the frame with them where the border is a wall; a cell is an obstacle where its entry is its own row.
+-- How a bitmap lies in a table of nearest rows: this project's own rule. The rows of entries lie one after another, and have the frame's columns where the border is a wall. An entry counts rows with the frame; a cell is an obstacle where its entry is its own row.
 use Rattle.std.specs.Prelude.{◌≡◌, ℕ, ◌+◌, ◌*◌, ◌<◌, ◌==◌, List, length, slice_index}
 use Rattle.metric.specs.declared.edge.Edge.{Edge}
 use Rattle.metric.specs.Edge.{shift}
@@ -13,15 +13,20 @@ pub record Bordered : Type 0 where
 
 -- a cell's entry has this place, where the cell's column and row are counted without the frame
 abbrev pub place_in : ℕ → Edge → ℕ → ℕ → ℕ
-place_in width edge x y = (y + shift edge) * (width + 2 * shift edge) + (x + shift edge)
+place_in width edge x y = y * (width + 2 * shift edge) + (x + shift edge)
 
 -- a table was made of this bitmap
 abbrev pub cells_tabled : ℕ → ℕ → Edge → List ℕ → Cells
 cells_tabled width height edge entries = cells_where width height (λ x y. slice_index entries (place_in width edge x y) == y + shift edge)
 
+-- the entries of the map's first rows are the nearest rows of their columns
+pub record HasRows (cells : Cells) (edge : Edge) (width rows : ℕ) (entries : List ℕ) : Type 0 where
+  pub each : (x y : ℕ) → x < width + 2 * shift edge → y < rows
+      → IsNearestRow (framed edge cells) x (y + shift edge) (row_of (slice_index entries (y * (width + 2 * shift edge) + x)))
+
 -- each entry is the nearest row of the bitmap that the table was made of, with its border
 pub record IsTabled (width height : ℕ) (edge : Edge) (entries : List ℕ) : Type 0 where
   pub width_is : IsSide width
   pub height_is : IsSide height
-  pub as_many : length entries ≡ (height + 2 * shift edge) * (width + 2 * shift edge)
-  pub each : (x y : ℕ) → x < width + 2 * shift edge → y < height + 2 * shift edge → IsNearestRow (framed edge (cells_tabled width height edge entries)) x y (row_of (slice_index entries (y * (width + 2 * shift edge) + x)))
+  pub as_many : length entries ≡ height * (width + 2 * shift edge)
+  pub rows : HasRows (cells_tabled width height edge entries) edge width height entries

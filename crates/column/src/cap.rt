@@ -3,7 +3,7 @@
 ghost use Rattle.std.specs.Prelude.{◌≡◌, ℕ, ◌+◌, ◌*◌, ◌<◌, ◌≤◌, true, length, slice_index};
 ghost use Rattle.metric.specs.Edge.{shift};
 ghost use Rattle.column.specs.Capped.{is_cap, is_side};
-ghost use Rattle.column.specs.Sweeps.{AreMissing, first_marked, marked};
+ghost use Rattle.column.specs.Marks.{AreMissing, first_marked, marked};
 
 use crate::NONE;
 use metric::{Edge, FRAMED_SIDE, MOST_SIDE};

@@ -1,14 +1,17 @@
 //! The column phase: for each cell, the nearest obstacle of its column.
 #![tactic(auto)]
 
+mod batch;
 mod cap;
-mod edge;
+mod carried;
+mod columns;
 mod lines;
 mod row;
 mod seek;
-mod sweep;
+mod sought;
 mod table;
 
-pub use lines::{BAND, carry_edges, fill_band, next_row};
+pub use batch::Batch;
+pub use columns::Columns;
 pub use seek::nearest_rows;
 pub use table::{ColumnTable, NONE};

@@ -1,4 +1,5 @@
-//! Lines of entries that are carried from row to row: for each column of the map the nearest obstacle before a row, or from a row on. Where the border is a wall, rows are counted with the frame.
+//! Lines of entries that are carried from row to row: for each column of the map the nearest obstacle
+//! before a row, or from a row on.
 
 ghost use Rattle.std.specs.Prelude.{◌≡◌, ℕ, ◌+◌, ◌-◌, ◌*◌, ◌/◌, ◌<◌, ◌≤◌, ◌⊎◌, length, slice_index};
 ghost use Rattle.metric.specs.Edge.{shift};
@@ -6,110 +7,94 @@ ghost use Rattle.bits.specs.Cells.{IsBitmap, has};
 ghost use Rattle.bits.specs.Edges.{framed};
 ghost use Rattle.column.specs.Capped.{capped};
 ghost use Rattle.column.specs.Columns.{IsRowOfTable};
-ghost use Rattle.column.specs.Lines.{AreEdges, AreLinesBehind, IsLineBefore, IsLineFrom};
-ghost use Rattle.column.specs.Sweeps.{marked, nearer};
+ghost use Rattle.column.specs.Lines.{AreBandLines, AreLinesBehind, IsLineBefore, IsLineFrom};
+ghost use Rattle.column.specs.Marks.{marked, nearer};
 
+use crate::batch::Batch;
 use crate::cap::mark_sides;
-use crate::edge::{seek_before, seek_from};
 use crate::row::{mark_row, nearer};
+use crate::sought::{seek_before, seek_from};
 use bits::Bitmap;
 use metric::{BAND_ROWS, Edge};
 
 /// How many rows a band has.
 pub const BAND: u16 = BAND_ROWS;
 
+/// Writes for each row of a band the line of the obstacles below it, where that below the band is known.
+/// `line` is room for a line.
+pub fn fill_band(band: &Batch<'_>, behind: &[u16], line: &mut [u16], lines: &mut [u16])
+    requires bitmap { IsBitmap band.now.bitmap.now }
+    requires room { (band.now.y1 - band.now.y0) * band.now.bitmap.now.width ≤ length lines.old }
+    requires behind { IsLineFrom (capped band.now.edge band.now.bitmap.now)
+        (band.now.y1 + shift band.now.edge) behind.now }
+    requires width { length line.old ≡ band.now.bitmap.now.width }
+    ensures lines { AreLinesBehind band.now.bitmap.now band.now.edge band.now.y0 band.now.y0
+        band.now.y1 lines.new }
+{
+    let width = band.width();
+    line.copy_from_slice(behind);
+    'rows: for y in (band.y0..band.y1).rev() {
+        let start = usize::from(y - band.y0) * width;
+        put_line(line, start, lines);
+        mark_line(band.bitmap, band.edge, y, line);
+    }
+}
+
+/// Seeks the line of the obstacles before the batch, and leaves for each band of its rows the line of
+/// the obstacles below it. `line` is room for a line.
+pub fn seek_bands(batch: &Batch<'_>, before: &mut [u16], line: &mut [u16], bands: &mut [u16])
+    requires bitmap { IsBitmap batch.now.bitmap.now }
+    requires room { (batch.now.y1 - batch.now.y0 + 63) / 64 * batch.now.bitmap.now.width
+        ≤ length bands.old }
+    requires before { length before.old ≡ batch.now.bitmap.now.width }
+    requires line { length line.old ≡ batch.now.bitmap.now.width }
+    ensures before { IsLineBefore (capped batch.now.edge batch.now.bitmap.now)
+        (batch.now.y0 + shift batch.now.edge) before.new }
+    ensures bands { AreBandLines batch.now.bitmap.now batch.now.edge batch.now.y0 batch.now.y1 0
+        bands.new }
+{
+    let (bitmap, edge) = (batch.bitmap, batch.edge);
+    seek_before(bitmap, edge, batch.y0 + edge.shift(), before);
+    seek_from(bitmap, edge, batch.y1 + edge.shift(), line);
+    fill_bands(batch, line, bands);
+}
+
+/// Writes for each band of the batch the line of the obstacles below it, where the line in hand is that
+/// of the obstacles below the batch. The line is carried up on the way.
+fn fill_bands(batch: &Batch<'_>, line: &mut [u16], bands: &mut [u16])
+    requires bitmap { IsBitmap batch.now.bitmap.now }
+    requires room { (batch.now.y1 - batch.now.y0 + 63) / 64 * batch.now.bitmap.now.width
+        ≤ length bands.old }
+    requires line { IsLineFrom (capped batch.now.edge batch.now.bitmap.now)
+        (batch.now.y1 + shift batch.now.edge) line.old }
+    ensures { AreBandLines batch.now.bitmap.now batch.now.edge batch.now.y0 batch.now.y1 0
+        bands.new }
+{
+    let width = batch.width();
+    let count = (batch.y1 - batch.y0).div_ceil(BAND);
+    'bands: for band in (0..count).rev() {
+        let first = batch.y0 + band * BAND;
+        let end = batch.y1.min(first + BAND);
+        put_line(line, usize::from(band) * width, bands);
+        carry_up(batch.bitmap, batch.edge, first, end, line);
+    }
+}
+
 /// Carries the line of the obstacles from row `to` on up to row `from`.
 fn carry_up(bitmap: &Bitmap, edge: Edge, from: u16, to: u16, line: &mut [u16])
     requires bitmap { IsBitmap bitmap.now }
-    requires above { shift edge ≤ from }
     requires order { from ≤ to }
-    requires within { to ≤ bitmap.now.height + shift edge }
-    requires line { IsLineFrom (capped edge bitmap.now) to line.old }
-    ensures { IsLineFrom (capped edge bitmap.now) from line.new }
+    requires within { to ≤ bitmap.now.height }
+    requires line { IsLineFrom (capped edge bitmap.now) (to + shift edge) line.old }
+    ensures { IsLineFrom (capped edge bitmap.now) (from + shift edge) line.new }
 {
     'rows: for y in (from..to).rev() {
         mark_line(bitmap, edge, y, line);
     }
 }
 
-/// Writes for each row of a band the line of the obstacles below it, where that below the band is known.
-/// `line` is room for a line.
-pub fn fill_band(
-    bitmap: &Bitmap,
-    edge: Edge,
-    from: u16,
-    to: u16,
-    behind: &[u16],
-    line: &mut [u16],
-    lines: &mut [u16],
-)
-    requires bitmap { IsBitmap bitmap.now }
-    requires above { shift edge ≤ from }
-    requires order { from ≤ to }
-    requires within { to ≤ bitmap.now.height + shift edge }
-    requires room { (to - from) * bitmap.now.width ≤ length lines.old }
-    requires behind { IsLineFrom (capped edge bitmap.now) to behind.now }
-    requires width { length line.old ≡ bitmap.now.width }
-    ensures lines { AreLinesBehind (capped edge bitmap.now) from from to lines.new }
-{
-    let width = usize::from(bitmap.width());
-    line.copy_from_slice(behind);
-    'rows: for y in (from..to).rev() {
-        let start = usize::from(y - from) * width;
-        put_line(line, start, lines);
-        mark_line(bitmap, edge, y, line);
-    }
-}
-
-/// Seeks the line of the obstacles before row `from`, and leaves for each band of the rows `from` to `to - 1`
-/// the line of the obstacles below it. `line` is room for a line.
-pub fn carry_edges(
-    bitmap: &Bitmap,
-    edge: Edge,
-    from: u16,
-    to: u16,
-    before: &mut [u16],
-    line: &mut [u16],
-    edges: &mut [u16],
-)
-    requires bitmap { IsBitmap bitmap.now }
-    requires above { shift edge ≤ from }
-    requires order { from ≤ to }
-    requires within { to ≤ bitmap.now.height + shift edge }
-    requires room { (to - from + 63) / 64 * bitmap.now.width ≤ length edges.old }
-    requires before { length before.old ≡ bitmap.now.width }
-    requires line { length line.old ≡ bitmap.now.width }
-    ensures before { IsLineBefore (capped edge bitmap.now) from before.new }
-    ensures edges { AreEdges (capped edge bitmap.now) from to 0 edges.new }
-{
-    seek_before(bitmap, edge, from, before);
-    seek_from(bitmap, edge, to, line);
-    fill_edges(bitmap, edge, from, to, line, edges);
-}
-
-/// Writes for each band of the rows `from` to `to - 1` the line of the obstacles below it, where the line in hand
-/// is that of the obstacles from row `to` on. The line is carried up on the way.
-fn fill_edges(bitmap: &Bitmap, edge: Edge, from: u16, to: u16, line: &mut [u16], edges: &mut [u16])
-    requires bitmap { IsBitmap bitmap.now }
-    requires above { shift edge ≤ from }
-    requires order { from ≤ to }
-    requires within { to ≤ bitmap.now.height + shift edge }
-    requires room { (to - from + 63) / 64 * bitmap.now.width ≤ length edges.old }
-    requires line { IsLineFrom (capped edge bitmap.now) to line.old }
-    ensures line { length line.new ≡ length line.old }
-    ensures edges { AreEdges (capped edge bitmap.now) from to 0 edges.new }
-{
-    let width = usize::from(bitmap.width());
-    let bands = (to - from).div_ceil(BAND);
-    'bands: for band in (0..bands).rev() {
-        let first = from + band * BAND;
-        put_line(line, usize::from(band) * width, edges);
-        carry_up(bitmap, edge, first, to.min(first + BAND), line);
-    }
-}
-
-/// The entries of row `y`, those of the frame with them, where the line before it and the line below it are known.
-/// The line before is carried down past the row.
+/// The entries of row `y`, those of the frame with them, where the line before it and the line below it
+/// are known. The line before is carried down past the row.
 pub fn next_row(
     bitmap: &Bitmap,
     edge: Edge,
@@ -119,40 +104,42 @@ pub fn next_row(
     entries: &mut [u16],
 )
     requires bitmap { IsBitmap bitmap.now }
-    requires above { shift edge ≤ y }
-    requires row { y < bitmap.now.height + shift edge }
-    requires before { IsLineBefore (capped edge bitmap.now) y before.old }
-    requires behind { IsLineFrom (capped edge bitmap.now) (y + 1) behind.now }
+    requires row { y < bitmap.now.height }
+    requires before { IsLineBefore (capped edge bitmap.now) (y + shift edge) before.old }
+    requires behind { IsLineFrom (capped edge bitmap.now) (y + 1 + shift edge) behind.now }
     requires width { length entries.old ≡ bitmap.now.width + 2 * shift edge }
-    ensures before { IsLineBefore (capped edge bitmap.now) (y + 1) before.new }
-    ensures entries { IsRowOfTable (framed edge bitmap.now) y entries.new }
+    ensures before { IsLineBefore (capped edge bitmap.now) (y + 1 + shift edge) before.new }
+    ensures entries { IsRowOfTable (framed edge bitmap.now) (y + shift edge) entries.new }
 {
     mark_line(bitmap, edge, y, before);
+    let framed = y + edge.shift();
     let first = usize::from(edge.shift());
     let width = usize::from(bitmap.width());
-    pick_line(y, before, behind, &mut entries[first..first + width]);
-    mark_sides(edge, y, entries);
+    pick_line(framed, before, behind, &mut entries[first..first + width]);
+    mark_sides(edge, framed, entries);
 }
 
-/// Writes its own row into the entry of each obstacle of row `y`, one of the map.
+/// Writes its own row, counted with the frame, into the entry of each obstacle of row `y` of the map.
 fn mark_line(bitmap: &Bitmap, edge: Edge, y: u16, line: &mut [u16])
     requires bitmap { IsBitmap bitmap.now }
-    requires above { shift edge ≤ y }
-    requires row { y < bitmap.now.height + shift edge }
+    requires row { y < bitmap.now.height }
     requires width { length line.old ≡ bitmap.now.width }
     ensures len { length line.new ≡ length line.old }
     ensures marked { (x : ℕ) → x < bitmap.now.width → slice_index line.new x
-        ≡ marked (has (capped edge bitmap.now) x y) y (slice_index line.old x) }
+        ≡ marked (has (capped edge bitmap.now) x (y + shift edge)) (y + shift edge)
+        (slice_index line.old x) }
 {
-    mark_row(bitmap.row_words(y - edge.shift()), y, line);
+    mark_row(bitmap.row_words(y), y + edge.shift(), line);
 }
 
 /// Copies a line to a place among others.
-fn put_line(line: &[u16], start: usize, lines: &mut [u16])
+pub fn put_line(line: &[u16], start: usize, lines: &mut [u16])
     requires { start + length line.now ≤ length lines.old }
     ensures len { length lines.new ≡ length lines.old }
-    ensures copied { (x : ℕ) → x < length line.now → slice_index lines.new (start + x) ≡ slice_index line.now x }
-    ensures others { (k : ℕ) → (k < start) ⊎ (start + length line.now ≤ k) → slice_index lines.new k ≡ slice_index lines.old k }
+    ensures copied { (x : ℕ) → x < length line.now → slice_index lines.new (start + x)
+        ≡ slice_index line.now x }
+    ensures others { (k : ℕ) → (k < start) ⊎ (start + length line.now ≤ k)
+        → slice_index lines.new k ≡ slice_index lines.old k }
 {
     lines[start..start + line.len()].copy_from_slice(line);
 }

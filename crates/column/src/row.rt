@@ -2,7 +2,7 @@
 
 ghost use Rattle.std.specs.Prelude.{◌≡◌, ℕ, ◌+◌, ◌*◌, ◌<◌, ◌≤◌, ◌==◌, ◌⊎◌, length, slice_index};
 ghost use Rattle.std.specs.Int.{bit_at};
-ghost use Rattle.column.specs.Sweeps.{is_marked, marked, nearer};
+ghost use Rattle.column.specs.Marks.{is_marked, marked, nearer};
 
 use crate::NONE;
 use metric::WORD_BITS;
@@ -92,20 +92,6 @@ fn mark_last(bits: u16, y: u16, first: usize, row: &mut [u16])
     'bits: for place in 0..row.len() - first {
         let entry = row[first + place];
         row[first + place] = if (bits >> place) & 1 == 1 { y } else { entry };
-    }
-}
-
-/// Takes for each entry of row `y` that of the row below where that one is nearer; the entries of row `y` begin at `start`.
-#[inline(never)]
-pub fn lift_row(y: u16, start: usize, entries: &mut [u16], below: &[u16])
-    requires { start + length below.now ≤ length entries.old }
-    ensures len { length entries.new ≡ length entries.old }
-    ensures nearer { (x : ℕ) → x < length below.now → slice_index entries.new (start + x)
-        ≡ nearer y (slice_index entries.old (start + x)) (slice_index below.now x) }
-    ensures others { (k : ℕ) → (k < start) ⊎ (start + length below.now ≤ k) → slice_index entries.new k ≡ slice_index entries.old k }
-{
-    'columns: for x in 0..below.len() {
-        entries[start + x] = nearer(y, entries[start + x], below[x]);
     }
 }
 

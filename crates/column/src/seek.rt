@@ -1,4 +1,5 @@
-//! The nearest obstacles of all columns seen from one row, without a table. Where the border is a wall, rows are counted with the frame.
+//! The nearest obstacles of all columns seen from one row, without a table. Where the border is a
+//! wall, rows are counted with the frame.
 
 ghost use Rattle.std.specs.Prelude.{◌≡◌, ℕ, ◌+◌, ◌-◌, ◌*◌, ◌<◌, ◌≤◌, ◌==◌, ◌⊎◌, false, length, slice_index, bit_and};
 ghost use Rattle.std.specs.Int.{bit_at};
@@ -7,7 +8,7 @@ ghost use Rattle.bits.specs.Cells.{IsBitmap, has};
 ghost use Rattle.bits.specs.Edges.{framed};
 ghost use Rattle.column.specs.Capped.{capped};
 ghost use Rattle.column.specs.Columns.{IsRowOfTable};
-ghost use Rattle.column.specs.Sweeps.{AreMissing, first_marked, is_marked};
+ghost use Rattle.column.specs.Marks.{AreMissing, first_marked, is_marked};
 
 use crate::NONE;
 use crate::cap::{is_cap, mark_all, mark_sides};
@@ -26,27 +27,20 @@ pub fn nearest_rows(bitmap: &Bitmap, edge: Edge, y: u16, entries: &mut [u16])
     requires width { length entries.old ≡ bitmap.now.width + 2 * shift edge }
     ensures { IsRowOfTable (framed edge bitmap.now) y entries.new }
 {
-    let mut missing = [0u64; MOST_WORDS];
     let first = usize::from(edge.shift());
     let width = usize::from(bitmap.width());
-    look_around(
-        bitmap,
-        edge,
-        y,
-        &mut missing,
-        &mut entries[first..first + width],
-    );
+    look_around(bitmap, edge, y, &mut entries[first..first + width]);
     mark_sides(edge, y, entries);
 }
 
-/// Looks at the rows from row `y` outwards, mostly until each column has an entry; `missing` is room for a mask of each word's columns that have none yet.
-fn look_around(bitmap: &Bitmap, edge: Edge, y: u16, missing: &mut [u64], entries: &mut [u16])
+/// Looks at the rows from row `y` outwards, mostly until each column has an entry. A mask for each word
+/// says which of its columns have none yet.
+fn look_around(bitmap: &Bitmap, edge: Edge, y: u16, entries: &mut [u16])
     requires row { y < bitmap.now.height + 2 * shift edge }
     requires width { length entries.old ≡ bitmap.now.width }
-    requires room { length missing.old ≡ 64 }
     ensures { IsRowOfTable (capped edge bitmap.now) y entries.new }
 {
-    missing.fill(u64::MAX);
+    let mut missing = [u64::MAX; MOST_WORDS];
     entries.fill(NONE);
     let rows = bitmap.height() + 2 * edge.shift();
     let walled = past_frame(edge, rows, y);
@@ -54,8 +48,9 @@ fn look_around(bitmap: &Bitmap, edge: Edge, y: u16, missing: &mut [u64], entries
         if (away.is_power_of_two() || away == walled) && !entries.contains(&NONE) {
             return;
         }
-        look_above(bitmap, edge, y, away, missing, entries);
-        look_below(bitmap, edge, y, away, missing, entries);
+        // Above the first row the number wraps round to one that no row has.
+        look_within(bitmap, edge, y.wrapping_sub(away), &mut missing, entries);
+        look_within(bitmap, edge, y + away, &mut missing, entries);
     }
 }
 
@@ -70,57 +65,22 @@ fn past_frame(edge: Edge, rows: u16, y: u16) -> u16
     }
 }
 
-/// Looks at the row so many rows above row `y`, if there is one.
-fn look_above(
-    bitmap: &Bitmap,
-    edge: Edge,
-    y: u16,
-    away: u16,
-    missing: &mut [u64],
-    entries: &mut [u16],
-)
+/// Looks at row `y`, if there is one.
+fn look_within(bitmap: &Bitmap, edge: Edge, y: u16, missing: &mut [u64], entries: &mut [u16])
     requires bitmap { IsBitmap bitmap.now }
-    requires row { y < bitmap.now.height + 2 * shift edge }
     requires width { length entries.old ≡ bitmap.now.width }
     requires room { length missing.old ≡ 64 }
     requires missing { AreMissing missing.old entries.old }
     ensures len { length entries.new ≡ length entries.old }
     ensures room { length missing.new ≡ length missing.old }
     ensures missing { AreMissing missing.new entries.new }
-    ensures seen { away ≤ y → (x : ℕ) → x < bitmap.now.width
-        → slice_index entries.new x ≡ first_marked (has (capped edge bitmap.now) x (y - away)) (y - away)
+    ensures seen { y < bitmap.now.height + 2 * shift edge → (x : ℕ) → x < bitmap.now.width
+        → slice_index entries.new x ≡ first_marked (has (capped edge bitmap.now) x y) y
         (slice_index entries.old x) }
-    ensures none { y < away → entries.new ≡ entries.old }
+    ensures none { bitmap.now.height + 2 * shift edge ≤ y → entries.new ≡ entries.old }
 {
-    if away <= y {
-        look_at(bitmap, edge, y - away, missing, entries);
-    }
-}
-
-/// Looks at the row so many rows below row `y`, if there is one.
-fn look_below(
-    bitmap: &Bitmap,
-    edge: Edge,
-    y: u16,
-    away: u16,
-    missing: &mut [u64],
-    entries: &mut [u16],
-)
-    requires bitmap { IsBitmap bitmap.now }
-    requires row { y < bitmap.now.height + 2 * shift edge }
-    requires width { length entries.old ≡ bitmap.now.width }
-    requires room { length missing.old ≡ 64 }
-    requires missing { AreMissing missing.old entries.old }
-    ensures len { length entries.new ≡ length entries.old }
-    ensures room { length missing.new ≡ length missing.old }
-    ensures missing { AreMissing missing.new entries.new }
-    ensures seen { y + away < bitmap.now.height + 2 * shift edge → (x : ℕ) → x < bitmap.now.width
-        → slice_index entries.new x ≡ first_marked (has (capped edge bitmap.now) x (y + away)) (y + away)
-        (slice_index entries.old x) }
-    ensures none { bitmap.now.height + 2 * shift edge ≤ y + away → entries.new ≡ entries.old }
-{
-    if away < bitmap.height() + 2 * edge.shift() - y {
-        look_at(bitmap, edge, y + away, missing, entries);
+    if y < bitmap.height() + 2 * edge.shift() {
+        look_at(bitmap, edge, y, missing, entries);
     }
 }
 

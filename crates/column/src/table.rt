@@ -5,11 +5,15 @@ ghost use Rattle.std.specs.Option.{option_map};
 ghost use Rattle.metric.specs.Edge.{shift, spot_of};
 ghost use Rattle.bits.specs.Cells.{IsBitmap};
 ghost use Rattle.bits.specs.Edges.{framed};
+ghost use Rattle.column.specs.Carrying.{IsNextRow};
 ghost use Rattle.column.specs.Columns.{IsRowOfTable, row_of};
 ghost use Rattle.column.specs.Spots.{IsNearestSpotRow};
+ghost use Rattle.column.specs.Tabled.{HasRows};
 ghost use Rattle.metric.specs.declared.refusal.Refusal.TheVariants.{Memory};
 
-use crate::sweep::sweep;
+use crate::batch::Batch;
+use crate::columns::Columns;
+use crate::lines::put_line;
 use bits::Bitmap;
 use metric::{Edge, LAST_FRAMED, MOST_SIDE, Refusal};
 use std::alloc::Global;
@@ -18,9 +22,12 @@ use std::marker::Model;
 /// The entry of a column without an obstacle.
 pub const NONE: u16 = u16::MAX;
 
-/// For each cell of a bitmap the nearest obstacle of its column. Contracts see it as the bitmap that it was made of, and what its border is.
+/// For each cell of a bitmap the nearest obstacle of its column. Contracts see it as the bitmap that it
+/// was made of, and what its border is.
 ///
-/// Where the border is a wall, the frame's cells are obstacles, and have entries too. The entry of a cell is the row of its column's nearest obstacle, counted with the frame, or `NONE`. The rows of entries lie one after another.
+/// Where the border is a wall, the frame's cells are obstacles, and its columns have entries too. The
+/// entry of a cell is the row of its column's nearest obstacle, counted with the frame, or `NONE`. The
+/// rows of entries lie one after another.
 #[derive(Debug, Drop)]
 pub struct ColumnTable {
     width: u16,
@@ -40,16 +47,22 @@ impl Model for ColumnTable {
 }
 
 impl ColumnTable {
-    /// The table of this bitmap, whose border is as the edge says. Refused for want of memory alone.
+    /// The table of this bitmap, whose border is as the edge says. Fails only when out of memory.
     pub fn of(alloc: Global, bitmap: &Bitmap, edge: Edge) -> Result<Self, Refusal>
         ensures table { IfOk result (λ table. table ≡ record { cells = bitmap.now; edge = edge }) }
         ensures memory { IfErr result (λ refusal. refusal ≡ Memory) }
     {
         let (width, height) = (bitmap.width(), bitmap.height());
-        let (columns, rows) = (width + 2 * edge.shift(), height + 2 * edge.shift());
-        let cells = usize::from(rows) * usize::from(columns);
+        let batch = Batch {
+            bitmap,
+            edge,
+            y0: 0,
+            y1: height,
+        };
+        let cells = usize::from(height) * usize::from(batch.columns());
+        let mut columns = Columns::of(alloc, &batch)?;
         let mut entries = vec![in alloc; NONE; cells]?;
-        sweep(bitmap, edge, entries.as_mut_slice());
+        fill_rows(&batch, &mut columns, entries.as_mut_slice());
         Ok(ColumnTable {
             width,
             height,
@@ -101,9 +114,25 @@ impl ColumnTable {
         ensures row { IsRowOfTable (framed self.now.edge self.now.cells) (y + shift self.now.edge) result.now }
         ensures bitmap { IsBitmap self.now.cells }
     {
-        let before = self.edge.shift();
-        let width = usize::from(self.width + 2 * before);
-        line_of(&self.entries, usize::from(y + before), width)
+        let width = usize::from(self.width + 2 * self.edge.shift());
+        line_of(&self.entries, usize::from(y), width)
+    }
+}
+
+/// Fills the entries of all rows of a bitmap, from the first one on.
+fn fill_rows(batch: &Batch<'_>, columns: &mut Columns, entries: &mut [u16])
+    requires first { batch.now.y0 ≡ 0 }
+    requires columns { IsNextRow batch.now columns.old 0 }
+    requires room { length entries.old ≡ batch.now.y1
+        * (batch.now.bitmap.now.width + 2 * shift batch.now.edge) }
+    ensures len { length entries.new ≡ length entries.old }
+    ensures rows { HasRows batch.now.bitmap.now batch.now.edge batch.now.bitmap.now.width batch.now.y1
+        entries.new }
+{
+    let width = usize::from(batch.columns());
+    'rows: for y in 0..batch.y1 {
+        columns.look(batch, y);
+        put_line(&columns.entries, usize::from(y) * width, entries);
     }
 }
 

@@ -4,7 +4,7 @@ use crate::compare::{holds, same};
 use crate::draws::Draws;
 use crate::gates::{Counts, Meeting};
 use bits::Bitmap;
-use field::{Workers, rows, rows_with};
+use field::{Batch, Workers, rows, rows_with};
 use metric::{Chess, City, Edge, Euclid2, Metric};
 use std::alloc::Global;
 use std::process::Abort;
@@ -21,10 +21,7 @@ fn bands_meet(rt: HostRuntime) -> Result<(), Fail> {
         let nears = rows_with::<City, _, _>(
             &rt,
             rt.alloc(),
-            &bitmap,
-            Edge::Open,
-            0,
-            16,
+            &Batch::new(&bitmap, Edge::Open, 0, 16),
             workers,
             &gate,
         )?;
@@ -62,10 +59,7 @@ fn three_rows_over_four_workers(rt: HostRuntime) -> Result<(), Fail> {
     let nears = rows_with::<Chess, _, _>(
         &rt,
         rt.alloc(),
-        &bitmap,
-        Edge::Open,
-        0,
-        3,
+        &Batch::new(&bitmap, Edge::Open, 0, 3),
         workers,
         &gate,
     )?;
@@ -90,8 +84,9 @@ pub fn compare<M: Metric + Sync>(
     let gate = Counts::new();
     let y1 = bitmap.height();
     assert!(rt; y0 <= y1);
-    let many = rows_with::<M, _, _>(rt, alloc, bitmap, edge, y0, y1, workers, &gate)?;
-    let one = rows::<M>(alloc, bitmap, edge, y0, y1)?;
+    let batch = Batch::new(bitmap, edge, y0, y1);
+    let many = rows_with::<M, _, _>(rt, alloc, &batch, workers, &gate)?;
+    let one = rows::<M>(alloc, &batch)?;
     same(rt, many.as_slice(), one.as_slice(), (edge, count, y0, y1));
     Ok(())
 }

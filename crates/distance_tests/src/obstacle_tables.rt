@@ -5,7 +5,7 @@ use crate::compare::{holds, same};
 use crate::draws::Draws;
 use crate::gates::{Counts, Meeting, Open};
 use bits::Bitmap;
-use field::{ObstacleTable, Workers, rows};
+use field::{Batch, ObstacleTable, Workers, rows};
 use metric::{Chess, City, Edge, Euclid2, Metric, Near};
 use std::alloc::Global;
 use std::process::Abort;
@@ -45,8 +45,9 @@ pub fn compare<M: Metric + Sync>(
     let workers = Workers::new(count).ok_or("no workers")?;
     let (width, y1) = (usize::from(bitmap.width()), bitmap.height());
     assert!(rt; y0 <= y1);
-    let table = ObstacleTable::<M>::of(rt, alloc, bitmap, edge, y0, y1, workers, &Open)?;
-    let nears = rows::<M>(alloc, bitmap, edge, y0, y1)?;
+    let batch = Batch::new(bitmap, edge, y0, y1);
+    let table = ObstacleTable::<M>::of(rt, alloc, &batch, workers, &Open)?;
+    let nears = rows::<M>(alloc, &batch)?;
     same(rt, usize::from(table.width()), width, "width");
     for (y, want) in (y0..y1).zip(nears.as_slice().chunks_exact(width)) {
         compare_row(rt, alloc, &table, y, want)?;
@@ -85,7 +86,8 @@ fn strips_meet(rt: HostRuntime) -> Result<(), Fail> {
     for strips in [2, 16] {
         let workers = Workers::new(strips).ok_or("no workers")?;
         let gate = Meeting::of(strips);
-        ObstacleTable::<City>::of(&rt, rt.alloc(), &bitmap, Edge::Open, 0, 16, workers, &gate)?;
+        let batch = Batch::new(&bitmap, Edge::Open, 0, 16);
+        ObstacleTable::<City>::of(&rt, rt.alloc(), &batch, workers, &gate)?;
         all_met(&rt, &gate, strips);
     }
     Ok(())
@@ -97,7 +99,8 @@ fn each_strip_enters_once(rt: HostRuntime) -> Result<(), Fail> {
     let bitmap = Bitmap::blank(rt.alloc(), 5, 3)?;
     let gate = Counts::new();
     assert!(rt; bitmap.height() == 3);
-    ObstacleTable::<Chess>::of(&rt, rt.alloc(), &bitmap, Edge::Open, 0, 3, workers, &gate)?;
+    let batch = Batch::new(&bitmap, Edge::Open, 0, 3);
+    ObstacleTable::<Chess>::of(&rt, rt.alloc(), &batch, workers, &gate)?;
     for strip in 0..17 {
         let once = u64::from(1 <= strip && strip <= 4);
         same(

@@ -3,7 +3,7 @@
 use crate::compare::same;
 use crate::nearest::nearest_obstacle;
 use bits::Bitmap;
-use field::rows;
+use field::{Batch, rows};
 use metric::{Cell, Chess, City, Edge, Euclid2, Metric, Refusal};
 use std::alloc::Global;
 use std::process::Abort;
@@ -12,7 +12,7 @@ use std::test::Fail;
 /// Compares each answer of the first row with the plain minimum.
 fn compare<M: Metric>(rt: &impl Abort, alloc: Global, bitmap: &Bitmap) -> Result<(), Refusal> {
     assert!(rt; 1 <= bitmap.height());
-    let nears = rows::<M>(alloc, bitmap, Edge::Open, 0, 1)?;
+    let nears = rows::<M>(alloc, &Batch::new(bitmap, Edge::Open, 0, 1))?;
     for (x, near) in (0..bitmap.width()).zip(nears.iter()) {
         let cell = Cell { x, y: 0 };
         assert!(rt; bitmap.holds(cell));

@@ -5,7 +5,7 @@ use crate::draws::Draws;
 use crate::nearest::nearest_obstacle;
 use crate::quadrupled::Quadrupled;
 use bits::Bitmap;
-use field::rows;
+use field::{Batch, rows};
 use metric::{Cell, Chess, City, Edge, Euclid2, Metric, MetricKind, Near, Rect, Refusal, Spot};
 use std::alloc::Global;
 use std::process::Abort;
@@ -176,10 +176,11 @@ fn all_rows(
     bitmap: &Bitmap,
     kind: MetricKind,
 ) -> Result<Vec<Option<Near>>, Refusal> {
+    let batch = Batch::new(bitmap, Edge::Open, 0, bitmap.height());
     match kind {
-        MetricKind::Euclid2 => rows::<Euclid2>(alloc, bitmap, Edge::Open, 0, bitmap.height()),
-        MetricKind::City => rows::<City>(alloc, bitmap, Edge::Open, 0, bitmap.height()),
-        MetricKind::Chess => rows::<Chess>(alloc, bitmap, Edge::Open, 0, bitmap.height()),
+        MetricKind::Euclid2 => rows::<Euclid2>(alloc, &batch),
+        MetricKind::City => rows::<City>(alloc, &batch),
+        MetricKind::Chess => rows::<Chess>(alloc, &batch),
     }
 }
 
@@ -204,7 +205,7 @@ fn worked_rows(rt: HostRuntime) -> Result<(), Fail> {
 
 /// Compares each cell's answer with the plain minimum.
 fn compare<M: Metric>(rt: &impl Abort, alloc: Global, bitmap: &Bitmap) -> Result<(), Refusal> {
-    let nears = rows::<M>(alloc, bitmap, Edge::Open, 0, bitmap.height())?;
+    let nears = rows::<M>(alloc, &Batch::new(bitmap, Edge::Open, 0, bitmap.height()))?;
     let mut answers = nears.iter();
     for y in 0..bitmap.height() {
         for x in 0..bitmap.width() {
@@ -240,7 +241,7 @@ fn as_the_plain_minimum(rt: HostRuntime) -> Result<(), Fail> {
 fn the_largest_distance(rt: HostRuntime) -> Result<(), Fail> {
     let bitmap = drawn(&rt, rt.alloc(), 4096, 4096, &[(0, 0)])?;
     assert!(rt; bitmap.height() == 4096);
-    let nears = rows::<Euclid2>(rt.alloc(), &bitmap, Edge::Open, 4095, 4096)?;
+    let nears = rows::<Euclid2>(rt.alloc(), &Batch::new(&bitmap, Edge::Open, 4095, 4096))?;
     let last = nears.last().ok_or("no answer")?;
     let cell = Spot { x: 0, y: 0 };
     same(
@@ -261,7 +262,10 @@ fn full_map(rt: HostRuntime) -> Result<(), Fail> {
     let all = Rect::new(0, 0, 1024, 1024).ok_or("a rectangle without cells")?;
     assert!(rt; bitmap.holds_rect(all));
     bitmap.fill(all, true);
-    let nears = rows::<Euclid2>(rt.alloc(), &bitmap, Edge::Open, 0, bitmap.height())?;
+    let nears = rows::<Euclid2>(
+        rt.alloc(),
+        &Batch::new(&bitmap, Edge::Open, 0, bitmap.height()),
+    )?;
     same(&rt, nears.len(), 1 << 20, "len");
     assert!(rt;
         nears

@@ -6,7 +6,7 @@ use crate::nearest::nearest_obstacle;
 use bits::Bitmap;
 use column::ColumnTable;
 use envelope::{Stack, row};
-use field::rows;
+use field::{Batch, rows};
 use metric::{Cell, Chess, City, Edge, Euclid2, Metric, Near};
 use std::alloc::Global;
 use std::process::Abort;
@@ -48,7 +48,7 @@ fn compare<M: Metric>(
     let table = ColumnTable::of(alloc, bitmap, edge)?;
     assert!(rt; y0 <= y1);
     assert!(rt; y1 <= bitmap.height());
-    let nears = rows::<M>(alloc, bitmap, edge, y0, y1)?;
+    let nears = rows::<M>(alloc, &Batch::new(bitmap, edge, y0, y1))?;
     let width = usize::from(bitmap.width());
     for (y, got) in (y0..y1).zip(nears.as_slice().chunks_exact(width)) {
         compare_row::<M>(rt, alloc, bitmap, &table, y, got)?;

@@ -5,7 +5,7 @@ use crate::nearest::nearest_obstacle;
 use crate::{bands, obstacle_tables};
 use bits::Bitmap;
 use clearance::at;
-use field::rows;
+use field::{Batch, rows};
 use metric::{Cell, Chess, City, Edge, Euclid2, Metric, Near, Rect, Refusal, Spot};
 use std::alloc::Global;
 use std::process::Abort;
@@ -40,7 +40,7 @@ fn compare<M: Metric + Sync>(
     alloc: Global,
     bitmap: &Bitmap,
 ) -> Result<(), Fail> {
-    let nears = rows::<M>(alloc, bitmap, Edge::Wall, 0, bitmap.height())?;
+    let nears = rows::<M>(alloc, &Batch::new(bitmap, Edge::Wall, 0, bitmap.height()))?;
     let mut answers = nears.iter();
     for y in 0..bitmap.height() {
         for x in 0..bitmap.width() {
@@ -106,8 +106,8 @@ fn expect_middle<M: Metric>(
 fn the_largest_map_is_walled(rt: HostRuntime) -> Result<(), Fail> {
     let bitmap = map_of(&rt, rt.alloc(), (4096, 4096), false)?;
     assert!(rt; bitmap.height() == 4096);
-    let squares = rows::<Euclid2>(rt.alloc(), &bitmap, Edge::Wall, 2047, 2049)?;
-    let chess = rows::<Chess>(rt.alloc(), &bitmap, Edge::Wall, 2047, 2049)?;
+    let squares = rows::<Euclid2>(rt.alloc(), &Batch::new(&bitmap, Edge::Wall, 2047, 2049))?;
+    let chess = rows::<Chess>(rt.alloc(), &Batch::new(&bitmap, Edge::Wall, 2047, 2049))?;
     for (cell, dist, (x, y), (left, top)) in MIDDLE {
         let square = Near {
             dist: 4_194_304,
@@ -132,7 +132,7 @@ fn the_largest_maps_are_shared(rt: HostRuntime) -> Result<(), Fail> {
             obstacle_tables::compare::<Chess>(&rt, rt.alloc(), &bitmap, Edge::Wall, count, 4080)?;
         }
         assert!(rt; bitmap.height() == 4096);
-        let nears = rows::<City>(rt.alloc(), &bitmap, Edge::Wall, 0, 1)?;
+        let nears = rows::<City>(rt.alloc(), &Batch::new(&bitmap, Edge::Wall, 0, 1))?;
         same(&rt, nears.len(), 4096, "answers");
         let dist = u32::from(!full);
         let is_same = nears

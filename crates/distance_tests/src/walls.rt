@@ -5,7 +5,7 @@ use crate::draws::Draws;
 use crate::nearest::nearest_obstacle;
 use bits::Bitmap;
 use clearance::at;
-use field::rows;
+use field::{Batch, rows};
 use metric::{Cell, Chess, City, Edge, Euclid2, Metric, Near, Refusal, Spot};
 use std::alloc::Global;
 use std::process::Abort;
@@ -32,7 +32,7 @@ fn near_at((dist, x, y): (u32, i16, i16)) -> Near {
 fn a_blank_map_is_walled(rt: HostRuntime) -> Result<(), Fail> {
     let blank = Bitmap::blank(rt.alloc(), 5, 3)?;
     assert!(rt; blank.height() == 3);
-    let nears = rows::<Euclid2>(rt.alloc(), &blank, Edge::Wall, 0, 3)?;
+    let nears = rows::<Euclid2>(rt.alloc(), &Batch::new(&blank, Edge::Wall, 0, 3))?;
     assert!(rt; nears.len() == 15);
     for (place, dist) in DISTANCES.iter().enumerate() {
         same(&rt, nears[place].map(|near| near.dist), Some(*dist), place);
@@ -86,7 +86,7 @@ fn expect_tie<M: Metric>(
         ("query", cell, obstacle),
     );
     assert!(rt; bitmap.height() == 5);
-    let nears = rows::<M>(alloc, &bitmap, Edge::Wall, 0, 5)?;
+    let nears = rows::<M>(alloc, &Batch::new(&bitmap, Edge::Wall, 0, 5))?;
     let place = usize::from(y) * 7 + usize::from(x);
     same(rt, nears.get(place), Some(&near), ("row", cell, obstacle));
     Ok(())
@@ -106,7 +106,7 @@ fn obstacles_tie_with_the_frame(rt: HostRuntime) -> Result<(), Fail> {
 
 /// Compares each cell's answer, in rows and as a query, with the plain minimum.
 fn compare<M: Metric>(rt: &impl Abort, alloc: Global, bitmap: &Bitmap) -> Result<(), Refusal> {
-    let nears = rows::<M>(alloc, bitmap, Edge::Wall, 0, bitmap.height())?;
+    let nears = rows::<M>(alloc, &Batch::new(bitmap, Edge::Wall, 0, bitmap.height()))?;
     let mut answers = nears.iter();
     for y in 0..bitmap.height() {
         for x in 0..bitmap.width() {

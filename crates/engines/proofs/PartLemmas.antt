@@ -74,9 +74,9 @@ AppendsFront-parts nearest table rows from count before between after above here
     (AppendsFront-rows nearest table.width table.nears 0 (min table.height from) (min table.height (from + rows * count)) table.height before between after (omega arith) (omega arith) (omega arith) above here)
 
 -- a set of parts into which rows were put is one still
-pub AreParts-put : (nearest : Bool) (width height rows from : ℕ) (nears : List (Option Near)) (old new : List WorkerLines) → AreShares width rows old → length new ≡ length old
-    → ShareRows nearest width height nears rows from new → AreShares width rows new
-AreParts-put nearest width height rows from nears old new parts many have = record {
+pub AreParts-put : (nearest : Bool) (table : TableView) (rows from : ℕ) (old new : List WorkerLines) → AreShares nearest table.width rows old → length new ≡ length old
+    → ShareRows nearest table rows from new → AreShares nearest table.width rows new
+AreParts-put nearest table rows from old new parts many have = record {
   some = omega (arith, parts.some);
   few = omega (arith, parts.few);
   some_rows = parts.some_rows;

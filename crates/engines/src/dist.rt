@@ -1,16 +1,18 @@
 //! The command `dist`: from the bytes of an image to the text of its distances.
 
-ghost use Rattle.std.specs.Prelude.{◌≡◌, ◌≢◌, ℕ, ◌+◌, ◌≤◌, ◌∷◌, ◌++◌, [], None, IfOk, OnOk, OnErr};
+ghost use Rattle.std.specs.Prelude.{◌≡◌, ◌≢◌, ◌+◌, ◌≤◌, ◌∷◌, ◌++◌, [], None, IfOk, OnOk, OnErr};
 ghost use Rattle.metric.specs.Kind.{distance_of};
 ghost use Rattle.metric.specs.Refusal.{image_text};
 ghost use Rattle.metric.specs.Stream.{Appends, AppendsFront, Counts, CanFail};
 ghost use Rattle.engines.specs.dist.Dist.{AnswersImage, AnswersMap, BeginsToAnswerImage, BeginsToAnswerMap};
+ghost use Rattle.engines.specs.dist.Parts.{AreShares};
 ghost use Rattle.engines.specs.dist.Table.{table_text};
 
 mod decimals;
 mod distances;
 mod line;
 mod parts;
+mod printer;
 mod put;
 mod quad;
 mod query;
@@ -19,11 +21,12 @@ mod table;
 mod table_writer;
 
 use crate::dist::reply::QueryReply;
-use crate::dist::table_writer::{TableWriter, write_table};
+use crate::dist::table_writer::TableWriter;
 use crate::streams::output::{write_refusal, write_text};
 use crate::words::arguments::DistOptions;
 use crate::{DONE, REFUSED};
 use bits::Bitmap;
+use field::Workers;
 use metric::{
     Chess, City, Euclid2, Metric, MetricKind, PbmFault, Refusal, Sink, Source, WriteFault,
 };
@@ -106,11 +109,21 @@ fn write_map<M: Metric + Sync, W: Sink, T: Threads + Sync>(
     ensures front { OnErr result (BeginsToAnswerMap options.now map.now (W.held writer.old) (W.held writer.new)) }
     ensures counts { Counts (W.failed_writes writer.old) result (W.failed_writes writer.new) }
 {
-    let (nearest, workers) = (options.nearest, options.workers);
-    match TableWriter::<M>::of(rt, alloc, map, options.edge, nearest, workers) {
-        Ok(print) => write_rows(rt, writer, print, nearest),
+    let workers = workers_of(options.workers);
+    match TableWriter::<M>::of(rt, alloc, map, options.edge, options.nearest, workers) {
+        Ok(print) => write_rows(rt, writer, print),
         Err(refusal) => write_refusal(writer, refusal),
     }
+}
+
+/// So many workers, or one where there can't be so many.
+fn workers_of(count: u32) -> Workers
+    ensures { (1 ≤ count) × (count ≤ 16) → result.count ≡ count }
+{
+    if 1 <= count && count <= 16 {
+        return Workers { count: count as u8 };
+    }
+    Workers { count: 1 }
 }
 
 /// Writes the table's lines.
@@ -118,23 +131,19 @@ fn write_rows<M: Metric + Sync, W: Sink, T: Threads + Sync>(
     rt: &T,
     writer: &mut W,
     print: TableWriter<M>,
-    nearest: bool,
 ) -> Result<u8, WriteFault>
-    requires { CanFail (W.failed_writes writer.old) }
+    requires can_fail { CanFail (W.failed_writes writer.old) }
+    requires full { AreShares print.printer.nearest print.printer.table.width print.printer.rows
+        print.full.items }
+    requires free { AreShares print.printer.nearest print.printer.table.width print.printer.rows
+        print.free.items }
     ensures status { IfOk result (λ status. status ≡ 0) }
-    ensures whole { OnOk result (Appends (W.held writer.old) (table_text nearest print.table.width print.table.height print.table.nears) (W.held writer.new)) }
-    ensures front { OnErr result (AppendsFront (W.held writer.old) (table_text nearest print.table.width print.table.height print.table.nears) (W.held writer.new)) }
+    ensures whole { OnOk result (Appends (W.held writer.old) (table_text print.printer.nearest print.printer.table.width print.printer.table.height print.printer.table.nears) (W.held writer.new)) }
+    ensures front { OnErr result (AppendsFront (W.held writer.old) (table_text print.printer.nearest print.printer.table.width print.printer.table.height print.printer.table.nears) (W.held writer.new)) }
     ensures counts { Counts (W.failed_writes writer.old) result (W.failed_writes writer.new) }
 {
-    let TableWriter {
-        table,
-        decimals,
-        rows,
-        mut even,
-        mut odd,
-    } = print;
-    let (even, odd) = (even.as_mut_slice(), odd.as_mut_slice());
-    write_table(rt, writer, &decimals, &table, even, odd, rows, nearest)?;
+    let mut print = print;
+    print.write(rt, writer)?;
     writer.flush()?;
     Ok(DONE)
 }

@@ -8,12 +8,12 @@
 
 ghost use Rattle.std.specs.Prelude.{◌≡◌, ℕ, negsuc, pos, ◌+◌, ◌-◌, ◌*◌, ◌≤ℤ◌, ◌<◌, ◌≤◌, ◌⊎◌, length, slice_index, slice_index_or, Some, IfSome};
 ghost use Rattle.metric.specs.Edge.{shift, spot_of};
-ghost use Rattle.metric.specs.declared.edge.Edge.TheVariants.{Open, Wall};
 ghost use Rattle.envelope.specs.Beside.{AreBestNear, AreDecided, AreColumnParts, AreSmall, AreTold};
 ghost use Rattle.envelope.specs.Columns.{AreEntries, AreNearColumns, IsNearColumn};
 ghost use Rattle.envelope.specs.Pieces.{IsLeftBound, IsRightBound};
 
 use crate::answer::CellAnswer;
+use crate::border::Border;
 use crate::cover::Span;
 use crate::lanes::{all_of, are_below, chosen, least, load};
 use crate::piece::{Piece, fill_piece};
@@ -52,33 +52,12 @@ struct Eight {
     away: u16x8,
 }
 
-/// Fills the row with the obstacle of the column that is the nearest to each cell. Answers whether most cells were found near by. `parts` has room for a place for each column and 272 more, and `spans` for each column.
-pub fn fill_beside<M: Metric, A: CellAnswer>(
-    entries: &[u16],
-    y: u16,
-    edge: Edge,
-    parts: &mut [u16],
-    spans: &mut [Span],
-    answers: &mut [A],
-) -> bool
-    requires laned { 0 < M.reach_of 1 }
-    requires entries { AreEntries entries.now y }
-    requires row { shift edge ≤ y }
-    requires room { length entries.now + 272 ≤ length parts.old }
-    requires spans { length entries.now ≤ length spans.old }
-    requires width { length answers.old + 2 * shift edge ≡ length entries.now }
-    ensures { AreNearColumns A.told A.nothing M.distance entries.now y edge answers.new }
-{
-    match edge {
-        Edge::Open => fill_open::<M, A>(entries, y, parts, spans, answers),
-        Edge::Wall => fill_walled::<M, A>(entries, y, parts, spans, answers),
-    }
-}
-
-/// The same where the border is open.
+/// Fills the row with the obstacle of the column that is the nearest to each cell. Answers whether most
+/// cells were found near by. `parts` has room for a place for each column and 272 more, and `spans` for
+/// each column.
 // Not inlined: the two phases would compete for registers.
 #[inline(never)]
-fn fill_open<M: Metric, A: CellAnswer>(
+pub fn fill_beside<M: Metric, A: CellAnswer, B: Border>(
     entries: &[u16],
     y: u16,
     parts: &mut [u16],
@@ -87,62 +66,22 @@ fn fill_open<M: Metric, A: CellAnswer>(
 ) -> bool
     requires laned { 0 < M.reach_of 1 }
     requires entries { AreEntries entries.now y }
+    requires row { shift B.EDGE ≤ y }
     requires room { length entries.now + 272 ≤ length parts.old }
     requires spans { length entries.now ≤ length spans.old }
-    requires width { length answers.old + 2 * shift Open ≡ length entries.now }
-    ensures { AreNearColumns A.told A.nothing M.distance entries.now y Open answers.new }
-{
-    fill_within::<M, A>(entries, y, Edge::Open, parts, spans, answers)
-}
-
-/// The same where the border is a wall.
-#[inline(never)]
-fn fill_walled<M: Metric, A: CellAnswer>(
-    entries: &[u16],
-    y: u16,
-    parts: &mut [u16],
-    spans: &mut [Span],
-    answers: &mut [A],
-) -> bool
-    requires laned { 0 < M.reach_of 1 }
-    requires entries { AreEntries entries.now y }
-    requires row { shift Wall ≤ y }
-    requires room { length entries.now + 272 ≤ length parts.old }
-    requires spans { length entries.now ≤ length spans.old }
-    requires width { length answers.old + 2 * shift Wall ≡ length entries.now }
-    ensures { AreNearColumns A.told A.nothing M.distance entries.now y Wall answers.new }
-{
-    fill_within::<M, A>(entries, y, Edge::Wall, parts, spans, answers)
-}
-
-/// The same by an edge that is known where this is inlined, so that no cell asks for it.
-#[inline(always)]
-fn fill_within<M: Metric, A: CellAnswer>(
-    entries: &[u16],
-    y: u16,
-    edge: Edge,
-    parts: &mut [u16],
-    spans: &mut [Span],
-    answers: &mut [A],
-) -> bool
-    requires laned { 0 < M.reach_of 1 }
-    requires entries { AreEntries entries.now y }
-    requires row { shift edge ≤ y }
-    requires room { length entries.now + 272 ≤ length parts.old }
-    requires spans { length entries.now ≤ length spans.old }
-    requires width { length answers.old + 2 * shift edge ≡ length entries.now }
-    ensures { AreNearColumns A.told A.nothing M.distance entries.now y edge answers.new }
+    requires width { length answers.old + 2 * shift B.EDGE ≡ length entries.now }
+    ensures { AreNearColumns A.told A.nothing M.distance entries.now y B.EDGE answers.new }
 {
     let parts = &mut parts[..entries.len() + SPARE];
     set_parts::<M>(entries, y, parts);
     let mut left = steps_for(entries);
-    let before = usize::from(edge.shift());
+    let before = usize::from(B::EDGE.shift());
     let mut start = 0;
     'cells: while start < answers.len() {
         let at = start + before;
         if let Some((low, high, steps)) = search::<M>(parts, at + FIRST, left) {
-            fill_eight::<M, A>(entries, y, edge, start, low, answers);
-            fill_eight::<M, A>(entries, y, edge, start + 8, high, answers);
+            fill_eight::<M, A, B>(entries, y, start, low, answers);
+            fill_eight::<M, A, B>(entries, y, start + 8, high, answers);
             left = left.saturating_sub(steps);
             start += 16;
         } else {
@@ -154,7 +93,7 @@ fn fill_within<M: Metric, A: CellAnswer>(
                 first,
                 last,
             };
-            fill_piece::<M, A>(entries, y, edge, piece, spans, answers);
+            fill_piece::<M, A, B>(entries, y, piece, spans, answers);
             left = left.saturating_sub(steps);
             start = end - before;
         }
@@ -333,27 +272,27 @@ fn look_aside<M: Metric>(parts: &[u16], at: usize, k: u16, best: u16x8, away: u1
 
 /// Fills up to eight cells, as far as the row has them.
 #[inline(always)]
-fn fill_eight<M: Metric, A: CellAnswer>(
+fn fill_eight<M: Metric, A: CellAnswer, B: Border>(
     entries: &[u16],
     y: u16,
-    edge: Edge,
     start: usize,
     eight: Eight,
     answers: &mut [A],
 )
     requires entries { AreEntries entries.now y }
-    requires row { shift edge ≤ y }
-    requires width { length answers.old + 2 * shift edge ≡ length entries.now }
+    requires row { shift B.EDGE ≤ y }
+    requires width { length answers.old + 2 * shift B.EDGE ≡ length entries.now }
     requires start { start ≤ 4113 }
-    requires told { AreTold M.distance entries.now y edge (start + shift edge) eight.best eight.away }
+    requires told { AreTold M.distance entries.now y B.EDGE (start + shift B.EDGE) eight.best eight.away }
     ensures len { length answers.new ≡ length answers.old }
     ensures filled { (x : ℕ) → start ≤ x → x < start + 8 → x < length answers.old
-        → IsNearColumn M.distance entries.now y edge (x + shift edge)
-        (A.told M.distance x (y - shift edge) (slice_index_or answers.new x A.nothing)) }
+        → IsNearColumn M.distance entries.now y B.EDGE (x + shift B.EDGE)
+        (A.told M.distance x (y - shift B.EDGE) (slice_index_or answers.new x A.nothing)) }
     ensures others { (x : ℕ) → (x < start) ⊎ (start + 8 ≤ x)
         → slice_index_or answers.new x A.nothing ≡ slice_index_or answers.old x A.nothing }
 {
     let (best, away) = (eight.best.to_array(), eight.away.to_array());
+    let edge = B::EDGE;
     let first = usize::from(edge.shift());
     let count = (answers.len().max(start) - start).min(8);
     'cells: for lane in 0..count {

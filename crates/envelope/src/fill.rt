@@ -2,50 +2,23 @@
 
 ghost use Rattle.std.specs.Prelude.{◌≡◌, ℕ, negsuc, pos, ◌+◌, ◌-◌, ◌*◌, ◌<◌, ◌≤◌, ◌≤ℤ◌, ◌⊎◌, length, slice_index_or, Some};
 ghost use Rattle.metric.specs.Edge.{shift};
-ghost use Rattle.metric.specs.declared.edge.Edge.TheVariants.{Open, Wall};
 ghost use Rattle.metric.specs.Nearest.{spot_distance};
 ghost use Rattle.envelope.specs.Columns.{AreEntries, IsAmong, IsColumnFrom, IsNearColumn, gap_of, near_from};
 ghost use Rattle.envelope.specs.Envelope.{IsCovered};
 ghost use Rattle.envelope.specs.Pieces.{IsEnough, IsPiece};
 
 use crate::answer::CellAnswer;
+use crate::border::Border;
 use crate::columns::{distance, gap};
 use crate::cover::Span;
 use crate::piece::Piece;
 use metric::{Edge, LAST_FRAMED, Metric, Near};
 
-/// Fills the cells of the piece with the obstacle of the column that is the nearest to each, or with none where there is no span. Cells of the frame have no place in the row.
-pub fn fill<M: Metric, A: CellAnswer>(
-    entries: &[u16],
-    y: u16,
-    edge: Edge,
-    piece: Piece,
-    spans: &[Span],
-    answers: &mut [A],
-)
-    requires entries { AreEntries entries.now y }
-    requires row { shift edge ≤ y }
-    requires piece { IsPiece entries.now piece }
-    requires enough { IsEnough M.distance entries.now y piece }
-    requires width { length answers.old + 2 * shift edge ≡ length entries.now }
-    requires covered { IsCovered M.distance (gap_of entries.now y)
-        (IsColumnFrom entries.now piece.first piece.last) spans.now (length spans.now) piece.end }
-    ensures filled { (x : ℕ) → piece.from ≤ x + shift edge → x + shift edge < piece.end → x < length answers.old
-        → IsNearColumn M.distance entries.now y edge (x + shift edge)
-        (A.told M.distance x (y - shift edge) (slice_index_or answers.new x A.nothing)) }
-    ensures others { (x : ℕ) → (x + shift edge < piece.from) ⊎ (piece.end ≤ x + shift edge)
-        → slice_index_or answers.new x A.nothing ≡ slice_index_or answers.old x A.nothing }
-{
-    match edge {
-        Edge::Open => fill_open::<M, A>(entries, y, piece, spans, answers),
-        Edge::Wall => fill_walled::<M, A>(entries, y, piece, spans, answers),
-    }
-}
-
-/// The same where the border is open.
+/// Fills the cells of the piece with the obstacle of the column that is the nearest to each, or with
+/// none where there is no span. Cells of the frame have no place in the row.
 // Not inlined: the two phases would compete for registers.
 #[inline(never)]
-fn fill_open<M: Metric, A: CellAnswer>(
+pub fn fill<M: Metric, A: CellAnswer, B: Border>(
     entries: &[u16],
     y: u16,
     piece: Piece,
@@ -53,71 +26,20 @@ fn fill_open<M: Metric, A: CellAnswer>(
     answers: &mut [A],
 )
     requires entries { AreEntries entries.now y }
-    requires row { shift Open ≤ y }
+    requires row { shift B.EDGE ≤ y }
     requires piece { IsPiece entries.now piece }
     requires enough { IsEnough M.distance entries.now y piece }
-    requires width { length answers.old + 2 * shift Open ≡ length entries.now }
+    requires width { length answers.old + 2 * shift B.EDGE ≡ length entries.now }
     requires covered { IsCovered M.distance (gap_of entries.now y)
         (IsColumnFrom entries.now piece.first piece.last) spans.now (length spans.now) piece.end }
-    ensures filled { (x : ℕ) → piece.from ≤ x + shift Open → x + shift Open < piece.end → x < length answers.old
-        → IsNearColumn M.distance entries.now y Open (x + shift Open)
-        (A.told M.distance x (y - shift Open) (slice_index_or answers.new x A.nothing)) }
-    ensures others { (x : ℕ) → (x + shift Open < piece.from) ⊎ (piece.end ≤ x + shift Open)
-        → slice_index_or answers.new x A.nothing ≡ slice_index_or answers.old x A.nothing }
-{
-    fill_within::<M, A>(entries, y, Edge::Open, piece, spans, answers);
-}
-
-/// The same where the border is a wall.
-#[inline(never)]
-fn fill_walled<M: Metric, A: CellAnswer>(
-    entries: &[u16],
-    y: u16,
-    piece: Piece,
-    spans: &[Span],
-    answers: &mut [A],
-)
-    requires entries { AreEntries entries.now y }
-    requires row { shift Wall ≤ y }
-    requires piece { IsPiece entries.now piece }
-    requires enough { IsEnough M.distance entries.now y piece }
-    requires width { length answers.old + 2 * shift Wall ≡ length entries.now }
-    requires covered { IsCovered M.distance (gap_of entries.now y)
-        (IsColumnFrom entries.now piece.first piece.last) spans.now (length spans.now) piece.end }
-    ensures filled { (x : ℕ) → piece.from ≤ x + shift Wall → x + shift Wall < piece.end → x < length answers.old
-        → IsNearColumn M.distance entries.now y Wall (x + shift Wall)
-        (A.told M.distance x (y - shift Wall) (slice_index_or answers.new x A.nothing)) }
-    ensures others { (x : ℕ) → (x + shift Wall < piece.from) ⊎ (piece.end ≤ x + shift Wall)
-        → slice_index_or answers.new x A.nothing ≡ slice_index_or answers.old x A.nothing }
-{
-    fill_within::<M, A>(entries, y, Edge::Wall, piece, spans, answers);
-}
-
-/// The same by an edge that is known where this is inlined, so that no cell asks for it.
-#[inline(always)]
-fn fill_within<M: Metric, A: CellAnswer>(
-    entries: &[u16],
-    y: u16,
-    edge: Edge,
-    piece: Piece,
-    spans: &[Span],
-    answers: &mut [A],
-)
-    requires entries { AreEntries entries.now y }
-    requires row { shift edge ≤ y }
-    requires piece { IsPiece entries.now piece }
-    requires enough { IsEnough M.distance entries.now y piece }
-    requires width { length answers.old + 2 * shift edge ≡ length entries.now }
-    requires covered { IsCovered M.distance (gap_of entries.now y)
-        (IsColumnFrom entries.now piece.first piece.last) spans.now (length spans.now) piece.end }
-    ensures filled { (x : ℕ) → piece.from ≤ x + shift edge → x + shift edge < piece.end → x < length answers.old
-        → IsNearColumn M.distance entries.now y edge (x + shift edge)
-        (A.told M.distance x (y - shift edge) (slice_index_or answers.new x A.nothing)) }
-    ensures others { (x : ℕ) → (x + shift edge < piece.from) ⊎ (piece.end ≤ x + shift edge)
+    ensures filled { (x : ℕ) → piece.from ≤ x + shift B.EDGE → x + shift B.EDGE < piece.end → x < length answers.old
+        → IsNearColumn M.distance entries.now y B.EDGE (x + shift B.EDGE)
+        (A.told M.distance x (y - shift B.EDGE) (slice_index_or answers.new x A.nothing)) }
+    ensures others { (x : ℕ) → (x + shift B.EDGE < piece.from) ⊎ (piece.end ≤ x + shift B.EDGE)
         → slice_index_or answers.new x A.nothing ≡ slice_index_or answers.old x A.nothing }
 {
     if spans.is_empty() {
-        let before = usize::from(edge.shift());
+        let before = usize::from(B::EDGE.shift());
         let end = piece.end.saturating_sub(before).min(answers.len());
         fill_none(piece.from.saturating_sub(before), end, answers);
         return;
@@ -127,7 +49,7 @@ fn fill_within<M: Metric, A: CellAnswer>(
     'spans: while count > 0 {
         count -= 1;
         let span = spans[count];
-        fill_span::<M, A>(entries, y, edge, span, piece.from, end, answers);
+        fill_span::<M, A, B>(entries, y, span, piece.from, end, answers);
         end = usize::from(span.start);
     }
 }
@@ -145,10 +67,9 @@ fn fill_none<A: CellAnswer>(from: usize, end: usize, answers: &mut [A])
 
 /// Fills the cells of one span, from one of them on and up to the end.
 #[inline(always)]
-fn fill_span<M: Metric, A: CellAnswer>(
+fn fill_span<M: Metric, A: CellAnswer, B: Border>(
     entries: &[u16],
     y: u16,
-    edge: Edge,
     span: Span,
     from: usize,
     end: usize,
@@ -156,15 +77,16 @@ fn fill_span<M: Metric, A: CellAnswer>(
 )
     requires entries { AreEntries entries.now y }
     requires column { IsAmong entries.now (length entries.now) span.column }
-    requires row { shift edge ≤ y }
-    requires width { length answers.old + 2 * shift edge ≡ length entries.now }
+    requires row { shift B.EDGE ≤ y }
+    requires width { length answers.old + 2 * shift B.EDGE ≡ length entries.now }
     requires within { end ≤ length entries.now }
-    ensures filled { (x : ℕ) → span.start ≤ x + shift edge → from ≤ x + shift edge → x + shift edge < end
-        → x < length answers.old → A.told M.distance x (y - shift edge) (slice_index_or answers.new x A.nothing)
-        ≡ Some (near_from M.distance entries.now y edge span.column (x + shift edge)) }
-    ensures others { (x : ℕ) → (x + shift edge < from) ⊎ (end ≤ x + shift edge)
+    ensures filled { (x : ℕ) → span.start ≤ x + shift B.EDGE → from ≤ x + shift B.EDGE → x + shift B.EDGE < end
+        → x < length answers.old → A.told M.distance x (y - shift B.EDGE) (slice_index_or answers.new x A.nothing)
+        ≡ Some (near_from M.distance entries.now y B.EDGE span.column (x + shift B.EDGE)) }
+    ensures others { (x : ℕ) → (x + shift B.EDGE < from) ⊎ (end ≤ x + shift B.EDGE)
         → slice_index_or answers.new x A.nothing ≡ slice_index_or answers.old x A.nothing }
 {
+    let edge = B::EDGE;
     let before = usize::from(edge.shift());
     let low = usize::from(span.start).max(from).saturating_sub(before);
     let high = end.saturating_sub(before).min(answers.len());

@@ -3,6 +3,7 @@
 
 mod answer;
 mod beside;
+mod border;
 mod columns;
 mod cover;
 mod fill;

@@ -6,9 +6,10 @@ ghost use Rattle.envelope.specs.Columns.{AreEntries, IsNearColumn};
 ghost use Rattle.envelope.specs.Pieces.{IsEnough, IsPiece};
 
 use crate::answer::CellAnswer;
+use crate::border::Border;
 use crate::cover::{Span, cover};
 use crate::fill::fill;
-use metric::{Edge, Metric};
+use metric::Metric;
 
 /// The cells from one to before another, and the columns from one to before another. Both are counted with the frame, where there is one.
 #[derive(Clone, Copy, Debug)]
@@ -20,26 +21,25 @@ pub struct Piece {
 }
 
 /// Fills the cells of a piece by the stack, which has room for a row.
-pub fn fill_piece<M: Metric, A: CellAnswer>(
+pub fn fill_piece<M: Metric, A: CellAnswer, B: Border>(
     entries: &[u16],
     y: u16,
-    edge: Edge,
     piece: Piece,
     spans: &mut [Span],
     answers: &mut [A],
 )
     requires entries { AreEntries entries.now y }
-    requires row { shift edge ≤ y }
+    requires row { shift B.EDGE ≤ y }
     requires piece { IsPiece entries.now piece }
     requires enough { IsEnough M.distance entries.now y piece }
     requires room { length entries.now ≤ length spans.old }
-    requires width { length answers.old + 2 * shift edge ≡ length entries.now }
-    ensures filled { (x : ℕ) → piece.from ≤ x + shift edge → x + shift edge < piece.end → x < length answers.old
-        → IsNearColumn M.distance entries.now y edge (x + shift edge)
-        (A.told M.distance x (y - shift edge) (slice_index_or answers.new x A.nothing)) }
-    ensures others { (x : ℕ) → (x + shift edge < piece.from) ⊎ (piece.end ≤ x + shift edge)
+    requires width { length answers.old + 2 * shift B.EDGE ≡ length entries.now }
+    ensures filled { (x : ℕ) → piece.from ≤ x + shift B.EDGE → x + shift B.EDGE < piece.end → x < length answers.old
+        → IsNearColumn M.distance entries.now y B.EDGE (x + shift B.EDGE)
+        (A.told M.distance x (y - shift B.EDGE) (slice_index_or answers.new x A.nothing)) }
+    ensures others { (x : ℕ) → (x + shift B.EDGE < piece.from) ⊎ (piece.end ≤ x + shift B.EDGE)
         → slice_index_or answers.new x A.nothing ≡ slice_index_or answers.old x A.nothing }
 {
     let count = cover::<M>(entries, y, piece, spans);
-    fill::<M, A>(entries, y, edge, piece, &spans[..count], answers);
+    fill::<M, A, B>(entries, y, piece, &spans[..count], answers);
 }

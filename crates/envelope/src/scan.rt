@@ -5,11 +5,11 @@
 ghost use Rattle.std.specs.Prelude.{◌≡◌, ◌≢◌, ℕ, negsuc, pos, ◌+◌, ◌-◌, ◌*◌, ◌/◌, ◌%◌, ◌<◌, ◌≤◌, ◌≤ℤ◌, length, min, slice_index, true};
 ghost use Rattle.metric.specs.Distance.{IsSum};
 ghost use Rattle.metric.specs.Edge.{shift, spot_of};
-ghost use Rattle.metric.specs.declared.edge.Edge.TheVariants.{Open, Wall};
 ghost use Rattle.envelope.specs.Columns.{AreEntries, AreNearColumns};
 ghost use Rattle.envelope.specs.Scans.{AreLeftLeast, AreRightLeast, AreToldBy, HasColumn, IsLeast, left_word, right_word, word_of};
 
 use crate::answer::CellAnswer;
+use crate::border::Border;
 use column::NONE;
 use metric::{Edge, Metric, Near};
 
@@ -50,31 +50,28 @@ fn one_if_far(entry: u16, y: u16) -> u16
     u16::from(entry != NONE && y.abs_diff(entry) > FEW_ROWS)
 }
 
-/// Fills the row with the obstacle of the column that is the nearest to each cell. `left` and `right` have room for a word for each column.
-pub fn fill_by_scans<M: Metric, A: CellAnswer>(
+/// Fills the row with the obstacle of the column that is the nearest to each cell. `left` and `right`
+/// have room for a word for each column.
+pub fn fill_by_scans<M: Metric, A: CellAnswer, B: Border>(
     entries: &[u16],
     y: u16,
-    edge: Edge,
     left: &mut [u32],
     right: &mut [u32],
     answers: &mut [A],
 )
     requires sum { IsSum M.distance }
     requires entries { AreEntries entries.now y }
-    requires row { shift edge ≤ y }
+    requires row { shift B.EDGE ≤ y }
     requires some { HasColumn entries.now }
     requires left { length entries.now ≤ length left.old }
     requires right { length entries.now ≤ length right.old }
-    requires width { length answers.old + 2 * shift edge ≡ length entries.now }
-    ensures { AreNearColumns A.told A.nothing M.distance entries.now y edge answers.new }
+    requires width { length answers.old + 2 * shift B.EDGE ≡ length entries.now }
+    ensures { AreNearColumns A.told A.nothing M.distance entries.now y B.EDGE answers.new }
 {
     set_words(entries, y, left, right);
     scan(entries.len(), left, right);
     choose::<M>(entries, y, left, right);
-    match edge {
-        Edge::Open => tell_open::<M, A>(entries, y, left, answers),
-        Edge::Wall => tell_walled::<M, A>(entries, y, left, answers),
-    }
+    tell::<M, A, B>(entries, y, left, answers);
 }
 
 /// Sets the words of the row's columns.
@@ -158,48 +155,23 @@ fn nearer(left: u32, right: u32, x: u32) -> u32
     (to_left.min(to_right) - MOST) * COLUMNS + word % COLUMNS
 }
 
-/// Fills the row with what the words tell, where the border is open.
+/// Fills the row with what the words tell.
 // Not inlined: the two phases would compete for registers.
 #[inline(never)]
-fn tell_open<M: Metric, A: CellAnswer>(entries: &[u16], y: u16, words: &[u32], answers: &mut [A])
-    requires entries { AreEntries entries.now y }
-    requires room { length entries.now ≤ length words.now }
-    requires width { length answers.old + 2 * shift Open ≡ length entries.now }
-    requires told { AreToldBy M.distance entries.now y words.now }
-    ensures { AreNearColumns A.told A.nothing M.distance entries.now y Open answers.new }
-{
-    tell::<M, A>(entries, y, Edge::Open, words, answers);
-}
-
-/// The same where the border is a wall.
-#[inline(never)]
-fn tell_walled<M: Metric, A: CellAnswer>(entries: &[u16], y: u16, words: &[u32], answers: &mut [A])
-    requires entries { AreEntries entries.now y }
-    requires row { shift Wall ≤ y }
-    requires room { length entries.now ≤ length words.now }
-    requires width { length answers.old + 2 * shift Wall ≡ length entries.now }
-    requires told { AreToldBy M.distance entries.now y words.now }
-    ensures { AreNearColumns A.told A.nothing M.distance entries.now y Wall answers.new }
-{
-    tell::<M, A>(entries, y, Edge::Wall, words, answers);
-}
-
-/// The same by an edge that is known where this is inlined, so that no cell asks for it.
-#[inline(always)]
-fn tell<M: Metric, A: CellAnswer>(
+fn tell<M: Metric, A: CellAnswer, B: Border>(
     entries: &[u16],
     _y: u16,
-    edge: Edge,
     words: &[u32],
     answers: &mut [A],
 )
     requires entries { AreEntries entries.now _y }
-    requires row { shift edge ≤ _y }
+    requires row { shift B.EDGE ≤ _y }
     requires room { length entries.now ≤ length words.now }
-    requires width { length answers.old + 2 * shift edge ≡ length entries.now }
+    requires width { length answers.old + 2 * shift B.EDGE ≡ length entries.now }
     requires told { AreToldBy M.distance entries.now _y words.now }
-    ensures { AreNearColumns A.told A.nothing M.distance entries.now _y edge answers.new }
+    ensures { AreNearColumns A.told A.nothing M.distance entries.now _y B.EDGE answers.new }
 {
+    let edge = B::EDGE;
     let before = usize::from(edge.shift());
     'cells: for x in 0..answers.len() {
         let word = words[x + before];

@@ -11,6 +11,7 @@ ghost use Rattle.metric.specs.declared.refusal.Refusal.TheVariants.{Memory};
 
 use crate::answer::CellAnswer;
 use crate::beside::{SPARE, fill_beside};
+use crate::border::{Border, Open, Walled};
 use crate::cover::Span;
 use crate::piece::{Piece, fill_piece};
 use crate::scan::{are_many_far, fill_by_scans};
@@ -52,7 +53,7 @@ impl Model for Stack {
 }
 
 impl Stack {
-    /// A stack for rows of this width. Refused for want of memory alone.
+    /// A stack for rows of this width. Fails only when out of memory.
     pub fn new(alloc: Global, width: u16) -> Result<Self, Refusal>
         ensures stack { IfOk result (λ stack. stack ≡ width) }
         ensures memory { IfErr result (λ refusal. refusal ≡ Memory) }
@@ -104,53 +105,57 @@ pub fn row_from<M: Metric, A: CellAnswer>(
         → AreRowAnswers A.told A.nothing M.distance cells edge row cells.width answers.new }
     ensures stack { stack.new ≡ stack.old }
 {
-    fill_row::<M, A>(entries, y, edge, stack, answers);
+    match edge {
+        Edge::Open => fill_row::<M, A, Open>(entries, y, stack, answers),
+        Edge::Wall => fill_row::<M, A, Walled>(entries, y, stack, answers),
+    }
 }
 
-/// Fills a row with the obstacle of the column that is the nearest to each cell: by two scans where the distance is columns and rows added and many columns have an obstacle some rows away; by looking around each cell where the nearest are near by; and otherwise by the stack, as for each metric without a reach.
-fn fill_row<M: Metric, A: CellAnswer>(
+/// Fills a row with the obstacle of the column that is the nearest to each cell: by two scans where the
+/// distance is columns and rows added and many columns have an obstacle some rows away; by looking
+/// around each cell where the nearest are near by; and otherwise by the stack, as for each metric
+/// without a reach.
+fn fill_row<M: Metric, A: CellAnswer, B: Border>(
     entries: &[u16],
     y: u16,
-    edge: Edge,
     stack: &mut Stack,
     answers: &mut [A],
 )
     requires entries { AreEntries entries.now y }
-    requires row { shift edge ≤ y }
+    requires row { shift B.EDGE ≤ y }
     requires stack { length entries.now ≤ stack.old }
-    requires width { length answers.old + 2 * shift edge ≡ length entries.now }
-    ensures answers { AreNearColumns A.told A.nothing M.distance entries.now y edge answers.new }
+    requires width { length answers.old + 2 * shift B.EDGE ≡ length entries.now }
+    ensures answers { AreNearColumns A.told A.nothing M.distance entries.now y B.EDGE answers.new }
     ensures stack { stack.new ≡ stack.old }
 {
     if M::is_sum() && are_many_far(entries, y) {
         let (left, right) = (stack.left.as_mut_slice(), stack.right.as_mut_slice());
-        fill_by_scans::<M, A>(entries, y, edge, left, right, answers);
+        fill_by_scans::<M, A, B>(entries, y, left, right, answers);
         return;
     }
     if stack.far_rows > 0 || M::reach(1) == 0 {
         stack.far_rows = stack.far_rows.saturating_sub(1);
-        fill_far::<M, A>(entries, y, edge, stack.spans.as_mut_slice(), answers);
+        fill_far::<M, A, B>(entries, y, stack.spans.as_mut_slice(), answers);
         return;
     }
     let (parts, spans) = (stack.parts.as_mut_slice(), stack.spans.as_mut_slice());
-    if !fill_beside::<M, A>(entries, y, edge, parts, spans, answers) {
+    if !fill_beside::<M, A, B>(entries, y, parts, spans, answers) {
         stack.far_rows = FAR_ROWS;
     }
 }
 
 /// Fills a row by the stack alone.
-fn fill_far<M: Metric, A: CellAnswer>(
+fn fill_far<M: Metric, A: CellAnswer, B: Border>(
     entries: &[u16],
     y: u16,
-    edge: Edge,
     spans: &mut [Span],
     answers: &mut [A],
 )
     requires entries { AreEntries entries.now y }
-    requires row { shift edge ≤ y }
+    requires row { shift B.EDGE ≤ y }
     requires spans { length entries.now ≤ length spans.old }
-    requires width { length answers.old + 2 * shift edge ≡ length entries.now }
-    ensures answers { AreNearColumns A.told A.nothing M.distance entries.now y edge answers.new }
+    requires width { length answers.old + 2 * shift B.EDGE ≡ length entries.now }
+    ensures answers { AreNearColumns A.told A.nothing M.distance entries.now y B.EDGE answers.new }
 {
     if entries.is_empty() {
         return;
@@ -161,5 +166,5 @@ fn fill_far<M: Metric, A: CellAnswer>(
         first: 0,
         last: entries.len(),
     };
-    fill_piece::<M, A>(entries, y, edge, piece, spans, answers);
+    fill_piece::<M, A, B>(entries, y, piece, spans, answers);
 }

@@ -1,18 +1,34 @@
 -- The nearest obstacles of rows that are filled one after another, and of bands that stand one after another.
-use Rattle.std.proofs.Common.{◌≡◌, ℕ, ◌+◌, ◌-◌, ◌*◌, ◌/◌, ◌<◌, ◌≤◌, ◌⊎◌, ◌∙◌, inl, inr, List, ◌++◌, take, drop, Option, None, Result, Ok, Err, OnOk, length, slice_index_or, arith, length-append}
+use Rattle.std.proofs.Common.{◌≡◌, ℕ, ◌+◌, ◌-◌, ◌*◌, ◌/◌, ◌<◌, ◌≤◌, ◌⊎◌, ◌∙◌, inl, inr, List, ◌++◌, take, drop, Option, None, Result, Ok, Err, OnOk, length, slice_index_or, arith, length-append, ap, sym, append_assoc}
 use Rattle.std.proofs.Math.Nat.{div-le_self, div-mul-le_self, mul-div_cancel_left, mul-le-mul_right}
 use Rattle.std.proofs.lemmas.Bool.{cases_lt}
 use Rattle.std.proofs.lemmas.Nat.{le-div}
-use Rattle.std.proofs.lemmas.List.{get_or_append_left, get_or-append-add, length-take-le, take_at}
+use Rattle.std.proofs.lemmas.List.{get_or_append_left, get_or-append-add, get_or-drop, get_or-take, length-take-le, take_all, take_at}
+use Rattle.std.proofs.lemmas.Slice.{drop-put_mid}
+use borrow.Rule.Slice.PartMut.{post_of, put_mid, take_put}
 use Rattle.metric.specs.declared.edge.Edge.{Edge}
 use Rattle.metric.specs.declared.near.Near.{Near}
-use Rattle.metric.specs.Nearest.{IsNear}
 use Rattle.bits.specs.Cells.{Cells}
-use Rattle.bits.specs.Edges.{IsBlocked}
 use Rattle.envelope.specs.Answer.{Reading}
-use Rattle.field.specs.Bands.{AreAnswers, AreFilled, HasRoom, row_behind}
+use Rattle.field.specs.Bands.{AreAnswers, HasRoom, row_behind}
 use Rattle.field.specs.Rows.{AreNears}
-use Rattle.column.proofs.Sweeping.{place_above}
+use Rattle.column.proofs.Places.{place_above}
+
+-- a line that is put behind a list, once the list was filled up, follows the list
+pub put_behind : {T : Type 0} (old fill room line rest : List T) (start n k len : ℕ) → room ≡ take n old ++ fill → start ≡ length old → start ≤ n → len ≡ start + length line
+    → take len (put_mid start k room line ++ rest) ≡ old ++ line
+put_behind {T} old fill room line rest start n k len filled start_is few all =
+    let whole : take n old ≡ old = take_all n old (omega (arith, start_is, few)) in
+    let front : take start room ≡ old = rw (filled, whole) (take_at old fill start (sym start_is)) in
+    let apart : put_mid start k room line ++ rest ≡ (old ++ line) ++ (post_of start k room ++ rest) =
+    rw front (ap (λ (l : List T). l ++ rest) (sym (append_assoc old line (post_of start k room))) ∙ append_assoc (old ++ line) (post_of start k room) rest) in
+    rw apart (take_at (old ++ line) (post_of start k room ++ rest) len (length-append old line ∙ omega (arith, start_is, all)))
+
+-- an element of a line that was put among others is read at its place among them
+pub get_or-put : {T : Type 0} (all line rest : List T) (start x : ℕ) (other : T) → start ≤ length all → x < length line → slice_index_or (take start all ++ (line ++ rest)) (start + x) other ≡ slice_index_or line x other
+get_or-put all line rest start x other within inside =
+    let front = length-take-le start all within in
+    rw front at (get_or-append-add (take start all) (line ++ rest) x other ∙ get_or_append_left line rest other x inside)
 
 -- what holds of each item as far as row y holds of each one row further once that row's are written
 pub rows_more : {T : Type 0} (Is : ℕ → ℕ → T → Type 0) (nothing : T) (width from y : ℕ) (before after : List T) → from ≤ y
@@ -29,17 +45,26 @@ rows_more Is nothing width from y before after ordered filled here others x b co
       rw same (here x column)
 ]
 
--- answers that are filled as far as row y are filled one row further once that row's are written
-pub AreFilled-more : {T : Type 0} (told : Reading T) (nothing : T) (distance : ℕ → ℕ → ℕ) (cells : Cells) (edge : Edge) (from y : ℕ) (before after : List T) → from ≤ y
-    → AreFilled told nothing distance cells edge from y before
-    → ((x : ℕ) → x < cells.width → IsNear distance (IsBlocked cells edge) x y (told distance x y (slice_index_or after ((y - from) * cells.width + x) nothing)))
-    → ((k : ℕ) → (k < (y - from) * cells.width) ⊎ ((y - from) * cells.width + cells.width ≤ k) → slice_index_or after k nothing ≡ slice_index_or before k nothing)
-    → AreFilled told nothing distance cells edge from (y + 1) after
-AreFilled-more {T} told nothing distance cells edge from y before after ordered filled here others = record {
-  each =
-      let Is : ℕ → ℕ → T → Type 0 = λ x b answer. IsNear distance (IsBlocked cells edge) x b (told distance x b answer) in
-      rows_more Is nothing cells.width from y before after ordered filled.each here others;
-}
+-- the same, where that row's line is put in its place
+pub rows_put : {T : Type 0} (Is : ℕ → ℕ → T → Type 0) (nothing : T) (width from y start wide : ℕ) (before line : List T) → from ≤ y → start ≡ (y - from) * width → wide ≡ width → start + wide ≤ length before → length line ≡ width
+    → ((x b : ℕ) → x < width → from ≤ b → b < y → Is x b (slice_index_or before ((b - from) * width + x) nothing))
+    → ((x : ℕ) → x < width → Is x y (slice_index_or line x nothing))
+    → (x b : ℕ) → x < width → from ≤ b → b < y + 1 → Is x b (slice_index_or (put_mid start (start + wide - start) before line) ((b - from) * width + x) nothing)
+rows_put {T} Is nothing width from y start wide before line ordered start_is wide_is room long filled here =
+    let part : start + wide - start ≡ wide = omega arith in
+    let within : start ≤ length before = omega (arith, room) in
+    let after : List T = put_mid start wide before line in
+    let end : ℕ = start + wide in
+    rw part
+    (rows_more Is nothing width from y before after ordered filled
+    (λ x column. rw (← start_is, get_or-put before line (post_of start wide before) start x nothing within (omega (arith, column, long))) (here x column))
+    (λ k aside. elim (rw (← start_is, ← wide_is) at aside) [
+      | inl low ↦ sym (get_or-take start after k nothing low) ∙ (ap (λ (l : List T). slice_index_or l k nothing) (take_put start wide before line within) ∙ get_or-take start before k nothing low)
+      | inr high ↦
+          let place : end + (k - end) ≡ k = omega (arith, high) in
+          let same : drop end after ≡ drop end before = drop-put_mid start wide before line end (omega arith) within (omega (arith, long, wide_is)) in
+          rw place at (sym (get_or-drop end after (k - end) nothing) ∙ (ap (λ (l : List T). slice_index_or l (k - end) nothing) same ∙ get_or-drop end before (k - end) nothing))
+    ]))
 
 -- the answers of a band's rows and those of the rows after them, put together, are the answers of all these rows
 pub AreAnswers-join : {T : Type 0} (told : Reading T) (nothing : T) (distance : ℕ → ℕ → ℕ) (cells : Cells) (edge : Edge) (from to end : ℕ) (own others : List T) → from ≤ to → to ≤ end
@@ -128,12 +153,6 @@ on_ok_both (Err error) both first second = first
 -- the beginning of a list that was written over is what was written
 pub written_over : {T : Type 0} (n : ℕ) (new old : List T) → length new ≡ n → take n (new ++ drop (length new) old) ≡ new
 written_over n new old as_many = take_at new (drop (length new) old) n as_many
-
--- an element of a line that was put among others is read at its place among them
-pub get_or-put : {T : Type 0} (all line rest : List T) (start x : ℕ) (other : T) → start ≤ length all → x < length line → slice_index_or (take start all ++ (line ++ rest)) (start + x) other ≡ slice_index_or line x other
-get_or-put all line rest start x other within inside =
-    let front = length-take-le start all within in
-    rw front at (get_or-append-add (take start all) (line ++ rest) x other ∙ get_or_append_left line rest other x inside)
 
 -- what follows from a fact of a success holds of it
 pub on_ok : {T E P Q : Type 0} (result : Result T E) → (P → Q) → OnOk result P → OnOk result Q

@@ -10,7 +10,7 @@ use Rattle.metric.specs.declared.edge.Edge.{Edge}
 use Rattle.metric.specs.declared.near.Near.{Near}
 use Rattle.metric.specs.declared.spot.Spot.{Spot}
 use Rattle.bits.specs.Cells.{Cells}
-use Rattle.column.proofs.Sweeping.{place_above}
+use Rattle.column.proofs.Places.{place_above}
 use Rattle.field.specs.Bands.{AreAnswers}
 use Rattle.metric.specs.Nearest.{apart}
 use Rattle.field.specs.Obstacles.{AreMeasured, AreRows, IsKeptSpot, IsMeasured, Obstacles, nears_told, seen_from, spot_kept}

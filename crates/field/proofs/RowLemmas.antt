@@ -1,13 +1,10 @@
 -- The answers of one row are those of rows.
 use Rattle.std.proofs.Common.{◌≡◌, ℕ, ◌+◌, ◌-◌, ◌*◌, ◌≤◌, List, ◌++◌, arith}
-use Rattle.metric.specs.Edge.{shift}
 use Rattle.metric.specs.declared.edge.Edge.{Edge}
 use Rattle.bits.specs.Cells.{Cells}
 use Rattle.envelope.specs.Answer.{Reading}
 use Rattle.envelope.specs.Rows.{AreRowAnswers}
 use Rattle.field.specs.Bands.{AreAnswers}
-use Rattle.field.specs.Columns.{IsNextRow}
-use Rattle.field.specs.declared.columns.Columns.{Columns}
 use Rattle.field.proofs.BandLemmas.{AreAnswers-join}
 
 -- the answers of one row are those of the rows from it to before the next
@@ -29,9 +26,3 @@ pub AreAnswers-more : {T : Type 0} (told : Reading T) (nothing : T) (distance : 
     → AreAnswers told nothing distance cells edge y0 y rows → AreRowAnswers told nothing distance cells edge y cells.width row → AreAnswers told nothing distance cells edge y0 (y + 1) (rows ++ row)
 AreAnswers-more told nothing distance cells edge y0 y rows row ordered before here =
     AreAnswers-join told nothing distance cells edge y0 y (y + 1) rows row ordered (omega arith) before (AreAnswers-row told nothing distance cells edge y row here)
-
--- columns that are ready for the row after one that is counted with the frame are ready for the map's next row
-pub IsReady-next : (cells : Cells) (edge : Edge) (columns : Columns) (row y : ℕ) → row ≡ y + shift edge → IsNextRow cells edge columns (row + 1) → IsNextRow cells edge columns (y + 1 + shift edge)
-IsReady-next cells edge columns row y same ready =
-    let next : row + 1 ≡ y + 1 + shift edge = omega (arith, same) in
-    rw next at ready

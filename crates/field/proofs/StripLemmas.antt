@@ -5,12 +5,11 @@ use Rattle.std.proofs.Math.Nat.{div-add-mod, div-lt_iff_lt-mul, mod-lt, mul-le-m
 use Rattle.std.proofs.lemmas.Nat.{div-mul-add, mod-mul-add}
 use Rattle.std.proofs.lemmas.List.{ext_get_or, get_or-map, length-map}
 use Rattle.std.proofs.lemmas.List.FromFn.{get_or-map-range_with_len, length-map-range_with_len}
-use Rattle.metric.specs.declared.edge.Edge.{Edge}
 use Rattle.metric.specs.declared.spot.Spot.{Spot}
-use Rattle.bits.specs.Cells.{Cells}
-use Rattle.column.proofs.Sweeping.{place_above}
+use Rattle.column.specs.declared.batch.Batch.{Batch}
+use Rattle.column.proofs.Places.{place_above}
 use Rattle.field.specs.Bands.{AreAnswers}
-use Rattle.field.specs.Obstacles.{AreRows, AreStripAnswers, AreStrips, HaveRows, cell_in, cells_in, in_strips, rows_before, seen_from}
+use Rattle.field.specs.Obstacles.{AreRows, AreStripAnswers, AreStrips, HaveRows, cell_in, cells_in, in_strips, rows_before, seen_from, strip_row}
 use Rattle.field.proofs.ObstacleLemmas.{length-line, line_at}
 
 -- what holds of each success among those found holds of the strips, which are all of them
@@ -93,31 +92,34 @@ line_in_strips width y0 y1 height strips row have below =
     rw (line_at strip (row % height * width) width x None column, line_at all (row * width) width x None column) (sym (cell_at width height (y1 - y0) strips row x are.some below column)))
 
 -- where each strip tells the nearest obstacles of its rows, all cells tell those of all rows
-pub AreAnswers-strips : (distance : ℕ → ℕ → ℕ) (cells : Cells) (edge : Edge) (y0 y1 height : ℕ) (strips : List (List (Option Spot))) → 1 ≤ height → y0 ≤ y1 → y1 - y0 ≤ length strips * height
-    → AreStripAnswers distance cells edge y0 y1 height strips → AreAnswers seen_from None distance cells edge y0 y1 (cells_in cells.width height (y1 - y0) strips)
-AreAnswers-strips distance cells edge y0 y1 height strips some order enough found = record {
-  as_many = length-cells_in cells.width height (y1 - y0) strips;
-  filled = record {
-    each = λ x y column from to.
-        let row : ℕ = y - y0 in
-        let below : row < y1 - y0 = omega (arith, from, to) in
-        let starts = strip_starts height (y1 - y0) row some below in
-        let parts = row_in_strip height row in
-        let strip = found.each (row / height) (strip_below height (y1 - y0) (length strips) row some enough below) in
-        let rest : y - (y0 + rows_before (y1 - y0) height (row / height)) ≡ row % height = rw starts.0 (omega (arith, parts, from)) in
-        rw (cell_at cells.width height (y1 - y0) strips row x some below column, ← rest)
-        (strip.filled.each x y column (rw starts.0 (omega (arith, parts, from))) (omega (arith, starts.0, starts.1, parts, from)));
-  };
-}
+pub AreAnswers-strips : (distance : ℕ → ℕ → ℕ) (batch : Batch) (height : ℕ) (strips : List (List (Option Spot))) → 1 ≤ height → batch.y1 - batch.y0 ≤ length strips * height
+    → AreStripAnswers distance batch height strips → AreAnswers seen_from None distance batch.bitmap.now batch.edge batch.y0 batch.y1 (cells_in batch.bitmap.now.width height (batch.y1 - batch.y0) strips)
+AreAnswers-strips distance batch height strips some enough found =
+    let width = batch.bitmap.now.width in
+    let rows = batch.y1 - batch.y0 in
+    record {
+      as_many = length-cells_in width height rows strips;
+      filled = record {
+        each = λ x y column from to.
+            let row : ℕ = y - batch.y0 in
+            let below : row < batch.y1 - batch.y0 = omega (arith, from, to) in
+            let starts = strip_starts height rows row some below in
+            let parts = row_in_strip height row in
+            let strip = found.each (row / height) (strip_below height rows (length strips) row some enough below) in
+            let rest : y - strip_row batch height (row / height) ≡ row % height = rw starts.0 (omega (arith, parts, from)) in
+            rw (cell_at width height rows strips row x some below column, ← rest)
+            (strip.filled.each x y column (rw starts.0 (omega (arith, parts, from))) (omega (arith, starts.0, starts.1, parts, from)));
+      };
+    }
 
 -- strips that tell the nearest obstacles of their rows have these rows
-pub AreStrips-answers : (distance : ℕ → ℕ → ℕ) (cells : Cells) (edge : Edge) (y0 y1 height : ℕ) (strips : List (List (Option Spot))) → 1 ≤ height → y1 - y0 ≤ length strips * height
-    → AreStripAnswers distance cells edge y0 y1 height strips → AreStrips cells.width height (y1 - y0) strips
-AreStrips-answers distance cells edge y0 y1 height strips some enough found = record {
+pub AreStrips-answers : (distance : ℕ → ℕ → ℕ) (batch : Batch) (height : ℕ) (strips : List (List (Option Spot))) → 1 ≤ height → batch.y1 - batch.y0 ≤ length strips * height
+    → AreStripAnswers distance batch height strips → AreStrips batch.bitmap.now.width height (batch.y1 - batch.y0) strips
+AreStrips-answers distance batch height strips some enough found = record {
   some = some;
   enough = enough;
   each = λ strip below.
-      let rows : y0 + rows_before (y1 - y0) height (strip + 1) - (y0 + rows_before (y1 - y0) height strip) ≡ rows_before (y1 - y0) height (strip + 1) - rows_before (y1 - y0) height strip = omega arith in
+      let rows : strip_row batch height (strip + 1) - strip_row batch height strip ≡ rows_before (batch.y1 - batch.y0) height (strip + 1) - rows_before (batch.y1 - batch.y0) height strip = omega arith in
       rw (← rows) (found.each strip below).as_many;
 }
 

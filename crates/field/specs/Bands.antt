@@ -4,6 +4,7 @@ use Rattle.metric.specs.Nearest.{IsNear}
 use Rattle.metric.specs.declared.edge.Edge.{Edge}
 use Rattle.bits.specs.Cells.{Cells}
 use Rattle.bits.specs.Edges.{IsBlocked}
+use Rattle.column.specs.declared.batch.Batch.{Batch}
 use Rattle.envelope.specs.Answer.{Reading}
 
 -- a computation is shared by one to sixteen workers
@@ -25,6 +26,10 @@ pub record HasRoom {T : Type 0} (cells : Cells) (from to : ℕ) (answers : List 
   pub order : from ≤ to
   pub within : to ≤ cells.height
   pub as_many : length answers ≡ (to - from) * cells.width
+
+-- there is room for the answers of those bands of a batch that come after some, as far as some others, of so many
+abbrev pub HasBandRoom : {T : Type 0} → Batch → ℕ → ℕ → ℕ → List T → Type 0
+HasBandRoom batch count above below answers = HasRoom batch.bitmap.now (row_behind batch.y0 batch.y1 count above) (row_behind batch.y0 batch.y1 count below) answers
 
 -- the answers at the front tell the nearest obstacles of the cells of the rows from one to before another, row by row
 pub record AreFilled {T : Type 0} (told : Reading T) (nothing : T) (distance : ℕ → ℕ → ℕ) (cells : Cells) (edge : Edge) (from to : ℕ) (answers : List T) : Type 0 where

@@ -1,11 +1,10 @@
 -- A table that keeps of each cell's nearest obstacle only where it is: this project's own rule. How far away it is follows.
 use Rattle.std.specs.Prelude.{◌≡◌, ℕ, ℤ, pos, negsuc, ◌<ℤ◌, ◌≤ℤ◌, int_lt, ◌+◌, ◌-◌, ◌*◌, ◌/◌, ◌%◌, ◌<◌, ◌≤◌, [], List, length, map, min, slice_index_or, Option, Some, None, if◌then◌else◌}
 use Rattle.std.specs.List.{range_with_len}
-use Rattle.metric.specs.declared.edge.Edge.{Edge}
 use Rattle.metric.specs.declared.spot.Spot.{Spot}
 use Rattle.metric.specs.declared.near.Near.{Near}
 use Rattle.metric.specs.Nearest.{spot_distance}
-use Rattle.bits.specs.Cells.{Cells}
+use Rattle.column.specs.declared.batch.Batch.{Batch}
 use Rattle.field.specs.Bands.{AreAnswers}
 
 -- this column and row are a spot, or none where the column is the mark that stands for none
@@ -65,9 +64,17 @@ pub record HaveRows (width y0 y1 height : ℕ) (strips : List (List (Option Spot
   pub within : y1 ≤ 4096
   pub placed : AreStrips width height (y1 - y0) strips
 
--- each strip tells the nearest obstacles of its rows, of the rows y0 to y1 - 1
-pub record AreStripAnswers (distance : ℕ → ℕ → ℕ) (cells : Cells) (edge : Edge) (y0 y1 height : ℕ) (strips : List (List (Option Spot))) : Type 0 where
-  pub each : (strip : ℕ) → strip < length strips → AreAnswers seen_from None distance cells edge (y0 + rows_before (y1 - y0) height strip) (y0 + rows_before (y1 - y0) height (strip + 1)) (slice_index_or strips strip [])
+-- the first row of a strip, where the rows of a batch stand in strips of this height
+abbrev pub strip_row : Batch → ℕ → ℕ → ℕ
+strip_row batch height strip = batch.y0 + rows_before (batch.y1 - batch.y0) height strip
+
+-- the cells tell the nearest obstacles of the rows of one strip of a batch
+abbrev pub IsStripAnswer : (ℕ → ℕ → ℕ) → Batch → ℕ → ℕ → List (Option Spot) → Type 0
+IsStripAnswer distance batch height strip cells = AreAnswers seen_from None distance batch.bitmap.now batch.edge (strip_row batch height strip) (strip_row batch height (strip + 1)) cells
+
+-- each strip tells the nearest obstacles of its rows
+pub record AreStripAnswers (distance : ℕ → ℕ → ℕ) (batch : Batch) (height : ℕ) (strips : List (List (Option Spot))) : Type 0 where
+  pub each : (strip : ℕ) → strip < length strips → IsStripAnswer distance batch height strip (slice_index_or strips strip [])
 
 -- a table tells these nearest obstacles, row by row, by this distance
 abbrev pub nears_told : (ℕ → ℕ → ℕ) → Obstacles → List (Option Near)

@@ -6,9 +6,15 @@ use Rattle.metric.specs.Nearest.{IsNear}
 use Rattle.metric.specs.declared.edge.Edge.{Edge}
 use Rattle.bits.specs.Cells.{Cells}
 use Rattle.bits.specs.Edges.{IsBlocked}
+use Rattle.column.specs.declared.batch.Batch.{Batch}
 pub use Rattle.envelope.specs.Rows.{AreRowNears}
+use Rattle.field.specs.Bands.{row_behind}
 
 -- the list has for each cell of the rows y0 to y1 - 1, row by row, its nearest obstacle, or none
 pub record AreNears (distance : ℕ → ℕ → ℕ) (cells : Cells) (edge : Edge) (y0 y1 : ℕ) (nears : List (Option Near)) : Type 0 where
   pub as_many : length nears ≡ (y1 - y0) * cells.width
   pub each : (x y : ℕ) → x < cells.width → y0 ≤ y → y < y1 → IsNear distance (IsBlocked cells edge) x y (slice_index_or nears ((y - y0) * cells.width + x) None)
+
+-- the list has the nearest obstacles of those bands of a batch that come after some, as far as some others, of so many
+abbrev pub AreBandNears : (ℕ → ℕ → ℕ) → Batch → ℕ → ℕ → ℕ → List (Option Near) → Type 0
+AreBandNears distance batch count above below nears = AreNears distance batch.bitmap.now batch.edge (row_behind batch.y0 batch.y1 count above) (row_behind batch.y0 batch.y1 count below) nears

@@ -2,16 +2,17 @@
 #![tactic(auto)]
 
 mod bands;
-mod columns;
 mod filling;
 mod measuring;
 mod obstacle_cell;
 mod obstacle_table;
+mod phases;
 mod strips;
 mod table;
 mod workers;
 
 pub use bands::rows_with;
+pub use column::Batch;
 pub use filling::fill;
 pub use measuring::measure;
 pub use obstacle_table::ObstacleTable;

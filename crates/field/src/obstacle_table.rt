@@ -8,8 +8,8 @@ ghost use Rattle.metric.specs.declared.refusal.Refusal.TheVariants.{Memory};
 use crate::obstacle_cell::ObstacleCell;
 use crate::strips::{Strips, work_strips};
 use crate::workers::Workers;
-use bits::Bitmap;
-use metric::{Edge, Gate, Metric, Near, Refusal};
+use column::Batch;
+use metric::{Gate, Metric, Near, Refusal};
 use std::alloc::Global;
 use std::marker::{Model, PhantomData};
 use std::thread::Threads;
@@ -39,37 +39,31 @@ impl<M> Model for ObstacleTable<M> {
 }
 
 impl<M: Metric + Sync> ObstacleTable<M> {
-    /// The nearest obstacles of the cells of rows `y0` to `y1 - 1`, the same as `rows` has them, each worker in a strip of its own: all strips have equally many rows, but for the last ones, which may have fewer, or none. Each strip is worked by a thread of its own, which enters the gate first with the strip's number from 1; where a thread can't be started, the calling thread works that strip. Refused for want of memory alone.
+    /// The nearest obstacles of the cells of a batch, the same as `rows` has them, each worker in a strip
+    /// of its own: all strips have equally many rows, but for the last ones, which may have fewer, or
+    /// none. Each strip is worked by a thread of its own, which enters the gate first with the strip's
+    /// number from 1; where a thread can't be started, the calling thread works that strip. Fails only
+    /// when out of memory.
     pub fn of<G: Gate + Sync, R: Threads + Sync>(
         rt: &R,
         alloc: Global,
-        bitmap: &Bitmap,
-        edge: Edge,
-        y0: u16,
-        y1: u16,
+        batch: &Batch<'_>,
         workers: Workers,
         gate: &G,
     ) -> Result<Self, Refusal>
-        requires order { y0 ≤ y1 }
-        requires within { y1 ≤ bitmap.now.height }
-        ensures width { IfOk result (λ table. table.width ≡ bitmap.now.width) }
-        ensures from { IfOk result (λ table. table.y0 ≡ y0) }
-        ensures to { IfOk result (λ table. table.y1 ≡ y1) }
-        ensures rows { IfOk result (λ table. AreNears M.distance bitmap.now edge y0 y1 (nears_told M.distance table)) }
+        ensures width { IfOk result (λ table. table.width ≡ batch.now.bitmap.now.width) }
+        ensures from { IfOk result (λ table. table.y0 ≡ batch.now.y0) }
+        ensures to { IfOk result (λ table. table.y1 ≡ batch.now.y1) }
+        ensures rows { IfOk result (λ table. AreNears M.distance batch.now.bitmap.now
+            batch.now.edge batch.now.y0 batch.now.y1 (nears_told M.distance table)) }
         ensures memory { IfErr result (λ refusal. refusal ≡ Memory) }
     {
-        let count = workers.count;
+        let (y0, y1, count) = (batch.y0, batch.y1, workers.count);
         let height = (y1 - y0).div_ceil(u16::from(count)).max(1);
-        let shared = Strips {
-            bitmap,
-            edge,
-            y0,
-            y1,
-            height,
-        };
+        let shared = Strips { batch, height };
         let strips = work_strips::<M, G, R>(rt, alloc, &shared, count, gate)?;
         Ok(ObstacleTable {
-            width: bitmap.width(),
+            width: batch.bitmap.width(),
             y0,
             y1,
             height,

@@ -1,31 +1,26 @@
 //! The nearest obstacles of some rows in strips of equal height, each of which a thread of its own works into room of its own.
 
 ghost use Rattle.std.specs.Prelude.{◌≡◌, ◌+◌, ◌-◌, ◌<◌, ◌≤◌, All, IfErr, IfOk, None, Ok, map, vec_len};
-ghost use Rattle.field.specs.Bands.{AreAnswers, IsWorkers};
-ghost use Rattle.field.specs.Obstacles.{AreStripAnswers, rows_before, seen_from};
+ghost use Rattle.field.specs.Bands.{IsWorkers};
+ghost use Rattle.field.specs.Obstacles.{AreStripAnswers, IsStripAnswer, strip_row};
 ghost use Rattle.metric.specs.declared.refusal.Refusal.TheVariants.{Memory};
 
 use crate::obstacle_cell::ObstacleCell;
 use crate::table::answers;
-use bits::Bitmap;
-use metric::{Edge, Gate, Metric, Refusal};
+use column::Batch;
+use metric::{Gate, Metric, Refusal};
 use std::alloc::Global;
 use std::thread::{Threads, map_indices};
 
-/// The rows `y0` to `y1 - 1` of a bitmap in strips of equal height, the last of which may have fewer rows, or none.
+/// The rows of a batch in strips of equal height, the last of which may have fewer rows, or none.
 #[derive(Drop)]
 pub struct Strips<'a> {
-    pub bitmap: &'a Bitmap,
-    pub edge: Edge,
-    pub y0: u16,
-    pub y1: u16,
+    pub batch: &'a Batch<'a>,
     pub height: u16,
-    ghost order: { y0 ≤ y1 },
-    ghost within: { y1 ≤ bitmap.now.height },
     ghost some: { 1 ≤ height },
 }
 
-/// Works the first `count` strips, each in a thread of its own where one can be started. Refused for want of memory alone.
+/// Works the first `count` strips, each in a thread of its own where one can be started. Fails only when out of memory.
 pub fn work_strips<M: Metric + Sync, G: Gate + Sync, R: Threads + Sync>(
     rt: &R,
     alloc: Global,
@@ -35,12 +30,12 @@ pub fn work_strips<M: Metric + Sync, G: Gate + Sync, R: Threads + Sync>(
 ) -> Result<Vec<Vec<ObstacleCell>>, Refusal>
     requires count { IsWorkers count }
     ensures count { IfOk result (λ cells. vec_len cells ≡ count) }
-    ensures each { IfOk result (λ cells. AreStripAnswers M.distance strips.now.bitmap.now strips.now.edge strips.now.y0 strips.now.y1 strips.now.height (map (λ strip. strip.items) cells.items)) }
+    ensures each { IfOk result (λ cells. AreStripAnswers M.distance strips.now.batch.now strips.now.height (map (λ strip. strip.items) cells.items)) }
     ensures memory { IfErr result (λ refusal. refusal ≡ Memory) }
 {
     let work = |strip: usize| -> Result<Vec<ObstacleCell>, Refusal>
         requires { strip < 16 }
-        ensures rows { IfOk result (λ cells. AreAnswers seen_from None M.distance strips.entry.now.bitmap.now strips.entry.now.edge (strips.entry.now.y0 + rows_before (strips.entry.now.y1 - strips.entry.now.y0) strips.entry.now.height strip) (strips.entry.now.y0 + rows_before (strips.entry.now.y1 - strips.entry.now.y0) strips.entry.now.height (strip + 1)) cells.items) }
+        ensures rows { IfOk result (λ cells. IsStripAnswer M.distance strips.entry.now.batch.now strips.entry.now.height strip cells.items) }
         ensures memory { IfErr result (λ refusal. refusal ≡ Memory) }
     { work_strip::<M, G>(alloc, strips, gate, strip as u8) };
     let found = map_indices(rt, alloc, usize::from(count), &work)?;
@@ -55,25 +50,29 @@ fn work_strip<M: Metric, G: Gate>(
     strip: u8,
 ) -> Result<Vec<ObstacleCell>, Refusal>
     requires strip { strip < 16 }
-    ensures rows { IfOk result (λ cells. AreAnswers seen_from None M.distance strips.now.bitmap.now strips.now.edge (strips.now.y0 + rows_before (strips.now.y1 - strips.now.y0) strips.now.height strip) (strips.now.y0 + rows_before (strips.now.y1 - strips.now.y0) strips.now.height (strip + 1)) cells.items) }
+    ensures rows { IfOk result (λ cells. IsStripAnswer M.distance strips.now.batch.now strips.now.height strip cells.items) }
     ensures memory { IfErr result (λ refusal. refusal ≡ Memory) }
 {
     gate.enter(strip + 1);
-    let from = strips.first_row(strip);
-    let to = strips.first_row(strip + 1);
-    answers::<M, ObstacleCell>(alloc, strips.bitmap, strips.edge, from, to)
+    let own = Batch {
+        bitmap: strips.batch.bitmap,
+        edge: strips.batch.edge,
+        y0: strips.first_row(strip),
+        y1: strips.first_row(strip + 1),
+    };
+    answers::<M, ObstacleCell>(alloc, &own)
 }
 
 impl Strips<'_> {
     /// The first row of a strip, counted from 0; the row after the last one where the strip has none.
     fn first_row(&self, strip: u8) -> u16
         requires { strip ≤ 16 }
-        ensures row { result ≡ self.now.y0 + rows_before (self.now.y1 - self.now.y0) self.now.height strip }
-        ensures within { result ≤ self.now.y1 }
+        ensures row { result ≡ strip_row self.now.batch.now self.now.height strip }
+        ensures within { result ≤ self.now.batch.now.y1 }
     {
-        let rows = u32::from(self.y1 - self.y0);
+        let rows = u32::from(self.batch.y1 - self.batch.y0);
         let above = rows.min(u32::from(strip) * u32::from(self.height));
-        self.y0 + above as u16
+        self.batch.y0 + above as u16
     }
 }
 

@@ -20,6 +20,7 @@ mod setting;
 mod status;
 mod table_bits;
 mod table_bytes;
+mod table_cell;
 mod tables;
 mod unpack;
 

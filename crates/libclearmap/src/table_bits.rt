@@ -12,7 +12,7 @@ use crate::bit_map::BitMap;
 use crate::layout::ClearmapBits;
 use crate::near::ClearmapNear;
 use crate::status::DONE;
-use crate::tables::{distances_in, nearest_in};
+use crate::tables::table_in;
 use std::alloc::Global;
 
 /// Writes the distances of the cells of rows `y0` to `y1 - 1`, row by row, each row from the left;
@@ -39,9 +39,7 @@ pub extern "C" fn clearmap_bits_distances(
     ensures refused { result ≢ DONE → distances.new ≡ distances.old }
 {
     match BitMap::of(words, map) {
-        Ok(mut rows) => distances_in::<BitMap<'_>>(
-            alloc, &mut rows, metric, edge, y0, y1, distances,
-        ),
+        Ok(mut rows) => table_in(alloc, &mut rows, metric, edge, y0..y1, distances),
         Err(status) => status,
     }
 }
@@ -70,7 +68,7 @@ pub extern "C" fn clearmap_bits_nearest(
     ensures refused { result ≢ DONE → nears.new ≡ nears.old }
 {
     match BitMap::of(words, map) {
-        Ok(mut rows) => nearest_in::<BitMap<'_>>(alloc, &mut rows, metric, edge, y0, y1, nears),
+        Ok(mut rows) => table_in(alloc, &mut rows, metric, edge, y0..y1, nears),
         Err(status) => status,
     }
 }

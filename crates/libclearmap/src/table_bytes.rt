@@ -12,7 +12,7 @@ use crate::byte_map::ByteMap;
 use crate::layout::ClearmapBytes;
 use crate::near::ClearmapNear;
 use crate::status::DONE;
-use crate::tables::{distances_in, nearest_in};
+use crate::tables::table_in;
 use std::alloc::Global;
 
 /// Writes the distances of the cells of rows `y0` to `y1 - 1`, row by row, each row from the left;
@@ -39,9 +39,7 @@ pub extern "C" fn clearmap_bytes_distances(
     ensures refused { result ≢ DONE → distances.new ≡ distances.old }
 {
     match ByteMap::of(bytes, map) {
-        Ok(mut rows) => distances_in::<ByteMap<'_>>(
-            alloc, &mut rows, metric, edge, y0, y1, distances,
-        ),
+        Ok(mut rows) => table_in(alloc, &mut rows, metric, edge, y0..y1, distances),
         Err(status) => status,
     }
 }
@@ -70,7 +68,7 @@ pub extern "C" fn clearmap_bytes_nearest(
     ensures refused { result ≢ DONE → nears.new ≡ nears.old }
 {
     match ByteMap::of(bytes, map) {
-        Ok(mut rows) => nearest_in::<ByteMap<'_>>(alloc, &mut rows, metric, edge, y0, y1, nears),
+        Ok(mut rows) => table_in(alloc, &mut rows, metric, edge, y0..y1, nears),
         Err(status) => status,
     }
 }

@@ -4,7 +4,7 @@ use crate::compare::{holds, same};
 use crate::opened::drawn;
 use crate::told::{Call, begin, end};
 use bits::Bitmap;
-use field::{Workers, rows, rows_with};
+use field::{Batch, Workers, rows, rows_with};
 use metric::{Cell, Edge, Euclid2, Gate, Near, Refusal, Spot};
 use std::alloc::Global;
 use std::process::Abort;
@@ -61,12 +61,10 @@ fn work<R: Threads + Sync>(
     map: &Bitmap,
     workers: Option<Workers>,
 ) -> Result<Vec<Option<Near>>, Refusal> {
-    let height = map.height();
+    let batch = Batch::new(map, Edge::Open, 0, map.height());
     match workers {
-        Some(workers) => {
-            rows_with::<Euclid2, _, _>(rt, alloc, map, Edge::Open, 0, height, workers, &Open)
-        }
-        None => rows::<Euclid2>(alloc, map, Edge::Open, 0, height),
+        Some(workers) => rows_with::<Euclid2, _, _>(rt, alloc, &batch, workers, &Open),
+        None => rows::<Euclid2>(alloc, &batch),
     }
 }
 

@@ -1,7 +1,7 @@
 //! The same answers by those of all cells of the bitmap, cell after cell: the plain program with which the search is compared.
 
 use bits::Bitmap;
-use field::rows;
+use field::{Batch, rows};
 use metric::{Cell, Edge, Metric, Near, Rect, Refusal};
 use std::alloc::{AllocError, Global};
 
@@ -15,7 +15,7 @@ pub struct Answers {
 impl Answers {
     /// Those of this bitmap.
     pub fn of<M: Metric>(alloc: Global, bitmap: &Bitmap) -> Result<Self, Refusal> {
-        let nears = rows::<M>(alloc, bitmap, Edge::Open, 0, bitmap.height())?;
+        let nears = rows::<M>(alloc, &Batch::new(bitmap, Edge::Open, 0, bitmap.height()))?;
         Ok(Answers {
             width: usize::from(bitmap.width()),
             nears,

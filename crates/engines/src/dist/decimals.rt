@@ -4,7 +4,7 @@ ghost use Rattle.std.specs.Prelude.{◌≡◌, ◌+◌, ◌*◌, ◌<◌, ◌≤
 ghost use Rattle.std.specs.Fmt.{decimal};
 ghost use Rattle.engines.specs.dist.Putting.{AreQuads, AreSpaced, four_digits};
 
-use crate::dist::put::{put_byte, put_four, put_word};
+use crate::dist::put::{put_byte, put_front};
 use crate::dist::quad::{Quad, quads, spaced};
 use std::alloc::{AllocError, Global};
 
@@ -84,7 +84,7 @@ impl Decimals {
         ensures { Puts text.old at (32 ∷ decimal number) text.new result }
     {
         let word = self.spaced[number as usize];
-        put_word(text, at, word, usize::from(word[7]))
+        put_front(text, at, word, usize::from(word[7]))
     }
 
     /// Puts a number of four digits at most. There is room for four bytes.
@@ -95,7 +95,7 @@ impl Decimals {
         ensures { Puts text.old at (decimal number) text.new result }
     {
         let quad = self.quads[number as usize];
-        put_four(text, at, quad.short, usize::from(quad.count))
+        put_front(text, at, quad.short, usize::from(quad.count))
     }
 
     /// Puts a number of four digits at most, with zeros in front.
@@ -106,6 +106,6 @@ impl Decimals {
         ensures { Puts text.old at (four_digits number) text.new result }
     {
         let quad = self.quads[number as usize];
-        put_four(text, at, quad.padded, 4)
+        put_front(text, at, quad.padded, 4)
     }
 }

@@ -13,24 +13,14 @@ pub fn put_byte(text: &mut [u8], at: usize, byte: u8) -> usize
     at + 1
 }
 
-/// Puts the first `count` of four bytes, and answers where the next one goes. After them there is room for four in all.
+/// Puts the first `count` of some bytes, and answers where the next one goes. There is room for all of
+/// them.
 #[inline(always)]
-pub fn put_four(text: &mut [u8], at: usize, four: [u8; 4], count: usize) -> usize
-    requires few { count ≤ 4 }
-    requires room { at + 4 ≤ length text.old }
-    ensures { Puts text.old at (take count four) text.new result }
+pub fn put_front<const N: usize>(text: &mut [u8], at: usize, bytes: [u8; N], count: usize) -> usize
+    requires few { count ≤ N }
+    requires room { at + N ≤ length text.old }
+    ensures { Puts text.old at (take count bytes.entry) text.new result }
 {
-    text[at..at + 4].copy_from_slice(&four);
-    at + count
-}
-
-/// Puts the first `count` of eight bytes, and answers where the next one goes. After them there is room for eight in all.
-#[inline(always)]
-pub fn put_word(text: &mut [u8], at: usize, word: [u8; 8], count: usize) -> usize
-    requires few { count ≤ 8 }
-    requires room { at + 8 ≤ length text.old }
-    ensures { Puts text.old at (take count word) text.new result }
-{
-    text[at..at + 8].copy_from_slice(&word);
+    text[at..at + N].copy_from_slice(&bytes);
     at + count
 }

@@ -5,6 +5,9 @@ ghost use Rattle.engines.specs.dist.Putting.{AreQuads, AreSpaced, IsQuad, IsSpac
 
 use std::alloc::{AllocError, Global};
 
+/// How many numbers have four digits at most.
+const QUADS: u32 = 10_000;
+
 /// The digits of a number below 10,000: without zeros in front, as many as `count`, and with them.
 #[derive(Clone, Copy)]
 pub struct Quad {
@@ -18,8 +21,8 @@ pub fn quads(alloc: Global) -> Result<Vec<Quad>, AllocError>
     ensures all { IfOk result (λ quads. vec_len quads ≡ 10000) }
     ensures each { IfOk result (λ quads. AreQuads 10000 quads.items) }
 {
-    let mut quads = Vec::with_capacity(alloc, 10_000)?;
-    'numbers: for number in 0..10_000u32 {
+    let mut quads = Vec::with_capacity(alloc, QUADS as usize)?;
+    'numbers: for number in 0..QUADS {
         quads.push_reserved(quad_of(number));
     }
     Ok(quads)
@@ -31,8 +34,8 @@ pub fn spaced(alloc: Global) -> Result<Vec<[u8; 8]>, AllocError>
     ensures all { IfOk result (λ words. vec_len words ≡ 10000) }
     ensures each { IfOk result (λ words. AreSpaced 10000 words.items) }
 {
-    let mut words = Vec::with_capacity(alloc, 10_000)?;
-    'numbers: for number in 0..10_000u32 {
+    let mut words = Vec::with_capacity(alloc, QUADS as usize)?;
+    'numbers: for number in 0..QUADS {
         words.push_reserved(spaced_of(number));
     }
     Ok(words)

@@ -6,7 +6,7 @@ ghost use Rattle.engines.specs.dist.Measured.{AreDistances};
 ghost use Rattle.engines.specs.dist.Tabled.{IsBelowNone, IsTableOf};
 
 use bits::Bitmap;
-use field::{ObstacleTable, Workers};
+use field::{Batch, ObstacleTable, Workers};
 use metric::{Edge, Gate, Metric, Near, Refusal};
 use std::alloc::Global;
 use std::marker::Model;
@@ -51,9 +51,13 @@ impl<M: Metric + Sync> Table<M> {
         } else {
             Workers { count: 1 }
         };
-        let obstacles = ObstacleTable::<M>::of(
-            rt, alloc, bitmap, edge, 0, height, workers, &Passing,
-        )?;
+        let batch = Batch {
+            bitmap,
+            edge,
+            y0: 0,
+            y1: height,
+        };
+        let obstacles = ObstacleTable::<M>::of(rt, alloc, &batch, workers, &Passing)?;
         Ok(Table {
             width,
             height,

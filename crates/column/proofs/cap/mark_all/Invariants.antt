@@ -1,6 +1,6 @@
 -- The columns so far have entries, and the others are as they were.
 use Rattle.std.proofs.Common.{◌≡◌, ℕ, ◌<◌, ◌≤◌, true, length, get_or, replicate}
-use Rattle.column.specs.Sweeps.{first_marked}
+use Rattle.column.specs.Marks.{first_marked}
 use Rattle.column.proofs.cap.mark_all.Given as goal
 
 abbrev pub invariant-columns : goal.invariant-columns

@@ -1,5 +1,6 @@
 -- The line has been carried up to the row.
-use Rattle.std.proofs.Common.{◌≤◌}
+use Rattle.std.proofs.Common.{◌+◌, ◌≤◌}
+use Rattle.metric.specs.Edge.{shift}
 use Rattle.bits.specs.Cells.{IsBitmap}
 use Rattle.column.specs.Capped.{capped}
 use Rattle.column.specs.Lines.{IsLineFrom}
@@ -9,5 +10,5 @@ abbrev pub invariant-rows : goal.invariant-rows
 invariant-rows l = record {
   bitmap : IsBitmap l.bitmap;
   at_least : l.from ≤ l.y;
-  line : IsLineFrom (capped l.edge l.bitmap) l.y l.line;
+  line : IsLineFrom (capped l.edge l.bitmap) (l.y + shift l.edge) l.line;
 }

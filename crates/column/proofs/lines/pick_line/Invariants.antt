@@ -1,6 +1,6 @@
 -- The columns so far are picked.
 use Rattle.std.proofs.Common.{◌≡◌, ℕ, ◌<◌, length, get_or}
-use Rattle.column.specs.Sweeps.{nearer}
+use Rattle.column.specs.Marks.{nearer}
 use Rattle.column.proofs.lines.pick_line.Given as goal
 
 abbrev pub invariant-columns : goal.invariant-columns

@@ -1,7 +1,7 @@
 -- The bits so far are marked, and the other entries are as they were.
 use Rattle.std.proofs.Common.{◌≡◌, ℕ, ◌+◌, ◌<◌, ◌≤◌, ◌==◌, length, get_or}
 use Rattle.std.specs.Int.{bit_at}
-use Rattle.column.specs.Sweeps.{marked}
+use Rattle.column.specs.Marks.{marked}
 use Rattle.column.proofs.row.mark_last.Given as goal
 
 abbrev pub invariant-bits : goal.invariant-bits

@@ -1,6 +1,6 @@
 -- The columns of the words so far are marked, and the others are as they were.
 use Rattle.std.proofs.Common.{◌≡◌, ℕ, ◌*◌, ◌<◌, ◌≤◌, get_or, length}
-use Rattle.column.specs.Sweeps.{is_marked, marked}
+use Rattle.column.specs.Marks.{is_marked, marked}
 use Rattle.column.proofs.row.mark_row.Given as goal
 
 abbrev pub invariant-words : goal.invariant-words

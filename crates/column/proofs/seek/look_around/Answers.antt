@@ -1,5 +1,5 @@
 -- The rows are looked at outwards.
-use Rattle.std.proofs.Common.{◌∙◌, ℕ, ap, refl, arith}
+use Rattle.std.proofs.Common.{◌≡◌, ◌+◌, ◌-◌, ◌%◌, ◌∙◌, ℕ, ap, refl, arith}
 use Rattle.std.proofs.Math.ListN.{replicate}
 use Rattle.column.specs.Capped.{capped}
 use Rattle.column.proofs.Caps.{capped_map}
@@ -9,24 +9,29 @@ use Rattle.column.proofs.seek.look_around.Goals as goal
 pub away-init : goal.away-init
 away-init c = record {
   seen =
-      IsSeen-none (capped c.args.edge c.args.bitmap.now) c.args.y c.fill.new.self c.fill-2.new.self c.height.ensures.bitmap.width_is.few
-      (c.fill.ensures.after (λ y same. same) ∙ ap (λ (n : ℕ). replicate n 18446744073709551615) c.requires.room) (c.fill-2.ensures.after (λ y same. same) ∙ ap (λ (n : ℕ). replicate n 65535) c.requires.width);
+      IsSeen-none (capped c.args.edge c.args.bitmap.now) c.args.y (replicate 64 18446744073709551615) c.fill.new.self c.height.ensures.bitmap.width_is.few
+      refl (c.fill.ensures.after (λ y same. same) ∙ ap (λ (n : ℕ). replicate n 65535) c.requires.width);
   bitmap = c.height.ensures.bitmap;
-  words = c.fill.ensures.len ∙ c.requires.room;
+  words = refl;
   rows_is = rw (c.height.ensures.height, c.shift.ensures) refl;
 }
 
 pub away-preserved : goal.away-preserved
-away-preserved c = record {
-  seen =
-      IsSeen-next (capped c.args.edge c.args.bitmap.now) c.args.y c.away.away c.away.missing c.look_below.new.missing c.away.entries c.look_above.new.entries c.look_below.new.entries
-      (capped_map c.args.edge c.args.bitmap.now c.away.invariant.bitmap) c.requires.row c.away.invariant.seen
-      c.look_above.ensures.len c.look_below.ensures.len (c.look_below.ensures.room ∙ c.look_above.ensures.room) c.look_below.ensures.missing
-      c.look_above.ensures.seen c.look_above.ensures.none c.look_below.ensures.seen c.look_below.ensures.none;
-  bitmap = c.away.invariant.bitmap;
-  words = c.look_below.ensures.room ∙ (c.look_above.ensures.room ∙ c.away.invariant.words);
-  rows_is = c.away.invariant.rows_is;
-}
+away-preserved c =
+    let up = c.look_within in
+    let down = c.look_within-in-away in
+    let high = (capped_map c.args.edge c.args.bitmap.now c.away.invariant.bitmap).height_few in
+    record {
+      seen =
+          IsSeen-next (capped c.args.edge c.args.bitmap.now) c.args.y c.away.away c.away.missing down.new.missing c.away.entries up.new.entries down.new.entries
+          (capped_map c.args.edge c.args.bitmap.now c.away.invariant.bitmap) c.requires.row c.away.invariant.seen
+          up.ensures.len down.ensures.len (down.ensures.room ∙ up.ensures.room) down.ensures.missing
+          (λ within. let above : (c.args.y + (65536 - c.away.away)) % 65536 ≡ c.args.y - c.away.away = omega (arith, within) in (rw above at up.ensures.seen) (omega (arith, c.requires.row)))
+          (λ out. up.ensures.none (omega (arith, out, high))) down.ensures.seen down.ensures.none;
+      bitmap = c.away.invariant.bitmap;
+      words = down.ensures.room ∙ (up.ensures.room ∙ c.away.invariant.words);
+      rows_is = c.away.invariant.rows_is;
+    }
 
 pub returns : goal.returns
 returns c =

@@ -3,7 +3,7 @@ use Rattle.std.proofs.Common.{◌≡◌, ◌+◌, ◌*◌, length}
 use Rattle.metric.specs.Edge.{shift}
 use Rattle.bits.specs.Cells.{IsBitmap}
 use Rattle.column.specs.Capped.{capped}
-use Rattle.column.specs.Sweeps.{IsSeen}
+use Rattle.column.specs.Marks.{IsSeen}
 use Rattle.column.proofs.seek.look_around.Given as goal
 
 abbrev pub invariant-away : goal.invariant-away

@@ -7,10 +7,10 @@ use Rattle.engines.proofs.dist.write_map.Goals as goal
 pub returns-in-Ok-clause-front : goal.returns-in-Ok-clause-front
 returns-in-Ok-clause-front g c =
     let options = c.args.options.now in
-    let table = c.in-Ok.print.table in
+    let table = c.in-Ok.print.printer.table in
     on_err_weaker c.write_rows.result
     (λ front. (table_text options.nearest table.width table.height table.nears, 0, asked_of_table options c.args.map.now g.M.Metric.distance table c.requires.table c.requires.metric c.in-Ok.ensures.table, front))
-    c.write_rows.ensures.front
+    (rw c.in-Ok.ensures.nearest at c.write_rows.ensures.front)
 
 pub returns-in-Err-clause-front : goal.returns-in-Err-clause-front
 returns-in-Err-clause-front g c =

@@ -8,24 +8,24 @@ use Rattle.envelope.proofs.scan.tell.Goals as goal
 
 pub near_of-requires-clause-inside : goal.near_of-requires-clause-inside
 near_of-requires-clause-inside g c =
-    let before : c.from-before.result ≡ shift c.args.edge = c.from-before.ensures ∙ c.shift.ensures in
+    let before : c.from-before.result ≡ shift g.B.Border.EDGE = c.from-before.ensures ∙ (rw c.EDGE-edge.ensures at c.shift.ensures) in
     (c.requires.told (c.cells.x + c.from-before.result) (omega (arith, before, c.cells-test.true, c.requires.width))).best.among.left
 
 pub near_of-requires-clause-row : goal.near_of-requires-clause-row
 near_of-requires-clause-row g c =
-    let before : c.from-before.result ≡ shift c.args.edge = c.from-before.ensures ∙ c.shift.ensures in
+    let before : c.from-before.result ≡ shift g.B.Border.EDGE = c.from-before.ensures ∙ (rw c.EDGE-edge.ensures at c.shift.ensures) in
     let among = (c.requires.told (c.cells.x + c.from-before.result) (omega (arith, before, c.cells-test.true, c.requires.width))).best.among in
     c.requires.entries.each (slice_index c.args.words.now (c.cells.x + c.from-before.result) % 8192) among.left among.some
 
 pub cells-preserved : goal.cells-preserved
 cells-preserved g c =
     let p = c.cells.x in
-    let k = shift c.args.edge in
-    let before : c.from-before.result ≡ k = c.from-before.ensures ∙ c.shift.ensures in
+    let k = shift g.B.Border.EDGE in
+    let before : c.from-before.result ≡ k = c.from-before.ensures ∙ (rw c.EDGE-edge.ensures at c.shift.ensures) in
     let inside : p < length c.cells.answers = omega (arith, c.cells-test.true, c.cells.auto.answers) in
     let told = c.requires.told (p + c.from-before.result) (omega (arith, before, c.cells-test.true, c.requires.width)) in
-    let near : IsNearColumn g.M.Metric.distance c.args.entries.now c.args._y c.args.edge (p + c.from-before.result) (Some c.near_of.result) =
-    near_of_word g.M.Metric.distance c.args.entries.now c.args.edge c.args._y (p + c.from-before.result) (slice_index c.args.words.now (p + c.from-before.result)) c.near_of.result told c.near_of.ensures.near in
+    let near : IsNearColumn g.M.Metric.distance c.args.entries.now c.args._y g.B.Border.EDGE (p + c.from-before.result) (Some c.near_of.result) =
+    near_of_word g.M.Metric.distance c.args.entries.now g.B.Border.EDGE c.args._y (p + c.from-before.result) (slice_index c.args.words.now (p + c.from-before.result)) c.near_of.result told (rw c.EDGE-edge.ensures at c.near_of.ensures.near) in
     record {
       width = search rules;
       filled = λ x below. elim (cases_lt x p) [
@@ -34,9 +34,9 @@ cells-preserved g c =
             rw (get_or-set_other c.cells.answers p x c.some.result g.A.CellAnswer.nothing other) (c.cells.invariant.filled x earlier)
         | inr here ↦
             let same : p ≡ x = omega (arith, here, below) in
-            subst (λ (n : ℕ). IsNearColumn g.M.Metric.distance c.args.entries.now c.args._y c.args.edge (n + k) (g.A.CellAnswer.told g.M.Metric.distance n (c.args._y - k) (slice_index_or (slice_set c.cells.answers p c.some.result) n g.A.CellAnswer.nothing)))
+            subst (λ (n : ℕ). IsNearColumn g.M.Metric.distance c.args.entries.now c.args._y g.B.Border.EDGE (n + k) (g.A.CellAnswer.told g.M.Metric.distance n (c.args._y - k) (slice_index_or (slice_set c.cells.answers p c.some.result) n g.A.CellAnswer.nothing)))
             same
-            (near_kept g.A.CellAnswer.told g.A.CellAnswer.nothing g.M.Metric.distance c.args.entries.now c.args.edge c.args._y p c.near_of.result c.some.result c.cells.answers
+            (near_kept g.A.CellAnswer.told g.A.CellAnswer.nothing g.M.Metric.distance c.args.entries.now g.B.Border.EDGE c.args._y p c.near_of.result c.some.result c.cells.answers
             (rw before at near) c.requires.row c.some.ensures inside)
       ];
     }

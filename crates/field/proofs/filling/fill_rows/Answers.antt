@@ -1,25 +1,25 @@
 -- One row more is filled.
-use Rattle.std.proofs.Common.{◌≡◌, ◌-◌, ◌*◌, ◌∙◌, arith, rules}
-use Rattle.field.proofs.BandLemmas.{AreFilled-more}
+use Rattle.std.proofs.Common.{◌≡◌, ◌-◌, ◌*◌, arith, refl, rules}
+use Rattle.metric.specs.Nearest.{IsNear}
+use Rattle.bits.specs.Edges.{IsBlocked}
+use Rattle.column.proofs.Places.{row_ends}
+use Rattle.field.proofs.BandLemmas.{rows_put}
 use Rattle.field.proofs.filling.fill_rows.Goals as goal
 
 pub rows-preserved : goal.rows-preserved
 rows-preserved g c =
-    let cells = c.args.bitmap.now in
-    let start : c.from.result * c.from-width.result
-    ≡ (c.rows.y - c.args.from) * cells.width = search rules in
+    let batch = c.args.batch.now in
+    let cells = batch.bitmap.now in
+    let row = c.fill_line.ensures.line in
+    let start : c.from.result * c.width-width.result ≡ (c.rows.y - batch.y0) * cells.width = rw (c.from.ensures, c.rows.invariant.width_is) refl in
+    let ends = row_ends (c.rows.y - batch.y0) (batch.y1 - batch.y0) cells.width (omega (arith, c.rows-test.true)) in
     record {
-      filled = AreFilled-more g.A.CellAnswer.told g.A.CellAnswer.nothing g.M.Metric.distance cells
-          c.args.edge c.args.from c.rows.y c.rows.answers c.fill_row_at.new.answers (omega arith)
-          c.rows.invariant.filled (rw start at c.fill_row_at.ensures.row)
-          (rw start at c.fill_row_at.ensures.others);
-      room = record {
-        order = c.requires.room.order;
-        within = c.requires.room.within;
-        as_many
-            = c.fill_row_at.auto.answers ∙ c.rows.invariant.room.as_many;
+      width_is = c.rows.invariant.width_is;
+      filled = record {
+        each = rows_put (λ x b answer. IsNear g.M.Metric.distance (IsBlocked cells batch.edge) x b (g.A.CellAnswer.told g.M.Metric.distance x b answer)) g.A.CellAnswer.nothing cells.width batch.y0 c.rows.y
+            (c.from.result * c.width-width.result) c.width-width.result c.rows.answers c.fill_line.new.line (omega arith) start c.rows.invariant.width_is (omega (arith, start, ends, c.rows.invariant.many, c.rows.invariant.width_is))
+            row.as_many c.rows.invariant.filled.each row.each;
       };
-      columns = c.fill_row_at.ensures.columns;
-      last = c.fill_row_at.ensures.to ∙ c.rows.invariant.last;
-      stack = rw c.fill_row_at.ensures.stack c.rows.invariant.stack;
+      many = search rules;
+      phases = c.fill_line.ensures.ready;
     }

@@ -1,18 +1,17 @@
 -- Each strip is what its call gave.
-use Rattle.std.proofs.Common.{◌≡◌, ℕ, ◌+◌, ◌-◌, None, Ok, map, arith}
+use Rattle.std.proofs.Common.{◌≡◌, Ok, map, arith}
 use Rattle.std.proofs.lemmas.Result.{IfOk-weaker}
-use Rattle.field.specs.Bands.{AreAnswers}
-use Rattle.field.specs.Obstacles.{AreStripAnswers, rows_before, seen_from}
+use Rattle.field.specs.Obstacles.{AreStripAnswers, IsStripAnswer}
 use Rattle.field.proofs.StripLemmas.{strips_told}
 use Rattle.field.proofs.strips.work_strips.Goals as goal
 
 pub returns-clause-each : goal.returns-clause-each
 returns-clause-each g c =
     let strips = c.args.strips.now in
-    let first : ℕ → ℕ = λ k. strips.y0 + rows_before (strips.y1 - strips.y0) strips.height k in
-    IfOk-weaker c.gather.result (λ cells. c.in_ok-found.found.items ≡ map Ok cells.items) (λ cells. AreStripAnswers g.M.Metric.distance strips.bitmap.now strips.edge strips.y0 strips.y1 strips.height (map (λ strip. strip.items) cells.items))
+    let batch = strips.batch.now in
+    IfOk-weaker c.gather.result (λ cells. c.in_ok-found.found.items ≡ map Ok cells.items) (λ cells. AreStripAnswers g.M.Metric.distance batch strips.height (map (λ strip. strip.items) cells.items))
     (λ cells same. record {
-      each = strips_told (λ strip. strip.items) (λ k strip. AreAnswers seen_from None g.M.Metric.distance strips.bitmap.now strips.edge (first k) (first (k + 1)) strip) c.in_ok-found.found.items cells.items same
+      each = strips_told (λ strip. strip.items) (IsStripAnswer g.M.Metric.distance batch strips.height) c.in_ok-found.found.items cells.items same
           (λ k other below.
           let called = (c.in_ok-found.ensures.each k other (omega (arith, below, c.in_ok-found.ensures.len, c.from.ensures, c.in_ok-found.found.ok))).1 in
           called.met.0);

@@ -8,5 +8,8 @@ use Rattle.field.proofs.table.rows.Goals as goal
 
 pub returns-clause-rows : goal.returns-clause-rows
 returns-clause-rows g c =
-    IfOk-weaker c.answers.result (λ nears. AreAnswers (λ d x y near. near) None g.M.Metric.distance c.args.bitmap.now c.args.edge c.args.y0 c.args.y1 nears.items) (λ nears. AreNears g.M.Metric.distance c.args.bitmap.now c.args.edge c.args.y0 c.args.y1 nears.items)
-    (λ nears. AreNears-answers g.M.Metric.distance c.args.bitmap.now c.args.edge c.args.y0 c.args.y1 nears.items) c.answers.ensures.rows
+    let batch = c.args.batch.now in
+    let cells = batch.bitmap.now in
+    let distance = g.M.Metric.distance in
+    IfOk-weaker c.answers.result (λ nears. AreAnswers (λ d x y near. near) None distance cells batch.edge batch.y0 batch.y1 nears.items) (λ nears. AreNears distance cells batch.edge batch.y0 batch.y1 nears.items)
+    (λ nears. AreNears-answers distance cells batch.edge batch.y0 batch.y1 nears.items) c.answers.ensures.rows

@@ -1,31 +1,26 @@
--- After the sweeps the entries are the table of the bitmap.
-use Rattle.std.proofs.Common.{◌≡◌, ◌+◌, ◌*◌, length, ap, refl, drop, sym}
+-- Once all rows are filled the entries are the table of the bitmap.
+use Rattle.std.proofs.Common.{◌≡◌, ◌+◌, ◌*◌, length, ap, drop, sym, rules}
 use Rattle.std.proofs.lemmas.List.{take_at}
+use Rattle.metric.specs.Edge.{shift}
 use Rattle.bits.specs.Cells.{Cells}
-use Rattle.bits.specs.Edges.{framed}
-use Rattle.bits.proofs.Framing.{framed_size}
-use Rattle.column.proofs.Tables.{bordered, cells_tabled-swept, IsTabled-swept}
+use Rattle.column.specs.Tabled.{HasRows}
+use Rattle.column.proofs.Tables.{bordered, cells_tabled-all, IsTabled-all}
 use Rattle.column.proofs.table.ColumnTable.of.Goals as goal
 
 pub invariant_of-result : goal.invariant_of-result
 invariant_of-result c =
-    let map = framed c.args.edge c.args.bitmap.now in
-    let size = framed_size c.args.edge c.args.bitmap.now in
-    let columns : c.width-width.result + 2 * c.shift.result ≡ map.width = rw size.0 (rw (c.width-width.ensures.width, c.shift.ensures) refl) in
-    let rows : c.height-height.result + 2 * c.shift-2.result ≡ map.height = rw size.1 (rw (c.height-height.ensures.height, c.shift-2.ensures) refl) in
-    let many = c.in_ok-entries.ensures.len in
-    let written : c.in_ok-entries.entries.len ≡ length c.sweep.new.entries = rw (c.sweep.ensures.as_many, ← columns, ← rows, ← c.from.ensures, ← c.from-2.ensures) many in
-    rw (take_at c.sweep.new.entries (drop (length c.sweep.new.entries) c.in_ok-entries.entries.items) c.in_ok-entries.entries.len (sym written))
-    (IsTabled-swept c.args.bitmap.now c.width-width.result c.height-height.result c.args.edge c.sweep.new.entries c.width-width.ensures.bitmap c.width-width.ensures.width c.height-height.ensures.height c.sweep.ensures)
+    let cells = c.args.bitmap.now in
+    let rows : HasRows cells c.args.edge cells.width cells.height c.fill_rows.new.entries = rw c.height-height.ensures.height at c.fill_rows.ensures.rows in
+    let many : length c.fill_rows.new.entries ≡ cells.height * (cells.width + 2 * shift c.args.edge) = search rules in
+    let written : c.in_ok-entries.entries.len ≡ length c.fill_rows.new.entries = search rules in
+    rw (take_at c.fill_rows.new.entries (drop (length c.fill_rows.new.entries) c.in_ok-entries.entries.items) c.in_ok-entries.entries.len (sym written))
+    (IsTabled-all cells c.width-width.result c.height-height.result c.args.edge c.fill_rows.new.entries c.width-width.ensures.bitmap c.width-width.ensures.width c.height-height.ensures.height many rows)
 
 pub returns-clause-table : goal.returns-clause-table
 returns-clause-table c =
-    let map = framed c.args.edge c.args.bitmap.now in
-    let size = framed_size c.args.edge c.args.bitmap.now in
-    let columns : c.width-width.result + 2 * c.shift.result ≡ map.width = rw size.0 (rw (c.width-width.ensures.width, c.shift.ensures) refl) in
-    let rows : c.height-height.result + 2 * c.shift-2.result ≡ map.height = rw size.1 (rw (c.height-height.ensures.height, c.shift-2.ensures) refl) in
-    let many = c.in_ok-entries.ensures.len in
-    let written : c.in_ok-entries.entries.len ≡ length c.sweep.new.entries = rw (c.sweep.ensures.as_many, ← columns, ← rows, ← c.from.ensures, ← c.from-2.ensures) many in
-    rw (take_at c.sweep.new.entries (drop (length c.sweep.new.entries) c.in_ok-entries.entries.items) c.in_ok-entries.entries.len (sym written))
+    let cells = c.args.bitmap.now in
+    let rows : HasRows cells c.args.edge cells.width cells.height c.fill_rows.new.entries = rw c.height-height.ensures.height at c.fill_rows.ensures.rows in
+    let written : c.in_ok-entries.entries.len ≡ length c.fill_rows.new.entries = search rules in
+    rw (take_at c.fill_rows.new.entries (drop (length c.fill_rows.new.entries) c.in_ok-entries.entries.items) c.in_ok-entries.entries.len (sym written))
     (ap (λ (cells : Cells). bordered cells c.args.edge)
-    (cells_tabled-swept c.args.bitmap.now c.width-width.result c.height-height.result c.args.edge c.sweep.new.entries c.width-width.ensures.bitmap c.width-width.ensures.width c.height-height.ensures.height c.sweep.ensures))
+    (cells_tabled-all cells c.width-width.result c.height-height.result c.args.edge c.fill_rows.new.entries c.width-width.ensures.bitmap c.width-width.ensures.width c.height-height.ensures.height rows))

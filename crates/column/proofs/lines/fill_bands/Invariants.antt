@@ -1,0 +1,17 @@
+-- The bands from this one on have their lines.
+use Rattle.std.proofs.Common.{◌≡◌, ◌+◌, ◌-◌, ◌*◌, ◌/◌, ◌≤◌, min, length}
+use Rattle.metric.specs.Edge.{shift}
+use Rattle.bits.specs.Cells.{IsBitmap}
+use Rattle.column.specs.Capped.{capped}
+use Rattle.column.specs.Lines.{AreBandLines, IsLineFrom}
+use Rattle.column.proofs.lines.fill_bands.Given as goal
+
+abbrev pub invariant-bands : goal.invariant-bands
+invariant-bands l = record {
+  bitmap : IsBitmap l.batch.bitmap.now;
+  width_is : l.width ≡ l.batch.bitmap.now.width;
+  room : (l.batch.y1 - l.batch.y0 + 63) / 64 * l.batch.bitmap.now.width ≤ length l.bands;
+  few : l.band ≤ (l.batch.y1 - l.batch.y0 + 63) / 64;
+  line : IsLineFrom (capped l.batch.edge l.batch.bitmap.now) (min (l.batch.y0 + 64 * l.band) l.batch.y1 + shift l.batch.edge) l.line;
+  bands : AreBandLines l.batch.bitmap.now l.batch.edge l.batch.y0 l.batch.y1 l.band l.bands;
+}

@@ -1,0 +1,16 @@
+-- The rows so far have their entries.
+use Rattle.std.proofs.Common.{◌≡◌, ◌+◌, ◌*◌, length}
+use Rattle.metric.specs.Edge.{shift}
+use Rattle.bits.specs.Cells.{IsBitmap}
+use Rattle.column.specs.Carrying.{IsNextRow}
+use Rattle.column.specs.Tabled.{HasRows}
+use Rattle.column.proofs.table.fill_rows.Given as goal
+
+abbrev pub invariant-rows : goal.invariant-rows
+invariant-rows l = record {
+  bitmap : IsBitmap l.batch.bitmap.now;
+  width_is : l.width ≡ l.batch.bitmap.now.width + 2 * shift l.batch.edge;
+  columns : IsNextRow l.batch l.columns l.y;
+  room : length l.entries ≡ l.batch.y1 * (l.batch.bitmap.now.width + 2 * shift l.batch.edge);
+  rows : HasRows l.batch.bitmap.now l.batch.edge l.batch.bitmap.now.width l.y l.entries;
+}

@@ -1,0 +1,91 @@
+//! What the rows of a batch are worked from, one after another: the nearest obstacles of all columns.
+
+ghost use Rattle.std.specs.Prelude.{◌≡◌, ◌+◌, ◌*◌, ◌<◌, IfErr, IfOk, length};
+ghost use Rattle.metric.specs.Edge.{shift};
+ghost use Rattle.metric.specs.declared.refusal.Refusal.TheVariants.{Memory};
+ghost use Rattle.bits.specs.Cells.{IsBitmap};
+ghost use Rattle.bits.specs.Edges.{framed};
+ghost use Rattle.column.specs.Columns.{IsRowOfTable};
+
+use crate::batch::Batch;
+use crate::carried::{Carried, no_obstacles};
+use crate::seek::nearest_rows;
+use metric::Refusal;
+use std::alloc::Global;
+
+/// Up to so many rows are looked at from each one outwards; for more it is worth to walk through the
+/// bitmap once.
+const FEW_ROWS: u16 = 32;
+
+/// And only where no column's nearest obstacle is more than so many rows from the first of them.
+const FAR: u16 = 64;
+
+/// The columns of a batch, as they are seen from one of its rows after another.
+#[derive(Debug, Drop)]
+pub struct Columns {
+    /// What is carried from row to row, unless each row is looked at by itself.
+    pub carried: Option<Carried>,
+    /// The nearest obstacles of the row that was looked at last, counted with the frame, and those of
+    /// the frame with them where the border is a wall.
+    pub entries: Vec<u16>,
+}
+
+impl Columns {
+    ghost use Rattle.column.specs.Carrying.{IsNextRow};
+
+    /// The columns of the batch, before its first row. Fails only when out of memory.
+    pub fn of(alloc: Global, batch: &Batch<'_>) -> Result<Self, Refusal>
+        ensures ready { IfOk result (λ columns. IsNextRow batch.now columns batch.now.y0) }
+        ensures memory { IfErr result (λ refusal. refusal ≡ Memory) }
+    {
+        let mut entries = no_obstacles(alloc, usize::from(batch.columns()))?;
+        if !is_worth_a_walk(batch, entries.as_mut_slice()) {
+            return Ok(Columns {
+                carried: None,
+                entries,
+            });
+        }
+        let carried = Carried::of(alloc, batch)?;
+        Ok(Columns {
+            carried: Some(carried),
+            entries,
+        })
+    }
+
+    /// Looks at row `y`, which comes next: its entries are the row of a table of the bitmap then.
+    pub fn look(&mut self, batch: &Batch<'_>, y: u16)
+        requires bitmap { IsBitmap batch.now.bitmap.now }
+        requires ready { IsNextRow batch.now self.old y }
+        requires row { y < batch.now.y1 }
+        ensures ready { IsNextRow batch.now self.new (y + 1) }
+        ensures entries { IsRowOfTable (framed batch.now.edge batch.now.bitmap.now)
+            (y + shift batch.now.edge) self.new.entries.items }
+    {
+        let entries = self.entries.as_mut_slice();
+        match &mut self.carried {
+            Some(carried) => carried.look(batch, y, entries),
+            None => nearest_rows(batch.bitmap, batch.edge, y + batch.edge.shift(), entries),
+        }
+    }
+}
+
+/// Whether the batch has so many rows, or a column's nearest obstacle is so far from its first one,
+/// that to look outwards from each row costs more than to carry lines. `entries` is room for a row.
+fn is_worth_a_walk(batch: &Batch<'_>, entries: &mut [u16]) -> bool
+    requires { length entries.old ≡ batch.now.bitmap.now.width + 2 * shift batch.now.edge }
+    ensures len { length entries.new ≡ length entries.old }
+{
+    if batch.y1 - batch.y0 > FEW_ROWS {
+        return true;
+    }
+    if batch.y0 == batch.y1 {
+        return false;
+    }
+    let first = batch.y0 + batch.edge.shift();
+    nearest_rows(batch.bitmap, batch.edge, first, entries);
+    let mut farthest = 0;
+    'columns: for x in 0..entries.len() {
+        farthest = farthest.max(first.abs_diff(entries[x]));
+    }
+    farthest > FAR
+}

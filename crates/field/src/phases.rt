@@ -1,0 +1,51 @@
+//! The column phase and the row phase over the rows of a batch, one row after another.
+
+ghost use Rattle.std.specs.Prelude.{◌≡◌, ◌<◌, ◌+◌, IfErr, IfOk, length};
+ghost use Rattle.metric.specs.declared.refusal.Refusal.TheVariants.{Memory};
+ghost use Rattle.envelope.specs.Rows.{AreRowAnswers};
+
+use column::{Batch, Columns};
+use envelope::{CellAnswer, Stack, row_from};
+use metric::{Metric, Refusal};
+use std::alloc::Global;
+
+/// What both phases need between two rows of a batch.
+#[derive(Drop)]
+pub struct Phases {
+    pub columns: Columns,
+    pub stack: Stack,
+}
+
+impl Phases {
+    ghost use Rattle.field.specs.Phases.{IsNextLine};
+
+    /// Both phases before the batch's first row. Fails only when out of memory.
+    pub fn of(alloc: Global, batch: &Batch<'_>) -> Result<Self, Refusal>
+        ensures ready { IfOk result (λ phases. IsNextLine batch.now phases batch.now.y0) }
+        ensures memory { IfErr result (λ refusal. refusal ≡ Memory) }
+    {
+        let columns = Columns::of(alloc, batch)?;
+        let stack = Stack::new(alloc, batch.columns())?;
+        Ok(Phases { columns, stack })
+    }
+
+    /// Fills a line with what is kept of the nearest obstacles of row `y`, which comes next.
+    pub fn fill_line<M: Metric, A: CellAnswer>(&mut self, batch: &Batch<'_>, y: u16, line: &mut [A])
+        requires ready { IsNextLine batch.now self.old y }
+        requires row { y < batch.now.y1 }
+        requires line { length line.old ≡ batch.now.bitmap.now.width }
+        ensures line { AreRowAnswers A.told A.nothing M.distance batch.now.bitmap.now
+            batch.now.edge y batch.now.bitmap.now.width line.new }
+        ensures ready { IsNextLine batch.now self.new (y + 1) }
+    {
+        self.columns.look(batch, y);
+        let framed = y + batch.edge.shift();
+        row_from::<M, A>(
+            &self.columns.entries,
+            framed,
+            batch.edge,
+            &mut self.stack,
+            line,
+        );
+    }
+}
