@@ -19,7 +19,8 @@ pub fn is_cap(edge: Edge, height: u16, y: u16) -> bool
     }
 }
 
-/// Writes its own row into the entries of a row's first and last column, where these are the frame's.
+/// Writes its own row into the entries of a row's first and last column, where these are the
+/// frame's.
 pub fn mark_sides(edge: Edge, y: u16, row: &mut [u16])
     requires { 2 * shift edge ≤ length row.old }
     ensures len { length row.new ≡ length row.old }

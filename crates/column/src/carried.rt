@@ -1,8 +1,8 @@
 //! Lines that are carried from row to row of a batch.
 //!
-//! The rows are looked at in bands of 64. Carried from row to row is the line of the obstacles before a
-//! row. What lies below a row is known for the rows of one band, and below each band from one walk up
-//! the batch.
+//! The rows are looked at in bands of 64. Carried from row to row is the line of the obstacles
+//! before a row. What lies below a row is known for the rows of one band, and below each band from
+//! one walk up the batch.
 
 ghost use Rattle.std.specs.Prelude.{◌≡◌, ◌+◌, ◌*◌, ◌<◌, ◌≤◌, IfErr, IfOk, length, replicate};
 ghost use Rattle.metric.specs.Edge.{shift};
@@ -68,7 +68,8 @@ impl Carried {
         requires bitmap { IsBitmap batch.now.bitmap.now }
         requires ready { IsCarriedTo batch.now self.old y }
         requires row { y < batch.now.y1 }
-        requires width { length entries.old ≡ batch.now.bitmap.now.width + 2 * shift batch.now.edge }
+        requires width { length entries.old
+            ≡ batch.now.bitmap.now.width + 2 * shift batch.now.edge }
         ensures ready { IsCarriedTo batch.now self.new (y + 1) }
         ensures entries { IsRowOfTable (framed batch.now.edge batch.now.bitmap.now)
             (y + shift batch.now.edge) entries.new }

@@ -1,4 +1,5 @@
-//! What the rows of a batch are worked from, one after another: the nearest obstacles of all columns.
+//! What the rows of a batch are worked from, one after another: the nearest obstacles of all
+//! columns.
 
 ghost use Rattle.std.specs.Prelude.{◌≡◌, ◌+◌, ◌*◌, ◌<◌, IfErr, IfOk, length};
 ghost use Rattle.metric.specs.Edge.{shift};
@@ -13,8 +14,8 @@ use crate::seek::nearest_rows;
 use metric::Refusal;
 use std::alloc::Global;
 
-/// Up to so many rows are looked at from each one outwards; for more it is worth to walk through the
-/// bitmap once.
+/// Up to so many rows are looked at from each one outwards; for more it is worth to walk through
+/// the bitmap once.
 const FEW_ROWS: u16 = 32;
 
 /// And only where no column's nearest obstacle is more than so many rows from the first of them.
@@ -25,8 +26,8 @@ const FAR: u16 = 64;
 pub struct Columns {
     /// What is carried from row to row, unless each row is looked at by itself.
     pub carried: Option<Carried>,
-    /// The nearest obstacles of the row that was looked at last, counted with the frame, and those of
-    /// the frame with them where the border is a wall.
+    /// The nearest obstacles of the row that was looked at last, counted with the frame, and those
+    /// of the frame with them where the border is a wall.
     pub entries: Vec<u16>,
 }
 

@@ -26,7 +26,8 @@ pub fn mark_row(words: &[u64], y: u16, row: &mut [u16])
     }
 }
 
-/// Writes the row `y` into the entries of one word's obstacles; the first column is that of the word's lowest bit.
+/// Writes the row `y` into the entries of one word's obstacles; the first column is that of the
+/// word's lowest bit.
 pub fn mark_word(word: u64, y: u16, first: usize, row: &mut [u16])
     requires { first ≤ length row.old }
     ensures len { length row.new ≡ length row.old }

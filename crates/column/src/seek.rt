@@ -19,9 +19,11 @@ use metric::{Edge, FRAMED_SIDE, MOST_SIDE, WORD_BITS, WORD_CELLS};
 /// How many words the widest row takes.
 pub const MOST_WORDS: usize = (MOST_SIDE / WORD_CELLS) as usize;
 
-/// Fills `entries` as the table of the bitmap has them in row `y`, which is counted with the frame where the border is a wall. No memory is taken.
+/// Fills `entries` as the table of the bitmap has them in row `y`, which is counted with the frame
+/// where the border is a wall. No memory is taken.
 ///
-/// The rows are looked at from row `y` outwards, so a few rows are found sooner than a table of the whole bitmap.
+/// The rows are looked at from row `y` outwards, so a few rows are found sooner than a table of the
+/// whole bitmap.
 pub fn nearest_rows(bitmap: &Bitmap, edge: Edge, y: u16, entries: &mut [u16])
     requires row { y < bitmap.now.height + 2 * shift edge }
     requires width { length entries.old ≡ bitmap.now.width + 2 * shift edge }
@@ -33,8 +35,8 @@ pub fn nearest_rows(bitmap: &Bitmap, edge: Edge, y: u16, entries: &mut [u16])
     mark_sides(edge, y, entries);
 }
 
-/// Looks at the rows from row `y` outwards, mostly until each column has an entry. A mask for each word
-/// says which of its columns have none yet.
+/// Looks at the rows from row `y` outwards, mostly until each column has an entry. A mask for each
+/// word says which of its columns have none yet.
 fn look_around(bitmap: &Bitmap, edge: Edge, y: u16, entries: &mut [u16])
     requires row { y < bitmap.now.height + 2 * shift edge }
     requires width { length entries.old ≡ bitmap.now.width }
@@ -54,7 +56,8 @@ fn look_around(bitmap: &Bitmap, edge: Edge, y: u16, entries: &mut [u16])
     }
 }
 
-/// How many rows away from row `y` the first rows lie past one of the frame, so that all columns have entries; 0 where the border is open.
+/// How many rows away from row `y` the first rows lie past one of the frame, so that all columns
+/// have entries; 0 where the border is open.
 fn past_frame(edge: Edge, rows: u16, y: u16) -> u16
     requires row { y < rows }
     requires few { rows ≤ FRAMED_SIDE }
@@ -139,7 +142,8 @@ fn has_new(words: &[u64], missing: &[u64]) -> bool
     new != 0
 }
 
-/// Writes the row `y` into the entries of those of a word's obstacles whose columns are missing. Which columns are missing then.
+/// Writes the row `y` into the entries of those of a word's obstacles whose columns are missing.
+/// Which columns are missing then.
 fn mark_new(word: u64, y: u16, first: usize, missing: u64, entries: &mut [u16]) -> u64
     requires row { y < FRAMED_SIDE }
     requires first { first ≤ length entries.old }

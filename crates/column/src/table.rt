@@ -22,12 +22,12 @@ use std::marker::Model;
 /// The entry of a column without an obstacle.
 pub const NONE: u16 = u16::MAX;
 
-/// For each cell of a bitmap the nearest obstacle of its column. Contracts see it as the bitmap that it
-/// was made of, and what its border is.
+/// For each cell of a bitmap the nearest obstacle of its column. Contracts see it as the bitmap
+/// that it was made of, and what its border is.
 ///
-/// Where the border is a wall, the frame's cells are obstacles, and its columns have entries too. The
-/// entry of a cell is the row of its column's nearest obstacle, counted with the frame, or `NONE`. The
-/// rows of entries lie one after another.
+/// Where the border is a wall, the frame's cells are obstacles, and its columns have entries too.
+/// The entry of a cell is the row of its column's nearest obstacle, counted with the frame, or
+/// `NONE`. The rows of entries lie one after another.
 #[derive(Debug, Drop)]
 pub struct ColumnTable {
     width: u16,
@@ -94,9 +94,12 @@ impl ColumnTable {
         self.edge
     }
 
-    /// The row of the obstacle of column `x` that is nearest to row `y` of the bitmap; `None` where the column has none.
+    /// The row of the obstacle of column `x` that is nearest to row `y` of the bitmap; `None` where
+    /// the column has none.
     ///
-    /// Where the border is a wall, `x` may be -1 or the bitmap's width, and the row that is answered -1 or the bitmap's height. Of two obstacles as far from row `y` it is the upper one.
+    /// Where the border is a wall, `x` may be -1 or the bitmap's width, and the row that is
+    /// answered -1 or the bitmap's height. Of two obstacles as far from row `y` it is the upper
+    /// one.
     pub fn nearest_row(&self, x: i16, y: u16) -> Option<i16>
         requires left { pos 0 ≤ℤ (x +ℤ pos (shift self.now.edge)) }
         requires right { (x +ℤ pos (shift self.now.edge)) <ℤ pos (self.now.cells.width + 2 * shift self.now.edge) }
@@ -108,7 +111,8 @@ impl ColumnTable {
         spot_row(self.edge, column, entry)
     }
 
-    /// The entries of row `y` of the bitmap, from the left, those of the frame's columns with them: the nearest rows of all columns, counted with the frame, or `NONE`.
+    /// The entries of row `y` of the bitmap, from the left, those of the frame's columns with them:
+    /// the nearest rows of all columns, counted with the frame, or `NONE`.
     pub fn row(&self, y: u16) -> &[u16]
         requires { y < self.now.cells.height }
         ensures row { IsRowOfTable (framed self.now.edge self.now.cells) (y + shift self.now.edge) result.now }
@@ -126,8 +130,8 @@ fn fill_rows(batch: &Batch<'_>, columns: &mut Columns, entries: &mut [u16])
     requires room { length entries.old ≡ batch.now.y1
         * (batch.now.bitmap.now.width + 2 * shift batch.now.edge) }
     ensures len { length entries.new ≡ length entries.old }
-    ensures rows { HasRows batch.now.bitmap.now batch.now.edge batch.now.bitmap.now.width batch.now.y1
-        entries.new }
+    ensures rows { HasRows batch.now.bitmap.now batch.now.edge batch.now.bitmap.now.width
+        batch.now.y1 entries.new }
 {
     let width = usize::from(batch.columns());
     'rows: for y in 0..batch.y1 {

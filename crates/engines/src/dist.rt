@@ -138,8 +138,10 @@ fn write_rows<M: Metric + Sync, W: Sink, T: Threads + Sync>(
     requires free { AreShares print.printer.nearest print.printer.table.width print.printer.rows
         print.free.items }
     ensures status { IfOk result (λ status. status ≡ 0) }
-    ensures whole { OnOk result (Appends (W.held writer.old) (table_text print.printer.nearest print.printer.table.width print.printer.table.height print.printer.table.nears) (W.held writer.new)) }
-    ensures front { OnErr result (AppendsFront (W.held writer.old) (table_text print.printer.nearest print.printer.table.width print.printer.table.height print.printer.table.nears) (W.held writer.new)) }
+    ensures whole { OnOk result (Appends (W.held writer.old) (table_text print.printer.nearest
+        print.printer.table.width print.printer.table.height print.printer.table.nears) (W.held writer.new)) }
+    ensures front { OnErr result (AppendsFront (W.held writer.old) (table_text print.printer.nearest
+        print.printer.table.width print.printer.table.height print.printer.table.nears) (W.held writer.new)) }
     ensures counts { Counts (W.failed_writes writer.old) result (W.failed_writes writer.new) }
 {
     let mut print = print;

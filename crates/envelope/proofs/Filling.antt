@@ -1,5 +1,6 @@
 -- The spans taken off one after another, from the row's end.
-use Rattle.std.proofs.Common.{◌≡◌, ℕ, ◌-◌, ◌<◌, zero, suc, List, arith}
+use Rattle.std.proofs.Common.{◌≡◌, ◌≢◌, ℕ, ◌+◌, ◌-◌, ◌<◌, ◌≤◌, zero, suc, inl, inr, List, length, slice_index_or, slice_set, arith, get_or-set_other, get_or-set_same}
+use Rattle.std.proofs.lemmas.Bool.{cases_lt}
 use Rattle.envelope.specs.declared.cover.Span.{Span}
 use Rattle.envelope.specs.Envelope.{IsCovered, IsEnvelope, IsSpan, span_at}
 use Rattle.envelope.proofs.Envelopes.{envelope_same}
@@ -18,3 +19,16 @@ covered_same d gaps P spans others count width same covered = record {
   none = covered.none;
   some = λ some. envelope_same d gaps P spans others count width same (covered.some some);
 }
+
+-- what holds of each item from one to before a place holds of the item at the place too, once it is set
+pub set_more : {T : Type 0} (Is : ℕ → T → Type 0) (from place : ℕ) (items : List T) (item other : T) → place < length items
+    → ((x : ℕ) → from ≤ x → x < place → Is x (slice_index_or items x other)) → Is place item
+    → (x : ℕ) → from ≤ x → x < place + 1 → Is x (slice_index_or (slice_set items place item) x other)
+set_more Is from place items item other inside before here x low high = elim (cases_lt x place) [
+  | inl earlier ↦
+      let apart : x ≢ place = λ same. absurd (omega (arith, earlier, same)) in
+      rw (get_or-set_other items place x item other apart) (before x low earlier)
+  | inr later ↦
+      let same : place ≡ x = omega (arith, later, high) in
+      rw (← same, get_or-set_same items place item other inside) here
+]

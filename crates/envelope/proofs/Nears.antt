@@ -1,5 +1,5 @@
 -- From the columns of a row of the table to the obstacles of the bitmap.
-use Rattle.std.proofs.Common.{◌≡◌, ◌≢◌, ℕ, ◌+◌, ◌-◌, ◌/◌, ◌%◌, ◌<◌, ◌≤◌, inl, inr, List, length, slice_index, slice_index_or, slice_set, get_or-set_same, Option, Some, None, refl, sym, subst, arith}
+use Rattle.std.proofs.Common.{◌≡◌, ◌≢◌, ℕ, ◌+◌, ◌-◌, ◌/◌, ◌%◌, ◌<◌, ◌≤◌, inl, inr, List, length, slice_index, slice_index_or, Option, Some, None, refl, sym, subst, arith}
 use Rattle.std.specs.Int.{abs_diff}
 use Rattle.std.proofs.lemmas.Bool.{cases_eq, cases_lt, ne_eqb}
 use Rattle.metric.specs.Distance.{Grows, distance_between}
@@ -15,7 +15,6 @@ use Rattle.column.specs.Columns.{IsNearestRow, IsRowAtMost, IsRowOfTable}
 use Rattle.envelope.specs.Rows.{AreRowAnswers, AreRowNears}
 use Rattle.envelope.specs.Columns.{AreEntries, AreNearColumns, IsAmong, IsBest, IsNearColumn, distance_from, gap_of, near_from}
 use Rattle.envelope.specs.Answer.{Reading}
-use Rattle.envelope.specs.Beside.{IsToldByLanes}
 use Rattle.envelope.specs.Scans.{IsToldBy}
 
 -- a column with an obstacle has an entry
@@ -153,22 +152,13 @@ near_column_seen d entries edge y x near (column, best, same) left top =
     subst (λ (n : Near). n.dist ≡ spot_distance d (x - shift edge) (y - shift edge) n.cell.x n.cell.y) (sym same) (near_seen d entries edge y column x left top)
 
 -- an answer that keeps the nearest column's obstacle tells it
-pub near_kept : {T : Type 0} (told : Reading T) (nothing : T) (d : ℕ → ℕ → ℕ) (entries : List ℕ) (edge : Edge) (y x : ℕ) (near : Near) (kept : T) (answers : List T) → IsNearColumn d entries y edge (x + shift edge) (Some near) → shift edge ≤ y
-    → ((distance : ℕ → ℕ → ℕ) (a b : ℕ) → near.dist ≡ spot_distance distance a b near.cell.x near.cell.y → told distance a b kept ≡ Some near) → x < length answers
-    → IsNearColumn d entries y edge (x + shift edge) (told d x (y - shift edge) (slice_index_or (slice_set answers x kept) x nothing))
-near_kept told nothing d entries edge y x near kept answers found top keeps inside =
+pub near_kept : {T : Type 0} (told : Reading T) (d : ℕ → ℕ → ℕ) (entries : List ℕ) (edge : Edge) (y x : ℕ) (near : Near) (kept : T) → IsNearColumn d entries y edge (x + shift edge) (Some near) → shift edge ≤ y
+    → ((distance : ℕ → ℕ → ℕ) (a b : ℕ) → near.dist ≡ spot_distance distance a b near.cell.x near.cell.y → told distance a b kept ≡ Some near)
+    → IsNearColumn d entries y edge (x + shift edge) (told d x (y - shift edge) kept)
+near_kept told d entries edge y x near kept found top keeps =
     let back : x + shift edge - shift edge ≡ x = omega arith in
     let seen : near.dist ≡ spot_distance d x (y - shift edge) near.cell.x near.cell.y = rw back at (near_column_seen d entries edge y (x + shift edge) near found (omega arith) top) in
-    rw (get_or-set_same answers x kept nothing inside, keeps d x (y - shift edge) seen) found
-
--- an answer that keeps what was found side by side tells the nearest column's obstacle
-pub told_kept : {T : Type 0} (told : Reading T) (nothing : T) (d : ℕ → ℕ → ℕ) (entries : List ℕ) (edge : Edge) (y x place best away : ℕ) (near : Near) (kept : T) (answers : List T) → IsToldByLanes d entries y edge place best away
-    → near ≡ record { dist = best; cell = spot_of edge (place + away - 128) (slice_index entries (place + away - 128)) } → place ≡ x + shift edge → shift edge ≤ y
-    → ((distance : ℕ → ℕ → ℕ) (a b : ℕ) → near.dist ≡ spot_distance distance a b near.cell.x near.cell.y → told distance a b kept ≡ Some near) → x < length answers
-    → IsNearColumn d entries y edge (x + shift edge) (told d x (y - shift edge) (slice_index_or (slice_set answers x kept) x nothing))
-told_kept told nothing d entries edge y x place best away near kept answers found near_is place_is top keeps inside =
-    let here : IsNearColumn d entries y edge place (Some near) = rw near_is found.near in
-    near_kept told nothing d entries edge y x near kept answers (rw place_is at here) top keeps inside
+    rw (keeps d x (y - shift edge) seen) found
 
 -- what a word tells is the nearest column's obstacle
 pub near_of_word : (d : ℕ → ℕ → ℕ) (entries : List ℕ) (edge : Edge) (y x word : ℕ) (near : Near) → IsToldBy d entries y x word

@@ -1,10 +1,12 @@
-//! The row phase without branches: for sixteen cells side by side, in two times eight lanes, the columns are looked at from the nearest
-//! outwards. Cells whose nearest column isn't found near by go to the stack. With them go the columns between those that are the nearest to
-//! the cells next to them.
+//! The row phase without branches: for sixteen cells side by side, in two times eight lanes, the
+//! columns are looked at from the nearest outwards. Cells whose nearest column isn't found near by
+//! go to the stack. With them go the columns between those that are the nearest to the cells next
+//! to them.
 //!
-//! Each column has a place, 128 after its number, and a part at this place: what its gap has in a distance of 16 bits. The places before
-//! the first column and after the last one, and those of columns without an obstacle, have the part that stands for no obstacle. A column
-//! is named by how far right it lies of 128 columns to the left of the cell.
+//! Each column has a place, 128 after its number, and a part at this place: what its gap has in a
+//! distance of 16 bits. The places before the first column and after the last one, and those of
+//! columns without an obstacle, have the part that stands for no obstacle. A column is named by how
+//! far right it lies of 128 columns to the left of the cell.
 
 ghost use Rattle.std.specs.Prelude.{◌≡◌, ℕ, negsuc, pos, ◌+◌, ◌-◌, ◌*◌, ◌≤ℤ◌, ◌<◌, ◌≤◌, ◌⊎◌, length, slice_index, slice_index_or, Some, IfSome};
 ghost use Rattle.metric.specs.Edge.{shift, spot_of};
@@ -52,9 +54,9 @@ struct Eight {
     away: u16x8,
 }
 
-/// Fills the row with the obstacle of the column that is the nearest to each cell. Answers whether most
-/// cells were found near by. `parts` has room for a place for each column and 272 more, and `spans` for
-/// each column.
+/// Fills the row with the obstacle of the column that is the nearest to each cell. Answers whether
+/// most cells were found near by. `parts` has room for a place for each column and 272 more, and
+/// `spans` for each column.
 // Not inlined: the two phases would compete for registers.
 #[inline(never)]
 pub fn fill_beside<M: Metric, A: CellAnswer, B: Border>(
@@ -101,7 +103,8 @@ pub fn fill_beside<M: Metric, A: CellAnswer, B: Border>(
     left > 0
 }
 
-/// The nearest column to the cell before one, where it is found near by with its neighbours; otherwise the first column.
+/// The nearest column to the cell before one, where it is found near by with its neighbours;
+/// otherwise the first column.
 #[inline(never)]
 fn first_column<M: Metric>(entries: &[u16], y: u16, parts: &[u16], start: usize) -> usize
     requires laned { 0 < M.reach_of 1 }
@@ -119,7 +122,9 @@ fn first_column<M: Metric>(entries: &[u16], y: u16, parts: &[u16], start: usize)
     }
 }
 
-/// The next cell whose nearest column is found near by, of those at growing distances from one; the column after that one, and how many steps were taken. The row's end and its last column where there is none.
+/// The next cell whose nearest column is found near by, of those at growing distances from one; the
+/// column after that one, and how many steps were taken. The row's end and its last column where
+/// there is none.
 #[inline(never)]
 fn next_found<M: Metric>(
     entries: &[u16],
@@ -151,7 +156,8 @@ fn next_found<M: Metric>(
     (entries.len(), entries.len(), steps)
 }
 
-/// The column so far right of 128 columns to the left of the cell in column `x`, at one of eight places.
+/// The column so far right of 128 columns to the left of the cell in column `x`, at one of eight
+/// places.
 #[inline(always)]
 fn column_of(x: usize, away: u16x8, place: usize) -> usize
     requires cell { x ≤ 4113 }
@@ -190,7 +196,8 @@ fn set_parts<M: Metric>(entries: &[u16], y: u16, parts: &mut [u16])
     }
 }
 
-/// The nearest columns of sixteen cells, from the one of a place on, and how many steps that took; `None` where one of them has none so few steps away, or near by.
+/// The nearest columns of sixteen cells, from the one of a place on, and how many steps that took;
+/// `None` where one of them has none so few steps away, or near by.
 #[inline(always)]
 fn search<M: Metric>(parts: &[u16], at: usize, most: u16) -> Option<(Eight, Eight, u16)>
     requires laned { 0 < M.reach_of 1 }
@@ -246,7 +253,8 @@ fn look_twice<M: Metric>(parts: &[u16], at: usize, k: u16, eight: Eight) -> Eigh
     look_aside::<M>(parts, at, k + 1, next.best, next.away)
 }
 
-/// The columns `k` columns to both sides of eight cells too. On the left a column wins that isn't worse, and on the right one that is better.
+/// The columns `k` columns to both sides of eight cells too. On the left a column wins that isn't
+/// worse, and on the right one that is better.
 #[inline(always)]
 fn look_aside<M: Metric>(parts: &[u16], at: usize, k: u16, best: u16x8, away: u16x8) -> Eight
     requires laned { 0 < M.reach_of 1 }

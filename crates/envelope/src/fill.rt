@@ -14,8 +14,8 @@ use crate::cover::Span;
 use crate::piece::Piece;
 use metric::{Edge, LAST_FRAMED, Metric, Near};
 
-/// Fills the cells of the piece with the obstacle of the column that is the nearest to each, or with
-/// none where there is no span. Cells of the frame have no place in the row.
+/// Fills the cells of the piece with the obstacle of the column that is the nearest to each, or
+/// with none where there is no span. Cells of the frame have no place in the row.
 // Not inlined: the two phases would compete for registers.
 #[inline(never)]
 pub fn fill<M: Metric, A: CellAnswer, B: Border>(

@@ -11,7 +11,8 @@ use crate::cover::{Span, cover};
 use crate::fill::fill;
 use metric::Metric;
 
-/// The cells from one to before another, and the columns from one to before another. Both are counted with the frame, where there is one.
+/// The cells from one to before another, and the columns from one to before another. Both are
+/// counted with the frame, where there is one.
 #[derive(Clone, Copy, Debug)]
 pub struct Piece {
     pub from: usize,

@@ -1,6 +1,10 @@
-//! The row phase where a distance is columns and rows added: the nearest column on each side of a cell by one scan from each end.
+//! The row phase where a distance is columns and rows added: the nearest column on each side of a
+//! cell by one scan from each end.
 //!
-//! Then the columns to the left of a cell come in the same order whichever cell it is, and so do those to the right. Each column has a word for either side: how far its obstacle is in that order, and below it the column's number. The least word of the columns so far is the nearest one's, and of two as near the left one's.
+//! Then the columns to the left of a cell come in the same order whichever cell it is, and so do
+//! those to the right. Each column has a word for either side: how far its obstacle is in that
+//! order, and below it the column's number. The least word of the columns so far is the nearest
+//! one's, and of two as near the left one's.
 
 ghost use Rattle.std.specs.Prelude.{◌≡◌, ◌≢◌, ℕ, negsuc, pos, ◌+◌, ◌-◌, ◌*◌, ◌/◌, ◌%◌, ◌<◌, ◌≤◌, ◌≤ℤ◌, length, min, slice_index, true};
 ghost use Rattle.metric.specs.Distance.{IsSum};
@@ -22,7 +26,8 @@ const MOST: u32 = 4098;
 /// The word of a column without an obstacle.
 const NO_WORD: u32 = u32::MAX;
 
-/// An obstacle is counted as far away where it is more than so many rows away: nearer ones are found faster side by side.
+/// An obstacle is counted as far away where it is more than so many rows away: nearer ones are
+/// found faster side by side.
 const FEW_ROWS: u16 = 3;
 
 /// Where one column in so many has an obstacle that far away, two scans are the fastest.
@@ -50,8 +55,8 @@ fn one_if_far(entry: u16, y: u16) -> u16
     u16::from(entry != NONE && y.abs_diff(entry) > FEW_ROWS)
 }
 
-/// Fills the row with the obstacle of the column that is the nearest to each cell. `left` and `right`
-/// have room for a word for each column.
+/// Fills the row with the obstacle of the column that is the nearest to each cell. `left` and
+/// `right` have room for a word for each column.
 pub fn fill_by_scans<M: Metric, A: CellAnswer, B: Border>(
     entries: &[u16],
     y: u16,
@@ -105,7 +110,8 @@ fn word(entry: u16, far: u32, column: u32) -> u32
     }
 }
 
-/// Puts the least of the words so far in the place of each, from the left in one list and from the right in the other.
+/// Puts the least of the words so far in the place of each, from the left in one list and from the
+/// right in the other.
 #[inline(never)]
 fn scan(count: usize, left: &mut [u32], right: &mut [u32])
     requires left { count ≤ length left.old }
@@ -140,7 +146,8 @@ fn choose<M: Metric>(entries: &[u16], _y: u16, left: &mut [u32], right: &[u32])
     }
 }
 
-/// The word of the nearer one of two columns to the cell in column `x`, with its distance: of that on the left where both are as near.
+/// The word of the nearer one of two columns to the cell in column `x`, with its distance: of that
+/// on the left where both are as near.
 #[inline(always)]
 fn nearer(left: u32, right: u32, x: u32) -> u32
     requires cell { x ≤ 4098 }

@@ -27,10 +27,12 @@ const UNUSED: Span = Span {
     gap: 0,
 };
 
-/// So many rows go to the stack at once after one whose obstacles weren't found near by: neighbours are alike.
+/// So many rows go to the stack at once after one whose obstacles weren't found near by: neighbours
+/// are alike.
 const FAR_ROWS: u8 = 16;
 
-/// The room for the spans of one row, and for the parts and the words of its columns. Contracts see it as the width of the rows that it was made for.
+/// The room for the spans of one row, and for the parts and the words of its columns. Contracts see
+/// it as the width of the rows that it was made for.
 #[derive(Debug, Drop)]
 pub struct Stack {
     spans: Vec<Span>,
@@ -72,9 +74,13 @@ impl Stack {
     }
 }
 
-/// Fills a row with the nearest obstacle of each cell of row `y`, from the left, or `None` where there is no obstacle.
+/// Fills a row with the nearest obstacle of each cell of row `y`, from the left, or `None` where
+/// there is no obstacle.
 ///
-/// Of the obstacles at the least distance it is the one of the least column; of those the one in the fewest rows away, and of two such the upper. The row in hand and the map have one width, and the stack is for rows of so many cells or more, two more where the border is a wall. No memory is taken.
+/// Of the obstacles at the least distance it is the one of the least column; of those the one in
+/// the fewest rows away, and of two such the upper. The row in hand and the map have one width, and
+/// the stack is for rows of so many cells or more, two more where the border is a wall. No memory
+/// is taken.
 pub fn row<M: Metric>(table: &ColumnTable, y: u16, stack: &mut Stack, nears: &mut [Option<Near>])
     requires row { y < table.now.cells.height }
     requires stack { table.now.cells.width + 2 * shift table.now.edge ≤ stack.old }
@@ -86,9 +92,12 @@ pub fn row<M: Metric>(table: &ColumnTable, y: u16, stack: &mut Stack, nears: &mu
     row_from::<M, Option<Near>>(table.row(y), y + edge.shift(), edge, stack, nears);
 }
 
-/// Fills a row with what is kept of the nearest obstacle of each cell of row `y`, from the left. `entries` are the row of a table of the map: the nearest obstacles of the columns. Where the border is a wall, `y` and the entries are counted with the frame.
+/// Fills a row with what is kept of the nearest obstacle of each cell of row `y`, from the left.
+/// `entries` are the row of a table of the map: the nearest obstacles of the columns. Where the
+/// border is a wall, `y` and the entries are counted with the frame.
 ///
-/// The row in hand has as many cells as there are entries, but for those of the frame, and the stack is for so many entries or more. No memory is taken.
+/// The row in hand has as many cells as there are entries, but for those of the frame, and the
+/// stack is for so many entries or more. No memory is taken.
 pub fn row_from<M: Metric, A: CellAnswer>(
     entries: &[u16],
     y: u16,
@@ -111,10 +120,10 @@ pub fn row_from<M: Metric, A: CellAnswer>(
     }
 }
 
-/// Fills a row with the obstacle of the column that is the nearest to each cell: by two scans where the
-/// distance is columns and rows added and many columns have an obstacle some rows away; by looking
-/// around each cell where the nearest are near by; and otherwise by the stack, as for each metric
-/// without a reach.
+/// Fills a row with the obstacle of the column that is the nearest to each cell: by two scans where
+/// the distance is columns and rows added and many columns have an obstacle some rows away; by
+/// looking around each cell where the nearest are near by; and otherwise by the stack, as for each
+/// metric without a reach.
 fn fill_row<M: Metric, A: CellAnswer, B: Border>(
     entries: &[u16],
     y: u16,

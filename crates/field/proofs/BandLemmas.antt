@@ -25,7 +25,7 @@ put_behind {T} old fill room line rest start n k len filled start_is few all =
     rw apart (take_at (old ++ line) (post_of start k room ++ rest) len (length-append old line ∙ omega (arith, start_is, all)))
 
 -- an element of a line that was put among others is read at its place among them
-pub get_or-put : {T : Type 0} (all line rest : List T) (start x : ℕ) (other : T) → start ≤ length all → x < length line → slice_index_or (take start all ++ (line ++ rest)) (start + x) other ≡ slice_index_or line x other
+get_or-put : {T : Type 0} (all line rest : List T) (start x : ℕ) (other : T) → start ≤ length all → x < length line → slice_index_or (take start all ++ (line ++ rest)) (start + x) other ≡ slice_index_or line x other
 get_or-put all line rest start x other within inside =
     let front = length-take-le start all within in
     rw front at (get_or-append-add (take start all) (line ++ rest) x other ∙ get_or_append_left line rest other x inside)

@@ -31,9 +31,9 @@ struct Bands {
 
 /// The answer of `rows`, worked in bands: each worker has one.
 ///
-/// Each band is worked by a thread of its own, which enters the gate first, also where the band has no
-/// rows; where a thread can't be started, the calling thread works that band. Fails only when out of
-/// memory.
+/// Each band is worked by a thread of its own, which enters the gate first, also where the band has
+/// no rows; where a thread can't be started, the calling thread works that band. Fails only when
+/// out of memory.
 pub fn rows_with<M: Metric + Sync, G: Gate + Sync, R: Threads + Sync>(
     rt: &R,
     alloc: Global,

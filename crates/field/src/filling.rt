@@ -11,8 +11,8 @@ use envelope::CellAnswer;
 use metric::{Metric, Refusal};
 use std::alloc::Global;
 
-/// Fills this room with what is kept of the nearest obstacles of the cells of a batch, row by row, each
-/// row from the left.
+/// Fills this room with what is kept of the nearest obstacles of the cells of a batch, row by row,
+/// each row from the left.
 ///
 /// Fails only when out of memory, before anything is written.
 pub fn fill<M: Metric, A: CellAnswer>(

@@ -14,8 +14,8 @@ use envelope::CellAnswer;
 use metric::{Metric, Refusal};
 use std::alloc::Global;
 
-/// Fills this room with how far away the nearest obstacles of the cells of a batch are, row by row, each
-/// row from the left; `u32::MAX` where there is no obstacle.
+/// Fills this room with how far away the nearest obstacles of the cells of a batch are, row by row,
+/// each row from the left; `u32::MAX` where there is no obstacle.
 ///
 /// Fails only when out of memory, before anything is written.
 pub fn measure<M: Metric>(

@@ -1,4 +1,5 @@
-//! The nearest obstacles of some rows in strips of equal height, each of which a thread of its own works into room of its own.
+//! The nearest obstacles of some rows in strips of equal height, each of which a thread of its own
+//! works into room of its own.
 
 ghost use Rattle.std.specs.Prelude.{◌≡◌, ◌+◌, ◌-◌, ◌<◌, ◌≤◌, All, IfErr, IfOk, None, Ok, map, vec_len};
 ghost use Rattle.field.specs.Bands.{IsWorkers};
@@ -20,7 +21,8 @@ pub struct Strips<'a> {
     ghost some: { 1 ≤ height },
 }
 
-/// Works the first `count` strips, each in a thread of its own where one can be started. Fails only when out of memory.
+/// Works the first `count` strips, each in a thread of its own where one can be started. Fails only
+/// when out of memory.
 pub fn work_strips<M: Metric + Sync, G: Gate + Sync, R: Threads + Sync>(
     rt: &R,
     alloc: Global,
@@ -30,12 +32,14 @@ pub fn work_strips<M: Metric + Sync, G: Gate + Sync, R: Threads + Sync>(
 ) -> Result<Vec<Vec<ObstacleCell>>, Refusal>
     requires count { IsWorkers count }
     ensures count { IfOk result (λ cells. vec_len cells ≡ count) }
-    ensures each { IfOk result (λ cells. AreStripAnswers M.distance strips.now.batch.now strips.now.height (map (λ strip. strip.items) cells.items)) }
+    ensures each { IfOk result (λ cells. AreStripAnswers M.distance strips.now.batch.now
+        strips.now.height (map (λ strip. strip.items) cells.items)) }
     ensures memory { IfErr result (λ refusal. refusal ≡ Memory) }
 {
     let work = |strip: usize| -> Result<Vec<ObstacleCell>, Refusal>
         requires { strip < 16 }
-        ensures rows { IfOk result (λ cells. IsStripAnswer M.distance strips.entry.now.batch.now strips.entry.now.height strip cells.items) }
+        ensures rows { IfOk result (λ cells. IsStripAnswer M.distance strips.entry.now.batch.now
+            strips.entry.now.height strip cells.items) }
         ensures memory { IfErr result (λ refusal. refusal ≡ Memory) }
     { work_strip::<M, G>(alloc, strips, gate, strip as u8) };
     let found = map_indices(rt, alloc, usize::from(count), &work)?;
@@ -50,7 +54,8 @@ fn work_strip<M: Metric, G: Gate>(
     strip: u8,
 ) -> Result<Vec<ObstacleCell>, Refusal>
     requires strip { strip < 16 }
-    ensures rows { IfOk result (λ cells. IsStripAnswer M.distance strips.now.batch.now strips.now.height strip cells.items) }
+    ensures rows { IfOk result (λ cells. IsStripAnswer M.distance strips.now.batch.now
+        strips.now.height strip cells.items) }
     ensures memory { IfErr result (λ refusal. refusal ≡ Memory) }
 {
     gate.enter(strip + 1);
@@ -64,7 +69,8 @@ fn work_strip<M: Metric, G: Gate>(
 }
 
 impl Strips<'_> {
-    /// The first row of a strip, counted from 0; the row after the last one where the strip has none.
+    /// The first row of a strip, counted from 0; the row after the last one where the strip has
+    /// none.
     fn first_row(&self, strip: u8) -> u16
         requires { strip ≤ 16 }
         ensures row { result ≡ strip_row self.now.batch.now self.now.height strip }

@@ -14,10 +14,10 @@ use std::alloc::Global;
 
 /// The nearest obstacles of the cells of a batch, row by row, each row from the left.
 ///
-/// Of the obstacles at the least distance it is the one of the least column; of those the one in the
-/// fewest rows away, and of two such the upper. Where the edge is a wall, the cells of the frame round
-/// the map are obstacles too. A cell has `None` where there is no obstacle. Fails only when out of
-/// memory.
+/// Of the obstacles at the least distance it is the one of the least column; of those the one in
+/// the fewest rows away, and of two such the upper. Where the edge is a wall, the cells of the
+/// frame round the map are obstacles too. A cell has `None` where there is no obstacle. Fails only
+/// when out of memory.
 pub fn rows<M: Metric>(alloc: Global, batch: &Batch<'_>) -> Result<Vec<Option<Near>>, Refusal>
     ensures rows { IfOk result (λ nears. AreNears M.distance batch.now.bitmap.now batch.now.edge
         batch.now.y0 batch.now.y1 nears.items) }

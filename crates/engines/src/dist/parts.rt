@@ -41,8 +41,8 @@ impl RowCells {
         Ok(RowCells::Distances(vec![in alloc; 0; across]?))
     }
 
-    /// Puts the lines of the rows `from` to `to - 1` in place of what the text has. There is room for
-    /// them.
+    /// Puts the lines of the rows `from` to `to - 1` in place of what the text has. There is room
+    /// for them.
     fn put_lines<M: Metric + Sync>(
         &mut self,
         printer: &Printer<M>,
@@ -108,8 +108,8 @@ impl WorkerLines {
         })
     }
 
-    /// Puts the lines of the printer's number of rows from this one on, or of those of them that there
-    /// are.
+    /// Puts the lines of the printer's number of rows from this one on, or of those of them that
+    /// there are.
     pub fn put<M: Metric + Sync>(&mut self, printer: &Printer<M>, from: u32)
         requires part { IsShare printer.now.nearest printer.now.table.width printer.now.rows
             self.old }

@@ -15,14 +15,15 @@ use std::thread::{Threads, for_each_mut, join_mut};
 /// A set has parts for at most so many rows: 16 parts, each for no more rows than a map has.
 const SET_ROWS: u32 = 16 * MOST_SIDE as u32;
 
-/// Each turn begins before this row: the first one within a table, whose height is a number of 16 bits.
+/// Each turn begins before this row: the first one within a table, whose height is a number of 16
+/// bits.
 const LATEST_TURN: u32 = 1 << 16;
 
 /// The rows that a turn puts begin before this one.
 const LATEST_ROWS: u32 = LATEST_TURN + SET_ROWS;
 
-/// A table, and how its lines are put: with the digits of numbers, with obstacles or without, and so
-/// many rows in each part.
+/// A table, and how its lines are put: with the digits of numbers, with obstacles or without, and
+/// so many rows in each part.
 #[derive(Drop)]
 pub struct Printer<M: Metric> {
     pub table: Table<M>,
@@ -34,8 +35,8 @@ pub struct Printer<M: Metric> {
 impl<M: Metric + Sync> Printer<M> {
     ghost use Rattle.engines.specs.dist.Parts.{AreShares, HasRows, IsShare, ShareRows, parts_text};
 
-    /// Writes the lines of all rows. In each turn what the full parts hold is written, while the workers
-    /// put the rows after those into the free ones. Then the two sets change roles.
+    /// Writes the lines of all rows. In each turn what the full parts hold is written, while the
+    /// workers put the rows after those into the free ones. Then the two sets change roles.
     pub fn write_turns<W: Sink, R: Threads + Sync>(
         &self,
         rt: &R,
@@ -44,8 +45,10 @@ impl<M: Metric + Sync> Printer<M> {
         free: &mut Vec<WorkerLines>,
     ) -> Result<(), WriteFault>
         requires can_fail { CanFail (W.failed_writes writer.old) }
-        requires full { AreShares self.now.nearest self.now.table.width self.now.rows full.old.items }
-        requires free { AreShares self.now.nearest self.now.table.width self.now.rows free.old.items }
+        requires full { AreShares self.now.nearest self.now.table.width self.now.rows
+            full.old.items }
+        requires free { AreShares self.now.nearest self.now.table.width self.now.rows
+            free.old.items }
         ensures all { OnOk result (Appends (W.held writer.old) (table_text self.now.nearest
             self.now.table.width self.now.table.height self.now.table.nears) (W.held writer.new)) }
         ensures front { OnErr result (AppendsFront (W.held writer.old) (table_text self.now.nearest
@@ -63,8 +66,8 @@ impl<M: Metric + Sync> Printer<M> {
         Ok(())
     }
 
-    /// Writes what the full parts hold, the rows from this one on, and puts the rows after those into
-    /// the free ones: side by side, or one after the other where one thread does.
+    /// Writes what the full parts hold, the rows from this one on, and puts the rows after those
+    /// into the free ones: side by side, or one after the other where one thread does.
     fn write_and_put<W: Sink, R: Threads + Sync>(
         &self,
         rt: &R,
@@ -94,21 +97,29 @@ impl<M: Metric + Sync> Printer<M> {
             return written;
         }
         let mut put = move ||
-            requires { IsSync R.row × IsSync M.row × (next < LATEST_ROWS) × AreShares printer.now.nearest printer.now.table.width printer.now.rows free.now }
-            ensures { ShareRows printer.entry.now.nearest printer.entry.now.table printer.entry.now.rows next free.exit.now }
+            requires { IsSync R.row × IsSync M.row × (next < LATEST_ROWS)
+                × AreShares printer.now.nearest printer.now.table.width printer.now.rows free.now }
+            ensures { ShareRows printer.entry.now.nearest printer.entry.now.table
+                printer.entry.now.rows next free.exit.now }
         { printer.put_parts(rt, free, next) };
         let mut write = move || -> Result<(), WriteFault>
-            requires { CanFail (W.failed_writes writer.now) × ShareRows printer.now.nearest printer.now.table printer.now.rows from full.now }
-            ensures all { OnOk result (Appends (W.held writer.entry.now) (parts_text printer.entry.now.nearest printer.entry.now.table printer.entry.now.rows from (length full.entry.now)) (W.held writer.exit.now)) }
-            ensures front { OnErr result (AppendsFront (W.held writer.entry.now) (parts_text printer.entry.now.nearest printer.entry.now.table printer.entry.now.rows from (length full.entry.now)) (W.held writer.exit.now)) }
-            ensures counts { Counts (W.failed_writes writer.entry.now) result (W.failed_writes writer.exit.now) }
+            requires { CanFail (W.failed_writes writer.now)
+                × ShareRows printer.now.nearest printer.now.table printer.now.rows from full.now }
+            ensures all { OnOk result (Appends (W.held writer.entry.now) (parts_text
+                printer.entry.now.nearest printer.entry.now.table printer.entry.now.rows from
+                (length full.entry.now)) (W.held writer.exit.now)) }
+            ensures front { OnErr result (AppendsFront (W.held writer.entry.now) (parts_text
+                printer.entry.now.nearest printer.entry.now.table printer.entry.now.rows from
+                (length full.entry.now)) (W.held writer.exit.now)) }
+            ensures counts { Counts (W.failed_writes writer.entry.now) result
+                (W.failed_writes writer.exit.now) }
         { printer.write_parts(writer, full, from) };
         let (_, written) = join_mut(rt, &mut put, &mut write);
         written
     }
 
-    /// How many threads put the rows from this one on into so many parts: one each, or one in all where
-    /// there are no such rows or the table is small.
+    /// How many threads put the rows from this one on into so many parts: one each, or one in all
+    /// where there are no such rows or the table is small.
     fn threads_for(&self, parts: usize, from: u32) -> usize
         requires { 1 ≤ parts }
         ensures { 1 ≤ result }
@@ -132,8 +143,11 @@ impl<M: Metric + Sync> Printer<M> {
             parts,
             threads,
             &|place, part: &mut WorkerLines|
-                requires { (place < 16) × (from < LATEST_ROWS) × (1 ≤ printer.now.rows) × (printer.now.rows ≤ MOST_SIDE) × IsShare printer.now.nearest printer.now.table.width printer.now.rows part.now }
-                ensures { HasRows printer.entry.now.nearest printer.entry.now.table printer.entry.now.rows (from + printer.entry.now.rows * place) part.exit.now }
+                requires { (place < 16) × (from < LATEST_ROWS) × (1 ≤ printer.now.rows)
+                    × (printer.now.rows ≤ MOST_SIDE)
+                    × IsShare printer.now.nearest printer.now.table.width printer.now.rows part.now }
+                ensures { HasRows printer.entry.now.nearest printer.entry.now.table
+                    printer.entry.now.rows (from + printer.entry.now.rows * place) part.exit.now }
             { part.put(printer, row_after(from, printer.rows, place)) },
         );
     }

@@ -13,8 +13,8 @@ pub fn put_byte(text: &mut [u8], at: usize, byte: u8) -> usize
     at + 1
 }
 
-/// Puts the first `count` of some bytes, and answers where the next one goes. There is room for all of
-/// them.
+/// Puts the first `count` of some bytes, and answers where the next one goes. There is room for all
+/// of them.
 #[inline(always)]
 pub fn put_front<const N: usize>(text: &mut [u8], at: usize, bytes: [u8; N], count: usize) -> usize
     requires few { count ≤ N }

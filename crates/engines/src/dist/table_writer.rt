@@ -26,9 +26,9 @@ pub struct TableWriter<M: Metric> {
 }
 
 impl<M: Metric + Sync> TableWriter<M> {
-    /// The table of a map with this border, with a part in each set for each of the workers. How many
-    /// rows a part has room for depends on whether obstacles are told too. Everything that takes memory
-    /// is done here.
+    /// The table of a map with this border, with a part in each set for each of the workers. How
+    /// many rows a part has room for depends on whether obstacles are told too. Everything that
+    /// takes memory is done here.
     pub fn of<T: Threads + Sync>(
         rt: &T,
         alloc: Global,
@@ -38,7 +38,8 @@ impl<M: Metric + Sync> TableWriter<M> {
         workers: Workers,
     ) -> Result<Self, Refusal>
         requires below { IsBelowNone M.distance }
-        ensures table { IfOk result (λ print. IsTableOf M.distance edge map.now print.printer.table) }
+        ensures table { IfOk result (λ print. IsTableOf M.distance edge map.now
+            print.printer.table) }
         ensures nearest { IfOk result (λ print. print.printer.nearest ≡ nearest) }
         ensures full { IfOk result (λ print. AreShares nearest print.printer.table.width
             print.printer.rows print.full.items) }

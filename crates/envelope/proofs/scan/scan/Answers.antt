@@ -2,6 +2,7 @@
 use Rattle.std.proofs.Common.{◌≡◌, ◌≢◌, ℕ, ◌+◌, ◌-◌, ◌<◌, length, slice_index, inl, inr, ◌∙◌, arith, rules, get_or-set_other, get_or-set_same}
 use Rattle.std.proofs.lemmas.Bool.{cases_lt}
 use Rattle.envelope.specs.Scans.{IsLeast}
+use Rattle.envelope.proofs.Filling.{set_more}
 use Rattle.envelope.proofs.ScanLemmas.{least_before, least_more}
 use Rattle.envelope.proofs.scan.scan.Goals as goal
 
@@ -25,14 +26,7 @@ places-preserved c =
       right_room = search rules;
       low = low;
       high = rw after high;
-      left = λ x up_to. elim (cases_lt x place) [
-        | inl earlier ↦
-            let other : x ≢ place = λ same. absurd (omega (arith, earlier, same)) in
-            rw (get_or-set_other c.places.left place x c.min-low.result 0 other) (c.places.invariant.left x earlier)
-        | inr here ↦
-            let same : place ≡ x = omega (arith, here, up_to) in
-            rw (← same, get_or-set_same c.places.left place c.min-low.result 0 left_room) low
-      ];
+      left = λ x up_to. set_more (λ x word. IsLeast lefts 0 (x + 1) word) 0 place c.places.left c.min-low.result 0 left_room (λ x first. c.places.invariant.left x) low x (omega arith) up_to;
       right = λ x from inside. elim (cases_lt end x) [
         | inl further ↦
             let other : x ≢ end = λ same. absurd (omega (arith, further, same)) in

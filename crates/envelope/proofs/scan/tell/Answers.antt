@@ -1,8 +1,8 @@
 -- One cell more is filled with what its word tells.
-use Rattle.std.proofs.Common.{◌≡◌, ◌≢◌, ℕ, ◌+◌, ◌-◌, ◌%◌, ◌<◌, length, slice_index, slice_index_or, slice_set, inl, inr, Some, ◌∙◌, subst, arith, rules, get_or-set_other}
-use Rattle.std.proofs.lemmas.Bool.{cases_lt}
+use Rattle.std.proofs.Common.{◌≡◌, ◌+◌, ◌-◌, ◌%◌, ◌<◌, length, slice_index, Some, ◌∙◌, arith, rules}
 use Rattle.metric.specs.Edge.{shift}
 use Rattle.envelope.specs.Columns.{IsNearColumn}
+use Rattle.envelope.proofs.Filling.{set_more}
 use Rattle.envelope.proofs.Nears.{near_kept, near_of_word}
 use Rattle.envelope.proofs.scan.tell.Goals as goal
 
@@ -28,15 +28,7 @@ cells-preserved g c =
     near_of_word g.M.Metric.distance c.args.entries.now g.B.Border.EDGE c.args._y (p + c.from-before.result) (slice_index c.args.words.now (p + c.from-before.result)) c.near_of.result told (rw c.EDGE-edge.ensures at c.near_of.ensures.near) in
     record {
       width = search rules;
-      filled = λ x below. elim (cases_lt x p) [
-        | inl earlier ↦
-            let other : x ≢ p = λ same. absurd (omega (arith, earlier, same)) in
-            rw (get_or-set_other c.cells.answers p x c.some.result g.A.CellAnswer.nothing other) (c.cells.invariant.filled x earlier)
-        | inr here ↦
-            let same : p ≡ x = omega (arith, here, below) in
-            subst (λ (n : ℕ). IsNearColumn g.M.Metric.distance c.args.entries.now c.args._y g.B.Border.EDGE (n + k) (g.A.CellAnswer.told g.M.Metric.distance n (c.args._y - k) (slice_index_or (slice_set c.cells.answers p c.some.result) n g.A.CellAnswer.nothing)))
-            same
-            (near_kept g.A.CellAnswer.told g.A.CellAnswer.nothing g.M.Metric.distance c.args.entries.now g.B.Border.EDGE c.args._y p c.near_of.result c.some.result c.cells.answers
-            (rw before at near) c.requires.row c.some.ensures inside)
-      ];
+      filled = λ x below.
+          set_more (λ x answer. IsNearColumn g.M.Metric.distance c.args.entries.now c.args._y g.B.Border.EDGE (x + k) (g.A.CellAnswer.told g.M.Metric.distance x (c.args._y - k) answer)) 0 p c.cells.answers c.some.result g.A.CellAnswer.nothing
+          inside (λ x low. c.cells.invariant.filled x) (near_kept g.A.CellAnswer.told g.M.Metric.distance c.args.entries.now g.B.Border.EDGE c.args._y p c.near_of.result c.some.result (rw before at near) c.requires.row c.some.ensures) x (omega arith) below;
     }
