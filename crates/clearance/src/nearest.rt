@@ -9,7 +9,7 @@ use crate::band::{first_gap, next_gap};
 use crate::found::Found;
 use crate::rows::Rows;
 use crate::search::{FAR_GAP, NO_LIMIT, is_passed};
-use crate::tiles::{SearchedRow, near_bands};
+use crate::tiles::{SearchedRow, has_few_tiles, near_bands};
 use crate::words::{last_nearer, next_nearer};
 use metric::{Cell, MOST_SIDE, Metric, Rect};
 
@@ -115,19 +115,19 @@ fn with_row<M: Metric, R: Rows>(
     ensures sought { IsSought M.distance (R.cells rows.new) cell (IsRowUpTo cell.y row) result }
     ensures rows { rows.new ≡ rows.old }
 {
-    if gap < FAR_GAP {
-        let searched = SearchedRow {
-            y: row,
-            by_tiles: false,
-        };
-        return with_searched::<M, R>(rows, cell, searched, gap, best);
-    }
     if is_passed(rows, row, gap) {
         return best;
     }
+    if gap >= FAR_GAP && has_few_tiles(rows, row) {
+        let searched = SearchedRow {
+            y: row,
+            by_tiles: true,
+        };
+        return with_searched::<M, R>(rows, cell, searched, gap, best);
+    }
     let searched = SearchedRow {
         y: row,
-        by_tiles: true,
+        by_tiles: false,
     };
     with_searched::<M, R>(rows, cell, searched, gap, best)
 }

@@ -7,7 +7,7 @@ ghost use Rattle.clearance.specs.Search.{IsLeastInBits, IsLeastWithin, IsLowered
 
 use crate::band::{are_blank_bands, first_gap, is_in_blank_band, next_gap};
 use crate::rows::Rows;
-use crate::tiles::{SearchedRow, near_bands};
+use crate::tiles::{SearchedRow, has_few_tiles, near_bands};
 use crate::words::{last_nearer, next_nearer};
 use metric::{LAST_FRAMED, Metric, Rect};
 
@@ -97,7 +97,7 @@ fn lowered_below<M: Metric, R: Rows>(rows: &mut R, rect: Rect, gap: u16, least: 
 
 /// The least so far, or a lesser distance to an obstacle in the row `y`, so many rows away.
 ///
-/// Rows near by are looked at word by word. In the rectangle's own, and in those that are far away, blank tiles are passed over.
+/// The row is looked at word by word once an obstacle is near. Until then blank tiles are passed over.
 pub fn lowered<M: Metric, R: Rows>(rows: &mut R, rect: Rect, y: u16, gap: u16, least: u64) -> u64
     requires rect { IsRectIn (R.cells rows.old) rect }
     requires row { y < (R.cells rows.old).height }
@@ -105,15 +105,21 @@ pub fn lowered<M: Metric, R: Rows>(rows: &mut R, rect: Rect, y: u16, gap: u16, l
     ensures least { IsLoweredBy M.distance (IsObstacle (R.cells rows.old)) rect y gap least result }
     ensures rows { rows.new ≡ rows.old }
 {
-    if 0 < gap && gap < FAR_GAP {
-        let row = SearchedRow { y, by_tiles: false };
-        return lowered_by::<M, R>(rows, rect, row, gap, least);
-    }
     if is_passed(rows, y, gap) {
         return least;
     }
-    let row = SearchedRow { y, by_tiles: true };
+    if is_far::<M>(least) && has_few_tiles(rows, y) {
+        let row = SearchedRow { y, by_tiles: true };
+        return lowered_by::<M, R>(rows, rect, row, gap, least);
+    }
+    let row = SearchedRow { y, by_tiles: false };
     lowered_by::<M, R>(rows, rect, row, gap, least)
+}
+
+/// Whether an obstacle below the limit may be so far away that blank tiles are passed over, and words aren't looked at one by one.
+#[inline(always)]
+fn is_far<M: Metric>(limit: u64) -> bool {
+    u64::from(M::of(0, FAR_GAP)) < limit
 }
 
 /// The least so far, or a lesser distance to an obstacle in the row, so many rows away.

@@ -34,6 +34,16 @@ pub fn tiles_of<R: Rows>(rows: &R, row: SearchedRow) -> u64
     }
 }
 
+/// Whether so few tiles of the row's band may have an obstacle that it's worth while to pass over the others.
+#[inline(always)]
+pub fn has_few_tiles<R: Rows>(rows: &R, y: u16) -> bool
+    requires { y < (R.cells rows.now).height }
+{
+    let inside = y < rows.height();
+    prove!(inside);
+    3 * rows.tiles(y / BAND_ROWS).count_ones() as usize <= rows.across()
+}
+
 /// The first tile from `from` on that may have an obstacle; 64 where there is none.
 #[inline(always)]
 pub fn next_tile(tiles: u64, from: u16) -> u16
