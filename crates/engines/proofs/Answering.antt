@@ -9,7 +9,7 @@ use Rattle.metric.specs.declared.refusal.Refusal.TheVariants as refusals
 use Rattle.metric.specs.declared.stream.WriteFault.{WriteFault}
 use Rattle.metric.specs.Refusal.{image_text, refusal_text}
 use Rattle.metric.specs.Stream.{Appends, AppendsFront, Counts}
-use Rattle.engines.specs.declared.words.arguments.DistOptions.{DistOptions}
+use Rattle.engines.specs.declared.command_line.arguments.DistOptions.{DistOptions}
 use Rattle.engines.specs.dist.Table.{table_text}
 use Rattle.engines.specs.dist.Tabled.{IsTableOf, TableView}
 use Rattle.bits.specs.Cells.{Cells}

@@ -16,16 +16,16 @@ use Rattle.metric.specs.declared.edge.Edge.{Edge}
 use Rattle.metric.specs.declared.edge.Edge.TheVariants.{Open}
 use Rattle.metric.specs.declared.kind.MetricKind.{MetricKind}
 use Rattle.metric.specs.declared.kind.MetricKind.TheVariants.{Euclid2}
-use Rattle.engines.specs.declared.words.arguments.DistOptions.{DistOptions}
+use Rattle.engines.specs.declared.command_line.arguments.DistOptions.{DistOptions}
 use Rattle.engines.specs.words.CommandLine.{AreDistOptions, AreNoDistOptions, AreOptions, AreTaken, default_options, program_app}
 use Rattle.proto.specs.Numbers.{number}
 use Rattle.engines.specs.words.ServeLine.{AreNoMatch, AreServeOptions, in_range}
 use Rattle.engines.specs.Runs.{IsSaidBy}
-use Rattle.engines.specs.declared.words.arguments.ServeOptions.{ServeOptions}
-use Rattle.engines.specs.declared.words.arguments.Fault.{Fault}
-use Rattle.engines.specs.declared.words.arguments.Fault.TheVariants.{Memory}
-use Rattle.engines.specs.declared.words.arguments.Options.{Options}
-use Rattle.engines.specs.declared.words.arguments.Options.TheVariants.{Ask, Dist, Serve, Steps}
+use Rattle.engines.specs.declared.command_line.arguments.ServeOptions.{ServeOptions}
+use Rattle.engines.specs.declared.command_line.arguments.Fault.{Fault}
+use Rattle.engines.specs.declared.command_line.arguments.Fault.TheVariants.{Memory}
+use Rattle.engines.specs.declared.command_line.arguments.Options.{Options}
+use Rattle.engines.specs.declared.command_line.arguments.Options.TheVariants.{Ask, Dist, Serve, Steps}
 use Rattle.clearance.proofs.Refusals.{map_none}
 
 -- the words say this of the subcommand and its flags

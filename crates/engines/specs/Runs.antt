@@ -5,10 +5,10 @@ use Rattle.clap.specs.declared.error.kind.ErrorKind.TheVariants.{DisplayHelp, Di
 use Rattle.metric.specs.Refusal.{refusal_text}
 use Rattle.metric.specs.declared.refusal.Refusal.TheVariants as refusals
 use Rattle.metric.specs.Stream.{Appends, AppendsFront}
-use Rattle.engines.specs.declared.words.arguments.Fault.{Fault}
-use Rattle.engines.specs.declared.words.arguments.Fault.TheVariants.{Words, Memory}
-use Rattle.engines.specs.declared.words.arguments.Options.{Options}
-use Rattle.engines.specs.declared.words.arguments.Options.TheVariants.{Dist, Steps}
+use Rattle.engines.specs.declared.command_line.arguments.Fault.{Fault}
+use Rattle.engines.specs.declared.command_line.arguments.Fault.TheVariants.{Words, Memory}
+use Rattle.engines.specs.declared.command_line.arguments.Options.{Options}
+use Rattle.engines.specs.declared.command_line.arguments.Options.TheVariants.{Dist, Steps}
 use Rattle.engines.specs.words.CommandLine.{AreOptions, AreTaken}
 use Rattle.engines.specs.dist.Dist.{AnswersImage as AnswersDist, BeginsToAnswerImage as BeginsDist}
 use Rattle.engines.specs.steps.Steps.{AnswersText as AnswersSteps, BeginsToAnswerText as BeginsSteps}

@@ -5,8 +5,8 @@ ghost use Rattle.clap.specs.Words.{HasMatchesOf, app_of, first_of, first_value, 
 ghost use Rattle.clap.specs.declared.builder.command.Command.TheViews.{out-Command};
 ghost use Rattle.clap.specs.declared.error.kind.ErrorKind.TheVariants.{OutOfMemory};
 ghost use Rattle.metric.specs.Kind.{metric_named};
-ghost use Rattle.engines.specs.declared.words.arguments.Fault.TheVariants.{Memory};
-ghost use Rattle.engines.specs.declared.words.arguments.Options.TheVariants.{Dist, Steps};
+ghost use Rattle.engines.specs.declared.command_line.arguments.Fault.TheVariants.{Memory};
+ghost use Rattle.engines.specs.declared.command_line.arguments.Options.TheVariants.{Dist, Steps};
 ghost use Rattle.engines.specs.words.CommandLine.{AreDistOptions, AreNoDistOptions, AreOptions, AreTaken, default_options, dist_app, metric_rule, nearest_rule, program_app, query_rule, steps_app, texts_of};
 ghost use Rattle.engines.specs.words.ServeLine.{default_rule};
 
@@ -14,8 +14,8 @@ pub mod arguments;
 pub mod refusing;
 mod serve_words;
 
-use crate::words::arguments::{DistOptions, Fault, Options};
-use crate::words::serve_words::{
+use crate::command_line::arguments::{DistOptions, Fault, Options};
+use crate::command_line::serve_words::{
     ask_command, default_flag, edge_flag, edge_given, number_given, serve_command, serve_or_ask,
 };
 use clap::{Arg, ArgAction, ArgMatches, Command, Error};
@@ -119,7 +119,12 @@ fn dist_command<'a>(alloc: Global) -> Result<Command<'a>, Error>
             .arg(metric_flag(alloc))?
             .arg(nearest_flag(alloc))?
             .arg(query_flag(alloc))?
-            .arg(workers_flag(alloc))?
+            .arg(default_flag(
+                alloc,
+                "workers",
+                "1",
+                "How many workers share the rows, 1 to 16",
+            ))?
             .arg(edge_flag(alloc))?,
     )
 }
@@ -173,12 +178,4 @@ fn query_flag<'a>(alloc: Global) -> Arg<'a>
         .help(
             "Print only the answer to LINE, as 'AT city 3 4'; there are AT, RECT, PATH and CLEAROF",
         )
-}
-
-/// The flag `--workers`.
-fn workers_flag<'a>(alloc: Global) -> Arg<'a>
-    ensures rule { rule_of result ≡ default_rule (codes "workers") (codes "1") }
-    ensures local { result.global ≡ false }
-{
-    default_flag(alloc, "workers", "1").help("How many workers share the rows, 1 to 16")
 }

@@ -20,10 +20,10 @@ mod reply;
 mod table;
 mod table_writer;
 
+use crate::command_line::arguments::DistOptions;
 use crate::dist::reply::QueryReply;
 use crate::dist::table_writer::TableWriter;
 use crate::streams::output::{write_refusal, write_text};
-use crate::words::arguments::DistOptions;
 use crate::{DONE, REFUSED};
 use bits::Bitmap;
 use field::Workers;

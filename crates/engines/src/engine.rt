@@ -3,14 +3,14 @@
 ghost use Rattle.std.specs.Prelude.{◌≡◌, ◌≢◌, ◌+◌, ◌≤◌, IsErr};
 ghost use Rattle.metric.specs.Stream.{CanFail};
 ghost use Rattle.engines.specs.words.CommandLine.{texts_of};
-ghost use Rattle.engines.specs.Runs.{AnswersAs, Begins, BeginsAs, BeginsFor, BeginsRunOf, IsDoneFor, IsRunOf};
+ghost use Rattle.engines.specs.Runs.{Begins, BeginsFor, BeginsRunOf, IsDoneFor, IsRunOf};
 
 use crate::REFUSED;
+use crate::command_line::arguments::{Fault, Options};
+use crate::command_line::options;
+use crate::command_line::refusing::tell;
 use crate::dist::dist_run;
 use crate::steps::steps_run;
-use crate::words::arguments::{Fault, Options};
-use crate::words::options;
-use crate::words::refusing::tell;
 use metric::{Sink, Source};
 use std::alloc::Global;
 use std::thread::Threads;
@@ -80,33 +80,9 @@ pub fn run_said<R: Source, W: Sink, E: Sink, T: Threads + Sync>(
         ≤ R.failed_reads reader.old + W.failed_writes writer.old + E.failed_writes errors.old + 1 }
 {
     match said {
-        Ok(options) => run_engine(rt, alloc, &options, reader, writer),
+        Ok(Options::Dist(options)) => dist_run(rt, alloc, &options, reader, writer),
+        Ok(Options::Steps) => steps_run(alloc, reader, writer),
+        Ok(Options::Serve(_) | Options::Ask(_)) => REFUSED,
         Err(fault) => tell(alloc, &fault, writer, errors),
-    }
-}
-
-/// Runs the engine that the options name. Answers the status.
-fn run_engine<R: Source, W: Sink, T: Threads + Sync>(
-    rt: &T,
-    alloc: Global,
-    options: &Options<'_>,
-    reader: &mut R,
-    writer: &mut W,
-) -> u8
-    requires reader { CanFail (R.failed_reads reader.old) }
-    requires writer { CanFail (W.failed_writes writer.old) }
-    ensures answers { R.failed_reads reader.new ≡ R.failed_reads reader.old → W.failed_writes writer.new ≡ W.failed_writes writer.old
-        → AnswersAs options.now (R.rest reader.old) (W.held writer.old) (W.held writer.new) result }
-    ensures failed_read { R.failed_reads reader.new ≢ R.failed_reads reader.old
-        → (W.held writer.new ≡ W.held writer.old) × (W.failed_writes writer.new ≡ W.failed_writes writer.old) × (result ≡ 1) }
-    ensures failed_write { W.failed_writes writer.new ≢ W.failed_writes writer.old
-        → BeginsAs options.now (R.rest reader.old) (W.held writer.old) (W.held writer.new) × (result ≡ 1) }
-    ensures one_failure { R.failed_reads reader.new + W.failed_writes writer.new
-        ≤ R.failed_reads reader.old + W.failed_writes writer.old + 1 }
-{
-    match options {
-        Options::Dist(options) => dist_run(rt, alloc, options, reader, writer),
-        Options::Steps => steps_run(alloc, reader, writer),
-        Options::Serve(_) | Options::Ask(_) => REFUSED,
     }
 }

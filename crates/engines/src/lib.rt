@@ -2,6 +2,7 @@
 #![tactic(auto)]
 
 mod ask;
+mod command_line;
 mod dist;
 mod engine;
 pub mod net;
@@ -9,17 +10,16 @@ mod run;
 mod serve;
 mod steps;
 mod streams;
-mod words;
 
 pub use ask::ask_run;
+pub use command_line::arguments::{AskOptions, DistOptions, Fault, Options, ServeOptions};
+pub use command_line::options;
 pub use dist::dist_run;
 pub use engine::run_words;
 pub use run::run_process;
 pub use serve::{Listening, serve_run};
 pub use steps::steps_run;
 pub use streams::socket::{NoSocket, Socket};
-pub use words::arguments::{AskOptions, DistOptions, Fault, Options, ServeOptions};
-pub use words::options;
 
 /// The status of a run that did what it was asked for.
 const DONE: u8 = 0;

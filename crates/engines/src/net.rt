@@ -6,10 +6,10 @@ ghost use Rattle.engines.specs.words.Refusals.{HasWordsAlone};
 
 use crate::REFUSED;
 use crate::ask::ask_run;
+use crate::command_line::arguments::{AskOptions, ServeOptions};
 use crate::serve::{Listening, serve_run};
 use crate::streams::output::{write_net_fault, write_refusal};
 use crate::streams::socket::{NoSocket, Socket};
-use crate::words::arguments::{AskOptions, ServeOptions};
 use bits::Bitmap;
 use metric::{Refusal, Sink, Source};
 use pbm::{ImageStop, read_source};

@@ -3,13 +3,13 @@
 ghost use Rattle.std.specs.Prelude.{◌≡◌};
 
 use crate::REFUSED;
+use crate::command_line::arguments::{Fault, Options};
+use crate::command_line::options;
+use crate::command_line::refusing::tell;
 use crate::engine::run_said;
 use crate::net::{ask, serve};
 use crate::streams::errors::ErrorSink;
 use crate::streams::standard::Held;
-use crate::words::arguments::{Fault, Options};
-use crate::words::options;
-use crate::words::refusing::tell;
 use metric::{ReaderSource, Refusal, WriterSink};
 use std::fs::{File, Files};
 use std::net::{Net, TcpListener, TcpStream};

@@ -12,8 +12,8 @@ mod accepted;
 mod lines;
 mod pause;
 
+use crate::command_line::arguments::ServeOptions;
 use crate::streams::output::{write_refusal, write_text};
-use crate::words::arguments::ServeOptions;
 use crate::{DONE, REFUSED};
 use accepted::Accepted;
 use bits::Bitmap;

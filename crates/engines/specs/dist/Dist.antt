@@ -14,7 +14,7 @@ use Rattle.field.specs.Rows.{AreNears}
 use Rattle.proto.specs.Replies.{reply_line}
 use Rattle.proto.specs.declared.answer.Answer.{Answer}
 use Rattle.engines.specs.dist.Query.{IsReplyTo, asked_in, status_of}
-use Rattle.engines.specs.declared.words.arguments.DistOptions.{DistOptions}
+use Rattle.engines.specs.declared.command_line.arguments.DistOptions.{DistOptions}
 use Rattle.engines.specs.dist.Table.{table_text}
 
 -- the bytes read as an image, and the text is the lines of its rows: of each cell the nearest obstacle,

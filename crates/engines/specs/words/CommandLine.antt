@@ -10,13 +10,13 @@ use Rattle.metric.specs.Edge.{edge_named}
 use Rattle.metric.specs.Kind.{metric_named}
 use Rattle.metric.specs.declared.edge.Edge.TheVariants.{Open}
 use Rattle.metric.specs.declared.kind.MetricKind.TheVariants.{Euclid2}
-use Rattle.engines.specs.declared.words.arguments.AskOptions.{AskOptions}
-use Rattle.engines.specs.declared.words.arguments.DistOptions.{DistOptions}
-use Rattle.engines.specs.declared.words.arguments.ServeOptions.{ServeOptions}
-use Rattle.engines.specs.declared.words.arguments.Options.{Options}
-use Rattle.engines.specs.declared.words.arguments.Options.TheVariants.{Ask, Dist, Serve, Steps}
-use Rattle.engines.specs.declared.words.arguments.Fault.{Fault}
-use Rattle.engines.specs.declared.words.arguments.Fault.TheVariants.{Memory}
+use Rattle.engines.specs.declared.command_line.arguments.AskOptions.{AskOptions}
+use Rattle.engines.specs.declared.command_line.arguments.DistOptions.{DistOptions}
+use Rattle.engines.specs.declared.command_line.arguments.ServeOptions.{ServeOptions}
+use Rattle.engines.specs.declared.command_line.arguments.Options.{Options}
+use Rattle.engines.specs.declared.command_line.arguments.Options.TheVariants.{Ask, Dist, Serve, Steps}
+use Rattle.engines.specs.declared.command_line.arguments.Fault.{Fault}
+use Rattle.engines.specs.declared.command_line.arguments.Fault.TheVariants.{Memory}
 use Rattle.engines.specs.words.ServeLine.{AreAskOptions, AreServeOptions, ask_app, default_rule, in_range, serve_app}
 
 -- the texts of some words are their bytes

@@ -4,10 +4,10 @@ use Rattle.clap.specs.Words.{App, Row, Rule, first_of, new_app, new_rule, subcom
 use Rattle.clap.specs.declared.parser.matches.ArgMatches.{ArgMatches}
 use Rattle.metric.specs.Edge.{edge_named}
 use Rattle.proto.specs.Numbers.{number}
-use Rattle.engines.specs.declared.words.arguments.AskOptions.{AskOptions}
-use Rattle.engines.specs.declared.words.arguments.ServeOptions.{ServeOptions}
-use Rattle.engines.specs.declared.words.arguments.Options.{Options}
-use Rattle.engines.specs.declared.words.arguments.Options.TheVariants.{Ask, Serve}
+use Rattle.engines.specs.declared.command_line.arguments.AskOptions.{AskOptions}
+use Rattle.engines.specs.declared.command_line.arguments.ServeOptions.{ServeOptions}
+use Rattle.engines.specs.declared.command_line.arguments.Options.{Options}
+use Rattle.engines.specs.declared.command_line.arguments.Options.TheVariants.{Ask, Serve}
 
 -- a flag that has to be given takes one value
 abbrev pub required_rule : List ℕ → Rule

@@ -6,8 +6,8 @@ ghost use Rattle.metric.specs.Refusal.{refusal_text};
 ghost use Rattle.metric.specs.declared.refusal.Refusal.{Refusal};
 ghost use Rattle.engines.specs.Runs.{Begins, IsStatusOf, IsFaultTold};
 
+use crate::command_line::arguments::Fault;
 use crate::streams::output::{write_refusal, write_text};
-use crate::words::arguments::Fault;
 use crate::{DONE, MISTAKEN, REFUSED};
 use metric::{Refusal, Sink};
 use std::alloc::{AllocError, Global};

@@ -7,15 +7,29 @@ ghost use Rattle.clap.specs.declared.builder.command.Command.TheViews.{out-Comma
 ghost use Rattle.clap.specs.declared.error.kind.ErrorKind.TheVariants.{OutOfMemory};
 ghost use Rattle.metric.specs.Edge.{edge_named};
 ghost use Rattle.proto.specs.Numbers.{number};
-ghost use Rattle.engines.specs.declared.words.arguments.AskOptions.{AskOptions as TheAskOptions};
-ghost use Rattle.engines.specs.declared.words.arguments.ServeOptions.{ServeOptions as TheServeOptions};
+ghost use Rattle.engines.specs.declared.command_line.arguments.AskOptions.{AskOptions as TheAskOptions};
+ghost use Rattle.engines.specs.declared.command_line.arguments.ServeOptions.{ServeOptions as TheServeOptions};
 ghost use Rattle.engines.specs.words.ServeLine.{AreAskOptions, AreMatched, AreNoMatch, AreServeOptions, ask_app, default_rule, in_range, required_rule, serve_app, within};
 
-use crate::words::arguments::{AskOptions, Fault, Options, ServeOptions};
+use crate::command_line::arguments::{AskOptions, Fault, Options, ServeOptions};
 use clap::{Arg, ArgMatches, Command, Error};
 use metric::Edge;
 use proto::read_number;
 use std::alloc::Global;
+
+// What `--help` says of the flags of `serve`.
+const CONNECTIONS_HELP: &str = "How many connections are served before the run ends, 1 to 1000000";
+
+const PORT_HELP: &str = "The port to listen on; at 0 the system picks one";
+
+const BLOCKS_HELP: &str =
+    "How many blocks of 64 by 64 cells the kept versions and the draft may use";
+
+const VERSIONS_HELP: &str = "How many versions are kept at most";
+
+const LOG_HELP: &str = "How many commands are accepted between two checkpoints, at most";
+
+const WORKERS_HELP: &str = "How many connections are served at once, 1 to 16";
 
 /// The options of `serve` or `ask`, where one of them was named.
 pub fn serve_or_ask<'a>(matches: &ArgMatches<'a>) -> Result<Options<'a>, Fault<'a>>
@@ -126,12 +140,12 @@ pub fn serve_command<'a>(alloc: Global) -> Result<Command<'a>, Error>
             .after_help(
                 "Standard input is an image, PBM plain (P1) or raw (P4), 1 to 4096 pixels a side; a black pixel is an\nobstacle. The line 'LISTENING <port>' comes once connections are accepted, and 'SERVED <connections>\n<log length>' at the end. A fault is one line on standard output in place of these, with status 1:\n'ERR 15 ..' of the image, 'FAULT net' of the port, 'ERR 16 ..' of a setting, or 'ERR 5 Memory'.\nA connection that fails counts as served.\n\nExamples:\n  clearmap serve --connections 2 < map.pbm\n  clearmap serve --connections 1000 --port 7400 --workers 8 --versions 32 < map.pbm",
             )
-            .arg(connections_flag(alloc))?
-            .arg(port_flag(alloc))?
-            .arg(blocks_flag(alloc))?
-            .arg(versions_flag(alloc))?
-            .arg(log_flag(alloc))?
-            .arg(workers_flag(alloc))?
+            .arg(required_flag(alloc, "connections", CONNECTIONS_HELP))?
+            .arg(default_flag(alloc, "port", "0", PORT_HELP))?
+            .arg(default_flag(alloc, "blocks", "16384", BLOCKS_HELP))?
+            .arg(default_flag(alloc, "versions", "8", VERSIONS_HELP))?
+            .arg(default_flag(alloc, "log", "100000", LOG_HELP))?
+            .arg(default_flag(alloc, "workers", "4", WORKERS_HELP))?
             .arg(edge_flag(alloc))?,
     )
 }
@@ -149,12 +163,12 @@ pub fn ask_command<'a>(alloc: Global) -> Result<Command<'a>, Error>
             .after_help(
                 "After a line 'STAMP x y n' come the n bytes of its image. Each line is answered before the next is\nsent. The run ends after BYE, or at the end of standard input; a last line without a line feed isn't\nsent. Without a server, or where it ends before a reply that is due, 'FAULT net' is printed, with\nstatus 1. Where all workers of the server are taken, it waits until one is free.\n\nExamples:\n  printf 'PIN\\nAT euclid2 3 4\\nQUIT\\n' | clearmap ask --port 7400\n  printf 'PAINT 0 0 8 8\\nPUBLISH\\nQUIT\\n' | clearmap ask --port 7400",
             )
-            .arg(server_flag(alloc))?,
+            .arg(required_flag(alloc, "port", "The server's port, 1 to 65535"))?,
     )
 }
 
 /// A flag that has to be given, with one value.
-fn required_flag<'a>(alloc: Global, name: &'a str) -> Arg<'a>
+fn required_flag<'a>(alloc: Global, name: &'a str, help: &'a str) -> Arg<'a>
     ensures rule { rule_of result ≡ required_rule name.entry.now }
     ensures local { result.global ≡ false }
 {
@@ -162,10 +176,11 @@ fn required_flag<'a>(alloc: Global, name: &'a str) -> Arg<'a>
         .long(name)
         .value_name("NUMBER")
         .required(true)
+        .help(help)
 }
 
 /// A flag with one value, and its default.
-pub fn default_flag<'a>(alloc: Global, name: &'a str, value: &'a str) -> Arg<'a>
+pub fn default_flag<'a>(alloc: Global, name: &'a str, value: &'a str, help: &'a str) -> Arg<'a>
     ensures rule { rule_of result ≡ default_rule name.entry.now value.entry.now }
     ensures local { result.global ≡ false }
 {
@@ -173,60 +188,7 @@ pub fn default_flag<'a>(alloc: Global, name: &'a str, value: &'a str) -> Arg<'a>
         .long(name)
         .value_name("NUMBER")
         .default_value(value)
-}
-
-/// The flag `--connections`.
-fn connections_flag<'a>(alloc: Global) -> Arg<'a>
-    ensures rule { rule_of result ≡ required_rule (codes "connections") }
-    ensures local { result.global ≡ false }
-{
-    required_flag(alloc, "connections").help(
-        "How many connections are served before the run ends, 1 to 1000000",
-    )
-}
-
-/// The flag `--port` of `serve`.
-fn port_flag<'a>(alloc: Global) -> Arg<'a>
-    ensures rule { rule_of result ≡ default_rule (codes "port") (codes "0") }
-    ensures local { result.global ≡ false }
-{
-    default_flag(alloc, "port", "0").help("The port to listen on; at 0 the system picks one")
-}
-
-/// The flag `--blocks`.
-fn blocks_flag<'a>(alloc: Global) -> Arg<'a>
-    ensures rule { rule_of result ≡ default_rule (codes "blocks") (codes "16384") }
-    ensures local { result.global ≡ false }
-{
-    default_flag(alloc, "blocks", "16384").help(
-        "How many blocks of 64 by 64 cells the kept versions and the draft may use",
-    )
-}
-
-/// The flag `--versions`.
-fn versions_flag<'a>(alloc: Global) -> Arg<'a>
-    ensures rule { rule_of result ≡ default_rule (codes "versions") (codes "8") }
-    ensures local { result.global ≡ false }
-{
-    default_flag(alloc, "versions", "8").help("How many versions are kept at most")
-}
-
-/// The flag `--log`.
-fn log_flag<'a>(alloc: Global) -> Arg<'a>
-    ensures rule { rule_of result ≡ default_rule (codes "log") (codes "100000") }
-    ensures local { result.global ≡ false }
-{
-    default_flag(alloc, "log", "100000").help(
-        "How many commands are accepted between two checkpoints, at most",
-    )
-}
-
-/// The flag `--workers`.
-fn workers_flag<'a>(alloc: Global) -> Arg<'a>
-    ensures rule { rule_of result ≡ default_rule (codes "workers") (codes "4") }
-    ensures local { result.global ≡ false }
-{
-    default_flag(alloc, "workers", "4").help("How many connections are served at once, 1 to 16")
+        .help(help)
 }
 
 /// The flag `--edge`.
@@ -239,12 +201,4 @@ pub fn edge_flag<'a>(alloc: Global) -> Arg<'a>
         .value_name("EDGE")
         .default_value("open")
         .help("What the border is: open, or a wall, of obstacles one cell outside")
-}
-
-/// The flag `--port` of `ask`.
-fn server_flag<'a>(alloc: Global) -> Arg<'a>
-    ensures rule { rule_of result ≡ required_rule (codes "port") }
-    ensures local { result.global ≡ false }
-{
-    required_flag(alloc, "port").help("The server's port, 1 to 65535")
 }

@@ -1,10 +1,10 @@
 //! A TCP connection as a stream. It tells contracts nothing of its bytes: what becomes of them rests on tests alone.
 
 ghost use Rattle.std.specs.Prelude.{◌≡◌, ◌+◌, ◌≤◌, length, IfOk, IfSome, None};
-ghost use Rattle.metric.specs.Stream.{CanFail, StopsAt};
+ghost use Rattle.metric.specs.Stream.{CanFail, Counts, StopsAt};
 
 use memchr::memchr;
-use metric::{ReadFault, Sink, Source, Stream, WriteFault};
+use metric::{ReadFault, Refusal, Sink, Source, Stream, WriteFault};
 use std::alloc::Global;
 use std::io;
 use std::io::{BufRead, BufReader, ErrorKind, Read, Write};
@@ -68,7 +68,7 @@ impl NoSocket {
     /// Tells the peer that there is no memory, where that is why, and ends the connection.
     pub fn tell(self) {
         if let NoSocket::Memory(mut stream) = self
-            && stream.write_all(b"ERR 5 Memory\n").is_ok()
+            && writeln!(stream, "{}", Refusal::Memory).is_ok()
         {
             let _ = end(stream);
         }
@@ -151,16 +151,6 @@ impl Socket {
         Ok(())
     }
 
-    /// The next byte.
-    fn take(&mut self) -> io::Result<Option<u8>>
-        ensures { self.new ≡ self.old }
-    {
-        self.ready()?;
-        let byte = self.reader.buffer().first().copied();
-        self.reader.consume(1);
-        Ok(byte)
-    }
-
     /// The next bytes into the block's front, none of them after a first `stop`, if that is given.
     /// Answers how many.
     fn take_block(&mut self, stop: Option<u8>, block: &mut [u8]) -> io::Result<usize>
@@ -180,13 +170,21 @@ impl Socket {
         Ok(count)
     }
 
-    /// Counts a failed read.
-    fn fail_read(&mut self) -> ReadFault
+    /// The same, as a read of the stream: one that fails is counted.
+    fn read_block(&mut self, stop: Option<u8>, block: &mut [u8]) -> Result<usize, ReadFault>
         requires { CanFail self.old.0 }
-        ensures { self.new ≡ (self.old.0 + 1, self.old.1) }
+        ensures counts { Counts self.old.0 result self.new.0 }
+        ensures writes { self.new.1 ≡ self.old.1 }
+        ensures fits { IfOk result (λ count. count ≤ length block.new) }
+        ensures stops { IfOk result (λ count. IfSome stop (λ stop. StopsAt stop count block.new)) }
     {
-        self.failed_reads += 1;
-        ReadFault
+        match self.take_block(stop, block) {
+            Ok(count) => Ok(count),
+            Err(_) => {
+                self.failed_reads += 1;
+                Err(ReadFault)
+            }
+        }
     }
 
     /// Gathers a reply, or sends it where it is long.
@@ -211,24 +209,17 @@ impl Source for Socket {
     ghost written = { λ s. (None, s.1) };
 
     fn next_byte(&mut self) -> Result<Option<u8>, ReadFault> {
-        match self.take() {
-            Ok(byte) => Ok(byte),
-            Err(_) => Err(self.fail_read()),
-        }
+        let mut byte = [0];
+        let count = self.next_block(byte.as_mut_slice())?;
+        Ok(if count == 0 { None } else { Some(byte[0]) })
     }
 
     fn next_block(&mut self, block: &mut [u8]) -> Result<usize, ReadFault> {
-        match self.take_block(None, block) {
-            Ok(count) => Ok(count),
-            Err(_) => Err(self.fail_read()),
-        }
+        self.read_block(None, block)
     }
 
     fn next_until(&mut self, stop: u8, block: &mut [u8]) -> Result<usize, ReadFault> {
-        match self.take_block(Some(stop), block) {
-            Ok(count) => Ok(count),
-            Err(_) => Err(self.fail_read()),
-        }
+        self.read_block(Some(stop), block)
     }
 
     fn failed_reads(&self) -> u64 {

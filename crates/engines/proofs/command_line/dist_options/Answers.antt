@@ -7,7 +7,7 @@ use Rattle.clap.proofs.WalkLemmas.{first_value-rows, one_text-rows}
 use Rattle.metric.specs.Edge.{edge_named}
 use Rattle.metric.specs.Kind.{metric_named}
 use Rattle.engines.specs.words.ServeLine.{in_range}
-use Rattle.engines.proofs.words.dist_options.Goals as goal
+use Rattle.engines.proofs.command_line.dist_options.Goals as goal
 
 pub returns-clause-options : goal.returns-clause-options
 returns-clause-options c = record {

@@ -4,7 +4,7 @@ use Rattle.clap.specs.Words.{kind_of, takes}
 use Rattle.clap.specs.Simple.{App}
 use Rattle.clap.specs.declared.error.kind.ErrorKind.TheVariants.{OutOfMemory}
 use Rattle.engines.specs.words.CommandLine.{texts_of}
-use Rattle.engines.proofs.words.matches_of.Goals as goal
+use Rattle.engines.proofs.command_line.matches_of.Goals as goal
 
 pub returns-clause-passes : goal.returns-clause-passes
 returns-clause-passes c =

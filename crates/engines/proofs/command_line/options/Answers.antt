@@ -4,9 +4,9 @@ use Rattle.std.proofs.lemmas.Bool.{false≢true}
 use Rattle.std.proofs.lemmas.Result.{err_from_is_err_and}
 use Rattle.clap.specs.Words.{takes, found_of, rows_of}
 use Rattle.engines.specs.words.CommandLine.{program_app}
-use Rattle.engines.specs.declared.words.arguments.Options.TheVariants.{Dist}
+use Rattle.engines.specs.declared.command_line.arguments.Options.TheVariants.{Dist}
 use Rattle.engines.proofs.CommandLines.{takes_dist, takes_steps, named_dist, named_steps, one_name, dist_defaults, default_options-read, defaults_are_known, flags_are_known, command_is_named}
-use Rattle.engines.proofs.words.options.Goals as goal
+use Rattle.engines.proofs.command_line.options.Goals as goal
 
 pub returns-in_err-matches-clause-taken : goal.returns-in_err-matches-clause-taken
 returns-in_err-matches-clause-taken c = λ name words.

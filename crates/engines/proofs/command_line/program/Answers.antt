@@ -2,7 +2,7 @@
 use Rattle.std.proofs.Common.{◌≡◌, ◌∙◌, ap, ap₂, codes, rules, true}
 use Rattle.clap.specs.Words.{App, app_of, new_app, with_subcommand}
 use Rattle.clap.specs.Simple.{on_top}
-use Rattle.engines.proofs.words.program.Goals as goal
+use Rattle.engines.proofs.command_line.program.Goals as goal
 
 pub returns-clause-app : goal.returns-clause-app
 returns-clause-app c =

@@ -7,7 +7,7 @@ use Rattle.clap.proofs.WalkLemmas.{first_value-rows}
 use Rattle.metric.specs.Edge.{edge_named}
 use Rattle.engines.specs.words.ServeLine.{in_range}
 use Rattle.engines.proofs.CommandLines.{no_edge_given, none_given}
-use Rattle.engines.proofs.words.serve_words.serve_options.Goals as goal
+use Rattle.engines.proofs.command_line.serve_words.serve_options.Goals as goal
 
 pub returns : goal.returns
 returns c =

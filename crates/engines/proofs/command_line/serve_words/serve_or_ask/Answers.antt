@@ -3,7 +3,7 @@ use Rattle.std.proofs.Common.{refl}
 use Rattle.std.proofs.lemmas.Result.{err_from_is_err_and}
 use Rattle.clap.specs.Words.{found_of, rows_of}
 use Rattle.engines.proofs.CommandLines.{no_match_serve}
-use Rattle.engines.proofs.words.serve_words.serve_or_ask.Goals as goal
+use Rattle.engines.proofs.command_line.serve_words.serve_or_ask.Goals as goal
 
 pub returns-in_err-serve_options-clause-refused : goal.returns-in_err-serve_options-clause-refused
 returns-in_err-serve_options-clause-refused c =
