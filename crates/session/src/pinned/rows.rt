@@ -58,4 +58,12 @@ impl<Id: StoreName> Rows for Pinned<Id> {
             Looks::Words { .. } => u64::MAX,
         }
     }
+
+    /// The same of tiles.
+    fn tiles(&self, band: u16) -> u64 {
+        match self.looks {
+            Looks::Whole => self.bitmap.marked_tiles(band),
+            Looks::Words { .. } => u64::MAX,
+        }
+    }
 }
