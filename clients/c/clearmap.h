@@ -48,9 +48,9 @@ extern "C" {
 #define CLEARMAP_VERSION_MAJOR 0
 #define CLEARMAP_VERSION_MINOR 1
 #define CLEARMAP_VERSION_PATCH 0
-#define CLEARMAP_VERSION "0.1.0"
+#define CLEARMAP_VERSION "0.2.0"
 
-/* The version of the library that is linked, as "0.1.0". It is constant, and never null. */
+/* The version of the library that is linked, as "0.2.0". It is constant, and never null. */
 const char *clearmap_version(void);
 
 /* ---- Statuses -------------------------------------------------------------------------------- */

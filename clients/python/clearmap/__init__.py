@@ -72,7 +72,7 @@ from .tables import Entry, read_distances
 from .tiles import FARTHER, capped_distances
 from .transforms import distance_transform_cdt, distance_transform_edt
 
-__version__ = "0.1.0"
+__version__ = "0.2.0"
 __all__ = [
     "Client",
     "Pinned",

@@ -10,7 +10,7 @@ from typing import Any, Dict, List, Optional
 from .errors import ClearmapError
 
 FILE = "libclearmap.so.0"
-VERSION = "0.1."  # what a library's version starts with whose calls are those below
+VERSION = "0.2."  # what a library's version starts with whose calls are those below
 NO_OBSTACLE = 0xFFFF_FFFF  # the distance where there is no obstacle at all
 NOWHERE = -2  # the column and the row of no obstacle
 
