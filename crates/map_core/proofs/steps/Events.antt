@@ -4,13 +4,12 @@ use Rattle.map_core.specs.declared.command.Command.{Command}
 use Rattle.std.proofs.Common.{◌≡◌, ℕ, ◌<◌, true, false, refl, ap, ◌∙◌, arith, ◌+◌, []}
 use Rattle.std.specs.Prelude.{Some, None, slice_get, nat_lt, is_some, slice_index}
 use Rattle.std.proofs.lemmas.Bool.Decides.{nat_tests}
-use Rattle.map_core.specs.declared.command.Command.TheVariants.{Collect, Publish}
 use Rattle.map_core.specs.declared.event.Event.TheVariants.{Announce, Leave, Confirm, Keep, Load, Order}
 use Rattle.map_core.specs.declared.event.StepReply.TheVariants as says
 use Rattle.map_core.specs.declared.kept.Seen.TheVariants.{From, Exact}
 use Rattle.map_core.specs.Words.{pin_at, pin_word, now_at, place_told, version_told}
 use Rattle.map_core.specs.Views.{Hand, Reader, State, blocks_of_state, newest_seen, story_of}
-use Rattle.map_core.specs.Steps.{with_word_stored, with_reader, announce, to_confirm, confirm_held, confirm, leave, keep, steps_before, step_before, scan, commit, does, load, order, ordered, next_hold, write}
+use Rattle.map_core.specs.Steps.{with_word_stored, with_reader, announce, to_confirm, confirm_held, confirm, leave, keep, steps_before, step_before, commit, does, load, order, ordered, next_hold}
 
 -- an announcement stores the newest version that the reader has seen, with those after it
 pub does_announce : (w : State) (r : ℕ) (x : Reader) → slice_get w.readers r ≡ Some x → x.announced ≡ None
@@ -30,12 +29,12 @@ pub does_leave : (w : State) (r : ℕ) (x : Reader) → slice_get w.readers r �
 unfolding does leave
 does_leave w r x there some = ap (leave w r) there ∙ rw some refl
 
--- a step of a collect that isn't its last loads the word of the next reader
-pub does_scan : (w : State) (h : Hand) → w.keeper.hand ≡ Some h → h.command ≡ Collect → h.done < steps_before w.base (blocks_of_state w) Collect → does w Keep ≡ Some (scan w h)
+-- a step of a command that isn't its last is done
+pub does_step : (w : State) (h : Hand) (c : Command) → w.keeper.hand ≡ Some h → h.command ≡ c → h.done < steps_before w.base (blocks_of_state w) c → does w Keep ≡ Some (step_before w h c)
 unfolding does keep
-does_scan w h is collect more =
-    let test : nat_lt h.done (steps_before w.base (blocks_of_state w) h.command) ≡ true = ap (λ c. nat_lt h.done (steps_before w.base (blocks_of_state w) c)) collect ∙ below _ _ more in
-    ap (keep w) is ∙ rw test (ap (λ c. Some (step_before w h c)) collect)
+does_step w h c is command more =
+    let test : nat_lt h.done (steps_before w.base (blocks_of_state w) h.command) ≡ true = ap (λ d. nat_lt h.done (steps_before w.base (blocks_of_state w) d)) command ∙ below _ _ more in
+    ap (keep w) is ∙ rw test (ap (λ d. Some (step_before w h d)) command)
   where
     below : (n m : ℕ) → n < m → nat_lt n m ≡ true
     below n m h = grind (arith, nat_tests)
@@ -61,13 +60,3 @@ pub does_order : (w : State) (c : Command) → w.keeper.hand ≡ None → refuse
     → does w (Order c) ≡ Some record { state = record w { keeper = record { log = w.keeper.log; hand = Some record { command = c; done = 0; scanned = [] } } }; answer = says.Ordered (steps_before w.base (blocks_of_state w) c + 1); stored = None }
 unfolding does order
 does_order w c none accepted = ap (order w c) none ∙ ap (λ o. Some (ordered w c o)) accepted
-
--- a step of a publish that isn't its last stores the next word
-pub does_write : (w : State) (h : Hand) → w.keeper.hand ≡ Some h → h.command ≡ Publish → h.done < steps_before w.base (blocks_of_state w) Publish → does w Keep ≡ Some (write w h)
-unfolding does keep
-does_write w h is publish more =
-    let test : nat_lt h.done (steps_before w.base (blocks_of_state w) h.command) ≡ true = ap (λ c. nat_lt h.done (steps_before w.base (blocks_of_state w) c)) publish ∙ below _ _ more in
-    ap (keep w) is ∙ rw test (ap (λ c. Some (step_before w h c)) publish)
-  where
-    below : (n m : ℕ) → n < m → nat_lt n m ≡ true
-    below n m h = grind (arith, nat_tests)

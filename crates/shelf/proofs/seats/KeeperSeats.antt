@@ -18,7 +18,7 @@ use Rattle.shelf.proofs.logs.LogParts.{entries-push}
 use Rattle.shelf.proofs.logs.NowLemmas.{newest-push, now_of_log, room}
 use Rattle.shelf.specs.declared.request.Request.{Request}
 use Rattle.shelf.specs.Roles.{Task, KeeperView, Role, keeping, entries, keeper_in}
-use Rattle.shelf.specs.Steps.{with_command, wrote, scanned, IsNextWrite, MayCommit, signed_of, committed, newest_slot}
+use Rattle.shelf.specs.Steps.{with_command, IsNextWrite, MayCommit, signed_of, committed, newest_slot}
 
 -- the keeper's seat has the keeper's role and no slot after a step that leaves its slots
 pub keeper_role : (old new : Me Request Role) (k : KeeperView) → old ≡ (keeping (keeper_in old.0), []) → new ≡ (keeping k, old.1) → new ≡ (keeping (keeper_in new.0), [])
@@ -46,31 +46,17 @@ says_ordered z k place version slot publishes unmet a says accepted =
       unmet_is = says.unmet_is;
     }
 
--- once one more step of the command in hand is done, what the keeper's seat keeps is still what its view says
-pub says_wrote : (z : Base) (k : KeeperView) (place version slot : ℕ) (publishes unmet : Bool) (t : Task) → KeeperSays z k place version slot publishes unmet → k.task ≡ Some t
-    → KeeperSays z (wrote k t) place version slot publishes unmet
-says_wrote z k place version slot publishes unmet t says task =
+-- once more is done of the command in hand, what the keeper's seat keeps is still what its view says
+pub says_on : (z : Base) (k : KeeperView) (place version slot : ℕ) (publishes unmet : Bool) (t u : Task) → KeeperSays z k place version slot publishes unmet → k.task ≡ Some t → t.hand.command ≡ u.hand.command
+    → KeeperSays z (record k { task = Some u }) place version slot publishes unmet
+says_on z k place version slot publishes unmet t u says task same =
     record {
       legal = says.legal;
       place_is = says.place_is;
       version_is = says.version_is;
       slot_is = says.slot_is;
-      publishes_is = λ u is. says.publishes_is t task ∙ ap (λ (v : Task). is_publish v.hand.command) (same_Some _ _ is);
-      accepted = λ u is. subst (λ (v : Task). refused z.setting (story z (entries k.log)) v.hand.command ≡ None) (same_Some _ _ is) (says.accepted t task);
-      unmet_is = says.unmet_is;
-    }
-
--- once one more reader's word is scanned, what the keeper's seat keeps is still what its view says
-pub says_scanned : (z : Base) (k : KeeperView) (place version slot : ℕ) (publishes unmet : Bool) (t : Task) (word : ℕ) → KeeperSays z k place version slot publishes unmet → k.task ≡ Some t
-    → KeeperSays z (scanned k t word) place version slot publishes unmet
-says_scanned z k place version slot publishes unmet t word says task =
-    record {
-      legal = says.legal;
-      place_is = says.place_is;
-      version_is = says.version_is;
-      slot_is = says.slot_is;
-      publishes_is = λ u is. says.publishes_is t task ∙ ap (λ (v : Task). is_publish v.hand.command) (same_Some _ _ is);
-      accepted = λ u is. subst (λ (v : Task). refused z.setting (story z (entries k.log)) v.hand.command ≡ None) (same_Some _ _ is) (says.accepted t task);
+      publishes_is = λ v is. says.publishes_is t task ∙ (ap is_publish same ∙ ap (λ (q : Task). is_publish q.hand.command) (same_Some _ _ is));
+      accepted = λ v is. subst (λ (c : Command). refused z.setting (story z (entries k.log)) c ≡ None) (same ∙ ap (λ (q : Task). q.hand.command) (same_Some _ _ is)) (says.accepted t task);
       unmet_is = says.unmet_is;
     }
 

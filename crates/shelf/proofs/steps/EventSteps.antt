@@ -34,7 +34,7 @@ use Rattle.shelf.specs.Rule.{Fits, AreSeats, HasReader, HasKeeper, Agrees}
 use Rattle.shelf.specs.Laws.{after_step, IsEvent, StepsAreEvents}
 use Rattle.shelf.specs.Steps.{announcing, confirming, leaving, scanned, signed_of, committed, MayCommit, loaded, met, met_by, with_command, wrote}
 use Rattle.shelf.proofs.seats.Bridge.{set_get, there_set, seated_set, seats_reader, seats_keeper}
-use Rattle.map_core.proofs.steps.Events.{does_announce, does_confirm, does_leave, does_scan, does_commit, does_load, does_order, does_write}
+use Rattle.map_core.proofs.steps.Events.{does_announce, does_confirm, does_leave, does_step, does_commit, does_load, does_order}
 use Rattle.shelf.proofs.logs.OneCore.{core_at}
 use Rattle.shelf.proofs.steps.ReaderSteps.{reader_knows, seats_loaded}
 use Rattle.shelf.proofs.steps.MeetingSteps.{met_seats}
@@ -104,7 +104,7 @@ scan_event z s r id t at task collect more =
     let same : set s.words (pin_at t.hand.done) n ≡ s.words = set_get s.words (pin_at t.hand.done) in
     subst (λ (ws : List ℕ). IsEvent z s r record { words = ws; homes = s.homes; views = set s.views id (keeping u) } Keep (says.Scanned t.hand.done n)) (sym same)
     (event_at z s r Keep (says.Scanned t.hand.done n) None s.words (set s.views id (keeping u)) u r.readers
-    (does_scan w t.hand (ap (option_map (λ v. v.hand)) task) collect more)
+    (does_step w t.hand Collect (ap (option_map (λ v. v.hand)) task) collect more)
     (seats_keeper z r.k u r.readers r.readers s.views r.seats id (keeping u) mine.0 r.seats.few r.seats.callers r.seats.fresh r.seats.left
     (λ q below none. seated_set s.views id (keeping r.k) (keeping u) (r.seats.owner q) (HasReader q) at (λ e. absurd e) (r.seats.seated q below none)) tt (mine.0, refl)
     (λ x else f. fits-task z r.k r.readers u.task x f) (λ seen p. p)))
@@ -221,7 +221,7 @@ write_event z s r id t at task publish more =
     let u = wrote r.k t in
     let next = write_of z (story z (entries r.k.log)) (blocks z (entries r.k.log)) t.hand.done in
     event_at z s r Keep says.Written (Some next.at) (set s.words next.at next.word) (set s.views id (keeping u)) u r.readers
-    (does_write (core_of z s.words r.k r.readers) t.hand (ap (option_map (λ v. v.hand)) task) publish more)
+    (does_step (core_of z s.words r.k r.readers) t.hand Publish (ap (option_map (λ v. v.hand)) task) publish more)
     (seats_keeper z r.k u r.readers r.readers s.views r.seats id (keeping u) mine.0 r.seats.few r.seats.callers r.seats.fresh r.seats.left
     (λ q below none. seated_set s.views id (keeping r.k) (keeping u) (r.seats.owner q) (HasReader q) at (λ e. absurd e) (r.seats.seated q below none)) tt (mine.0, refl)
     (λ y else f. fits-task z r.k r.readers u.task y f) (λ seen p. p))

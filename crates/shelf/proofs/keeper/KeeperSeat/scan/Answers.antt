@@ -1,5 +1,5 @@
 -- A load of a reader's word keeps the rule.
-use Rattle.std.proofs.Common.{ap, sym, subst, ◌+◌, ◌*◌, ◌<◌, ◌≤◌}
+use Rattle.std.proofs.Common.{refl, ap, sym, subst, ◌+◌, ◌*◌, ◌<◌, ◌≤◌}
 use Rattle.map_core.specs.Story.{newest}
 use Rattle.map_core.specs.Views.{story}
 use Rattle.shelf.specs.Roles.{keeper_in, entries}
@@ -8,7 +8,7 @@ use Rattle.map_core.proofs.shared_words.PlaceLemmas.{pin-within}
 use Rattle.shelf.proofs.seats.ReaderSeats.{still_of}
 use Rattle.shelf.specs.Steps.{IsNextScan}
 use Rattle.shelf.proofs.steps.KeeperSteps.{scans_it}
-use Rattle.shelf.proofs.seats.KeeperSeats.{keeper_role, keeper_now, says_scanned}
+use Rattle.shelf.proofs.seats.KeeperSeats.{keeper_role, keeper_now, says_on}
 use Rattle.shelf.proofs.keeper.KeeperSeat.scan.Goals as goal
 
 pub load-requires : goal.load-requires
@@ -30,7 +30,7 @@ invariant_of-self g c =
     let told = c.load.ensures.2 k next.task (ap (λ m. m.0) c.self.invariant.1) next.in_hand in (
       still_of _ _ _ _ _ _ c.self.invariant.0 c.load.ensures.0,
       keeper_role _ _ _ c.self.invariant.1 told.0,
-      rw (keeper_now c.self.inside.seat.me _ _ told.0) (says_scanned _ k _ _ _ _ _ next.task _ c.self.invariant.2 next.in_hand),
+      rw (keeper_now c.self.inside.seat.me _ _ told.0) (says_on _ k _ _ _ _ _ next.task _ c.self.invariant.2 next.in_hand refl),
     )
 
 pub returns-clause-there : goal.returns-clause-there

@@ -1,11 +1,11 @@
 -- A store of a word keeps the rule.
-use Rattle.std.proofs.Common.{ap, sym, subst}
+use Rattle.std.proofs.Common.{refl, ap, sym, subst}
 use Rattle.shelf.specs.Roles.{keeper_in}
 use Rattle.shelf.proofs.seats.OwnTable.{at_own, within_own}
 use Rattle.shelf.proofs.seats.ReaderSeats.{still_of}
 use Rattle.shelf.specs.Steps.{IsNextWrite}
 use Rattle.shelf.proofs.steps.KeeperSteps.{writes_it}
-use Rattle.shelf.proofs.seats.KeeperSeats.{keeper_role, keeper_now, says_wrote, write_within}
+use Rattle.shelf.proofs.seats.KeeperSeats.{keeper_role, keeper_now, says_on, write_within}
 use Rattle.shelf.proofs.keeper.KeeperSeat.write_word.Goals as goal
 
 pub store-requires : goal.store-requires
@@ -26,5 +26,5 @@ invariant_of-self g c =
     let told = c.store.ensures.2 k next.task (ap (λ m. m.0) c.self.invariant.1) next.in_hand in (
       still_of _ _ _ _ _ _ c.self.invariant.0 c.store.ensures.0,
       keeper_role _ _ _ c.self.invariant.1 told,
-      rw (keeper_now c.self.inside.seat.me _ _ told) (says_wrote _ k _ _ _ _ _ next.task c.self.invariant.2 next.in_hand),
+      rw (keeper_now c.self.inside.seat.me _ _ told) (says_on _ k _ _ _ _ _ next.task _ c.self.invariant.2 next.in_hand refl),
     )
