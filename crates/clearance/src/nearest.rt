@@ -115,10 +115,11 @@ fn with_row<M: Metric, R: Rows>(
     ensures sought { IsSought M.distance (R.cells rows.new) cell (IsRowUpTo cell.y row) result }
     ensures rows { rows.new ≡ rows.old }
 {
-    if is_passed(rows, row, gap) {
+    let far = gap >= FAR_GAP;
+    if is_passed(rows, row, gap, far) {
         return best;
     }
-    if gap >= FAR_GAP && has_few_tiles(rows, row) {
+    if far && has_few_tiles(rows, row) {
         let searched = SearchedRow {
             y: row,
             by_tiles: true,

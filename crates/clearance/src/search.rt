@@ -17,7 +17,7 @@ pub const NO_LIMIT: u64 = 1 << 32;
 /// From so many rows away on, a row is looked at as a whole first: obstacles are rare there.
 const SPARSE_GAP: u16 = 128;
 
-/// From so many rows away on, a row in a band that is known to be blank isn't looked at: where obstacles are many there is one nearer.
+/// Where obstacles may be so many rows away or more, a row in a band that is known to be blank isn't looked at: where obstacles are many there is one nearer.
 pub const FAR_GAP: u16 = 32;
 
 /// The least of `limit` and of the distances of the rectangle's cells to the bitmap's obstacles.
@@ -105,10 +105,11 @@ pub fn lowered<M: Metric, R: Rows>(rows: &mut R, rect: Rect, y: u16, gap: u16, l
     ensures least { IsLoweredBy M.distance (IsObstacle (R.cells rows.old)) rect y gap least result }
     ensures rows { rows.new ≡ rows.old }
 {
-    if is_passed(rows, y, gap) {
+    let far = is_far::<M>(least);
+    if is_passed(rows, y, gap, far) {
         return least;
     }
-    if is_far::<M>(least) && has_few_tiles(rows, y) {
+    if far && has_few_tiles(rows, y) {
         let row = SearchedRow { y, by_tiles: true };
         return lowered_by::<M, R>(rows, rect, row, gap, least);
     }
@@ -141,14 +142,14 @@ fn lowered_by<M: Metric, R: Rows>(
     lowered_left::<M, R>(rows, rect, row, gap, right)
 }
 
-/// Whether the row `y`, so many rows away, is known to be free, or looked at as a whole and found to be free.
+/// Whether the row `y`, so many rows away, is known to be free, or looked at as a whole and found to be free. It's only asked where an obstacle may be far away.
 #[inline(always)]
-pub fn is_passed<R: Rows>(rows: &mut R, y: u16, gap: u16) -> bool
+pub fn is_passed<R: Rows>(rows: &mut R, y: u16, gap: u16, far: bool) -> bool
     requires { y < (R.cells rows.old).height }
     ensures blank { result ≡ true → IsBlankRow (R.cells rows.old) y }
     ensures rows { rows.new ≡ rows.old }
 {
-    gap >= FAR_GAP && (is_in_blank_band(rows, y) || gap >= SPARSE_GAP && rows.is_blank(y))
+    far && (is_in_blank_band(rows, y) || gap >= SPARSE_GAP && rows.is_blank(y))
 }
 
 /// The least so far, or a lesser distance to an obstacle of the row in the rectangle's columns or to the right of them.
