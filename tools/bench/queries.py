@@ -22,7 +22,16 @@ import time
 import bench
 from program import HERE, ROOT, build
 
-LOOPS = ["metric/src/limits", "metric/src/edge"] + ["clearance/src/" + name for name in "bit band row rows words search nearest found frame border bound segment strip part lines area walk".split()] + ["pbm/src/raw_raster"]
+SEARCH = (
+    "bit band row rows tiles words search nearest found frame border bound segment strip part lines "
+    "area walk"
+).split()
+LOOPS = [
+    "metric/src/limits",
+    "metric/src/edge",
+    *(f"clearance/src/{name}" for name in SEARCH),
+    "pbm/src/raw_raster",
+]
 SIDE = 4096
 
 

@@ -16,12 +16,14 @@ impl Metric for Euclid2 {
     #[inline(always)]
     fn of(dx: u16, g: u16) -> u32 { let (c, r) = (u32::from(dx), u32::from(g)); c * c + r * r }
 }
-pub struct Bitmap { width: u16, height: u16, words: Vec<u64>, bands: u64 }
+pub struct Bitmap { width: u16, height: u16, words: Vec<u64>, bands: u64, marks: Vec<u64> }
 impl Bitmap {
     pub fn width(&self) -> u16 { self.width }
     pub fn height(&self) -> u16 { self.height }
     #[inline(always)]
     pub fn bands(&self) -> u64 { self.bands }
+    #[inline(always)]
+    pub fn marked_tiles(&self, band: u16) -> u64 { self.marks[usize::from(band)] }
     fn across(&self) -> usize { usize::from(self.width).div_ceil(64) }
     pub fn row_words(&self, y: u16) -> &[u64] {
         let across = self.across();
@@ -42,6 +44,11 @@ impl Bitmap {
         let bit = 1 << (y / 64);
         if self.bands & bit == 0 && row.iter().fold(0, |all, word| all | word) != 0 {
             self.bands |= bit;
+        }
+        for index in 0..self.across() {
+            if row[index] != 0 {
+                self.marks[usize::from(y / 64)] |= 1 << index;
+            }
         }
     }
 }

@@ -64,7 +64,7 @@ fn read_raw(bytes: &[u8]) -> Bitmap {
     let sides: Vec<u16> = sides.split(' ').map(|side| side.parse().unwrap()).collect();
     let (width, height) = (sides[0], sides[1]);
     let across = usize::from(width).div_ceil(64);
-    let mut bitmap = Bitmap { width, height, words: vec![0; across * usize::from(height)], bands: 0 };
+    let mut bitmap = Bitmap { width, height, words: vec![0; across * usize::from(height)], bands: 0, marks: vec![0; 64] };
     read_words(&mut bitmap, lines.next().unwrap());
     bitmap
 }
