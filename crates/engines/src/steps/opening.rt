@@ -97,9 +97,9 @@ impl Opened {
             return Err(Refusal::BadArguments);
         };
         opening.setting.fits_size(opening.width, opening.height)?;
+        let text = Text::new(alloc)?;
         let map = Bitmap::blank(alloc, opening.width, opening.height)?;
         let world = World::open(alloc, opening.setting, &map)?;
-        let text = Text::new(alloc)?;
         let tiles = map.tiles();
         Ok(Opened { world, tiles, text })
     }
