@@ -1,12 +1,20 @@
 #!/usr/bin/env python3
 """Tests of a gateway whose clients or servers don't do what they should, or go away."""
 import os
+import pathlib
 import signal
 import unittest
 
 from testing import Answering, Gate, Line, Served, blank, post, until
 
 HALF = 4096 // 2
+
+
+def stop(pid):
+    """Stops a process, and waits until each of its threads stands still."""
+    os.kill(pid, signal.SIGSTOP)
+    tasks = pathlib.Path(f"/proc/{pid}/task")
+    until(lambda: all("\nState:\tT" in (task / "status").read_text() for task in tasks.iterdir()))
 
 
 class SlowClients(unittest.TestCase):
@@ -137,7 +145,7 @@ class Lost(unittest.TestCase):
         server = Served(post())
         with Gate(server.port, "--links", "2") as gate, Line(gate.port) as line:
             self.assertEqual(line.ask("PAINT 0 0 1 1"), "OK 1 1")
-            os.kill(server.process.pid, signal.SIGSTOP)
+            stop(server.process.pid)
             line.send("PAINT 1 0 2 1", "PIN")
             self.assertTrue(line.is_silent())
             server.end()
