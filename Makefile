@@ -43,7 +43,8 @@ headers = $(notdir $(wildcard clients/cpp/clearmap*.hpp))
 # What both install-program and install-lib put in place: it goes with the last of the two.
 shared = '$(to)/include/clearmap.hpp' '$(to)/share/clearmap'
 
-.PHONY: all lib lib-arm deb wheel release install install-program install-lib uninstall uninstall-program uninstall-lib
+.PHONY: all lib lib-arm deb wheel release install install-program install-lib uninstall \
+    uninstall-program uninstall-lib
 
 all:
 	./clearmap --version

@@ -1,8 +1,8 @@
 /*
  * libclearmap: exact distances to the nearest obstacle of a map, over the caller's own memory.
  *
- * What each call does is proved (docs/use/LIBRARY.md, docs/trust/PROOFS.md); this header and the three
- * functions over malloc in clearmap.c are not.
+ * What each call does is proved (docs/use/LIBRARY.md, docs/trust/PROOFS.md); this header and the
+ * three functions over malloc in clearmap.c are not.
  *
  * A map has 1 to 4096 columns and 1 to 4096 rows. Cell (x, y) lies in column x, counted from the
  * left, and row y, counted from the top, both from 0.

@@ -125,8 +125,8 @@ private:
     }
 };
 
-/// Reads a PBM image, plain or raw, by the rules of docs/use/FORMATS.md. The first fault from its front
-/// is thrown by its name there.
+/// Reads a PBM image, plain or raw, by the rules of docs/use/FORMATS.md. The first fault from its
+/// front is thrown by its name there.
 class ImageReader {
 public:
     explicit ImageReader(std::string_view image) : rest_(image) {

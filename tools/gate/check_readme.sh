@@ -1,7 +1,7 @@
 #!/bin/bash
-# Runs README.md's blocks with the built program (or that of CLEARMAP), in the order of the page: each
-# command prints what stands below it, with the server of the page in a terminal of its own. The
-# lines for Python run where numpy and the library are. What installs packages is run by
+# Runs README.md's blocks with the built program (or that of CLEARMAP), in the order of the page:
+# each command prints what stands below it, with the server of the page in a terminal of its own.
+# The lines for Python run where numpy and the library are. What installs packages is run by
 # check_packages.sh, and what proves by the gate itself.
 set -u
 cd "$(dirname "$0")/../.." || exit 1
@@ -57,7 +57,7 @@ expect 'the served terminal' "$(cat "$room/served")" "$(cat "$room/wanted")"
 
 python=$(tools/python_with numpy)
 if [ -n "$python" ] && [ -e crates/libclearmap/out/libclearmap.so.0 ]; then
-    sed -n '/# Python: /{s/^ *\(.*[^ ]\) *# Python: \(.*\)$/import clearmap; assert \1.tolist() == \2/p}' \
+    sed -n 's/^ *\(.*[^ ]\) *# Python: \(.*\)$/import clearmap; assert \1.tolist() == \2/p' \
         README.md > "$room/lines.py"
     expect 'lines for Python' "$(grep -c assert "$room/lines.py")" 1
     PYTHONPATH=clients/python timeout 60 "$python" "$room/lines.py"

@@ -1,6 +1,6 @@
 #!/usr/bin/env python3
-"""Writes docs/trust/CLAUSES.md from the sources: each public call of each crate with the names of its
-clauses and the definitions of this repository that they cite, by the file of `specs/` they stand in.
+"""Writes docs/trust/CLAUSES.md from the sources: each public call of each crate with the names of
+its clauses and the definitions of this repository that they cite, by their file of `specs/`.
 
     tools/lint/make_clauses.py [--check]
 
@@ -14,11 +14,14 @@ TOP = pathlib.Path(__file__).resolve().parents[2]
 PAGE = TOP / "docs/trust/CLAUSES.md"
 HEAD = """# Clauses
 
-Each public call that has clauses, with their names (`ensures` where the one clause has none), and the
-definitions that they cite. Written by `tools/lint/make_clauses.py` from the sources;
+Each public call that has clauses, with their names (`ensures` where the one clause has none), and
+the definitions that they cite. Written by `tools/lint/make_clauses.py` from the sources;
 [PROOFS](PROOFS.md) says what they come to.
 """
-OPENS = re.compile(r"^(?:pub )?(?:unsafe )?(impl|trait)\b(?:<[^{]*?>)? *([\w:]+)[^{]*?(?: for ([\w:&']+))?.*\{$")
+OPENS = re.compile(
+    r"^(?:pub )?(?:unsafe )?(impl|trait)\b(?:<[^{]*?>)? *([\w:]+)[^{]*?"
+    r"(?: for ([\w:&']+))?.*\{$"
+)
 CALL = re.compile(r"^( *)(pub )?(?:unsafe )?(?:extern \"C\" )?fn (\w+)")
 CLAUSE = re.compile(r"\bensures\*?(?: (\w+))? ?\{")
 IMPORT = re.compile(r"ghost use Rattle\.(\w+)\.specs\.([\w.]+)\.\{([^}]*)\}")
@@ -129,7 +132,7 @@ def main():
     made = HEAD + "".join(table(crate) for crate in crates() if crate != "clearmap")
     if sys.argv[1:] == ["--check"]:
         if not PAGE.exists() or made != PAGE.read_text():
-            print("docs/trust/CLAUSES.md isn't what the sources say: run tools/lint/make_clauses.py")
+            print(f"{PAGE.name} isn't what the sources say: run tools/lint/make_clauses.py")
             return 1
         return 0
     PAGE.write_text(made)
