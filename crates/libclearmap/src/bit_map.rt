@@ -11,7 +11,7 @@ use crate::status::{DONE, shape_status};
 use clearance::{Rows, is_blank};
 use metric::{BAND_ROWS, MOST_SIDE};
 
-/// The map that lies so in these words. Bits past the edge may be anything.
+/// A map laid out as `map` in these words. Bits past the edge may be anything.
 #[derive(Drop)]
 pub struct BitMap<'a> {
     pub words: &'a [u64],
@@ -20,7 +20,7 @@ pub struct BitMap<'a> {
 }
 
 impl<'a> BitMap<'a> {
-    /// The map that lies so in these words, or what is wrong with it.
+    /// Returns the map in these words, or the status of what is wrong with it.
     pub fn of(words: &'a [u64], map: &ClearmapBits) -> Result<Self, u32>
         ensures map { IfOk result (λ rows. rows.map ≡ map.now) }
         ensures words { IfOk result (λ rows. rows.words.now ≡ words.entry.now) }
@@ -62,7 +62,7 @@ impl<'a> Rows for BitMap<'a> {
         in_band(self.map.bands, y, own)
     }
 
-    /// A row with a bit past the edge isn't known to be blank.
+    /// A row with a bit set past its edge doesn't count as blank.
     fn is_blank(&mut self, y: u16) -> bool {
         let start = usize::from(y) * self.map.stride;
         is_blank(&self.words[start..start + self.across()])
@@ -74,7 +74,7 @@ impl<'a> Rows for BitMap<'a> {
     }
 }
 
-/// The word with its bits from the place `count` on made 0.
+/// Clears the bits from bit `count` on.
 #[inline(always)]
 fn low_bits(word: u64, count: usize) -> u64
     ensures kept { (i : ℕ) → i < count → i < 64 → bit_at result i ≡ bit_at word i }
@@ -87,7 +87,7 @@ fn low_bits(word: u64, count: usize) -> u64
     }
 }
 
-/// The word of the row `y`, or 0 where the row's band is known to be blank.
+/// The word of row `y`, or 0 where the row's band is known to be blank.
 #[inline(always)]
 fn in_band(bands: u64, y: u16, word: u64) -> u64
     requires { y < MOST_SIDE }

@@ -11,10 +11,10 @@ use crate::status::{DONE, shape_status};
 use clearance::Rows;
 use std::simd::prelude::*;
 
-/// How many bytes are looked at side by side.
+/// Bytes compared in one vector.
 const LANES: usize = 64;
 
-/// The map that lies so in these bytes.
+/// A map laid out as `map` in these bytes.
 #[derive(Drop)]
 pub struct ByteMap<'a> {
     pub bytes: &'a [u8],
@@ -23,7 +23,7 @@ pub struct ByteMap<'a> {
 }
 
 impl<'a> ByteMap<'a> {
-    /// The map that lies so in these bytes, or what is wrong with it.
+    /// Returns the map in these bytes, or the status of what is wrong with it.
     pub fn of(bytes: &'a [u8], map: &ClearmapBytes) -> Result<Self, u32>
         ensures map { IfOk result (λ rows. rows.map ≡ map.now) }
         ensures bytes { IfOk result (λ rows. rows.bytes.now ≡ bytes.entry.now) }
@@ -78,13 +78,13 @@ impl<'a> Rows for ByteMap<'a> {
         true
     }
 
-    /// It is known of no band that it is blank.
+    /// No band is known to be blank.
     fn bands(&self) -> u64 {
         u64::MAX
     }
 }
 
-/// The bits of up to 64 cells, from the lowest on.
+/// The bits of up to 64 cells, lowest first.
 fn word_of(bytes: &[u8], low: u8, high: u8) -> u64
     requires { length bytes.now ≤ 64 }
     ensures { result ≡ word_where (λ i. is_obstacle_byte low high (slice_index bytes.now i))
@@ -102,7 +102,7 @@ fn word_of(bytes: &[u8], low: u8, high: u8) -> u64
     word
 }
 
-/// The bits of 64 cells, side by side.
+/// The bits of 64 cells, compared as one vector.
 fn whole_word(bytes: &[u8], low: u8, high: u8) -> u64
     requires { length bytes.now ≡ 64 }
     ensures { result ≡ word_where (λ i. is_obstacle_byte low high (slice_index bytes.now i))
@@ -112,7 +112,7 @@ fn whole_word(bytes: &[u8], low: u8, high: u8) -> u64
     at_least(block, low) & at_most(block, high)
 }
 
-/// A bit for each byte of a block: whether it is this one or more.
+/// One bit per byte of a block: 1 where the byte is at least `byte`.
 #[inline(always)]
 fn at_least(block: u8x64, byte: u8) -> u64
     ensures { (k : ℕ) → k < 64 → bit_at result k ≡ cond (nat_le byte (slice_index_or block k 0)) 1
@@ -121,7 +121,7 @@ fn at_least(block: u8x64, byte: u8) -> u64
     block.simd_ge(u8x64::splat(byte)).to_bitmask()
 }
 
-/// A bit for each byte of a block: whether it is this one or less.
+/// One bit per byte of a block: 1 where the byte is at most `byte`.
 #[inline(always)]
 fn at_most(block: u8x64, byte: u8) -> u64
     ensures { (k : ℕ) → k < 64 → bit_at result k ≡ cond (nat_le (slice_index_or block k 0) byte) 1
@@ -130,7 +130,7 @@ fn at_most(block: u8x64, byte: u8) -> u64
     block.simd_le(u8x64::splat(byte)).to_bitmask()
 }
 
-/// Whether a byte is that of an obstacle.
+/// Whether a byte marks an obstacle.
 #[inline(always)]
 fn is_obstacle(byte: u8, low: u8, high: u8) -> bool
     ensures { result ≡ is_obstacle_byte low high byte }

@@ -1,4 +1,4 @@
-//! Copies of a map whose words are asked for one by one: as a bitmap, and as words.
+//! Copies of a map that is read word by word: as a bitmap, and as words.
 
 ghost use Rattle.std.specs.Prelude.{◌≡◌, ℕ, ◌<◌, ◌≤◌, ◌+◌, ◌*◌, IfOk, IfErr, length, slice_index};
 ghost use Rattle.std.specs.Int.{bit_at};
@@ -14,7 +14,7 @@ use clearance::Rows;
 use metric::Refusal;
 use std::alloc::Global;
 
-/// The map as a bitmap. Refused for want of memory alone.
+/// Copies the map into a bitmap. Fails only when out of memory.
 pub fn bitmap_of<R: Rows>(alloc: Global, rows: &mut R) -> Result<Bitmap, Refusal>
     ensures copy { IfOk result (λ bitmap. bitmap ≡ R.cells rows.old) }
     ensures memory { IfErr result (λ refusal. refusal ≡ Memory) }
@@ -28,7 +28,7 @@ pub fn bitmap_of<R: Rows>(alloc: Global, rows: &mut R) -> Result<Bitmap, Refusal
     Ok(bitmap)
 }
 
-/// Writes the row `y` of a bitmap of the same size.
+/// Writes row `y` of a bitmap of the same size.
 fn copy_row<R: Rows>(bitmap: &mut Bitmap, rows: &mut R, y: u16)
     requires width { bitmap.old.width ≡ (R.cells rows.old).width }
     requires height { bitmap.old.height ≡ (R.cells rows.old).height }
@@ -43,7 +43,7 @@ fn copy_row<R: Rows>(bitmap: &mut Bitmap, rows: &mut R, y: u16)
     bitmap.set_row(y, &row);
 }
 
-/// Writes the words of all rows, one row after another, and tells which bands may have an obstacle.
+/// Writes the words of all rows, one row after another. Returns which bands may have an obstacle.
 pub fn pack_rows<R: Rows>(rows: &mut R, words: &mut [u64]) -> u64
     requires { (R.cells rows.old).height * words_across (R.cells rows.old).width ≤ length words.old }
     ensures packed { cells_stored (R.cells rows.old).width (R.cells rows.old).height words.new
@@ -63,7 +63,7 @@ pub fn pack_rows<R: Rows>(rows: &mut R, words: &mut [u64]) -> u64
     bands
 }
 
-/// Writes the words of the row `y`, from a place on, and tells the bits that are 1 in any of them.
+/// Writes the words of row `y` from index `start` on. Returns the bits set in any of them.
 fn pack_row<R: Rows>(rows: &mut R, y: u16, start: usize, words: &mut [u64]) -> u64
     requires row { y < (R.cells rows.old).height }
     requires room { start + words_across (R.cells rows.old).width ≤ length words.old }

@@ -1,10 +1,10 @@
 //! The distance transform and the queries for C, over the caller's own memory.
 //!
-//! No state is kept between calls, and any thread may make any call. Metric 0 is the square of the
-//! straight distance, 1 is steps to the four neighbours, 2 is steps to the eight; edge 0 is open, 1
-//! is a wall. Distances are in the unit of the metric. A call answers the first status that fits, 0
-//! where it is done (`status.rt`), and has written nothing where it isn't. Calls for all cells of
-//! rows ask for memory, the others for none.
+//! Calls keep no state, and any thread may make any call. Metric 0 is the square of the Euclidean
+//! distance, 1 counts steps to the four neighbours, 2 steps to the eight. Edge 0 is open, 1 is a
+//! wall. Distances are in the unit of the metric. A call returns the first status that applies
+//! (`status.rt`); 0 means done, and any other status means that nothing was written. Calls for all
+//! cells of a range of rows allocate memory; the others don't.
 #![tactic(auto)]
 
 mod bit_map;

@@ -1,4 +1,4 @@
-//! What C sees of a cell's nearest obstacle.
+//! A cell's nearest obstacle, as C sees it.
 
 ghost use Rattle.std.specs.Prelude.{◌≡◌, negsuc, ◌≤ℤ◌, IfSome};
 ghost use Rattle.libclearmap.specs.Kept.{found_kept, near_kept};
@@ -6,14 +6,14 @@ ghost use Rattle.libclearmap.specs.Kept.{found_kept, near_kept};
 use envelope::CellAnswer;
 use metric::{Cell, Near, Spot};
 
-/// The distance where there is no obstacle. No obstacle is so far away.
+/// The distance where there is no obstacle. No obstacle is that far away.
 pub const NO_OBSTACLE: u32 = u32::MAX;
 
 /// The column and the row where there is no obstacle. No obstacle has them.
 pub const NOWHERE: i16 = -2;
 
-/// The nearest obstacle of a cell: how far away it is, in the unit of the metric, and its column
-/// and row. In the frame round a map either may be -1, or the number of columns or rows.
+/// The nearest obstacle of a cell: its distance, in the unit of the metric, its column and its row.
+/// In the frame around a map, column and row may be -1, or the number of columns or rows.
 #[repr(C)]
 #[derive(Clone, Copy, Debug)]
 pub struct ClearmapNear {
@@ -51,7 +51,7 @@ impl CellAnswer for ClearmapNear {
     ghost tells_nothing = { λ distance x y. refl };
 }
 
-/// What is kept of a cell's nearest obstacle.
+/// Converts a cell's nearest obstacle.
 pub fn kept_of(near: Option<Near>) -> ClearmapNear
     requires { IfSome near (λ some. negsuc 0 ≤ℤ some.cell.x) }
     ensures { near_kept result ≡ near }
@@ -67,8 +67,8 @@ pub fn kept_of(near: Option<Near>) -> ClearmapNear
     }
 }
 
-/// A cell of a rectangle or a path with its nearest obstacle. Where there is none, the cell tells
-/// nothing.
+/// A cell of a rectangle or a path, with its nearest obstacle. Where there is none, `cell` has no
+/// meaning.
 #[repr(C)]
 #[derive(Clone, Copy, Debug)]
 pub struct ClearmapFound {
@@ -76,7 +76,7 @@ pub struct ClearmapFound {
     pub near: ClearmapNear,
 }
 
-/// What is kept of a cell that was found.
+/// Converts a cell that was found, with its nearest obstacle.
 pub fn found_of(found: Option<(Cell, Near)>) -> ClearmapFound
     requires { IfSome found (λ some. negsuc 0 ≤ℤ some.1.cell.x) }
     ensures { found_kept result ≡ found }

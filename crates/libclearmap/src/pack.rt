@@ -1,4 +1,4 @@
-//! The calls that turn a map in bytes into one in bits, and back.
+//! The calls that convert a map from bytes to bits, and back.
 
 ghost use Rattle.std.specs.Prelude.{◌≡◌, ◌≢◌, ℕ, ◌<◌, ◌≤◌, ◌+◌, ◌*◌, length, slice_index, if◌then◌else◌};
 ghost use Rattle.bits.specs.Cells.{has};
@@ -13,7 +13,7 @@ use crate::layout::{ClearmapBits, ClearmapBytes};
 use crate::status::{DONE, room_status};
 use crate::unpack::{Shades, unpack_rows};
 
-/// Writes a map in bytes to words, one row after another, and how it lies there to `bits`.
+/// Packs a map in bytes into words, one row after another, and writes their layout to `bits`.
 #[unsafe(no_mangle)]
 pub extern "C" fn clearmap_pack(
     bytes: &[u8],
@@ -51,7 +51,7 @@ pub extern "C" fn clearmap_pack(
     DONE
 }
 
-/// Writes a map in bits to bytes, one for each cell, one row after another.
+/// Unpacks a map in bits into bytes, one per cell, one row after another.
 #[unsafe(no_mangle)]
 pub extern "C" fn clearmap_unpack(
     words: &[u64],

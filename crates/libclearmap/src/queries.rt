@@ -1,5 +1,5 @@
-//! The queries of cells, rectangles and paths, over a map whose words are asked for one by one.
-//! None takes memory.
+//! The queries of cells, rectangles and paths, over a map that is read word by word. None allocates
+//! memory.
 
 ghost use Rattle.std.specs.Prelude.{◌≡◌, ◌≢◌, ◌<◌, IfSome, IsSome, ◌↔◌};
 ghost use Rattle.metric.specs.Nearest.{IsNear};
@@ -17,7 +17,7 @@ use clearance::Rows;
 use metric::{Cell, Rect};
 use std::alloc::Global;
 
-/// Writes the nearest obstacle of the cell in column `x` and row `y`.
+/// Writes the nearest obstacle of cell (`x`, `y`).
 pub fn at_in<R: Rows>(
     alloc: Global,
     rows: &mut R,
@@ -54,7 +54,7 @@ pub fn at_in<R: Rows>(
     }
 }
 
-/// Writes the first cell of the least distance in a rectangle, with its nearest obstacle.
+/// Writes the first cell with the least distance in a rectangle, with its nearest obstacle.
 pub fn rect_in<R: Rows>(
     alloc: Global,
     rows: &mut R,
@@ -96,7 +96,7 @@ pub fn rect_in<R: Rows>(
     }
 }
 
-/// Writes the first cell of the least distance along a path, with its nearest obstacle.
+/// Writes the first cell with the least distance along a path, with its nearest obstacle.
 pub fn path_in<R: Rows>(
     alloc: Global,
     rows: &mut R,

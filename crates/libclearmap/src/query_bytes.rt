@@ -1,4 +1,4 @@
-//! The calls over a map in bytes.
+//! The queries of a map in bytes.
 
 ghost use Rattle.std.specs.Prelude.{◌≡◌, ◌≢◌};
 ghost use Rattle.metric.specs.Nearest.{IsNear};
@@ -18,7 +18,7 @@ use crate::status::DONE;
 use metric::Cell;
 use std::alloc::Global;
 
-/// Writes the nearest obstacle of the cell in column `x` and row `y`.
+/// Writes the nearest obstacle of cell (`x`, `y`).
 #[unsafe(no_mangle)]
 pub extern "C" fn clearmap_bytes_at(
     alloc: Global,
@@ -44,8 +44,8 @@ pub extern "C" fn clearmap_bytes_at(
     }
 }
 
-/// Writes the first cell of the least distance in the columns `x0` to `x1 - 1` and the rows `y0` to
-/// `y1 - 1`, row by row from the top and each row from the left, with its nearest obstacle.
+/// Writes the first cell with the least distance in columns `x0` to `x1 - 1` and rows `y0` to `y1 -
+/// 1`, in row-major order, with its nearest obstacle.
 #[unsafe(no_mangle)]
 pub extern "C" fn clearmap_bytes_rect(
     alloc: Global,
@@ -75,7 +75,7 @@ pub extern "C" fn clearmap_bytes_rect(
     }
 }
 
-/// Writes the first cell of the least distance along a path, with its nearest obstacle.
+/// Writes the first cell with the least distance along a path, with its nearest obstacle.
 #[unsafe(no_mangle)]
 pub extern "C" fn clearmap_bytes_path(
     alloc: Global,
@@ -101,7 +101,7 @@ pub extern "C" fn clearmap_bytes_path(
 }
 
 /// Writes the first cell along a path that is nearer than `d` to an obstacle, with its nearest
-/// obstacle; none where the path is clear.
+/// obstacle; no cell where the path is clear.
 #[unsafe(no_mangle)]
 pub extern "C" fn clearmap_bytes_clear_of(
     alloc: Global,

@@ -1,4 +1,4 @@
-//! The metric and the edge that the numbers of a call stand for, and which function they choose.
+//! The metric and the edge that a call's numbers stand for, and the function that they select.
 
 ghost use Rattle.std.specs.Prelude.{◌≡◌, ◌<◌, IfOk, IfErr, OnOk, None};
 ghost use Rattle.metric.specs.Kind.{distance_of};
@@ -13,7 +13,7 @@ use clearance::{Rows, along_rows, at_rows, clear_of_rows, least_in_rows};
 use metric::{Cell, Chess, City, Edge, Euclid2, MetricKind, Near, Rect, Refusal};
 use std::alloc::Global;
 
-/// The metric of this number, which is below 3.
+/// The metric of this number, 0 to 2.
 pub fn kind_of(metric: u32) -> MetricKind
     ensures { result ≡ kind_numbered metric }
 {
@@ -24,7 +24,7 @@ pub fn kind_of(metric: u32) -> MetricKind
     }
 }
 
-/// The edge of this number, which is below 2.
+/// The edge of this number, 0 or 1.
 pub fn edge_of(edge: u32) -> Edge
     ensures { result ≡ edge_numbered edge }
 {
@@ -34,7 +34,7 @@ pub fn edge_of(edge: u32) -> Edge
     }
 }
 
-/// The nearest obstacle of the cell, as `at_rows` of `clearance` has it.
+/// The nearest obstacle of the cell, by `at_rows` of `clearance`.
 pub fn at_by<R: Rows>(
     alloc: Global,
     kind: MetricKind,
@@ -54,7 +54,7 @@ pub fn at_by<R: Rows>(
     }
 }
 
-/// The least distance of a rectangle, as `least_in_rows` of `clearance` has it.
+/// The least distance in a rectangle, by `least_in_rows` of `clearance`.
 pub fn least_by<R: Rows>(
     alloc: Global,
     kind: MetricKind,
@@ -74,7 +74,7 @@ pub fn least_by<R: Rows>(
     }
 }
 
-/// The least distance along a path, as `along_rows` of `clearance` has it.
+/// The least distance along a path, by `along_rows` of `clearance`.
 pub fn along_by<R: Rows>(
     alloc: Global,
     kind: MetricKind,
@@ -94,7 +94,7 @@ pub fn along_by<R: Rows>(
     }
 }
 
-/// The first cell along a path that is nearer than `d`, as `clear_of_rows` of `clearance` has it.
+/// The first cell along a path that is nearer than `d`, by `clear_of_rows` of `clearance`.
 pub fn clear_by<R: Rows>(
     alloc: Global,
     kind: MetricKind,

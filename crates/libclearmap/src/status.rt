@@ -1,4 +1,5 @@
-//! The statuses of calls, in the order in which calls are looked at: the first that fits is told.
+//! The statuses of calls, in the order in which they are checked: the first that applies is
+//! returned.
 
 ghost use Rattle.std.specs.Prelude.{◌≡◌, ◌≤◌};
 ghost use Rattle.libclearmap.specs.Layouts.{IsShape};
@@ -9,7 +10,7 @@ use metric::{MOST_SIDE, Refusal};
 /// The call is done.
 pub const DONE: u32 = 0;
 
-/// A side of the map is 0, or over 4096.
+/// A side of the map is 0 or over 4096.
 pub const SIZE: u32 = 1;
 
 /// The stride is less than a row, or 2^32 or more.
@@ -18,23 +19,23 @@ pub const STRIDE: u32 = 2;
 /// The map's memory ends before its last row does.
 pub const LENGTH: u32 = 3;
 
-/// There is no metric of this number.
+/// No metric has this number.
 pub const METRIC: u32 = 4;
 
-/// There is no edge of this number.
+/// No edge has this number.
 pub const EDGE: u32 = 5;
 
-/// A path has no point, or over 1000.
+/// A path has no points, or over 1000.
 pub const POINTS: u32 = 6;
 
-/// A cell, a row, a rectangle or a point isn't in the map; or rows end before they begin; or a
-/// rectangle has no cell.
+/// A cell, a row, a rectangle or a point isn't in the map; or a range of rows ends before it
+/// starts; or a rectangle has no cell.
 pub const OUTSIDE: u32 = 7;
 
-/// A point of a path is neither in the row nor in the column of the point before it.
+/// A point of a path is in neither the row nor the column of the point before it.
 pub const CROOKED: u32 = 8;
 
-/// There is too little room for the answers.
+/// The output has too little capacity.
 pub const ROOM: u32 = 9;
 
 /// The C library had no memory for the call.
@@ -74,7 +75,7 @@ pub fn setting_status(metric: u32, edge: u32) -> u32
     }
 }
 
-/// The status of room for so many answers where so many are needed.
+/// The status of an output with capacity for `count` answers where `needed` are needed.
 pub fn room_status(needed: usize, count: usize) -> u32
     ensures status { result ≡ room_status needed count }
     ensures room { result ≡ DONE → needed ≤ count }
@@ -82,7 +83,7 @@ pub fn room_status(needed: usize, count: usize) -> u32
     if count < needed { ROOM } else { DONE }
 }
 
-/// The status of a path that is refused for this.
+/// The status of a path that is refused for this reason.
 pub fn refusal_status(refusal: Refusal) -> u32
     ensures { result ≡ refusal_status refusal }
 {

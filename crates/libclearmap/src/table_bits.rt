@@ -1,4 +1,4 @@
-//! The calls for all cells of some rows of a map in bits.
+//! The calls for all cells of a range of rows of a map in bits.
 
 ghost use Rattle.std.specs.Prelude.{◌≡◌, ◌≢◌, ℕ, ◌-◌, ◌*◌, ◌≤◌, length, slice_index, slice_index_or, take};
 ghost use Rattle.field.specs.Bands.{AreAnswers};
@@ -15,8 +15,8 @@ use crate::status::DONE;
 use crate::tables::table_in;
 use std::alloc::Global;
 
-/// Writes the distances of the cells of rows `y0` to `y1 - 1`, row by row, each row from the left;
-/// `u32::MAX` where there is no obstacle.
+/// Writes the distances of the cells of rows `y0` to `y1 - 1`, in row-major order; `u32::MAX` where
+/// there is no obstacle.
 #[unsafe(no_mangle)]
 pub extern "C" fn clearmap_bits_distances(
     alloc: Global,
@@ -44,8 +44,7 @@ pub extern "C" fn clearmap_bits_distances(
     }
 }
 
-/// Writes the nearest obstacles of the cells of rows `y0` to `y1 - 1`, row by row, each row from
-/// the left.
+/// Writes the nearest obstacles of the cells of rows `y0` to `y1 - 1`, in row-major order.
 #[unsafe(no_mangle)]
 pub extern "C" fn clearmap_bits_nearest(
     alloc: Global,

@@ -1,4 +1,4 @@
-//! What is written for each cell of some rows: its nearest obstacle, or its distance alone.
+//! What is written for each cell of a range of rows: its nearest obstacle, or only its distance.
 
 ghost use Rattle.std.specs.Prelude.{◌≡◌, ℕ, IfErr, List, OnOk};
 ghost use Rattle.metric.specs.Kind.{distance_of};
@@ -14,12 +14,13 @@ use std::alloc::Global;
 
 /// An answer for a cell.
 pub trait TableCell: Copy {
-    /// These are the answers of all cells of the rows from one to before another, row by row.
+    /// These are the answers of all cells of the rows from one up to but not including another, in
+    /// row-major order.
     ghost are_answers: { (ℕ → ℕ → ℕ) → Cells → Edge → ℕ → ℕ → List Self → Type 0 };
 
-    /// Fills the room with the answers of the cells of a batch, by this metric.
+    /// Fills `cells` with the answers of the cells of a batch, by this metric.
     ///
-    /// Fails only when out of memory, before anything is written.
+    /// Fails only when out of memory, before it writes anything.
     fn fill(
         alloc: Global,
         kind: MetricKind,

@@ -1,4 +1,4 @@
-//! The answers of all cells of some rows, over a map whose words are asked for one by one.
+//! The answers of all cells of a range of rows, over a map that is read word by word.
 
 ghost use Rattle.std.specs.Prelude.{◌≡◌, ◌≢◌, ℕ, ◌-◌, ◌*◌, ◌≤◌, IfErr, IfOk, length, slice_index_or, take};
 ghost use Rattle.libclearmap.specs.Settings.{distance_numbered, edge_numbered};
@@ -14,7 +14,7 @@ use field::Batch;
 use std::alloc::Global;
 use std::ops::Range;
 
-/// Writes the answers of the cells of these rows of the map to the front of the room.
+/// Writes the answers of the cells of these rows to the front of the output.
 pub fn table_in<T: TableCell, R: Rows>(
     alloc: Global,
     rows: &mut R,
@@ -49,7 +49,7 @@ pub fn table_in<T: TableCell, R: Rows>(
     }
 }
 
-/// A copy of the map, where all is right with a call for these rows; else what is wrong.
+/// Copies the map if a call for these rows is valid; otherwise returns the status of what is wrong.
 fn map_of<R: Rows>(
     alloc: Global,
     rows: &mut R,
@@ -79,7 +79,7 @@ fn map_of<R: Rows>(
     }
 }
 
-/// The status of a call for these rows of a map, but for memory.
+/// The status of a call for these rows of a map, memory aside.
 fn rows_status<R: Rows>(rows: &R, metric: u32, edge: u32, asked: &Range<u32>, count: usize) -> u32
     ensures status { result ≡ table_status (R.cells rows.now) metric edge
         asked.now.start asked.now.end count }

@@ -1,4 +1,4 @@
-//! A map whose words are asked for one by one, written as bytes.
+//! A map that is read word by word, written as bytes.
 
 ghost use Rattle.std.specs.Prelude.{◌≡◌, ℕ, ◌<◌, ◌≤◌, ◌+◌, ◌*◌, ◌⊎◌, length, slice_index, if◌then◌else◌};
 ghost use Rattle.bits.specs.Cells.{has};
@@ -7,14 +7,14 @@ ghost use Rattle.bits.specs.TileWords.{is_bit};
 use clearance::Rows;
 use metric::WORD_BITS;
 
-/// What is written for a cell.
+/// The bytes written for free cells and for obstacles.
 #[derive(Clone, Copy, Debug)]
 pub struct Shades {
     pub free: u8,
     pub obstacle: u8,
 }
 
-/// Writes a byte for each cell, row by row, each row from the left.
+/// Writes one byte per cell, in row-major order.
 pub fn unpack_rows<R: Rows>(rows: &mut R, shades: Shades, bytes: &mut [u8])
     requires { (R.cells rows.old).height * (R.cells rows.old).width ≤ length bytes.old }
     ensures cells { (x y : ℕ) → x < (R.cells rows.old).width → y < (R.cells rows.old).height
