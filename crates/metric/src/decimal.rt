@@ -4,7 +4,8 @@ ghost use Rattle.std.specs.Prelude.{◌≡◌, ◌+◌, ◌≤◌, ◌++◌, ◌
 ghost use Rattle.std.specs.Fmt.{decimal};
 ghost use Rattle.metric.specs.Digits.{two_digits};
 
-/// Adds a number in decimal to a buffer, without leading zeros. There is room for its digits, which are ten at most.
+/// Appends a number in decimal, without leading zeros. The buffer has capacity for its digits, at
+/// most ten.
 pub fn push_decimal(buffer: &mut Vec<u8>, number: u32)
     requires { vec_len buffer.old + length (decimal number) ≤ vec_capacity buffer.old }
     ensures text { buffer.new.items ≡ buffer.old.items ++ decimal number }
@@ -20,7 +21,7 @@ pub fn push_decimal(buffer: &mut Vec<u8>, number: u32)
     push_two(buffer, number % 100);
 }
 
-/// Adds a number of four digits at most.
+/// Appends a number of at most four digits.
 #[inline(always)]
 fn push_short(buffer: &mut Vec<u8>, number: u32)
     requires short { number < 10000 }
@@ -37,7 +38,7 @@ fn push_short(buffer: &mut Vec<u8>, number: u32)
     push_two(buffer, number % 100);
 }
 
-/// Adds a number of one digit or two.
+/// Appends a number of one or two digits.
 #[inline(always)]
 fn push_one_or_two(buffer: &mut Vec<u8>, number: u32)
     requires short { number < 100 }
@@ -53,7 +54,7 @@ fn push_one_or_two(buffer: &mut Vec<u8>, number: u32)
     push_two(buffer, number);
 }
 
-/// Adds the tens and the ones of a number below 100, a leading zero included.
+/// Appends the two digits of a number below 100, a leading zero included.
 #[inline(always)]
 fn push_two(buffer: &mut Vec<u8>, number: u32)
     requires short { number < 100 }

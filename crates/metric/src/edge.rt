@@ -1,4 +1,4 @@
-//! What the border of a map is.
+//! What surrounds a map.
 
 ghost use Rattle.std.specs.Prelude.{◌≡◌, ◌≤◌};
 ghost use Rattle.metric.specs.Edge.{edge_named, shift, spot_of};
@@ -6,17 +6,17 @@ ghost use Rattle.metric.specs.Edge.{edge_named, shift, spot_of};
 use crate::limits::LAST_FRAMED;
 use crate::spot::Spot;
 
-/// What lies round a map.
+/// What surrounds a map.
 #[derive(Clone, Copy, Debug, PartialEq, Eq, Hash)]
 pub enum Edge {
     /// Nothing: only cells of the map are obstacles.
     Open,
-    /// A wall: each cell of the frame round the map is an obstacle too.
+    /// A wall: each cell of the frame around the map is an obstacle too.
     Wall,
 }
 
 impl Edge {
-    /// The edge of this name, which is `open` or `wall`.
+    /// The edge of this name: `open` or `wall`.
     pub fn named(name: &[u8]) -> Option<Self>
         ensures { result ≡ edge_named name.now }
     {
@@ -29,7 +29,8 @@ impl Edge {
         }
     }
 
-    /// By how many columns and rows a cell is moved where the frame is counted too: 0 where the edge is open, 1 where it is a wall.
+    /// By how many columns and rows a cell shifts when the frame counts too: 0 for an open edge, 1
+    /// for a wall.
     #[inline(always)]
     pub fn shift(self) -> u16
         ensures { result ≡ shift self }
@@ -40,7 +41,7 @@ impl Edge {
         }
     }
 
-    /// The spot of a cell that is counted with the frame. Column and row are at most 4097.
+    /// The spot of a cell whose column and row, at most 4097, count the frame too.
     #[inline(always)]
     pub fn spot(self, column: u16, row: u16) -> Spot
         requires column { column ≤ LAST_FRAMED }

@@ -1,4 +1,4 @@
-//! What can be wrong with the text of an image.
+//! The faults of an image's text.
 
 ghost use Rattle.std.specs.Prelude.{◌≡◌, Some, codes};
 ghost use Rattle.metric.specs.Fault.{fault_name};
@@ -13,9 +13,9 @@ use std::fmt;
 pub enum PbmFault {
     /// The first two bytes aren't a magic number.
     BadMagic,
-    /// No whitespace stands directly after the magic number or a number.
+    /// No whitespace follows the magic number or a number.
     MissingSpace,
-    /// A comment stands where none is read.
+    /// A comment stands where none is allowed.
     BadComment,
     /// A number doesn't start with a digit.
     BadNumber,
@@ -23,18 +23,18 @@ pub enum PbmFault {
     ZeroSize,
     /// The width or the height is over 4096.
     TooLarge,
-    /// A byte of a plain raster is no pixel.
+    /// A byte of a plain raster isn't a pixel.
     BadPixel,
     /// The input ends too early.
     Truncated,
-    /// A byte that isn't whitespace stands directly after the last pixel of a plain image.
+    /// A byte that isn't whitespace follows the last pixel of a plain image.
     JunkNotSpaced,
     /// There was no memory for the bitmap.
     Memory,
 }
 
 impl PbmFault {
-    /// The fault of an image whose bitmap wasn't made, by why it wasn't.
+    /// The fault of an image for whose bitmap memory was refused.
     pub fn no_bitmap(refusal: Refusal) -> PbmFault
         requires { refusal ≡ Refusal.Memory }
         ensures { result ≡ Memory }
@@ -43,7 +43,7 @@ impl PbmFault {
         PbmFault::Memory
     }
 
-    /// The fault's name, as it is spelled in a refusal.
+    /// The fault's name, as a refusal spells it.
     pub fn name(self) -> &'static str
         ensures { result.now ≡ fault_name self }
     {

@@ -1,7 +1,7 @@
-//! Where the workers of a computation pass before they begin.
+//! A gate that the workers of a computation pass before they start.
 
-/// Seen by each worker as it begins. It takes no part in the answer.
+/// Called by each worker as it starts. It has no effect on the answer.
 pub trait Gate {
-    /// Called once by the worker of each band of rows, before its first row. Bands are counted from 1.
+    /// Called once by the worker of each band of rows, before its first row. Bands count from 1.
     fn enter(&self, band: u8);
 }

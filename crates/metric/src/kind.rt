@@ -1,12 +1,12 @@
-//! The names of the distances that a caller can choose from.
+//! The metrics that a caller can choose from.
 
 ghost use Rattle.std.specs.Prelude.{◌≡◌};
 ghost use Rattle.metric.specs.Kind.{metric_named};
 
-/// A distance between cells, of `dx` columns and `dy` rows.
+/// A distance between two cells `dx` columns and `dy` rows apart.
 #[derive(Clone, Copy, Debug, PartialEq, Eq, Hash)]
 pub enum MetricKind {
-    /// `dx * dx + dy * dy`: the square of the straight distance.
+    /// `dx * dx + dy * dy`: the square of the Euclidean distance.
     Euclid2,
     /// `dx + dy`: steps to the four neighbours.
     City,
@@ -15,7 +15,7 @@ pub enum MetricKind {
 }
 
 impl MetricKind {
-    /// The metric of this name, which is `euclid2`, `city` or `chess`.
+    /// The metric of this name: `euclid2`, `city` or `chess`.
     pub fn named(name: &[u8]) -> Option<Self>
         ensures { result ≡ metric_named name.now }
     {

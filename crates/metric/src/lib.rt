@@ -1,4 +1,4 @@
-//! Cells, rectangles, distances, refusals and streams of bytes: what every part of the clearance map shares.
+//! Cells, rectangles, distances, refusals and byte streams: what all crates of the map share.
 //!
 //! A cell is `(x, y)`: x counts columns from the left and y counts rows from the top, both from 0.
 #![tactic(auto)]

@@ -8,73 +8,82 @@ ghost use Rattle.metric.specs.Crossing.{AreColumns, IsLastNotWorse, StaysNearer,
 use crate::limits::LAST_FRAMED;
 use std::simd::prelude::*;
 
-/// What is added up of a row difference in a distance of 16 bits is at most this, and this stands for no obstacle too.
+/// The largest part of a row difference in a 16-bit distance. It stands for no obstacle too.
 const MOST_PART: u16 = 32400;
 
-/// A distance between two cells, which depends on how many columns and how many rows they are apart.
+/// A distance between two cells, which depends only on how many columns and rows they are apart.
 pub trait Metric {
-    /// The distance of two cells so many columns and so many rows apart.
+    /// The distance of two cells this many columns and rows apart.
     ghost distance: { ℕ → ℕ → ℕ };
 
-    /// The distance of two cells that are `dx` columns and `g` rows apart, each at most 4097, the most in a map.
+    /// The distance of two cells `dx` columns and `g` rows apart, each at most 4097, the most in a
+    /// map.
     fn of(dx: u16, g: u16) -> u32
         requires columns { dx ≤ LAST_FRAMED }
         requires rows { g ≤ LAST_FRAMED }
         ensures { result ≡ distance dx g };
 
-    /// The last cell of a row, from 0 to 4097, at which column `i` isn't worse than column `u`; -1 where there is none.
+    /// The last cell of a row, from 0 to 4097, at which column `i` isn't worse than column `u`; -1
+    /// where there is none.
     ///
-    /// The nearest obstacles of the two columns lie `gi` and `gu` rows away. Columns and rows are at most 4097, the most in a map, and `i` is the left one.
+    /// The nearest obstacles of the two columns lie `gi` and `gu` rows away. Columns and rows are
+    /// at most 4097, the most in a map, and `i` is the left column.
     fn last_not_worse(i: u16, gi: u16, u: u16, gu: u16) -> i64
         requires { AreColumns i gi u gu }
         ensures { IsLastNotWorse distance i gi u gu result };
 
-    /// Whether the distance is columns and rows added. The rows of such a metric are worked by two scans where many columns have an obstacle some rows away.
+    /// Whether the distance is the sum of columns and rows. The rows of such a metric take two
+    /// scans where many columns have an obstacle some rows away.
     fn is_sum() -> bool
         ensures { result ≡ true → IsSum distance }
     {
         false
     }
 
-    /// The part that a row difference has in a distance of 16 bits.
+    /// The part of a row difference in a 16-bit distance.
     ghost part_of: { ℕ → ℕ };
 
-    /// A part and a reach put together.
+    /// Joins a part and a reach.
     ghost joined: { ℕ → ℕ → ℕ };
 
-    /// The reach of cells that lie so many columns apart. Where that of one column is 0, no distance is put together: the metric's rows are worked by the stack alone, and parts, reaches and how they join may be anything.
+    /// The reach of cells this many columns apart. Where the reach of one column is 0, no distance
+    /// is joined: the metric's rows are computed by the stack only, and parts, reaches and `joined`
+    /// may be anything.
     ghost reach_of: { ℕ → ℕ };
 
-    /// The part that a row difference has in a distance of 16 bits: at most 32,400, which it is for all from 61,438 on.
+    /// The part of a row difference in a 16-bit distance: at most 32,400, and 32,400 for every
+    /// difference from 61,438 on.
     fn part(g: u16) -> u16
         ensures { result ≡ part_of g };
 
-    /// The reach of cells that lie so many columns apart, 97 at most: the distance of two such cells of one row, at most 9409, or 0 for all where distances are larger.
+    /// The reach of cells up to 97 columns apart: the distance of two such cells in one row, at
+    /// most 9409, or 0 for all where distances are larger.
     fn reach(dx: u16) -> u16
         requires { dx ≤ 97 }
         ensures reach { result ≡ reach_of dx }
         ensures few { result ≤ 9409 };
 
-    /// Eight distances in 16 bits, of their parts and their reach. Those below 32,400 are exact.
+    /// Joins eight parts with their reaches into 16-bit distances. Those below 32,400 are exact.
     fn join(parts: u16x8, reach: u16x8) -> u16x8
         requires parts { AreUpTo 32400 parts }
         requires reach { AreUpTo 9409 reach }
         ensures { (i : ℕ) → i < 8 → slice_index result i ≡ joined (slice_index parts i) (slice_index reach i) };
 
-    /// Where there is a reach, it is the distance of the columns alone.
+    /// A reach that isn't 0 is the distance of the columns only.
     ghost reaches: { 0 < reach_of 1 → Reaches distance reach_of };
 
-    /// Where there is a reach, it and the parts tell small distances.
+    /// Where there is a reach, reaches and parts give the small distances.
     ghost small: { 0 < reach_of 1 → IsSmall distance part_of joined };
 
-    /// The distance doesn't fall as the row difference grows.
+    /// The distance never decreases as the row difference grows.
     ghost grows: { Grows distance };
 
-    /// Where the right one of two columns is strictly nearer, it is so at each cell further right.
+    /// Where the right one of two columns is strictly nearer, it is nearer at each cell further
+    /// right too.
     ghost stays_nearer: { StaysNearer distance };
 }
 
-/// The square of the straight distance, in cells squared: at most 33,570,818.
+/// The square of the Euclidean distance, in cells squared: at most 33,570,818.
 #[derive(Clone, Copy, Debug, PartialEq, Eq)]
 pub struct Euclid2;
 
@@ -125,7 +134,8 @@ impl Metric for Euclid2 {
     ghost stays_nearer = { euclid2_stays_nearer };
 }
 
-/// Half of the quotient, rounded down. Neighbours are common, and a half costs less than a quotient.
+/// Half the quotient, rounded down. Adjacent columns are common, and a halving costs less than a
+/// division.
 fn half_quotient(ahead: u32, apart: u16) -> u32
     requires { 0 < apart }
     ensures { result ≡ ahead / (2 * apart) }
@@ -192,7 +202,7 @@ impl Metric for City {
     ghost stays_nearer = { city_stays_nearer };
 }
 
-/// Steps to the eight cells round a cell: the larger of `dx` and `dy`, at most 4097.
+/// Steps to the eight cells around a cell: the larger of `dx` and `dy`, at most 4097.
 #[derive(Clone, Copy, Debug, PartialEq, Eq)]
 pub struct Chess;
 

@@ -1,4 +1,4 @@
-//! Streams in memory, which tell their bytes, and can be set to fail at a call.
+//! Streams in memory, whose bytes contracts see, and which can be set to fail at a call.
 
 ghost use Rattle.std.specs.Prelude.{◌≡◌, Some, None, []};
 
@@ -6,12 +6,12 @@ use crate::stream::{ReadFault, Sink, Source, Stream, WriteFault};
 use std::alloc::Global;
 use std::marker::Model;
 
-/// How many calls are left until one fails; `None` where none is to fail.
+/// How many calls remain until one fails; `None` where none is to fail.
 #[derive(Clone, Copy, Debug)]
 struct Countdown(Option<u64>);
 
 impl Countdown {
-    /// Counts a call, and says whether it is the one to fail.
+    /// Counts a call, and returns whether it is the one to fail.
     fn fails(&mut self) -> bool {
         let fails = self.0 == Some(1);
         self.0 = self.0.map(|calls| calls.saturating_sub(1));
@@ -19,7 +19,8 @@ impl Countdown {
     }
 }
 
-/// Bytes in memory as a reader. Contracts see what is left of them, and how many reads have failed.
+/// A reader over bytes in memory. Contracts see the bytes left to read and the count of failed
+/// reads.
 #[derive(Debug, Drop)]
 pub struct MemorySource<'a> {
     left: &'a [u8],
@@ -36,7 +37,7 @@ impl<'a> Model for MemorySource<'a> {
 }
 
 impl<'a> MemorySource<'a> {
-    /// A reader of these bytes.
+    /// A reader over these bytes.
     pub fn new(bytes: &'a [u8]) -> Self
         ensures { result ≡ record { bytes = bytes.entry.now; failed = 0 } }
     {
@@ -47,7 +48,7 @@ impl<'a> MemorySource<'a> {
         }
     }
 
-    /// The reader whose k-th read from now on fails, counted from 1.
+    /// Makes the k-th read from now on fail, counted from 1.
     pub fn failing_at(self, k: u64) -> Self
         ensures { result ≡ self.entry }
     {
@@ -58,7 +59,7 @@ impl<'a> MemorySource<'a> {
         }
     }
 
-    /// The bytes that are left to read.
+    /// The bytes left to read.
     pub fn left(&self) -> &'a [u8]
         ensures { result.now ≡ self.now.bytes }
     {
@@ -92,9 +93,10 @@ impl Source for MemorySource<'_> {
     }
 }
 
-/// A writer that keeps what it is given. Contracts see that, and how many writes and flushes have failed.
+/// A writer that keeps what it is given. Contracts see these bytes and the count of failed writes
+/// and flushes.
 ///
-/// A write fails too where there is no memory to keep its bytes.
+/// A write also fails where there is no memory to keep its bytes.
 #[derive(Debug, Drop)]
 pub struct MemorySink {
     bytes: Vec<u8>,
@@ -122,8 +124,8 @@ impl MemorySink {
         }
     }
 
-    /// The writer whose k-th call from now on fails, counted from 1, writes and flushes alike.
-    /// A write that fails so has written the first half of its bytes.
+    /// Makes the k-th call from now on fail, counted from 1, writes and flushes alike. A write that
+    /// fails this way has written the first half of its bytes.
     pub fn failing_at(self, k: u64) -> Self
         ensures { result ≡ self }
     {
@@ -134,7 +136,7 @@ impl MemorySink {
         }
     }
 
-    /// What was written.
+    /// The bytes written.
     pub fn bytes(&self) -> &[u8]
         ensures { result.now ≡ self.now.bytes }
     {
@@ -191,21 +193,21 @@ impl<'a> Model for MemoryStream<'a> {
 }
 
 impl<'a> MemoryStream<'a> {
-    /// The stream that reads from the one and writes to the other.
+    /// A stream that reads from `source` and writes to `sink`.
     pub fn new(source: MemorySource<'a>, sink: MemorySink) -> Self
         ensures { result ≡ record { read = source.entry; written = sink } }
     {
         MemoryStream { source, sink }
     }
 
-    /// The bytes that are left to read.
+    /// The bytes left to read.
     pub fn left(&self) -> &'a [u8]
         ensures { result.now ≡ self.now.read.bytes }
     {
         self.source.left()
     }
 
-    /// What was written.
+    /// The bytes written.
     pub fn bytes(&self) -> &[u8]
         ensures { result.now ≡ self.now.written.bytes }
     {

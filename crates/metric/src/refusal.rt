@@ -1,4 +1,4 @@
-//! The refusals of the whole workspace, in the order of their numbers.
+//! The refusals of all crates, in the order of their numbers.
 
 ghost use Rattle.std.specs.Prelude.{◌≡◌, Some};
 ghost use Rattle.metric.specs.Refusal.{refusal_text, refusal_title};
@@ -11,7 +11,7 @@ use std::alloc::{AllocError, AllocFailed};
 use std::fmt;
 use std::io::{self, ErrorKind};
 
-/// A setting of a store, named by a refusal.
+/// A setting of a store, as a refusal names it.
 #[derive(Clone, Copy, Debug, PartialEq, Eq)]
 pub enum Field {
     Blocks,
@@ -20,28 +20,29 @@ pub enum Field {
     Log,
 }
 
-/// Why a call was refused. Unless a call says otherwise, all is then as before it.
+/// Why a call was refused. Unless a call says otherwise, it has then changed nothing.
 #[derive(Clone, Copy, Debug, PartialEq, Eq)]
 pub enum Refusal {
-    /// A cell, a rectangle or a stamp isn't wholly in the map.
+    /// A cell, a rectangle or a stamp isn't wholly within the map.
     OutOfRange,
     /// A change needs more new blocks than are free.
     BlocksFull { needed: u32, free: u32 },
-    /// As many versions are kept as there are slots.
+    /// Every slot for versions is in use.
     VersionsFull,
-    /// The log has as many entries as it may have.
+    /// The log has as many entries as its limit allows.
     LogFull,
-    /// A growth was refused.
+    /// An allocation was refused.
     Memory,
     /// A query came without a pin.
     NotPinned,
     /// A pin came while one was held.
     AlreadyPinned,
-    /// A path has no point, or over 1000.
+    /// A path has no points, or over 1000.
     BadPath,
-    /// The point of this index, from 0, is neither in the row nor in the column of the point before it.
+    /// The point of this index, from 0, is in neither the row nor the column of the point before
+    /// it.
     Crooked { index: u32 },
-    /// The first word of a line is no command.
+    /// The first word of a line isn't a command.
     UnknownCommand,
     /// A command has the wrong number or form of arguments.
     BadArguments,
@@ -51,13 +52,13 @@ pub enum Refusal {
     TooMuchData,
     /// An image was refused.
     BadImage(PbmFault),
-    /// A setting is out of its limits: the first of the four.
+    /// The first of the four settings that is out of its limits.
     BadSetting(Field),
-    /// The log has had as many entries as places can count.
+    /// The log has had as many entries as places can number.
     PlacesUsed,
 }
 
-/// A growth that was refused. Nothing else makes `Memory`: callers pass it on by `?`.
+/// An allocation that was refused. Nothing else makes `Memory`: callers pass it on with `?`.
 impl From<AllocError> for Refusal {
     ghost from_gives = { λ _ refusal. refusal ≡ Memory };
 
@@ -66,7 +67,7 @@ impl From<AllocError> for Refusal {
     }
 }
 
-/// A growth that was refused, whose value is dropped.
+/// An allocation that was refused, whose value is dropped.
 impl<T: Drop> From<AllocFailed<T>> for Refusal {
     ghost from_gives = { λ _ refusal. refusal ≡ Memory };
 
@@ -76,7 +77,7 @@ impl<T: Drop> From<AllocFailed<T>> for Refusal {
 }
 
 impl Field {
-    /// The setting's name, as it is spelled in a refusal.
+    /// The setting's name, as a refusal spells it.
     pub fn name(self) -> &'static str
         ensures { result.now ≡ field_name self }
     {
@@ -90,7 +91,7 @@ impl Field {
 }
 
 impl Refusal {
-    /// Why std made no buffer: a growth was refused.
+    /// The refusal for a buffer that std couldn't allocate.
     pub fn of_buffer(fault: &io::Error) -> Refusal
         requires { error_kind fault.now ≡ ErrorKind.OutOfMemory }
         ensures { result ≡ Memory }
@@ -101,7 +102,7 @@ impl Refusal {
 
     /// `ERR`, the refusal's number and its name.
     ///
-    /// An image for which there was no memory is told as want of memory.
+    /// An image for which there was no memory is reported as out of memory.
     pub fn title(self) -> &'static str
         ensures { result.now ≡ refusal_title self }
     {
@@ -126,7 +127,7 @@ impl Refusal {
     }
 }
 
-/// The refusal's line, without its LF: its title, and what belongs to it.
+/// The refusal's line, without its LF: its title and its details.
 impl fmt::Display for Refusal {
     ghost output = { λ refusal. Some (refusal_text refusal) };
 

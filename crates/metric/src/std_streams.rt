@@ -1,4 +1,4 @@
-//! Readers and writers of std as streams, buffered. They tell nothing of their bytes.
+//! Readers and writers of std as buffered streams. Contracts don't see their bytes.
 
 ghost use Rattle.std.specs.Prelude.{◌≡◌, ◌+◌, ℕ, None, Err, IfOk, IfErr};
 ghost use Rattle.metric.specs.declared.refusal.Refusal.TheVariants.{Memory};
@@ -10,7 +10,7 @@ use std::alloc::Global;
 use std::io::{BufReader, BufWriter, ErrorKind, Read, Write};
 use std::marker::Model;
 
-/// A reader of std, read ahead by blocks. Contracts see how many reads have failed.
+/// A reader of std, read ahead in blocks. Contracts see the count of failed reads.
 #[derive(Drop)]
 pub struct ReaderSource<R: Read + Drop> {
     reader: BufReader<R>,
@@ -24,7 +24,7 @@ impl<R: Read + Drop> Model for ReaderSource<R> {
 }
 
 impl<R: Read + Drop> ReaderSource<R> {
-    /// The reader with a buffer of its own. Refused for want of memory alone.
+    /// Wraps a reader with a buffer of its own. Fails only when out of memory.
     pub fn new(alloc: Global, reader: R) -> Result<Self, Refusal>
         ensures fresh { IfOk result (λ source. source ≡ 0) }
         ensures memory { IfErr result (λ refusal. refusal ≡ Memory) }
@@ -49,7 +49,7 @@ impl<R: Read + Drop> Source for ReaderSource<R> {
         Ok(if count == 0 { None } else { Some(byte[0]) })
     }
 
-    /// A read that a signal interrupts is made again.
+    /// Retries a read that a signal interrupts.
     fn next_block(&mut self, block: &mut [u8]) -> Result<usize, ReadFault> {
         'reads: for _ in 0..u64::MAX {
             match self.reader.read(block) {
@@ -67,9 +67,10 @@ impl<R: Read + Drop> Source for ReaderSource<R> {
     }
 }
 
-/// A writer of std, written to by blocks. Contracts see how many writes and flushes have failed.
+/// A writer of std, written in blocks. Contracts see the count of failed writes and flushes.
 ///
-/// Once a call has failed nothing is written any more, also not what was kept back, and each later call fails.
+/// Once a call has failed, nothing more is written, buffered bytes included, and each later call
+/// fails.
 #[derive(Drop)]
 pub struct WriterSink<W: Write + Drop> {
     writer: Option<BufWriter<W>>,
@@ -83,7 +84,7 @@ impl<W: Write + Drop> Model for WriterSink<W> {
 }
 
 impl<W: Write + Drop> WriterSink<W> {
-    /// The writer with a buffer of its own. Refused for want of memory alone.
+    /// Wraps a writer with a buffer of its own. Fails only when out of memory.
     pub fn new(alloc: Global, writer: W) -> Result<Self, Refusal>
         ensures fresh { IfOk result (λ sink. sink ≡ 0) }
         ensures memory { IfErr result (λ refusal. refusal ≡ Memory) }
@@ -97,7 +98,7 @@ impl<W: Write + Drop> WriterSink<W> {
         }
     }
 
-    /// Counts a failed call, and lets the writer go without what was kept back for it.
+    /// Counts a failed call, and drops the writer without flushing its buffer.
     fn fail(&mut self) -> WriteFault
         requires { CanFail self.old }
         ensures { self.new ≡ self.old + 1 }

@@ -1,7 +1,7 @@
-//! Streams of bytes: what a reader and a writer are to the engines.
+//! Byte streams: a reader and a writer, as the engines see them.
 //!
-//! An engine reads byte by byte or by blocks, and writes whole texts. A stream may tell its bytes to
-//! contracts, as one in memory does, or tell nothing.
+//! An engine reads byte by byte or in blocks, and writes whole texts. A stream may show its bytes
+//! to contracts, as one in memory does, or none.
 
 ghost use Rattle.std.specs.Prelude.{◌≡◌, ℕ, List, Option, IfOk, OnOk, OnErr};
 ghost use Rattle.metric.specs.Wire.{Wire};
@@ -15,15 +15,15 @@ pub struct ReadFault;
 #[derive(Clone, Copy, Debug, PartialEq, Eq)]
 pub struct WriteFault;
 
-/// Where bytes come from.
+/// A source of bytes.
 pub trait Source {
-    /// The bytes that are left to read, where the stream tells them.
+    /// The bytes left to read, where the stream shows them.
     ghost rest: { Self → Option (List ℕ) };
 
     /// How many reads have failed.
     ghost failed_reads: { Self → ℕ };
 
-    /// Of a stream that can be written too: what was written, and how many writes have failed.
+    /// Of a stream that can be written too: the bytes written, and how many writes have failed.
     ghost written: { Self → Option (List ℕ) × ℕ };
 
     /// Takes the next byte; `None` at the end. A failed read takes nothing.
@@ -34,8 +34,8 @@ pub trait Source {
         ensures counts { Counts (failed_reads self.old) result (failed_reads self.new) }
         ensures written { written self.new ≡ written self.old };
 
-    /// Takes the next bytes into the block's front, at most as many as it has places, and answers how many.
-    /// None are taken only at the end, or where the block has no place. A failed read takes nothing.
+    /// Takes the next bytes into the front of `block`, at most its length, and returns how many.
+    /// Takes none only at the end, or if `block` is empty. A failed read takes nothing.
     fn next_block(&mut self, block: &mut [u8]) -> Result<usize, ReadFault>
         requires { CanFail (failed_reads self.old) }
         ensures taken { IfOk result (λ count. TakesBlock (rest self.old) count block.new (rest self.new)) }
@@ -46,7 +46,7 @@ pub trait Source {
         self.next_until(0, block)
     }
 
-    /// The same, but takes none after the first byte that is `stop`.
+    /// As `next_block`, but takes none after the first byte that is `stop`.
     fn next_until(&mut self, stop: u8, block: &mut [u8]) -> Result<usize, ReadFault>
         requires { CanFail (failed_reads self.old) }
         ensures taken { IfOk result (λ count. TakesBlock (rest self.old) count block.new (rest self.new)) }
@@ -73,18 +73,18 @@ pub trait Source {
         ensures { result ≡ failed_reads self.now };
 }
 
-/// Where bytes go to.
+/// A sink for bytes.
 pub trait Sink {
-    /// The bytes that were written, where the stream tells them.
+    /// The bytes written, where the stream shows them.
     ghost held: { Self → Option (List ℕ) };
 
     /// How many writes and flushes have failed.
     ghost failed_writes: { Self → ℕ };
 
-    /// Of a stream that can be read too: what is left to read, and how many reads have failed.
+    /// Of a stream that can be read too: the bytes left to read, and how many reads have failed.
     ghost unread: { Self → Option (List ℕ) × ℕ };
 
-    /// Writes all the bytes. Where it fails, a beginning of them has been written.
+    /// Writes all the bytes. On a failure, a prefix of them has been written.
     fn write_all(&mut self, bytes: &[u8]) -> Result<(), WriteFault>
         requires { CanFail (failed_writes self.old) }
         ensures all { OnOk result (Appends (held self.old) bytes.now (held self.new)) }
@@ -92,7 +92,7 @@ pub trait Sink {
         ensures counts { Counts (failed_writes self.old) result (failed_writes self.new) }
         ensures unread { unread self.new ≡ unread self.old };
 
-    /// Passes on what the stream may have kept back.
+    /// Passes on what the stream has buffered.
     fn flush(&mut self) -> Result<(), WriteFault>
         requires { CanFail (failed_writes self.old) }
         ensures held { held self.new ≡ held self.old }
@@ -104,17 +104,18 @@ pub trait Sink {
         ensures { result ≡ failed_writes self.now };
 }
 
-/// A reader and a writer in one, neither of which touches the other.
+/// A reader and a writer in one. Neither affects the other.
 pub trait Stream: Source + Sink {
-    /// What a contract sees of the stream: what is left to read, what was written, and how many reads and writes have failed.
+    /// What a contract sees of the stream: the bytes left to read, the bytes written, and how many
+    /// reads and writes have failed.
     ghost wire: { Self → Wire };
 
-    /// The wire shows what the source and the sink tell.
+    /// The wire shows what the source and the sink show.
     ghost shown: { (s : Self) → Self.wire s ≡ record { rest = Self.rest s; held = Self.held s; failed_reads = Self.failed_reads s; failed_writes = Self.failed_writes s } };
 
-    /// A write leaves what is left to read, and its count of failures.
+    /// A write leaves the bytes left to read, and the count of failed reads.
     ghost reading: { (s : Self) → Self.unread s ≡ (Self.rest s, Self.failed_reads s) };
 
-    /// A read leaves what was written, and its count of failures.
+    /// A read leaves the bytes written, and the count of failed writes.
     ghost writing: { (s : Self) → Self.written s ≡ (Self.held s, Self.failed_writes s) };
 }
