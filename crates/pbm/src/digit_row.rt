@@ -8,7 +8,7 @@ use std::simd::prelude::*;
 /// The most digits that a row takes.
 pub const MOST_DIGITS: usize = 4096;
 
-/// The bits of eight pixels, each alone.
+/// The bit of each of eight pixels.
 const PLACES: [u8; 8] = [1, 2, 4, 8, 16, 32, 64, 128];
 
 /// The digits of eight pixels: the lowest bit is the leftmost pixel.
@@ -21,7 +21,7 @@ fn digits_of(eight: u8) -> u8x8
     black.select(u8x8::splat(b'1'), u8x8::splat(b'0'))
 }
 
-/// Writes the digits of eight pixels, from a place on.
+/// Writes the digits of eight pixels from index `first` on.
 #[inline(always)]
 fn put_eight(eight: u8, first: usize, digits: &mut [u8])
     requires { first + 8 ≤ length digits.old }
@@ -33,7 +33,7 @@ fn put_eight(eight: u8, first: usize, digits: &mut [u8])
     digits[first..first + 8].copy_from_slice(&eight_digits);
 }
 
-/// Writes the digits of a word's pixels, from a place on.
+/// Writes the digits of a word's pixels from index `first` on.
 #[inline(always)]
 fn put_word(word: u64, first: usize, digits: &mut [u8])
     requires { first + 64 ≤ length digits.old }
@@ -47,7 +47,7 @@ fn put_word(word: u64, first: usize, digits: &mut [u8])
     }
 }
 
-/// Writes the digits of the pixels of a row's words, 64 of each word, to the front.
+/// Writes the digits of a row's pixels to the front of `digits`, 64 per word.
 pub fn put_digits(words: &[u64], digits: &mut [u8])
     requires { 64 * length words.now ≤ length digits.old }
     ensures len { length digits.new ≡ length digits.old }

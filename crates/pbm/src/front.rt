@@ -1,4 +1,4 @@
-//! All that is written of an image before its raster.
+//! The front of an image: everything written before its raster.
 
 ghost use Rattle.std.specs.Prelude.{◌≡◌, ◌+◌, ◌≤◌, ◌++◌, vec_len, vec_capacity};
 ghost use Rattle.pbm.specs.Writing.{front_text};
@@ -7,10 +7,11 @@ use crate::header::Form;
 use bits::Bitmap;
 use metric::push_decimal;
 
-/// The most bytes that stand before a raster: two numbers of four digits, and five bytes round them.
+/// The most bytes before a raster: two numbers of four digits, and five other bytes.
 pub const FRONT_ROOM: usize = 13;
 
-/// Adds all of a bitmap's image before its raster. There is room for it.
+/// Appends everything that comes before the raster of a bitmap's image. The buffer has capacity for
+/// it.
 pub fn push_front(out: &mut Vec<u8>, form: Form, bitmap: &Bitmap)
     requires { vec_len out.old + 13 ≤ vec_capacity out.old }
     ensures text { out.new.items ≡ out.old.items ++ front_text form bitmap.now }

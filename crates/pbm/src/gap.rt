@@ -6,7 +6,7 @@ ghost use Rattle.pbm.specs.Image.{is_line_end, is_whitespace};
 
 use metric::PbmFault;
 
-/// Whether the byte is whitespace: TAB, LF, CR or the blank.
+/// Whether the byte is whitespace: TAB, LF, CR or a blank.
 pub fn is_whitespace(byte: u8) -> bool
     ensures { result ≡ is_whitespace byte }
 {
@@ -20,7 +20,7 @@ fn is_line_end(byte: u8) -> bool
     matches!(byte, b'\n' | b'\r')
 }
 
-/// What stands after one whitespace byte.
+/// The bytes after one whitespace byte.
 pub fn after_space(bytes: &[u8]) -> Result<&[u8], PbmFault>
     ensures { MatchResult result (λ rest. space bytes.now ≡ Ok rest.now) (λ fault. space bytes.now ≡ Err fault) }
 {
@@ -32,7 +32,7 @@ pub fn after_space(bytes: &[u8]) -> Result<&[u8], PbmFault>
     }
 }
 
-/// What stands after the rest of a gap, after its comments too.
+/// The bytes after the rest of a gap, its comments included.
 #[tactic(auto, unfolding(crate::specs::Faults::filling))]
 pub fn after_filling(bytes: &[u8]) -> Result<&[u8], PbmFault>
     ensures { MatchResult result (λ rest. filling false bytes.now ≡ Ok rest.now) (λ fault. filling false bytes.now ≡ Err fault) }
@@ -52,7 +52,7 @@ pub fn after_filling(bytes: &[u8]) -> Result<&[u8], PbmFault>
     Err(PbmFault::Truncated)
 }
 
-/// What stands after a gap.
+/// The bytes after a gap.
 #[tactic(auto, unfolding(crate::specs::Faults::gap))]
 pub fn after_gap(bytes: &[u8]) -> Result<&[u8], PbmFault>
     ensures { MatchResult result (λ rest. gap bytes.now ≡ Ok rest.now) (λ fault. gap bytes.now ≡ Err fault) }

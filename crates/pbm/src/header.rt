@@ -1,4 +1,4 @@
-//! All of an image before its raster.
+//! The header of an image: everything before its raster.
 
 ghost use Rattle.std.specs.Prelude.{◌≡◌, Ok, Err, MatchResult};
 ghost use Rattle.pbm.specs.Faults.{before_raster, header, magic};
@@ -29,7 +29,7 @@ impl Form {
     }
 }
 
-/// The form that the magic number tells, and what stands after it.
+/// The form that the magic number says, and the bytes after it.
 fn after_magic(bytes: &[u8]) -> Result<(Form, &[u8]), PbmFault>
     ensures { MatchResult result (λ found. magic bytes.now ≡ Ok (found.0, found.1.now)) (λ fault. magic bytes.now ≡ Err fault) }
 {
@@ -41,7 +41,7 @@ fn after_magic(bytes: &[u8]) -> Result<(Form, &[u8]), PbmFault>
     }
 }
 
-/// The raster's first byte and all after it: a gap stands before a plain raster, and one whitespace byte before a raw one.
+/// The bytes from the raster on: a gap precedes a plain raster, one whitespace byte a raw one.
 fn at_raster(form: Form, bytes: &[u8]) -> Result<&[u8], PbmFault>
     ensures { MatchResult result (λ rest. before_raster form bytes.now ≡ Ok rest.now) (λ fault. before_raster form bytes.now ≡ Err fault) }
 {

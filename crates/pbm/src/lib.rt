@@ -1,6 +1,7 @@
-//! Bitmaps read from PBM images and written as such, in the plain and in the raw form.
+//! Reads and writes bitmaps as PBM images, in the plain form and in the raw form.
 //!
-//! Bytes are read from the front. A reader takes a slice, and gives what it read and the slice that is left after it; nothing is copied. From a source a plain image is packed as its bytes come, through a window (`read_source`).
+//! A reader takes a slice, and returns what it read and the rest of the slice; it copies nothing.
+//! `read_source` packs a plain image as its bytes come, through a window.
 #![tactic(auto)]
 
 mod digit_row;

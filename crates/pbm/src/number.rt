@@ -8,7 +8,7 @@ use metric::PbmFault;
 /// The longest side of a bitmap.
 const LONGEST: u16 = 4096;
 
-/// A side of this many cells, in front of these bytes.
+/// A side of this many cells, with the bytes after it.
 fn side_of(value: u16, rest: &[u8]) -> Result<(u16, &[u8]), PbmFault>
     ensures { MatchResult result (λ found. side value rest.now ≡ Ok (found.0, found.1.now)) (λ fault. side value rest.now ≡ Err fault) }
 {
@@ -21,7 +21,7 @@ fn side_of(value: u16, rest: &[u8]) -> Result<(u16, &[u8]), PbmFault>
 
 /// The side whose first digits have this value.
 ///
-/// Digits after a value over the longest side are passed over: no more of them makes it good.
+/// Skips digits after a value over the longest side: no further digit makes it valid.
 #[tactic(auto, unfolding(crate::specs::Faults::digits))]
 fn read_digits(mut value: u16, bytes: &[u8]) -> Result<(u16, &[u8]), PbmFault>
     ensures { MatchResult result (λ found. digits value bytes.now ≡ Ok (found.0, found.1.now)) (λ fault. digits value bytes.now ≡ Err fault) }
@@ -39,7 +39,7 @@ fn read_digits(mut value: u16, bytes: &[u8]) -> Result<(u16, &[u8]), PbmFault>
     side_of(value, rest)
 }
 
-/// The side that the digits at the front tell.
+/// The side that the digits at the front spell.
 #[tactic(auto, unfolding(crate::specs::Faults::number_and_rest))]
 pub fn read_number(bytes: &[u8]) -> Result<(u16, &[u8]), PbmFault>
     ensures { MatchResult result (λ found. number_and_rest bytes.now ≡ Ok (found.0, found.1.now)) (λ fault. number_and_rest bytes.now ≡ Err fault) }

@@ -1,4 +1,4 @@
-//! A plain image in pieces, for a stream that takes one after another.
+//! A plain image in pieces, for a stream that takes one piece after another.
 
 ghost use Rattle.std.specs.Prelude.{◌≡◌, ◌+◌, ◌-◌, ◌*◌, ◌<◌, ◌≤◌, length, vec_len, vec_capacity, IfOk, IfErr};
 ghost use Rattle.std.specs.List.{range_with_len, flat_map};
@@ -16,7 +16,8 @@ use std::alloc::Global;
 /// The most bytes of a piece.
 pub const PIECE: usize = 65_536;
 
-/// The first piece of a bitmap's plain image: all before the raster, with room for any piece in its place. An error is want of memory.
+/// The first piece of a bitmap's plain image: everything before the raster, in a buffer with
+/// capacity for any piece. Fails only when out of memory.
 pub fn first_piece(alloc: Global, bitmap: &Bitmap) -> Result<Vec<u8>, Refusal>
     ensures text { IfOk result (λ piece. piece.items ≡ front_text Plain bitmap.now) }
     ensures room { IfOk result (λ piece. 65536 ≤ vec_capacity piece) }
@@ -28,7 +29,7 @@ pub fn first_piece(alloc: Global, bitmap: &Bitmap) -> Result<Vec<u8>, Refusal>
     Ok(piece)
 }
 
-/// How many bytes a bitmap's plain image has, whose first piece this is.
+/// The number of bytes of a bitmap's plain image that starts with this piece.
 pub fn plain_length(bitmap: &Bitmap, first: &[u8]) -> usize
     requires { first.now ≡ front_text Plain bitmap.now }
     ensures { result ≡ length (plain_text bitmap.now) }
@@ -36,7 +37,7 @@ pub fn plain_length(bitmap: &Bitmap, first: &[u8]) -> usize
     first.len() + usize::from(bitmap.height()) * row_length(bitmap.width())
 }
 
-/// The row after those that one piece holds from a row on, where there are so many.
+/// The row after those that fit one piece from row `from` on, at most the height.
 fn end_of_piece(bitmap: &Bitmap, from: u16) -> u16
     requires { from < bitmap.now.height }
     ensures more { from < result }
@@ -47,7 +48,8 @@ fn end_of_piece(bitmap: &Bitmap, from: u16) -> u16
     (usize::from(from) + rows).min(usize::from(bitmap.height())) as u16
 }
 
-/// Puts the next piece in place of one: the lines of the rows from one on, as many as 64 KB hold. Answers the row after them.
+/// Replaces a piece by the next: the lines of as many rows from `from` on as fit 64 KB. Returns the
+/// row after them.
 pub fn next_piece(bitmap: &Bitmap, from: u16, piece: &mut Vec<u8>) -> u16
     requires inside { from < bitmap.now.height }
     requires room { 65536 ≤ vec_capacity piece.old }

@@ -9,10 +9,10 @@ use crate::gap::{after_filling, is_whitespace};
 use metric::PbmFault;
 use std::simd::prelude::*;
 
-/// How many bytes are looked at side by side.
+/// Bytes compared in one vector.
 const LANES: usize = 64;
 
-/// Whether the pixel at the front is black, and what stands after it.
+/// Whether the pixel at the front is black, and the bytes after it.
 fn read_pixel(bytes: &[u8]) -> Result<(bool, &[u8]), PbmFault>
     ensures { MatchResult result (λ found. pixel_at bytes.now ≡ Ok (found.0, found.1.now)) (λ fault. pixel_at bytes.now ≡ Err fault) }
 {
@@ -24,7 +24,7 @@ fn read_pixel(bytes: &[u8]) -> Result<(bool, &[u8]), PbmFault>
     }
 }
 
-/// The same of the next pixel, after nothing or a gap.
+/// As `read_pixel`, of the next pixel, with or without a gap before it.
 #[tactic(auto, unfolding(crate::specs::Faults::next_pixel))]
 fn read_next(bytes: &[u8]) -> Result<(bool, &[u8]), PbmFault>
     ensures { MatchResult result (λ found. next_pixel bytes.now ≡ Ok (found.0, found.1.now)) (λ fault. next_pixel bytes.now ≡ Err fault) }
@@ -36,7 +36,7 @@ fn read_next(bytes: &[u8]) -> Result<(bool, &[u8]), PbmFault>
     }
 }
 
-/// A bit for each byte of a block: whether it is this one.
+/// One bit per byte of a block: 1 where the byte is `byte`.
 #[inline(always)]
 fn equal_to(block: u8x64, byte: u8) -> u64
     ensures { (k : ℕ) → k < 64 → bit_at result k ≡ cond (slice_index_or block k 0 == byte) 1 0 }
@@ -44,7 +44,8 @@ fn equal_to(block: u8x64, byte: u8) -> u64
     block.simd_eq(u8x64::splat(byte)).to_bitmask()
 }
 
-/// How many digits of pixels stand at the front, up to 64, and their bits. None is looked for where fewer than 64 bytes are left.
+/// The number of pixel digits at the front, up to 64, and their bits. Finds none where fewer than
+/// 64 bytes remain.
 #[inline(always)]
 fn front_digits(bytes: &[u8]) -> (u16, u64)
     ensures few { result.0 ≤ 64 }
@@ -74,7 +75,7 @@ fn read_one(bytes: &[u8]) -> Result<(u16, u64, &[u8]), PbmFault>
     Ok((1, bit_of(black), rest))
 }
 
-/// How many of the next pixels were read, one at least and so many at most, and their bits: the first is the lowest.
+/// The number of pixels read next, from 1 to `most`, and their bits: the first is the lowest.
 fn read_some(bytes: &[u8], most: u16) -> Result<(u16, u64, &[u8]), PbmFault>
     requires some { 0 < most }
     requires few { most ≤ 64 }
@@ -89,7 +90,7 @@ fn read_some(bytes: &[u8], most: u16) -> Result<(u16, u64, &[u8]), PbmFault>
     Ok((count, digits, &bytes[usize::from(count)..]))
 }
 
-/// So many bits more after the first ones of a word.
+/// Sets `count` more bits in a word from bit `place` on.
 fn with_bits(word: u64, place: u16, bits: u64, count: u16) -> u64
     requires room { place + count ≤ 64 }
     requires some { 0 < count }
@@ -101,7 +102,8 @@ fn with_bits(word: u64, place: u16, bits: u64, count: u16) -> u64
     word + (bits << place)
 }
 
-/// The next pixels, up to 64, as the bits of a word: the first is the lowest, and those past the last are 0.
+/// The next pixels, up to 64, as the bits of a word: the first is the lowest, and bits past the
+/// last are 0.
 pub fn read_word(bytes: &[u8], count: u16) -> Result<(u64, &[u8]), PbmFault>
     requires { count ≤ 64 }
     ensures { MatchResult result (λ found. AreBitsRead count bytes.now found.0 found.1.now) (λ fault. pixels count bytes.now ≡ Err fault) }

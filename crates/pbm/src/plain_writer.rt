@@ -13,17 +13,17 @@ use crate::header::Form;
 use bits::Bitmap;
 use metric::Refusal;
 
-/// How many digits a line has.
+/// Digits per line.
 const LINE_DIGITS: usize = 70;
 
-/// How many bytes the lines of a row take.
+/// The bytes that the lines of a row take.
 pub fn row_length(width: u16) -> usize
     ensures { result ≡ row_length width }
 {
     usize::from(width) + usize::from(width).div_ceil(LINE_DIGITS)
 }
 
-/// Adds the digits of row y in lines. There is room for them.
+/// Appends the digits of row y in lines. The buffer has capacity for them.
 fn push_lines(out: &mut Vec<u8>, bitmap: &Bitmap, y: u16, digits: &[u8])
     requires room { vec_len out.old + row_length bitmap.now.width ≤ vec_capacity out.old }
     requires as_many { length digits.now ≡ bitmap.now.width }
@@ -41,7 +41,7 @@ fn push_lines(out: &mut Vec<u8>, bitmap: &Bitmap, y: u16, digits: &[u8])
     }
 }
 
-/// Adds the lines of row y, whose digits are put into `digits` first. There is room for them.
+/// Appends the lines of row y, and uses `digits` as a scratch buffer. `out` has capacity for them.
 fn push_row(out: &mut Vec<u8>, bitmap: &Bitmap, y: u16, digits: &mut [u8])
     requires inside { y < bitmap.now.height }
     requires room { vec_len out.old + row_length bitmap.now.width ≤ vec_capacity out.old }
@@ -56,7 +56,7 @@ fn push_row(out: &mut Vec<u8>, bitmap: &Bitmap, y: u16, digits: &mut [u8])
     push_lines(out, bitmap, y, &digits[..width]);
 }
 
-/// Adds the lines of the rows from one on and before another. There is room for them.
+/// Appends the lines of rows `from` to `to - 1`. The buffer has capacity for them.
 pub fn push_rows(out: &mut Vec<u8>, bitmap: &Bitmap, from: u16, to: u16)
     requires order { from ≤ to }
     requires inside { to ≤ bitmap.now.height }
@@ -71,9 +71,11 @@ pub fn push_rows(out: &mut Vec<u8>, bitmap: &Bitmap, from: u16, to: u16)
     }
 }
 
-/// Adds the bitmap as an image in the plain form.
+/// Appends the bitmap as an image in the plain form.
 ///
-/// `P1`, LF, the width, a blank, the height, LF, then each row in lines of 70 digits, the last line of the row having what is left; LF ends each line. All room is made first, so nothing was added where it is refused, which is for want of memory alone.
+/// `P1`, LF, the width, a blank, the height, LF, then each row in lines of 70 digits, the last line
+/// of a row having the rest; LF ends each line. Reserves all capacity first: it fails only when out
+/// of memory, and has then appended nothing.
 pub fn write_plain(bitmap: &Bitmap, out: &mut Vec<u8>) -> Result<(), Refusal>
     ensures text { OnOk result (out.new.items ≡ out.old.items ++ plain_text bitmap.now) }
     ensures as_before { OnErr result (out.new.items ≡ out.old.items) }

@@ -10,7 +10,8 @@ use crate::raw_raster::WORD_PIXELS;
 use bits::Bitmap;
 use metric::PbmFault;
 
-/// Reads the pixels of a blank bitmap into it, a word at a time, and gives what stands after the last of them. On a fault those of the words before it were read.
+/// Reads the pixels into a blank bitmap, a word at a time, and returns the bytes after the last of
+/// them. On a fault, the words before it have been read.
 fn read_pixels<'a>(bitmap: &mut Bitmap, bytes: &'a [u8]) -> Result<&'a [u8], PbmFault>
     requires { bitmap.old ≡ cells_where bitmap.old.width bitmap.old.height (λ x y. false) }
     ensures raster { IfOk result (λ rest. (all : List Bool) × (pixels (bitmap.old.width * bitmap.old.height) bytes.now ≡ Ok (all, rest.now)) × (bitmap.new ≡ cells_of_pixels bitmap.old.width bitmap.old.height all)) }
@@ -30,7 +31,7 @@ fn read_pixels<'a>(bitmap: &mut Bitmap, bytes: &'a [u8]) -> Result<&'a [u8], Pbm
     Ok(rest)
 }
 
-/// What stands after a plain image, where it may stand there.
+/// The bytes after a plain image, if they may follow it.
 pub fn after_image(bytes: &[u8]) -> Result<&[u8], PbmFault>
     ensures { MatchResult result (λ rest. ended bytes.now ≡ Ok rest.now) (λ fault. ended bytes.now ≡ Err fault) }
 {
@@ -40,7 +41,8 @@ pub fn after_image(bytes: &[u8]) -> Result<&[u8], PbmFault>
     }
 }
 
-/// Reads a plain raster into a blank bitmap, and gives what stands after it. On a fault some of its pixels were read.
+/// Reads a plain raster into a blank bitmap, and returns the bytes after it. On a fault, some of
+/// its pixels have been read.
 #[tactic(auto, unfolding(crate::specs::Faults::plain_raster))]
 pub fn read_plain<'a>(bitmap: &mut Bitmap, bytes: &'a [u8]) -> Result<&'a [u8], PbmFault>
     requires { bitmap.old ≡ cells_where bitmap.old.width bitmap.old.height (λ x y. false) }

@@ -1,4 +1,4 @@
-//! The raster of a raw image: a bit a pixel, the rows from the top, each in whole bytes.
+//! The raster of a raw image: one bit per pixel, rows from the top, each in whole bytes.
 
 ghost use Rattle.std.specs.Prelude.{◌≡◌, ℕ, ◌+◌, ◌*◌, ◌-◌, ◌/◌, ◌%◌, ◌<◌, ◌≤◌, false, length, slice_index, Ok, Err, IfOk, IfErr};
 ghost use Rattle.std.specs.Int.{bit_at};
@@ -9,13 +9,13 @@ ghost use Rattle.pbm.specs.Image.{bytes_across};
 use bits::Bitmap;
 use metric::PbmFault;
 
-/// How many pixels a byte holds.
+/// Pixels per byte.
 pub const BYTE_PIXELS: u16 = 8;
 
-/// How many pixels a word holds.
+/// Pixels per word.
 pub const WORD_PIXELS: u16 = 64;
 
-/// How many bytes a row of this many pixels takes.
+/// The bytes that a row of this many pixels takes.
 pub fn bytes_across(width: u16) -> u16
     requires { width < 65529 }
     ensures { result ≡ bytes_across width }
@@ -23,9 +23,9 @@ pub fn bytes_across(width: u16) -> u16
     width.div_ceil(BYTE_PIXELS)
 }
 
-/// The eight bytes as a word: the leftmost pixel of the first byte is the lowest bit.
+/// Eight bytes as a word: the leftmost pixel of the first byte is the lowest bit.
 ///
-/// Each byte is turned round by itself: to turn a whole word is a loop over its bits, ten times as slow.
+/// Reverses each byte by itself: reversing a whole word is a loop over its bits, ten times as slow.
 #[inline(always)]
 fn word_of(bytes: [u8; 8]) -> u64
     ensures { (i : ℕ) → i < 64 → bit_at result i ≡ bit_at (slice_index bytes (i / 8)) (7 - i % 8) }
@@ -42,7 +42,7 @@ fn word_of(bytes: [u8; 8]) -> u64
     ])
 }
 
-/// The word of eight bytes from `start` on.
+/// The word of the eight bytes from `start` on.
 #[inline(always)]
 fn whole_word(raster: &[u8], start: usize) -> u64
     requires { start + 8 ≤ length raster.now }
@@ -60,7 +60,7 @@ fn whole_word(raster: &[u8], start: usize) -> u64
     ])
 }
 
-/// The word of the bytes from `start` to before `end`, fewer than eight.
+/// The word of the bytes `start` to `end - 1`, fewer than eight.
 fn last_word(raster: &[u8], start: usize, end: usize) -> u64
     requires order { start ≤ end }
     requires few { end < start + 8 }
@@ -74,7 +74,7 @@ fn last_word(raster: &[u8], start: usize, end: usize) -> u64
     word_of(bytes)
 }
 
-/// The word of the bytes from `start` on, up to eight, of a row that ends before `end`.
+/// The word of up to eight bytes from `start` on, in a row that ends before `end`.
 #[inline(always)]
 fn word_at(raster: &[u8], start: usize, end: usize) -> u64
     requires order { start ≤ end }
@@ -88,7 +88,7 @@ fn word_at(raster: &[u8], start: usize, end: usize) -> u64
     }
 }
 
-/// Reads a row of `across` bytes, the first of them at `start`, as words.
+/// Reads a row of `across` bytes from `start` on, as words.
 #[inline(always)]
 fn read_row(raster: &[u8], start: usize, across: usize, words: &mut [u64; 64])
     requires few { across ≤ 512 }
@@ -101,7 +101,7 @@ fn read_row(raster: &[u8], start: usize, across: usize, words: &mut [u64; 64])
     }
 }
 
-/// Reads the bytes of a raster into a blank bitmap, a row at a time.
+/// Reads the bytes of a raster into a blank bitmap, row by row.
 fn read_words(bitmap: &mut Bitmap, raster: &[u8])
     requires blank { bitmap.old ≡ cells_where bitmap.old.width bitmap.old.height (λ x y. false) }
     requires all { length raster.now ≡ bitmap.old.height * bytes_across bitmap.old.width }
@@ -118,7 +118,8 @@ fn read_words(bitmap: &mut Bitmap, raster: &[u8])
     }
 }
 
-/// Reads a raw raster into a blank bitmap, and gives what stands after it. On a fault nothing was read.
+/// Reads a raw raster into a blank bitmap, and returns the bytes after it. On a fault, nothing has
+/// been read.
 #[tactic(auto, unfolding(crate::specs::Faults::raw_raster))]
 pub fn read_raw<'a>(bitmap: &mut Bitmap, bytes: &'a [u8]) -> Result<&'a [u8], PbmFault>
     requires { bitmap.old ≡ cells_where bitmap.old.width bitmap.old.height (λ x y. false) }

@@ -6,7 +6,8 @@ ghost use Rattle.std.specs.Int.{bit_at};
 /// The most bytes that a row takes.
 pub const MOST_ACROSS: usize = 512;
 
-/// Eight pixels as a byte: the lowest bit of eight is the leftmost pixel, which is the most significant bit of the byte.
+/// Eight pixels as a byte: the lowest of the eight bits is the leftmost pixel, the most significant
+/// bit of the byte.
 #[inline(always)]
 fn byte_of(eight: u64) -> u8
     requires { eight < 256 }
@@ -15,7 +16,7 @@ fn byte_of(eight: u64) -> u8
     (eight as u8).reverse_bits()
 }
 
-/// Writes the eight bytes of a word's pixels, from a place on.
+/// Writes the eight bytes of a word's pixels from index `first` on.
 #[inline(always)]
 fn put_word(word: u64, first: usize, row: &mut [u8])
     requires { first + 8 ≤ length row.old }
@@ -36,7 +37,7 @@ fn put_word(word: u64, first: usize, row: &mut [u8])
     row[first..first + 8].copy_from_slice(&bytes);
 }
 
-/// Writes the bytes of the pixels of a row's words, eight of each word, to the front.
+/// Writes the bytes of a row's pixels to the front of `row`, eight per word.
 pub fn put_row(words: &[u64], row: &mut [u8])
     requires { 8 * length words.now ≤ length row.old }
     ensures len { length row.new ≡ length row.old }

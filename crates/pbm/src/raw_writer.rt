@@ -13,7 +13,7 @@ use crate::raw_row::{MOST_ACROSS, put_row};
 use bits::Bitmap;
 use metric::Refusal;
 
-/// Adds the bytes of row y, which are put into `row` first. There is room for them.
+/// Appends the bytes of row y, and uses `row` as a scratch buffer. `out` has capacity for them.
 fn push_row(out: &mut Vec<u8>, bitmap: &Bitmap, y: u16, row: &mut [u8])
     requires inside { y < bitmap.now.height }
     requires room { vec_len out.old + bytes_across bitmap.now.width ≤ vec_capacity out.old }
@@ -28,9 +28,11 @@ fn push_row(out: &mut Vec<u8>, bitmap: &Bitmap, y: u16, row: &mut [u8])
     let _ = out.extend_from_slice(&row[..across]);
 }
 
-/// Adds the bitmap as an image in the raw form.
+/// Appends the bitmap as an image in the raw form.
 ///
-/// `P4`, LF, the width, a blank, the height, LF, then the rows, each in whole bytes whose fill bits are 0. All room is made first, so nothing was added where it is refused, which is for want of memory alone.
+/// `P4`, LF, the width, a blank, the height, LF, then the rows, each in whole bytes whose fill bits
+/// are 0. Reserves all capacity first: it fails only when out of memory, and has then appended
+/// nothing.
 pub fn write_raw(bitmap: &Bitmap, out: &mut Vec<u8>) -> Result<(), Refusal>
     ensures text { OnOk result (out.new.items ≡ out.old.items ++ raw_text bitmap.now) }
     ensures as_before { OnErr result (out.new.items ≡ out.old.items) }

@@ -1,4 +1,5 @@
-//! Reading an image from a source: a plain one is packed as its bytes come, and a raw one when all of them are there.
+//! Reads an image from a source: packs a plain one as its bytes come, and a raw one once all its
+//! bytes are there.
 
 ghost use Rattle.std.specs.Prelude.{◌≡◌, ◌*◌, List, [], Bool, ℕ, false, Ok, Err, IfOk, IfErr, OnOk};
 ghost use Rattle.metric.specs.Stream.{AreAll, CanFail};
@@ -14,7 +15,7 @@ use bits::Bitmap;
 use metric::{PbmFault, Source};
 use std::alloc::Global;
 
-/// Takes the pixels of a blank bitmap into it, a word at a time.
+/// Takes the pixels into a blank bitmap, a word at a time.
 fn take_pixels<R: Source>(
     window: &mut Window,
     reader: &mut R,
@@ -43,7 +44,7 @@ fn take_pixels<R: Source>(
     Ok(())
 }
 
-/// Sees that a plain image may end where its pixels do.
+/// Checks that a plain image may end where its pixels do.
 fn see_end<R: Source>(window: &mut Window, reader: &mut R) -> Result<(), ImageStop>
     requires can_fail { CanFail (R.failed_reads reader.old) }
     requires open { IsOpen window.old (R.rest reader.old) }
@@ -84,7 +85,7 @@ fn take_plain<R: Source>(
     }
 }
 
-/// Takes a raw raster into a blank bitmap, when all that the source has is there.
+/// Takes a raw raster into a blank bitmap, once everything the source has is there.
 fn take_raw<R: Source>(
     window: &mut Window,
     reader: &mut R,
@@ -128,7 +129,7 @@ fn take_raster<R: Source>(
     }
 }
 
-/// Takes the image that comes next.
+/// Takes the next image.
 fn take_image<R: Source>(
     alloc: Global,
     window: &mut Window,
@@ -155,7 +156,8 @@ fn take_image<R: Source>(
     }
 }
 
-/// Reads what a source has left, if a window hasn't met its end, and keeps nothing. More blocks than can be counted are as many as no memory holds.
+/// Reads and drops what a source has left, unless the window has met its end. A count of blocks
+/// that overflows is more than any memory holds.
 fn pass_rest<R: Source>(window: &Window, reader: &mut R) -> Result<(), ImageStop>
     requires can_fail { CanFail (R.failed_reads reader.old) }
     requires open { IsOpen window.now (R.rest reader.old) }
@@ -177,17 +179,23 @@ fn pass_rest<R: Source>(window: &Window, reader: &mut R) -> Result<(), ImageStop
     Err(ImageStop::Memory)
 }
 
-/// Reads the image at the front of what a source has, and the source to its end.
+/// Reads the image at the front of a source, and the source to its end.
 ///
-/// Images are read as by `read_image`, and what stands after one is read and dropped. A plain image is packed as its bytes come, through a window of about 128 KB; the window is larger only where so many bytes stand between two pixels or before the raster, and from a fault of such an image on. A raw image stands in memory as a whole. Where there is no memory for what was read nothing more is read, and where there is none for the bitmap the rest is read and dropped. After a read that failed the source isn't called again.
+/// Reads images as `read_image` does, and drops what follows one. Packs a plain image as its bytes
+/// come, through a window of about 128 KB; the window grows only where as many bytes stand between
+/// two pixels or before the raster, and from a fault of the image on. Keeps a raw image in memory
+/// as a whole. When out of memory for bytes that were read, it reads no further; when out of memory
+/// for the bitmap, it reads and drops the rest. After a failed read it doesn't call the source
+/// again.
 pub fn read_source<R: Source>(alloc: Global, reader: &mut R) -> Result<Bitmap, ImageStop>
     requires { CanFail (R.failed_reads reader.old) }
     ensures image { IfOk result (HasImage (R.rest reader.old)) }
 
-    // A fault is the first from the front, and then no image stands there; or all before the raster is good, and there was no memory for the bitmap.
+    // A fault is the first from the front, and then there is no image; or everything before the
+    // raster is valid, and there was no memory for the bitmap.
     ensures fault { IfErr result (λ stop. IsFaultOf stop (HasFault (R.rest reader.old))) }
 
-    // Where no read failed and there was memory for what was read, nothing is left.
+    // If no read failed and there was memory for what was read, nothing is left.
     ensures ended { IsPassed result (R.rest reader.new) }
     ensures counts { CountsReads (R.failed_reads reader.old) result (R.failed_reads reader.new) }
 {

@@ -1,4 +1,4 @@
-//! The parts of an image that a window takes: all before the raster, and the words of pixels.
+//! The parts of an image that a window takes: the header, and the words of pixels.
 
 ghost use Rattle.std.specs.Prelude.{◌≡◌, ◌≤◌, Ok, Err, IfOk, IfErr, OnOk};
 ghost use Rattle.metric.specs.Stream.{CanFail};
@@ -11,7 +11,7 @@ use crate::plain_word::read_word;
 use crate::window::{ImageStop, Window};
 use metric::{PbmFault, Source};
 
-/// The form and the sides at the front of the bytes, and how many bytes stand before the raster.
+/// The form and the sides at the front of the bytes, and the number of bytes before the raster.
 fn header_in(bytes: &[u8]) -> Result<(Form, u16, u16, usize), PbmFault>
     ensures found { IfOk result (λ found. Stands found.3 bytes.now (λ all left. header all ≡ Ok (found.0, found.1, found.2, left))) }
     ensures fault { IfErr result (λ fault. header bytes.now ≡ Err fault) }
@@ -22,7 +22,7 @@ fn header_in(bytes: &[u8]) -> Result<(Form, u16, u16, usize), PbmFault>
     }
 }
 
-/// The next pixels, up to 64, as a word, and how many bytes they take.
+/// The next pixels, up to 64, as a word, and the number of bytes they take.
 fn word_in(bytes: &[u8], count: u16) -> Result<(u64, usize), PbmFault>
     requires { count ≤ 64 }
     ensures found { IfOk result (λ found. Stands found.1 bytes.now (λ all left. AreBitsRead count all found.0 left)) }
@@ -35,7 +35,7 @@ fn word_in(bytes: &[u8], count: u16) -> Result<(u64, usize), PbmFault>
 }
 
 impl Window {
-    /// Takes all before the raster, and answers the form and the sides.
+    /// Takes the header, and returns the form and the sides.
     pub fn next_header<R: Source>(&mut self, reader: &mut R) -> Result<(Form, u16, u16), ImageStop>
         requires can_fail { CanFail (R.failed_reads reader.old) }
         requires open { IsOpen self.old (R.rest reader.old) }
@@ -59,7 +59,8 @@ impl Window {
         }
     }
 
-    /// Takes the next pixels, up to 64, as the bits of a word: the first is the lowest, and those past the last are 0.
+    /// Takes the next pixels, up to 64, as the bits of a word: the first is the lowest, and bits
+    /// past the last are 0.
     pub fn next_word<R: Source>(&mut self, reader: &mut R, count: u16) -> Result<u64, ImageStop>
         requires can_fail { CanFail (R.failed_reads reader.old) }
         requires open { IsOpen self.old (R.rest reader.old) }

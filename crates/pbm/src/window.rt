@@ -1,4 +1,4 @@
-//! A window on the bytes of a source, which is filled again as its bytes are taken.
+//! A window on the bytes of a source, refilled as its bytes are taken.
 
 ghost use Rattle.std.specs.Prelude.{◌≡◌, ℕ, ◌+◌, ◌*◌, ◌<◌, ◌≤◌, ◌++◌, List, [], Option, false, drop, length, vec_len, IfErr, OnOk};
 ghost use Rattle.metric.specs.Stream.{CanFail};
@@ -6,7 +6,7 @@ ghost use Rattle.metric.specs.Stream.{CanFail};
 use metric::{PbmFault, Source};
 use std::alloc::{AllocError, Global};
 
-/// How many bytes are read at a time, at most.
+/// The most bytes of one read.
 pub const BLOCK: usize = 65_536;
 
 /// Why no image was read from a source.
@@ -14,13 +14,13 @@ pub const BLOCK: usize = 65_536;
 pub enum ImageStop {
     /// A read failed.
     Failed,
-    /// There was no memory for what was read.
+    /// There was no memory for the bytes read.
     Memory,
     /// The image has this fault, or there was no memory for its bitmap.
     Fault(PbmFault),
 }
 
-/// A growth that was refused.
+/// An allocation that was refused.
 impl From<AllocError> for ImageStop {
     ghost use Rattle.pbm.specs.declared.window.ImageStop.TheVariants.{Memory};
 
@@ -31,7 +31,7 @@ impl From<AllocError> for ImageStop {
     }
 }
 
-/// Drops the first bytes, so many.
+/// Drops the first `count` bytes.
 fn drop_front(bytes: &mut Vec<u8>, count: usize)
     requires { count ≤ vec_len bytes.old }
     ensures { bytes.new.items ≡ drop count bytes.old.items }
@@ -41,7 +41,7 @@ fn drop_front(bytes: &mut Vec<u8>, count: usize)
     bytes.truncate(left);
 }
 
-/// The bytes that were read from a source and not yet taken.
+/// The bytes read from a source and not yet taken.
 #[derive(Drop)]
 pub struct Window {
     pub bytes: Vec<u8>,
@@ -65,7 +65,7 @@ impl Window {
         }
     }
 
-    /// The bytes that aren't taken yet.
+    /// The bytes not yet taken.
     pub fn unread(&self) -> &[u8]
         requires { self.now.start ≤ vec_len self.now.bytes }
         ensures { result.now ≡ unread self.now }
@@ -73,7 +73,7 @@ impl Window {
         &self.bytes[self.start..]
     }
 
-    /// Takes so many bytes.
+    /// Takes `count` bytes.
     pub fn take(&mut self, count: usize)
         requires inside { self.old.start ≤ vec_len self.old.bytes }
         requires many { count ≤ length (unread self.old) }
@@ -83,7 +83,8 @@ impl Window {
         self.start += count;
     }
 
-    /// Reads the next bytes after those that aren't taken yet, by way of a block. None come only at the end.
+    /// Reads the next bytes, through a block, and appends them to the unread ones. Reads none only
+    /// at the end.
     fn read_block<R: Source>(
         &mut self,
         reader: &mut R,
@@ -108,7 +109,7 @@ impl Window {
         }
     }
 
-    /// Reads on until more than so many bytes aren't taken yet, or the source has ended.
+    /// Reads on until more than `wanted` bytes are unread, or the source has ended.
     pub fn fill<R: Source>(&mut self, reader: &mut R, wanted: usize) -> Result<(), ImageStop>
         requires can_fail { CanFail (R.failed_reads reader.old) }
         requires open { IsOpen self.old (R.rest reader.old) }
@@ -128,7 +129,7 @@ impl Window {
         Ok(())
     }
 
-    /// Reads all that the source has.
+    /// Reads everything the source has.
     pub fn fill_whole<R: Source>(&mut self, reader: &mut R) -> Result<(), ImageStop>
         requires can_fail { CanFail (R.failed_reads reader.old) }
         requires open { IsOpen self.old (R.rest reader.old) }
@@ -141,7 +142,8 @@ impl Window {
         self.fill(reader, usize::MAX)
     }
 
-    /// Drops what is taken, and reads on until more than twice as many bytes, and a block at least, aren't taken yet, or the source has ended.
+    /// Drops the bytes taken, and reads on until the unread bytes have more than doubled and are at
+    /// least a block, or the source has ended.
     pub fn refill<R: Source>(&mut self, reader: &mut R) -> Result<(), ImageStop>
         requires can_fail { CanFail (R.failed_reads reader.old) }
         requires open { IsOpen self.old (R.rest reader.old) }
@@ -157,7 +159,8 @@ impl Window {
         self.fill(reader, wanted)
     }
 
-    /// Reads on where a part wasn't found in what isn't taken yet, for this fault; where the source has ended, the fault is the image's.
+    /// Reads on after this fault, since the part may be longer than the unread bytes; if the source
+    /// has ended, the fault is the image's.
     pub fn read_after<R: Source>(
         &mut self,
         reader: &mut R,
