@@ -1,4 +1,4 @@
-//! What a line is answered.
+//! The answers to lines.
 
 use map_core::Reply;
 use metric::{Cell, Near, Refusal};
@@ -8,15 +8,17 @@ use metric::{Cell, Near, Refusal};
 pub enum Answer {
     /// The nearest obstacle of a cell; none where there is no obstacle.
     Near(Option<Near>),
-    /// The cell of the least distance, with its nearest obstacle; none where there is no obstacle.
+    /// The cell with the least distance, with its nearest obstacle; none where there is no
+    /// obstacle.
     Found(Option<(Cell, Near)>),
-    /// The first cell along the path that is nearer to an obstacle than was asked for, with its nearest obstacle; none where each cell is clear.
+    /// The first cell along the path that is nearer to an obstacle than the query allows, with its
+    /// nearest obstacle; none where each cell is clear.
     Clear(Option<(Cell, Near)>),
-    /// The command to the keeper of the map was accepted, with this reply.
+    /// The keeper of the map accepted the command, with this reply.
     Done(Reply),
-    /// The version that was pinned, or whose pin was left.
+    /// The version that was pinned or unpinned.
     Version(u32),
-    /// The number of bytes of the pinned bitmap, which follow the line.
+    /// The number of bytes of the pinned bitmap; they follow the line.
     Dumped(u64),
     /// The stream ends.
     Bye,

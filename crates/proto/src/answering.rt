@@ -1,4 +1,4 @@
-//! The answer to a query of a map.
+//! Answers to the queries of a map.
 
 ghost use Rattle.std.specs.Prelude.{◌≡◌};
 ghost use Rattle.metric.specs.Kind.{distance_of};
@@ -12,9 +12,13 @@ use bits::Bitmap;
 use metric::{Chess, City, Edge, Euclid2, Metric, MetricKind};
 use std::alloc::Global;
 
-/// The answer to a query on a bitmap whose border is this, by its own metric: a distance in cells (for `euclid2` its square) with the nearest obstacle, or none where there is no obstacle. Where the border is a wall, there is always one.
+/// Answers a query on a bitmap with this edge, by the query's metric: a distance in cells (squared
+/// for `euclid2`) with the nearest obstacle, or none where there is no obstacle. With a wall there
+/// always is one.
 ///
-/// Refused, in this order: a path of no point or over 1000, a cell, rectangle or point out of the bitmap, and the first point of a path that is neither in the row nor in the column of the point before it.
+/// Refuses, in this order: a path of no points or over 1000; a cell, rectangle or point outside the
+/// bitmap; the first point of a path that is in neither the row nor the column of the point before
+/// it.
 pub fn answer_query(alloc: Global, bitmap: &Bitmap, edge: Edge, query: &Query) -> Answer
     ensures { IsAnswerBy (distance_of (metric_asked (asked_by query.now))) bitmap.now edge (asked_by query.now) result }
 {
@@ -22,7 +26,8 @@ pub fn answer_query(alloc: Global, bitmap: &Bitmap, edge: Edge, query: &Query) -
     answer_of(alloc, &mut map, query)
 }
 
-/// As `answer_query`, of a bitmap or of the version that a pin holds. A fresh pin looks at the words that the query touches alone.
+/// As `answer_query`, of a bitmap or of the version that a pin holds. A fresh pin reads only the
+/// words that the query touches.
 pub fn answer_of<Q: Queried>(alloc: Global, map: &mut Q, query: &Query) -> Answer
     ensures answer { IsAnswerBy (distance_of (metric_asked (asked_by query.now))) (Q.cells map.old) (Q.edge map.old)
         (asked_by query.now) result }
@@ -35,7 +40,7 @@ pub fn answer_of<Q: Queried>(alloc: Global, map: &mut Q, query: &Query) -> Answe
     }
 }
 
-/// The answer to a query by this metric.
+/// Answers a query by this metric.
 fn answer_by<M: Metric, Q: Queried>(alloc: Global, map: &mut Q, query: &Query) -> Answer
     ensures answer { IsAnswerBy M.distance (Q.cells map.old) (Q.edge map.old) (asked_by query.now) result }
     ensures map { map.new ≡ map.old }

@@ -1,4 +1,4 @@
-//! The arguments of a line: a metric, a rectangle.
+//! The arguments of a line: a metric or a rectangle.
 
 ghost use Rattle.std.specs.Prelude.{◌≡◌, Some, None, option_map, option_and_then, MatchOption};
 ghost use Rattle.metric.specs.Kind.{metric_named};
@@ -11,7 +11,7 @@ use crate::points::read_pair;
 use crate::split::next_word;
 use metric::{MetricKind, Rect};
 
-/// The metric that the next word names, and what is left after it.
+/// The metric that the next word names, and the rest of the line.
 pub fn read_metric(rest: Option<&[u8]>) -> Option<(MetricKind, Option<&[u8]>)>
     ensures { MatchOption result (first_of metric_named (words_left rest.entry) ≡ None)
         (λ found. first_of metric_named (words_left rest.entry) ≡ Some (found.0, words_left found.1)) }
@@ -21,7 +21,7 @@ pub fn read_metric(rest: Option<&[u8]>) -> Option<(MetricKind, Option<&[u8]>)>
     Some((metric, rest))
 }
 
-/// The rectangle by its two corners, which are all that is left of a line.
+/// The rectangle whose two corners are the rest of a line.
 pub fn read_rect(rest: Option<&[u8]>) -> Option<Rect>
     ensures { option_map seen_corners result ≡ option_and_then corners_of (pair (points (words_left rest.entry))) }
 {

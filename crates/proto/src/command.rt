@@ -13,7 +13,8 @@ use crate::points::coordinate;
 use crate::verb::CommandName;
 use map_core::Command;
 
-/// The command to the keeper of this name, with what is left of the line as its arguments; none where their number or form is another one.
+/// The keeper's command of this name, with the rest of the line as its arguments; none where their
+/// number or form is wrong.
 pub fn read_order(order: CommandName, rest: Option<&[u8]>) -> Option<Command>
     ensures { option_map told_by result ≡ order_told order (words_left rest.entry) }
 {
@@ -27,7 +28,7 @@ pub fn read_order(order: CommandName, rest: Option<&[u8]>) -> Option<Command>
     }
 }
 
-/// The command that gives the cells of the rectangle that is left of a line this value.
+/// The command that sets the rectangle in the rest of a line to this value.
 fn paint(rest: Option<&[u8]>, black: bool) -> Option<Command>
     ensures { option_map told_by result ≡ option_map (draw black) (rect_told (words_left rest.entry)) }
 {
@@ -35,21 +36,21 @@ fn paint(rest: Option<&[u8]>, black: bool) -> Option<Command>
     Some(Command::Paint { rect, black })
 }
 
-/// A command to the keeper without arguments, where nothing is left of the line.
+/// A command to the keeper without arguments; none where the line has a rest.
 fn bare_order(rest: Option<&[u8]>, command: Command) -> Option<Command>
     ensures { option_map told_by result ≡ alone (told_by command) (words_left rest.entry) }
 {
     if rest.is_some() { None } else { Some(command) }
 }
 
-/// A line without arguments, where nothing is left of it.
+/// A line without arguments; none where it has a rest.
 pub fn bare_line(rest: Option<&[u8]>, line: Line) -> Option<Line>
     ensures { option_map said_by result ≡ alone (said_by line) (words_left rest.entry) }
 {
     if rest.is_some() { None } else { Some(line) }
 }
 
-/// The stamp whose place and number of bytes are all that is left of a line; none where it is anything else.
+/// The stamp whose position and number of bytes are the whole rest of a line; none otherwise.
 pub fn read_stamp(rest: Option<&[u8]>) -> Option<Line>
     ensures { option_map said_by result ≡ option_map stamp_of (number_triple (numbers (words_left rest.entry))) }
 {

@@ -1,4 +1,4 @@
-//! The lines and replies of the protocol: what a line says, and the text of what it is answered.
+//! The lines and replies of the protocol: what a line says, and the text of its answer.
 //!
 //! A line here has no LF at its end, nor a CR before it. A reply line ends in LF.
 #![tactic(auto)]

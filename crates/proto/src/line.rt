@@ -1,4 +1,4 @@
-//! A line, and what it says.
+//! Lines, and what they say.
 
 ghost use Rattle.std.specs.Prelude.{◌≡◌, ◌≢◌, IfOk, IfErr, IsOkAnd, Ok, Err};
 ghost use Rattle.metric.specs.declared.refusal.Refusal.{Refusal};
@@ -15,14 +15,14 @@ use std::alloc::Global;
 /// What a line says.
 #[derive(Debug, Drop)]
 pub enum Line {
-    /// A command to the keeper of the map; never a stamp, whose image comes after its line.
+    /// A command to the keeper of the map; never a stamp, whose image follows its line.
     Command(Command),
-    /// A stamp at a place, whose image is in so many bytes after the line. A coordinate that 16 bits don't hold stands as 65535,
-    /// which is outside of every map as well; the number of bytes has no limit here.
+    /// A stamp at a position, whose image takes `length` bytes after the line. A coordinate over 16
+    /// bits reads as 65535, which is outside every map too; here `length` has no limit.
     Stamp { x: u16, y: u16, length: u32 },
     /// Pins the newest version.
     Pin,
-    /// Leaves the pin.
+    /// Unpins.
     Unpin,
     /// A query on the pinned version.
     Query(Query),
@@ -32,7 +32,7 @@ pub enum Line {
     Quit,
 }
 
-/// What a command says with what is left of its line.
+/// What a command says, with the rest of its line.
 fn line_of(alloc: Global, verb: Verb, rest: Option<&[u8]>) -> Result<Line, Refusal>
     ensures line { IfOk result (λ line. verb_said verb (words_left rest.entry) ≡ Ok (said_by line)) }
     ensures refusal { IfErr result (λ refusal. refusal ≢ Refusal.Memory → verb_said verb (words_left rest.entry) ≡ Err refusal) }
@@ -52,9 +52,13 @@ fn line_of(alloc: Global, verb: Verb, rest: Option<&[u8]>) -> Result<Line, Refus
     }
 }
 
-/// What a line says, without its LF and the CR before it. A number has 1 to 10 digits, and 4294967295 at most.
+/// Parses a line without its LF and the CR before it. A number has 1 to 10 digits, and is at most
+/// 4294967295.
 ///
-/// Refused, in this order: a first word that is none of the fifteen commands, whatever follows it; another number or form of arguments, a rectangle without a cell, or one with a corner over 4096; a path of no point or over 1000; want of memory, for the points of a path alone, and only where the line is good.
+/// Refuses, in this order: a first word that is none of the fifteen commands, whatever follows it;
+/// arguments of the wrong number or form, a rectangle without a cell, or one with a corner over
+/// 4096; a path of no points or over 1000; and out of memory, which only the points of a path can
+/// meet, and only if the line is valid.
 #[tactic(auto, unfolding(crate::specs::Said::said))]
 pub fn parse_line(alloc: Global, bytes: &[u8]) -> Result<Line, Refusal>
     ensures line { IfOk result (λ line. said bytes.now ≡ Ok (said_by line)) }

@@ -6,7 +6,7 @@ ghost use Rattle.proto.specs.Numbers.{number};
 /// The most digits of a number.
 const MOST_DIGITS: usize = 10;
 
-/// The number that a word is: 1 to 10 digits, of a value that 32 bits hold.
+/// The number that a word spells: 1 to 10 digits, of a value that fits 32 bits.
 #[tactic(auto, unfolding(crate::specs::Numbers::number, metric::specs::Digits::value_from))]
 pub fn read_number(word: &[u8]) -> Option<u32>
     ensures { result ≡ number word.now }

@@ -1,4 +1,4 @@
-//! What is left of a line, as numbers.
+//! Numbers in the rest of a line.
 
 ghost use Rattle.std.specs.Prelude.{◌≡◌, ◌∷◌, Some, None, option_map, MatchOption};
 ghost use Rattle.proto.specs.Asked.{first_of};
@@ -8,7 +8,7 @@ ghost use Rattle.proto.specs.Words.{words_left};
 use crate::number::read_number;
 use crate::split::next_word;
 
-/// The number that the next word is, and what is left after it.
+/// The number that the next word spells, and the rest after it.
 #[tactic(auto, unfolding(crate::specs::Numbers::numbers))]
 pub fn next_number(rest: Option<&[u8]>) -> Option<(u32, Option<&[u8]>)>
     ensures first { MatchOption result (first_of number (words_left rest.entry) ≡ None)
@@ -21,7 +21,7 @@ pub fn next_number(rest: Option<&[u8]>) -> Option<(u32, Option<&[u8]>)>
     Some((number, rest))
 }
 
-/// The number that is all that is left of a line.
+/// The number that is the whole rest of a line.
 #[tactic(auto, unfolding(crate::specs::Numbers::numbers))]
 pub fn only_number(rest: Option<&[u8]>) -> Option<u32>
     ensures { result ≡ only_number (numbers (words_left rest.entry)) }
@@ -33,7 +33,7 @@ pub fn only_number(rest: Option<&[u8]>) -> Option<u32>
     }
 }
 
-/// The two numbers that are all that is left of a line.
+/// The two numbers that are the whole rest of a line.
 #[tactic(auto, unfolding(crate::specs::Numbers::numbers))]
 pub fn number_pair(rest: Option<&[u8]>) -> Option<(u32, u32)>
     ensures { result ≡ number_pair (numbers (words_left rest.entry)) }
@@ -43,7 +43,7 @@ pub fn number_pair(rest: Option<&[u8]>) -> Option<(u32, u32)>
     Some((first, second))
 }
 
-/// The three numbers that are all that is left of a line.
+/// The three numbers that are the whole rest of a line.
 #[tactic(auto, unfolding(crate::specs::Numbers::numbers))]
 pub fn number_triple(rest: Option<&[u8]>) -> Option<(u32, u32, u32)>
     ensures { result ≡ number_triple (numbers (words_left rest.entry)) }

@@ -1,4 +1,4 @@
-//! The points of a line: two numbers each.
+//! The points of a line, two numbers each.
 
 ghost use Rattle.std.specs.Prelude.{◌≡◌, ◌≢◌, ◌+◌, ◌∷◌, ◌++◌, ◌≤◌, ◌^◌, length, vec_len, vec_capacity, option_map, MatchOption, IfSome, IsSomeAnd, IfOk, IfErr, IsOk, Ok, Err};
 ghost use Rattle.metric.specs.declared.refusal.Refusal.{Refusal};
@@ -14,14 +14,14 @@ use std::alloc::Global;
 /// The most points of a path.
 const MOST_POINTS: usize = 1000;
 
-/// A coordinate; one that 16 bits don't hold stands as their greatest value.
+/// A coordinate; one over 16 bits reads as 65535.
 pub fn coordinate(number: u32) -> u16
     ensures { result ≡ coordinate number }
 {
     if number < 65535 { number as u16 } else { 65535 }
 }
 
-/// The point at the front of what is left of a line, and what is left after it.
+/// The point at the front of the rest of a line, and the rest after it.
 #[tactic(auto, unfolding(crate::specs::Numbers::points))]
 fn next_point(rest: Option<&[u8]>) -> Option<(Cell, Option<&[u8]>)>
     ensures points { MatchOption result (HasNoFirst (words_left rest.entry))
@@ -36,7 +36,7 @@ fn next_point(rest: Option<&[u8]>) -> Option<(Cell, Option<&[u8]>)>
     Some((Cell { x, y }, rest))
 }
 
-/// The point that is all that is left of a line.
+/// The point that is the whole rest of a line.
 #[tactic(auto, unfolding(crate::specs::Numbers::points))]
 pub fn read_point(rest: Option<&[u8]>) -> Option<Cell>
     ensures { result ≡ only (points (words_left rest.entry)) }
@@ -48,7 +48,7 @@ pub fn read_point(rest: Option<&[u8]>) -> Option<Cell>
     }
 }
 
-/// The two points that are all that is left of a line.
+/// The two points that are the whole rest of a line.
 #[tactic(auto, unfolding(crate::specs::Numbers::points))]
 pub fn read_pair(rest: Option<&[u8]>) -> Option<(Cell, Cell)>
     ensures { result ≡ pair (points (words_left rest.entry)) }
@@ -58,7 +58,8 @@ pub fn read_pair(rest: Option<&[u8]>) -> Option<(Cell, Cell)>
     Some((first, second))
 }
 
-/// How many points are left of a line. `None` where its words aren't all numbers, or are odd in number.
+/// The number of points in the rest of a line; `None` where its words aren't all numbers, or are
+/// odd in number.
 #[tactic(auto, unfolding(crate::specs::Numbers::points))]
 fn count_points(rest: Option<&[u8]>) -> Option<usize>
     ensures { result ≡ option_map (λ cells. length cells) (points (words_left rest.entry)) }
@@ -73,7 +74,7 @@ fn count_points(rest: Option<&[u8]>) -> Option<usize>
     Some(count)
 }
 
-/// Adds the points that are left of a line. There is room for them.
+/// Appends the points in the rest of a line. The buffer has capacity for them.
 #[tactic(auto, unfolding(crate::specs::Numbers::points))]
 fn push_points(cells: &mut Vec<Cell>, rest: Option<&[u8]>)
     requires { IsSomeAnd (points (words_left rest)) (λ added. vec_len cells.old + length added ≤ vec_capacity cells.old) }
@@ -86,7 +87,7 @@ fn push_points(cells: &mut Vec<Cell>, rest: Option<&[u8]>)
     }
 }
 
-/// The points of a path that are left of a line. Memory is asked for once they are known to be good.
+/// The points of the path in the rest of a line. Requests memory once they are known to be valid.
 pub fn read_path(alloc: Global, rest: Option<&[u8]>) -> Result<Vec<Cell>, Refusal>
     ensures cells { IfOk result (λ cells. path_of (points (words_left rest.entry)) ≡ Ok cells.items) }
     ensures refusal { IfErr result (λ refusal. refusal ≢ Refusal.Memory → path_of (points (words_left rest.entry)) ≡ Err refusal) }

@@ -1,4 +1,4 @@
-//! What queries are asked of: a bitmap, or the version that a pin holds.
+//! What queries are put to: a bitmap, or the version that a pin holds.
 
 ghost use Rattle.std.specs.Prelude.{◌≡◌, None, IfOk, IfErr};
 ghost use Rattle.metric.specs.Nearest.{IsNear};
@@ -14,12 +14,12 @@ use session::Pinned;
 use shelf::StoreName;
 use std::alloc::Global;
 
-/// A map that is asked the four queries, with its edge. To ask changes nothing that contracts see.
+/// A map that answers the four queries, with its edge. A query changes nothing that contracts see.
 pub trait Queried {
     /// The map.
     ghost cells: { Self → Cells };
 
-    /// What its border is.
+    /// Its edge.
     ghost edge: { Self → Edge };
 
     /// As `clearance::at`.
@@ -65,7 +65,7 @@ pub trait Queried {
         ensures map { self.new ≡ self.old };
 }
 
-/// A bitmap, and what its border is.
+/// A bitmap with its edge.
 #[derive(Clone, Copy)]
 pub struct Bordered<'a> {
     pub bitmap: &'a Bitmap,

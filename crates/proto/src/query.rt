@@ -1,4 +1,4 @@
-//! A query, and what it asks.
+//! Queries, and what they ask.
 
 ghost use Rattle.std.specs.Prelude.{◌≡◌, ◌≢◌, option_map, option_and_then, IfOk, IfErr, IsOkAnd, Ok, Err};
 ghost use Rattle.metric.specs.declared.refusal.Refusal.{Refusal};
@@ -13,7 +13,7 @@ use crate::verb::QueryKind;
 use metric::{Cell, MetricKind, Rect, Refusal};
 use std::alloc::Global;
 
-/// A query on a bitmap. A coordinate that 16 bits don't hold stands as 65535, which is outside of every map as well.
+/// A query on a bitmap. A coordinate over 16 bits reads as 65535, which is outside every map too.
 #[derive(Debug, Drop)]
 pub enum Query {
     /// The distance of a cell.
@@ -21,17 +21,17 @@ pub enum Query {
         metric: MetricKind,
         cell: Cell,
     },
-    /// The least distance of the cells of a rectangle.
+    /// The least distance in a rectangle.
     Rect {
         metric: MetricKind,
         rect: Rect,
     },
-    /// The least distance of the cells of a path.
+    /// The least distance along a path.
     Path {
         metric: MetricKind,
         points: Vec<Cell>,
     },
-    /// Whether each cell of a path has a distance of `d` at least.
+    /// Whether each cell of a path has a distance of at least `d`.
     ClearOf {
         metric: MetricKind,
         d: u32,
@@ -42,7 +42,7 @@ pub enum Query {
 impl Query {
     ghost use Rattle.proto.specs.Queries.{metric_asked};
 
-    /// The metric by which distances are asked for.
+    /// The metric that the query asks for.
     pub fn metric(&self) -> MetricKind
         ensures { result ≡ metric_asked (asked_by self.now) }
     {
@@ -55,9 +55,10 @@ impl Query {
     }
 }
 
-/// The query of this name, with what is left of the line as its arguments: a metric first.
+/// The query of this name, with the rest of the line as its arguments, a metric first.
 ///
-/// Refused, in this order: another number or form of arguments; a path of no point or over 1000; want of memory, for the points of a path alone.
+/// Refuses, in this order: arguments of the wrong number or form; a path of no points or over 1000;
+/// and out of memory, which only the points of a path can meet.
 pub fn read_query(alloc: Global, kind: QueryKind, rest: Option<&[u8]>) -> Result<Query, Refusal>
     ensures query { IfOk result (λ query. arguments_asked kind (words_left rest.entry) ≡ Ok (asked_by query)) }
     ensures refusal { IfErr result (λ refusal. refusal ≢ Refusal.Memory → arguments_asked kind (words_left rest.entry) ≡ Err refusal) }
@@ -69,7 +70,7 @@ pub fn read_query(alloc: Global, kind: QueryKind, rest: Option<&[u8]>) -> Result
     query_by(alloc, kind, metric, rest)
 }
 
-/// The query of the rectangle that is left of a line.
+/// The query of the rectangle in the rest of a line.
 fn rect_query(metric: MetricKind, rest: Option<&[u8]>) -> Option<Query>
     ensures { option_map asked_by result ≡ option_and_then (λ corners. rect_of metric corners) (pair (points (words_left rest.entry))) }
 {
@@ -77,7 +78,7 @@ fn rect_query(metric: MetricKind, rest: Option<&[u8]>) -> Option<Query>
     Some(Query::Rect { metric, rect })
 }
 
-/// What a query asks of what is left of a line after the metric.
+/// The query in the rest of a line after the metric.
 fn query_by(
     alloc: Global,
     kind: QueryKind,

@@ -1,4 +1,4 @@
-//! The text of a reply.
+//! The texts of replies.
 
 ghost use Rattle.std.specs.Prelude.{◌≡◌, ◌≤◌, ◌+◌, [], ◌∷◌, ◌++◌, codes, length};
 ghost use Rattle.std.specs.Fmt.{decimal};
@@ -10,7 +10,7 @@ use crate::text::Text;
 use map_core::Reply;
 use metric::{Cell, Near, PbmFault, Refusal, Spot};
 
-/// Adds a cell: two numbers and a blank.
+/// Appends a cell: two numbers and a blank.
 fn put_cell(text: &mut Text, cell: Cell)
     requires { length text.old + 21 ≤ 128 }
     ensures text { text.new ≡ text.old ++ cell_text cell }
@@ -21,7 +21,7 @@ fn put_cell(text: &mut Text, cell: Cell)
     text.put_number(u32::from(cell.y));
 }
 
-/// Adds where an obstacle is: two whole numbers and a blank.
+/// Appends an obstacle's position: two signed numbers and a blank.
 fn put_spot(text: &mut Text, spot: Spot)
     requires { length text.old + 23 ≤ 128 }
     ensures text { text.new ≡ text.old ++ spot_text spot }
@@ -91,7 +91,7 @@ fn put_one(text: &mut Text, number: u64)
     text.put_long(number);
 }
 
-/// Adds two numbers.
+/// Appends two numbers.
 fn put_pair(text: &mut Text, first: u32, second: u32)
     requires { length text.old + 22 ≤ 128 }
     ensures text { text.new ≡ text.old ++ ((32 ∷ decimal first) ++ (32 ∷ decimal second)) }
@@ -121,7 +121,7 @@ fn put_refusal(text: &mut Text, refusal: Refusal)
     }
 }
 
-/// Adds a number after a blank.
+/// Appends a blank and a number.
 fn put_detail(text: &mut Text, number: u32)
     requires { length text.old + 11 ≤ 128 }
     ensures text { text.new ≡ text.old ++ (32 ∷ decimal number) }
@@ -131,7 +131,7 @@ fn put_detail(text: &mut Text, number: u32)
     text.put_number(number);
 }
 
-/// Adds a name that belongs to a refusal.
+/// Appends a name that is part of a refusal.
 fn put_name(text: &mut Text, name: &str)
     requires { length text.old + (length name.now + 1) ≤ 128 }
     ensures text { text.new ≡ text.old ++ (32 ∷ name.now) }
@@ -140,7 +140,7 @@ fn put_name(text: &mut Text, name: &str)
     text.put(name.as_bytes());
 }
 
-/// Writes an answer, without its LF, in a text that is empty.
+/// Writes an answer, without its LF, to an empty text.
 pub fn put_answer(text: &mut Text, answer: Answer)
     requires { text.old ≡ [] }
     ensures text { text.new ≡ answer_text answer }
@@ -161,7 +161,8 @@ pub fn put_answer(text: &mut Text, answer: Answer)
     }
 }
 
-/// Writes the reply line of an answer over what the text held. Each fits a text. The bytes of a dump, which follow its line, are no part of it.
+/// Replaces the text by the reply line of an answer. Every reply line fits a text. The bytes of a
+/// dump, which follow its line, aren't part of it.
 pub fn reply_text(answer: &Answer, text: &mut Text)
     ensures line { text.new ≡ reply_line answer.now }
     ensures fits { length text.new ≤ 128 }

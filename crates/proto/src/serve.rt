@@ -1,4 +1,4 @@
-//! Streams that are served: lines and what they count, each with its answer.
+//! Serves streams: answers each line, with the bytes that it counts.
 
 ghost use Rattle.std.specs.Prelude.{◌≡◌, ◌≢◌, Some};
 ghost use Rattle.proto.specs.Callers.{free};
@@ -24,14 +24,18 @@ use shelf::StoreName;
 use std::alloc::Global;
 use std::sync::Wait;
 
-/// Serves a stream of protocol lines with a session: each line is read to its LF, with the bytes that it counts, and answered before the next one is read.
+/// Serves a stream of protocol lines with a session: reads each line to its LF, with the bytes that
+/// it counts, and answers it before it reads the next.
 ///
-/// What was read is the lines and counted bytes that were answered, one after another, and a tail that the end tells; what was written is
-/// their answers' texts, and a last text. Commands wait for the store's lock, and are entries of its log by the same session: `made` has
-/// risen by those that were accepted, also where the reply couldn't be written. At each end the pin is left, at QUIT before its reply.
-/// After QUIT's LF nothing is read.
+/// What it reads is the lines and counted bytes that it answers, one after another, and a tail that
+/// the end tells; what it writes is the texts of their answers, and a last text. Commands wait for
+/// the store's lock, and are entries of its log by this session: `made` rises by the number of
+/// accepted commands, whether or not the reply could be written. Each end unpins; QUIT does so
+/// before its reply. After QUIT's LF it reads nothing.
 ///
-/// After a failed call of the stream it isn't called again. It ends with `Memory` only where the buffers of a line and of a reply line can't be made, and nothing was read or written then.
+/// After a failed call of the stream it doesn't call the stream again. It ends with `Memory` only
+/// if out of memory for the buffers of a line and a reply line, and has then read and written
+/// nothing.
 pub fn serve_stream<Id: StoreName, R: Wait, S: Stream>(
     rt: &R,
     alloc: Global,

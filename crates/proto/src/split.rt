@@ -1,17 +1,17 @@
-//! How a line is split into words, which stand between single blanks.
+//! Splits a line into words, which are separated by single blanks.
 
 ghost use Rattle.std.specs.Prelude.{◌≡◌, ◌==◌, [], ◌∷◌, ◌<◌, ◌≤◌, ◌^◌, length, position, MatchOption, IfSome};
 ghost use Rattle.std.specs.Str.Lines.{strip_carriage_return};
 ghost use Rattle.proto.specs.Words.{words, words_left, bytes_left};
 
-/// The place of the first blank.
+/// The index of the first blank.
 fn first_blank(bytes: &[u8]) -> Option<usize>
     ensures { result ≡ position (λ byte. byte == 32) bytes.now }
 {
     bytes.iter().position(|byte| *byte == b' ')
 }
 
-/// The first word of a line, and what stands after its blank, where there is one.
+/// The first word of a line, and the bytes after its blank, if it has one.
 pub fn split_word(bytes: &[u8]) -> (&[u8], Option<&[u8]>)
     ensures words { words bytes.now ≡ result.0.now ∷ words_left result.1 }
     ensures fewer { bytes_left result.1 ≤ length bytes.now }
@@ -22,7 +22,7 @@ pub fn split_word(bytes: &[u8]) -> (&[u8], Option<&[u8]>)
     }
 }
 
-/// The first word of what is left of a line, and what is left after it.
+/// The first word of the rest of a line, and the rest after it.
 pub fn next_word(rest: Option<&[u8]>) -> Option<(&[u8], Option<&[u8]>)>
     ensures words { MatchOption result (words_left rest.entry ≡ []) (λ found. words_left rest.entry ≡ found.0.now ∷ words_left found.1) }
     ensures fewer { IfSome result (λ found. bytes_left found.1 < bytes_left rest.entry) }

@@ -1,4 +1,4 @@
-//! Texts of a fixed room.
+//! Texts of a fixed capacity.
 
 ghost use Rattle.std.specs.Prelude.{◌≡◌, ◌<◌, ◌≤◌, ◌+◌, ◌++◌, [], length, false, IfOk, IfErr};
 ghost use Rattle.std.specs.Fmt.{decimal, digit_glyph, signed_decimal};
@@ -8,7 +8,7 @@ use metric::push_decimal;
 use std::alloc::{AllocError, Global};
 use std::marker::Model;
 
-/// A text of at most 128 bytes, the room of which is made at its beginning.
+/// A text of at most 128 bytes, whose capacity is allocated once.
 #[derive(Drop)]
 pub struct Text {
     bytes: Vec<u8>,
@@ -25,7 +25,7 @@ impl Model for Text {
 }
 
 impl Text {
-    /// An empty text, with all of its room.
+    /// An empty text, with its full capacity.
     pub fn new(alloc: Global) -> Result<Self, AllocError>
         ensures { IfOk result (λ text. text ≡ []) }
     {
@@ -40,14 +40,14 @@ impl Text {
         self.bytes.as_slice()
     }
 
-    /// Takes all bytes away.
+    /// Removes all bytes.
     pub fn clear(&mut self)
         ensures { self.new ≡ [] }
     {
         self.bytes.clear();
     }
 
-    /// Adds these bytes, for which there is room.
+    /// Appends these bytes. The text has capacity for them.
     pub fn put(&mut self, added: &[u8])
         requires { length self.old + length added.now ≤ 128 }
         ensures { self.new ≡ self.old ++ added.now }
@@ -55,7 +55,7 @@ impl Text {
         let _ = self.bytes.extend_from_slice(added);
     }
 
-    /// Adds a number in decimal. There is room for ten digits, and more it never has.
+    /// Appends a number in decimal. Requires capacity for ten digits, the most it can have.
     pub fn put_number(&mut self, number: u32)
         requires { length self.old + 10 ≤ 128 }
         ensures text { self.new ≡ self.old ++ decimal number }
@@ -64,7 +64,8 @@ impl Text {
         push_decimal(&mut self.bytes, number);
     }
 
-    /// Adds a whole number in decimal, with a `-` before it where it is negative. There is room for a `-` and ten digits, and more it never has.
+    /// Appends a signed number in decimal. Requires capacity for `-` and ten digits, more than it
+    /// can have.
     pub fn put_signed(&mut self, number: i16)
         requires { length self.old + 11 ≤ 128 }
         ensures text { self.new ≡ self.old ++ signed_decimal number }
@@ -76,7 +77,8 @@ impl Text {
         self.put_number(u32::from(number.unsigned_abs()));
     }
 
-    /// Adds a number of 64 bits in decimal. There is room for twenty digits, and more it never has.
+    /// Appends a 64-bit number in decimal. Requires capacity for twenty digits, the most it can
+    /// have.
     pub fn put_long(&mut self, number: u64)
         requires { length self.old + 20 ≤ 128 }
         ensures text { self.new ≡ self.old ++ decimal number }
@@ -90,7 +92,7 @@ impl Text {
         self.put(&[b'0' + (number % 10) as u8]);
     }
 
-    /// Adds the last hexadecimal digits of a word, as many as are asked for, in lower case.
+    /// Appends the last `count` hexadecimal digits of a word, in lower case.
     pub fn put_hex(&mut self, count: u32, word: u64)
         requires { length self.old + count ≤ 128 }
         ensures text { self.new ≡ self.old ++ hex_digits count word }
@@ -104,7 +106,7 @@ impl Text {
     }
 }
 
-/// The digit of this value, below 16, in lower case.
+/// The lower-case digit of this value, which is below 16.
 fn hex_digit(value: u8) -> u8
     requires { value < 16 }
     ensures { result ≡ digit_glyph false value }

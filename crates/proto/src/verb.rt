@@ -9,10 +9,10 @@ ghost use Rattle.proto.specs.Words.{words_left};
 
 use crate::split::split_word;
 
-/// The command of a line, by its name alone.
+/// The command of a line, by its name only.
 #[derive(Clone, Copy, Debug, PartialEq, Eq)]
 pub enum Verb {
-    /// A command to the keeper of the map that has no bytes after its line.
+    /// A command to the keeper of the map, with no bytes after its line.
     Order(CommandName),
     /// A query on the pinned version.
     Ask(QueryKind),
@@ -24,7 +24,7 @@ pub enum Verb {
     Quit,
 }
 
-/// A command to the keeper of the map, by its name alone.
+/// A command to the keeper of the map, by its name only.
 #[derive(Clone, Copy, Debug, PartialEq, Eq)]
 pub enum CommandName {
     Paint,
@@ -35,7 +35,7 @@ pub enum CommandName {
     Checkpoint,
 }
 
-/// A query, by its name alone.
+/// A query, by its name only.
 #[derive(Clone, Copy, Debug, PartialEq, Eq)]
 pub enum QueryKind {
     At,
@@ -44,7 +44,8 @@ pub enum QueryKind {
     ClearOf,
 }
 
-/// The command that a line names, whatever follows it; none where its first word is none of the fifteen.
+/// The command that a line names, whatever follows it; none where its first word is none of the
+/// fifteen.
 #[tactic(auto, unfolding(crate::specs::Said::verb_in))]
 pub fn verb_of(bytes: &[u8]) -> Option<Verb>
     ensures { result ≡ verb_in bytes.now }
@@ -53,7 +54,8 @@ pub fn verb_of(bytes: &[u8]) -> Option<Verb>
     verb_named(word)
 }
 
-/// The command that a line names, with what stands after the blank that follows its name, where there is one; none where its first word is none of the fifteen.
+/// The command that a line names, with the bytes after the blank that follows its name, if any;
+/// none where its first word is none of the fifteen.
 #[tactic(auto, unfolding(crate::specs::Said::said, crate::specs::Said::verb_in))]
 pub fn split_verb(bytes: &[u8]) -> Option<(Verb, Option<&[u8]>)>
     ensures verb { MatchOption result (verb_in bytes.now ≡ None) (λ found. verb_in bytes.now ≡ Some found.0) }
@@ -97,7 +99,7 @@ fn bare_named(word: &[u8]) -> Option<Verb>
     }
 }
 
-/// The command to the keeper of this name.
+/// The keeper's command of this name.
 fn order_named(word: &[u8]) -> Option<CommandName>
     ensures { result ≡ order_named word.now }
 {

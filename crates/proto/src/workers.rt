@@ -13,24 +13,26 @@ use std::alloc::Global;
 use std::sync::{Mutex, Wait};
 use std::thread::{Threads, for_each_mut};
 
-/// Where streams come from, one after another.
+/// A source of streams, one after another.
 pub trait Streams {
-    /// A stream that is served.
+    /// A stream to serve.
     type S: Stream + Drop + Send;
 
     /// A stream that nobody has read or written yet.
     ghost fresh: { Self.S → Type 0 };
 
-    /// The next stream, which is fresh, and no call of which has failed; `None` where no more come.
+    /// The next stream, which is fresh, and of which no call has failed; `None` where no more come.
     fn next(&mut self) -> Option<Self::S>
         ensures fresh { IfSome result (λ stream. Self.fresh stream) }
         ensures can_go_on { IfSome result (λ stream. CanGoOn (Self.S.wire stream)) };
 }
 
-/// Serves streams until no more come, with one worker for each session: each asks for the next stream, lets the others ask, and serves it. Where a thread can't be started, the calling thread is that worker.
+/// Serves streams until no more come, with one worker per session: each takes the next stream, lets
+/// the others do so, and serves its own. Where a thread can't be started, the calling thread does
+/// its work.
 ///
-/// The same sessions are returned, in their order, and with each of them nothing was done but that fresh streams were served, each once.
-/// Refused for want of memory alone, and then they are as before, and no stream was asked for.
+/// Returns the same sessions in their order; each has only served fresh streams, each stream once.
+/// Fails only when out of memory; the sessions are then as before, and no stream was taken.
 pub fn pool<Id: StoreName + Send + Sync, R: Wait + Threads + Sync, T: Streams + Send + Drop>(
     rt: &R,
     alloc: Global,
@@ -51,7 +53,7 @@ pub fn pool<Id: StoreName + Send + Sync, R: Wait + Threads + Sync, T: Streams + 
     Ok(unseat_all(seats, empty))
 }
 
-/// Serves streams until no more come, with a worker for each seat.
+/// Serves streams until no more come, with one worker per seat.
 fn work_all<Id: StoreName + Send + Sync, R: Wait + Threads + Sync, T: Streams + Send>(
     rt: &R,
     alloc: Global,
@@ -99,7 +101,8 @@ fn work<Id: StoreName, R: Wait, T: Streams>(
     }
 }
 
-/// Serves streams with a session until no more come, and gives it back. Each stream is asked for under the lock, which is let go before it is served.
+/// Serves streams with a session until no more come, and returns the session. Takes each stream
+/// under the lock, and releases the lock before it serves the stream.
 fn serve_all<Id: StoreName, R: Wait, T: Streams>(
     rt: &R,
     alloc: Global,
@@ -121,7 +124,8 @@ fn serve_all<Id: StoreName, R: Wait, T: Streams>(
     unreachable!()
 }
 
-/// Puts each session into a seat, the last one first, for which there is room. Answers what held them, and the seats.
+/// Puts each session into a seat, the last one first; `room` has capacity for them. Returns the
+/// empty buffer of the sessions, and the seats.
 fn seat_all<Id: StoreName>(
     sessions: Vec<Session<Id>>,
     room: Vec<Option<Session<Id>>>,

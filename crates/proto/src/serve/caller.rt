@@ -1,4 +1,4 @@
-//! A caller: a session, or the pin that it holds.
+//! Callers: a session, or the pin that it holds.
 
 ghost use Rattle.std.specs.Prelude.{◌≡◌, Some, is_some};
 ghost use Rattle.shelf.specs.Steps.{leaving};
@@ -24,16 +24,16 @@ use std::alloc::Global;
 use std::marker::Model;
 use std::sync::Wait;
 
-/// A session that holds a pin, or none.
+/// A session, with or without a pin.
 enum Seat<Id: StoreName> {
     Free(Session<Id>),
     Holding(Pinned<Id>),
 }
 
-/// A session of a store, with the pin that it holds, if it does. Contracts see its seat, as it is once a pin is left, and the version that is
-/// pinned.
+/// A session of a store, with its pin if it holds one. Contracts see its seat as it is after
+/// unpinning, and the version pinned.
 ///
-/// It can't be let go: it gives its session back.
+/// It can't be dropped: `into_session` returns its session.
 pub struct Caller<Id: StoreName> {
     seat: Seat<Id>,
 }
@@ -50,7 +50,7 @@ impl<Id: StoreName> Model for Caller<Id> {
 }
 
 impl<Id: StoreName> Caller<Id> {
-    /// The caller of a session without a pin.
+    /// A caller without a pin.
     pub fn new(session: Session<Id>) -> Self
         ensures { result ≡ free session }
     {
@@ -59,7 +59,7 @@ impl<Id: StoreName> Caller<Id> {
         }
     }
 
-    /// The caller that holds a pin.
+    /// A caller that holds a pin.
     fn holding(pinned: Pinned<Id>) -> Self
         ensures seat { result.seat ≡ leaving pinned.seat }
         ensures pin { result.pin ≡ Some pinned.version }
@@ -69,7 +69,8 @@ impl<Id: StoreName> Caller<Id> {
         }
     }
 
-    /// What a line is answered that can't be taken: without a pin that comes before what is wrong with its points.
+    /// The answer to a line that is refused. Without a pin, that is `NotPinned` in place of a fault
+    /// in the points of a path, or of out of memory for them.
     pub fn refuse(&self, refusal: Refusal) -> Answer
         ensures { result ≡ answers.Refused (with_pin (is_some self.now.pin) refusal) }
     {
@@ -79,7 +80,7 @@ impl<Id: StoreName> Caller<Id> {
         })
     }
 
-    /// What a query of the version that it has pinned is answered.
+    /// Answers a query of the pinned version.
     pub fn query(&mut self, alloc: Global, query: &Query) -> Answer
         ensures caller { self.new ≡ self.old }
         ensures answer { WithPin (λ _. IsQueryAnswer Id.store (asked_by query.now) self.old result self.old) self.old result self.old }
@@ -90,7 +91,7 @@ impl<Id: StoreName> Caller<Id> {
         }
     }
 
-    /// Says what DUMP is answered: the plain image of the bitmap that it has pinned follows the number of its bytes.
+    /// Answers DUMP: the number of bytes of the pinned bitmap's plain image, then the image.
     pub fn dump<S: Stream>(
         &mut self,
         alloc: Global,
@@ -107,7 +108,7 @@ impl<Id: StoreName> Caller<Id> {
         }
     }
 
-    /// Does a command under the store's lock, which it waits for.
+    /// Runs a command under the store's lock, which it waits for.
     pub fn command<R: Wait>(&mut self, rt: &R, store: &Store<Id>, command: Command) -> Answer
         ensures { IsCommanded Id.store command self.old result self.new }
     {
@@ -118,7 +119,7 @@ impl<Id: StoreName> Caller<Id> {
         }
     }
 
-    /// Pins the newest version, where it holds no pin.
+    /// Pins the newest version, unless it holds a pin.
     pub fn pin(self, alloc: Global) -> (Self, Answer)
         ensures { IsPinAnswer Id.store self result.1 result.0 }
     {
@@ -132,7 +133,7 @@ impl<Id: StoreName> Caller<Id> {
         }
     }
 
-    /// Leaves its pin, where it holds one.
+    /// Unpins, if it holds a pin.
     pub fn unpin(self) -> (Self, Answer)
         ensures { IsUnpinAnswer self result.1 result.0 }
     {
@@ -147,7 +148,7 @@ impl<Id: StoreName> Caller<Id> {
         }
     }
 
-    /// Gives its session back; a pin is left.
+    /// Returns its session, unpinned.
     pub fn into_session(self) -> Session<Id>
         ensures { result ≡ self.seat }
     {
@@ -159,7 +160,7 @@ impl<Id: StoreName> Caller<Id> {
     }
 }
 
-/// What a command is answered.
+/// The answer to a command.
 fn told(applied: Result<Reply, (Command, Refusal)>) -> Answer
     ensures { result ≡ told_as (outcome_of applied) }
 {

@@ -1,4 +1,4 @@
-//! The bytes that a line counts, which follow it.
+//! The bytes that a line counts; they follow it.
 
 ghost use Rattle.std.specs.Prelude.{◌≡◌, ◌<◌, ◌≤◌, [], length, vec_capacity, None, Some, IfOk, IfErr, OnOk};
 ghost use Rattle.proto.specs.Served.{HasCounted, HasPassed, IsCutOff, IsCutShort};
@@ -9,14 +9,14 @@ use crate::serve::wire::take_block;
 use metric::Stream;
 use std::alloc::{AllocError, Global};
 
-/// How many bytes are taken at once, at most.
+/// The most bytes taken at once.
 const BLOCK: usize = 4096;
 
-/// The bytes that a line counts, or the growth that was refused to keep them.
+/// The bytes that a line counts, or the allocation that was refused to keep them.
 pub type Counted = Result<Vec<u8>, AllocError>;
 
-/// Reads so many bytes, and keeps them where there is memory for that. Otherwise it answers how the
-/// stream ends before the last of them.
+/// Reads `count` bytes, and keeps them if there is memory for them. If the stream ends before the
+/// last of them, returns how.
 pub fn read_counted<S: Stream>(alloc: Global, stream: &mut S, count: u32) -> Result<Counted, End>
     requires { CanGoOn (S.wire stream.old) }
     ensures counted { IfOk result (λ kept. HasCounted count kept (S.wire stream.old) (S.wire stream.new)) }
@@ -28,7 +28,7 @@ pub fn read_counted<S: Stream>(alloc: Global, stream: &mut S, count: u32) -> Res
     }
 }
 
-/// Reads so many bytes, for which there is room.
+/// Reads `count` bytes into a buffer with capacity for them.
 fn keep<S: Stream>(stream: &mut S, room: Vec<u8>, count: u32) -> Result<Counted, End>
     requires stream { CanGoOn (S.wire stream.old) }
     requires room { count ≤ vec_capacity room }
@@ -46,7 +46,7 @@ fn keep<S: Stream>(stream: &mut S, room: Vec<u8>, count: u32) -> Result<Counted,
     Ok(Ok(bytes))
 }
 
-/// Reads so many bytes and keeps none, since a growth was refused.
+/// Reads `count` bytes and drops them, since an allocation was refused.
 fn skip<S: Stream>(stream: &mut S, count: u32, refused: AllocError) -> Result<Counted, End>
     requires { CanGoOn (S.wire stream.old) }
     ensures counted { IfOk result (λ kept. HasCounted count kept (S.wire stream.old) (S.wire stream.new)) }
@@ -59,7 +59,7 @@ fn skip<S: Stream>(stream: &mut S, count: u32, refused: AllocError) -> Result<Co
     Ok(Err(refused))
 }
 
-/// Reads some bytes, as many as this at most, and keeps none. Answers how many.
+/// Reads up to `most` bytes and drops them. Returns how many.
 fn pass_over<S: Stream>(stream: &mut S, most: usize) -> Result<usize, End>
     requires wire { CanGoOn (S.wire stream.old) }
     requires some { 0 < most }

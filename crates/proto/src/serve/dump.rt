@@ -1,4 +1,4 @@
-//! What DUMP is answered: a reply line, and a plain image that is written in pieces.
+//! The answer to DUMP: a reply line, then a plain image, written in pieces.
 
 ghost use Rattle.std.specs.Prelude.{◌≡◌, ◌*◌, ◌≤◌, ◌++◌, vec_capacity};
 ghost use Rattle.std.specs.List.{range_with_len, flat_map};
@@ -17,7 +17,8 @@ use metric::{Stream, WriteFault};
 use pbm::{first_piece, next_piece, plain_length};
 use std::alloc::Global;
 
-/// Says what DUMP is answered of a bitmap: the number of its image's bytes, and the image; or want of memory for a piece of it.
+/// Writes the answer to DUMP for a bitmap: the number of its image's bytes, and the image; or a
+/// refusal when out of memory for a piece of it.
 pub fn say_dump<S: Stream>(
     alloc: Global,
     bitmap: &Bitmap,
@@ -36,7 +37,7 @@ pub fn say_dump<S: Stream>(
     }
 }
 
-/// Writes a reply line, and after it the image whose first piece is there.
+/// Writes a reply line, then the image that starts with this piece.
 fn put_dump<S: Stream>(
     stream: &mut S,
     text: &mut Text,
@@ -54,7 +55,7 @@ fn put_dump<S: Stream>(
     put_rows(stream, bitmap, piece)
 }
 
-/// Writes the lines of all rows, a piece after another in the same buffer.
+/// Writes the lines of all rows, piece by piece in the same buffer.
 fn put_rows<S: Stream>(
     stream: &mut S,
     bitmap: &Bitmap,

@@ -1,16 +1,16 @@
-//! How a served stream ends.
+//! The ends of a served stream.
 
 ghost use Rattle.std.specs.Prelude.{◌≡◌};
 ghost use Rattle.proto.specs.declared.serve.end.End.TheVariants.{Memory};
 
 use std::alloc::AllocError;
 
-/// Why a stream is served no longer.
+/// Why serving a stream ended.
 #[derive(Clone, Copy, Debug, PartialEq, Eq)]
 pub enum End {
-    /// The client said QUIT.
+    /// The client sent QUIT.
     Quit,
-    /// The input ended, at a line's end or within a line or a stamp's bytes.
+    /// The input ended, after a line or within a line or a stamp's bytes.
     EndOfInput,
     /// A line had 16,385 bytes without an LF.
     LineTooLong,
@@ -20,11 +20,11 @@ pub enum End {
     ReadFailed,
     /// A write failed.
     WriteFailed,
-    /// There was no memory for the buffers of a line and of a reply line. Nothing was read then, or written.
+    /// There was no memory for the buffers of a line and a reply line. Nothing was read or written.
     Memory,
 }
 
-/// A growth that was refused.
+/// An allocation that was refused.
 impl From<AllocError> for End {
     ghost from_gives = { λ _ end. end ≡ Memory };
 

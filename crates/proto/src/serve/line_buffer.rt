@@ -1,4 +1,4 @@
-//! The buffer of a line, which is read a part at a time.
+//! The buffer of a line, read a part at a time.
 
 ghost use Rattle.std.specs.Prelude.{◌≡◌, ◌∷◌, ◌++◌, ◌+◌, ◌<◌, ◌≤◌, [], length, IfOk, IfErr, OnOk, OnErr};
 ghost use Rattle.proto.specs.Exchanges.{IsLine};
@@ -12,13 +12,13 @@ use metric::Stream;
 use std::alloc::{AllocError, Global};
 use std::marker::Model;
 
-/// The most bytes that are looked at for the LF of a line, which has one fewer at most before it.
+/// The most bytes searched for the LF of a line. A line has at most one fewer before its LF.
 const MOST_BYTES: usize = 16_385;
 
-/// How many bytes of a line are read at once, at most.
+/// The most bytes of a line read at once.
 const PART: usize = 64;
 
-/// Room for the bytes of a line.
+/// A buffer for the bytes of a line.
 #[derive(Drop)]
 pub struct LineBuffer {
     bytes: Vec<u8>,
@@ -35,7 +35,7 @@ impl Model for LineBuffer {
 }
 
 impl LineBuffer {
-    /// An empty line, with all of its room. Refused for want of memory alone.
+    /// An empty line, with its full capacity. Fails only when out of memory.
     pub fn new(alloc: Global) -> Result<Self, AllocError>
         ensures { IfOk result (λ line. line ≡ []) }
     {
@@ -50,7 +50,8 @@ impl LineBuffer {
         self.bytes.as_slice()
     }
 
-    /// Reads a line to its LF, which isn't kept. Otherwise it answers how the stream ends: within the line, or at too many bytes without an LF.
+    /// Reads a line to its LF, and drops the LF. Otherwise returns how the stream ends: within the
+    /// line, or at too many bytes without an LF.
     pub fn read<S: Stream>(&mut self, stream: &mut S) -> Result<(), End>
         requires { CanGoOn (S.wire stream.old) }
         ensures line { OnOk result (IsLine self.new) }
@@ -66,7 +67,7 @@ impl LineBuffer {
         Err(End::LineTooLong)
     }
 
-    /// Reads a part of a line after what the buffer holds, and answers whether the line ends there.
+    /// Appends the next part of a line, and returns whether the line ends there.
     fn read_part<S: Stream>(&mut self, stream: &mut S) -> Result<bool, End>
         requires wire { CanGoOn (S.wire stream.old) }
         requires room { length self.old < 16385 }
@@ -80,8 +81,8 @@ impl LineBuffer {
         Ok(self.keep(&block[..count]))
     }
 
-    /// Keeps the bytes but for an LF at their end, and answers whether there is one. There is room for
-    /// them.
+    /// Appends the bytes, except an LF at their end, and returns whether there is one. The buffer
+    /// has capacity for them.
     fn keep(&mut self, bytes: &[u8]) -> bool
         requires some { 0 < length bytes.now }
         requires room { length self.old + length bytes.now ≤ 16385 }

@@ -1,4 +1,4 @@
-//! What a client is told: a reply line.
+//! Writes reply lines to a client.
 
 ghost use Rattle.proto.specs.Replies.{reply_line};
 ghost use Rattle.proto.specs.Served.{HasSaid};
@@ -20,7 +20,7 @@ pub fn say<S: Stream>(stream: &mut S, text: &mut Text, answer: &Answer) -> Resul
     put(stream, text.as_bytes())
 }
 
-/// Writes a reply line and passes it on at once.
+/// Writes a reply line and flushes it.
 fn say_now<S: Stream>(stream: &mut S, text: &mut Text, answer: &Answer) -> Result<(), WriteFault>
     requires { CanGoOn (S.wire stream.old) }
     ensures { HasPut result (S.wire stream.old) (reply_line answer.now) (S.wire stream.new) }
@@ -29,7 +29,8 @@ fn say_now<S: Stream>(stream: &mut S, text: &mut Text, answer: &Answer) -> Resul
     pass_on(stream)
 }
 
-/// Writes the last reply line of a stream, which is passed on at once. Answers how the stream ends: as it was to, or by a failed write.
+/// Writes the last reply line of a stream and flushes it. Returns how the stream ends: as given, or
+/// by a failed write.
 pub fn say_last<S: Stream>(stream: &mut S, text: &mut Text, answer: &Answer, end: End) -> End
     requires { CanGoOn (S.wire stream.old) }
     ensures { HasSaid end result (S.wire stream.old) (reply_line answer.now) (S.wire stream.new) }

@@ -1,4 +1,4 @@
-//! One line of a stream: read, answered, and its answer said.
+//! Serves one line of a stream: reads it, answers it and writes the answer.
 
 ghost use Rattle.std.specs.Prelude.{◌≡◌, ℕ, List, Ok};
 ghost use Rattle.proto.specs.Exchanges.{IsStampAnswer, line_said, line_seen_in};
@@ -28,7 +28,7 @@ use std::sync::Wait;
 /// The most bytes of a stamp's image: the plain image of the largest map fits.
 pub const MOST_COUNTED: u32 = 17_100_000;
 
-/// What the lines of a stream are served with: the store, and the buffers of a line and of a reply line.
+/// What serves the lines of a stream: the store, and the buffers of a line and of a reply line.
 #[derive(Drop)]
 pub struct Service<'a, Id: StoreName, R: Wait> {
     rt: &'a R,
@@ -39,7 +39,7 @@ pub struct Service<'a, Id: StoreName, R: Wait> {
 }
 
 impl<'a, Id: StoreName, R: Wait> Service<'a, Id, R> {
-    /// What lines are served with, its buffers made. Fails only when out of memory.
+    /// A service with its buffers. Fails only when out of memory.
     pub fn new(rt: &'a R, alloc: Global, store: &'a Store<Id>) -> Result<Self, AllocError> {
         let line = LineBuffer::new(alloc)?;
         let text = Text::new(alloc)?;
@@ -52,7 +52,7 @@ impl<'a, Id: StoreName, R: Wait> Service<'a, Id, R> {
         })
     }
 
-    /// Serves one line of a stream. Answers how the stream ends there, if it does.
+    /// Serves one line of a stream. If the stream ends there, returns how.
     pub fn serve_line<S: Stream>(
         &mut self,
         caller: Caller<Id>,
@@ -75,7 +75,7 @@ impl<'a, Id: StoreName, R: Wait> Service<'a, Id, R> {
         }
     }
 
-    /// Serves a line that was read to its LF, by what it says.
+    /// Serves a line that was read to its LF.
     fn serve<S: Stream>(
         &mut self,
         caller: Caller<Id>,
@@ -121,7 +121,7 @@ impl<'a, Id: StoreName, R: Wait> Service<'a, Id, R> {
         }
     }
 
-    /// Serves a stamp, whose image has so many bytes, which follow its line.
+    /// Serves a stamp, whose image is the `length` bytes after its line.
     fn serve_stamp<S: Stream>(
         &mut self,
         caller: Caller<Id>,
@@ -148,7 +148,7 @@ impl<'a, Id: StoreName, R: Wait> Service<'a, Id, R> {
         }
     }
 
-    /// What a stamp is answered, whose image stands at the front of the bytes that were kept.
+    /// Answers a stamp whose image is at the front of the bytes kept.
     fn stamp(&self, caller: Caller<Id>, x: u16, y: u16, kept: Counted) -> (Caller<Id>, Answer)
         ensures { (bytes : List ℕ) → AreKept kept bytes → IsStampAnswer Id.store x y bytes caller result.1 result.0 }
     {
@@ -167,7 +167,7 @@ impl<'a, Id: StoreName, R: Wait> Service<'a, Id, R> {
         }
     }
 
-    /// Says what a caller is answered, after which the stream goes on unless the write fails.
+    /// Writes an answer. The stream goes on unless the write fails.
     fn reply<S: Stream>(
         &mut self,
         caller: Caller<Id>,
@@ -190,7 +190,7 @@ fn hear(alloc: Global, line: &[u8]) -> Result<Line, Refusal>
     parse_line(alloc, without_cr(line))
 }
 
-/// How the stream ends where that came of a write, if it does.
+/// How the stream ends if a write failed.
 fn end_of(written: Result<(), WriteFault>) -> Option<End>
     ensures { result ≡ end_after written }
 {

@@ -1,4 +1,4 @@
-//! Single steps on a stream: bytes that are read, a text that is written.
+//! Single steps on a stream: reads of bytes, and writes of a text.
 
 ghost use Rattle.std.specs.Prelude.{◌≡◌, ◌⊎◌, ◌<◌, [], length, Ok, IsErr, IfOk, IfErr};
 ghost use Rattle.metric.specs.Stream.{StopsAt};
@@ -9,8 +9,8 @@ ghost use Rattle.proto.specs.Wire.{CanGoOn, HasPut, HasTaken};
 use crate::serve::end::End;
 use metric::{ReadFault, Stream, WriteFault};
 
-/// Takes the next bytes of a stream into the front of a block that has a place, and answers how
-/// many: one at least. Otherwise it answers how the stream ends.
+/// Takes the next bytes of a stream into the front of a non-empty block, and returns how many: at
+/// least one. Otherwise returns how the stream ends.
 pub fn take_block<S: Stream>(stream: &mut S, block: &mut [u8]) -> Result<usize, End>
     requires wire { CanGoOn (S.wire stream.old) }
     requires place { 0 < length block.old }
@@ -20,7 +20,7 @@ pub fn take_block<S: Stream>(stream: &mut S, block: &mut [u8]) -> Result<usize, 
     some_of(stream.next_block(block))
 }
 
-/// The same, but takes none after the first byte that is `stop`.
+/// As `take_block`, but takes none after the first byte that is `stop`.
 pub fn take_until<S: Stream>(stream: &mut S, stop: u8, block: &mut [u8]) -> Result<usize, End>
     requires wire { CanGoOn (S.wire stream.old) }
     requires place { 0 < length block.old }
@@ -31,7 +31,8 @@ pub fn take_until<S: Stream>(stream: &mut S, stop: u8, block: &mut [u8]) -> Resu
     some_of(stream.next_until(stop, block))
 }
 
-/// How many bytes a read took into a block that has a place, if any, or how the stream ends.
+/// The number of bytes that a read took into a non-empty block, at least one, or how the stream
+/// ends.
 fn some_of(taken: Result<usize, ReadFault>) -> Result<usize, End>
     ensures some { IfOk result (λ count. (taken ≡ Ok count) × (0 < count)) }
     ensures none { IfErr result (λ end. ((end ≡ EndOfInput) × (taken ≡ Ok 0)) ⊎ ((end ≡ ReadFailed) × IsErr taken)) }
@@ -51,7 +52,7 @@ pub fn put<S: Stream>(stream: &mut S, text: &[u8]) -> Result<(), WriteFault>
     stream.write_all(text)
 }
 
-/// Passes on what the stream may have kept back.
+/// Flushes the stream.
 pub fn pass_on<S: Stream>(stream: &mut S) -> Result<(), WriteFault>
     requires { CanGoOn (S.wire stream.old) }
     ensures { HasPut result (S.wire stream.old) [] (S.wire stream.new) }
