@@ -1,4 +1,5 @@
-//! How a command that is judged is carried out: taken in hand by the keeper, done step by step and committed.
+//! Carries out a command that has been judged: the keeper starts it, does it step by step and
+//! commits it.
 
 mod collect;
 mod publish;
@@ -14,7 +15,7 @@ use crate::holding::{Holding, Judged};
 use map_core::{Reply, Seen};
 use shelf::{KeeperSeat, Request, StoreName};
 
-/// Does all steps but the last of the command in hand, and what it does to what is held.
+/// Does all steps but the last of the current command, and its effect on what the desk holds.
 fn work<Id: StoreName>(
     keeper: &mut KeeperSeat<Id>,
     holding: &mut Holding,
@@ -38,9 +39,10 @@ fn work<Id: StoreName>(
     }
 }
 
-/// Carries out a command that is judged, for whose entry there is room. Nothing refuses it, and it takes no memory.
+/// Carries out a command that has been judged, in a log with capacity for its entry. It can't fail,
+/// and allocates no memory.
 ///
-/// `announced` has a place for each reader; a collect leaves there what its scan saw.
+/// `announced` has an element for each reader; a collect leaves there what its scan saw.
 pub fn carry<Id: StoreName>(
     keeper: &mut KeeperSeat<Id>,
     holding: &mut Holding,

@@ -14,17 +14,17 @@ use std::marker::Model;
 
 /// The value that the writers' lock of a store guards.
 ///
-/// Contracts see it as the whole log, of which it keeps the entries after the last checkpoint, and what the
-/// last collect's scan saw.
+/// Contracts see it as the whole log, of which it keeps the entries after the last checkpoint, and
+/// what the last collect's scan saw.
 ///
-/// The type keeps that the log is legal, that ledger, draft, kept versions and blocks are what the log tells, and that the keeper's seat
-/// rests at the log.
+/// The type guarantees that the log is legal, that ledger, draft, kept versions and blocks follow
+/// from the log, and that the keeper's seat is at the log's end.
 ///
-/// It can't be let go: it is closed.
+/// It can't be dropped: close it.
 pub struct Desk<Id: StoreName> {
     keeper: KeeperSeat<Id>,
     holding: Holding,
-    // The entries that are kept.
+    // The entries it keeps.
     log: Vec<StoreEntry>,
     // What the last collect's scan saw of each reader.
     announced: Vec<Option<Seen>>,

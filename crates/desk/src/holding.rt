@@ -1,4 +1,5 @@
-//! What a desk holds of a map: its ledger, its draft and versions as tiles, and the arena of their blocks.
+//! What a desk holds of a map: its ledger, its draft and versions as tiles, and the arena of their
+//! blocks.
 
 mod answer;
 mod judge;
@@ -20,7 +21,7 @@ use map_core::{Ledger, Setting};
 use metric::Refusal;
 use std::alloc::Global;
 
-/// What a desk holds of a map. It can't be let go: it is ended.
+/// What a desk holds of a map. It can't be dropped: end it.
 pub struct Holding {
     pub ledger: Ledger,
     pub grid: Grid,
@@ -28,15 +29,16 @@ pub struct Holding {
 }
 
 impl Holding {
-    /// What is held of a map that is opened on this bitmap: its draft and version 0 are the bitmap, and its log is empty.
+    /// What a desk holds of a map that opens with this bitmap: the draft and version 0 are the
+    /// bitmap, and the log is empty.
     ///
-    /// All room is taken here. Refused for want of memory alone.
+    /// Allocates everything here. Fails only when out of memory.
     pub fn of(alloc: Global, setting: Setting, map: &Bitmap) -> Result<Holding, Refusal>
         requires { bad_field (tile_count map.now) setting ≡ None }
         ensures opened { IfOk result (IsToldByLog record { setting = setting; opening = map.now } []) }
         ensures memory { IfErr result (λ refusal. refusal ≡ Memory) }
     {
-        // Asking for a side shows the proof that it is a bitmap.
+        // Asking for a side brings the proof that `map` is a bitmap.
         let _ = map.width();
         let mut arena = Arena::new(alloc, setting.blocks)?;
         match Grid::open(alloc, map, &mut arena) {
@@ -52,7 +54,7 @@ impl Holding {
         }
     }
 
-    /// Gives all blocks back, and ends the arena.
+    /// Frees all blocks, and ends the arena.
     pub fn end(self)
         requires home { self.grid.home ≡ self.arena.home }
         requires all { length self.arena.free + (length (own_list (own_blocks self.grid))

@@ -1,4 +1,5 @@
-//! The desk of a store: its log, its draft and its kept versions, which the writers' lock guards, and what each command does to them.
+//! The desk of a store: its log, its draft and its kept versions, which the writers' lock guards,
+//! and what each command does to them.
 #![tactic(auto)]
 
 mod carry;

@@ -16,7 +16,7 @@ use std::marker::Model;
 
 /// A store that has no name yet: its words, its seats and its desk. Contracts see it as the store.
 ///
-/// It can't be let go: it is opened, or discarded.
+/// It can't be dropped: open or discard it.
 pub struct Blank {
     pub(crate) desk: FreshDesk,
     pub(crate) readers: Vec<FreshReader>,
@@ -35,7 +35,7 @@ impl Model for Blank {
     ghost invariant = { λ b. (b.readers.items ≡ all_newcomers b.desk) × (b.map ≡ b.desk.base.opening) };
 }
 
-/// The desk and the readers of a store on this bitmap.
+/// The desk and the readers of a store with this bitmap.
 fn parts(
     alloc: Global,
     setting: Setting,
@@ -53,10 +53,10 @@ fn parts(
 }
 
 impl Blank {
-    /// A store on this bitmap, which is its version 0. Its log is empty, and no session has a pin.
+    /// A store whose version 0 is this bitmap. Its log is empty, and no session has a pin.
     ///
-    /// Refused, in this order, for the first field of the setting that isn't within its limits for this map (`BadSetting`; `Setting` has
-    /// the limits), and for want of memory; the bitmap is returned.
+    /// Refuses, in this order, the first field of the setting that isn't within its limits for this
+    /// map (`BadSetting`; `Setting` has the limits), and when out of memory; returns the bitmap.
     pub fn of(alloc: Global, setting: Setting, map: Bitmap) -> Result<Blank, (Bitmap, Refusal)>
         ensures base { IfOk result (λ blank. blank.base ≡ record { setting = setting; opening = map }) }
         ensures refused { MatchOption (bad_field (tile_count map) setting) (IfErr result (λ back. back.1 ≡ Memory))
@@ -69,7 +69,7 @@ impl Blank {
         }
     }
 
-    /// Lets it go: nothing was opened.
+    /// Drops a store that was never opened.
     pub fn discard(self) {
         let Blank {
             desk,

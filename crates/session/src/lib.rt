@@ -1,9 +1,12 @@
-//! A store of one map and its sessions: painters change a draft and publish it, and planners pin a version and ask.
+//! A store of one map and its sessions: painters change a draft and publish it, and planners pin a
+//! version and query it.
 //!
-//! Painters take turns at the lock of the desk. A planner pins by three steps on the shared words, reads its version by looking at them, and
-//! unpins by one: it takes no lock, and waits for nobody. What one session has seen reaches another by a ticket.
+//! Painters take turns at the lock of the desk. A planner pins by three steps on the shared words,
+//! reads its version from them, and unpins by one step: it takes no lock, and waits for nobody. A
+//! ticket carries what one session has seen to another.
 //!
-//! A store is opened in a function that is generic in its name, which is called with `std::marker::Brand`.
+//! A store is opened in a function that is generic in the store's name, and called with
+//! `std::marker::Brand`.
 #![tactic(auto)]
 
 mod blank;

@@ -1,4 +1,4 @@
-//! A pin: a session that holds a version, and asks it.
+//! A pin: a session that holds a version, and queries it.
 
 ghost use Rattle.std.specs.Prelude.{◌≡◌, ◌≤◌, Some, None, IfSome};
 ghost use mathlib.Core.List.{IsPrefix};
@@ -23,15 +23,15 @@ use metric::Edge;
 use shelf::{ReaderSeat, StoreName, Ticket};
 use std::marker::Model;
 
-/// A session that holds a version, whatever others publish and collect. Contracts see it as the session's seat and the version. It
-/// holds this version, and has announced it alone.
+/// A session that holds a version, whatever others publish and collect. Contracts see it as the
+/// session's seat and the version, which is the only one it has announced.
 ///
-/// It can't be let go: it is unpinned.
+/// It can't be dropped: unpin it.
 pub struct Pinned<Id: StoreName> {
     pub(crate) seat: ReaderSeat<Id>,
     pub(crate) version: u32,
     pub(crate) slot: u32,
-    // The version's bitmap once it is read, and until then room for it.
+    // The version's bitmap once it is read; until then a buffer for it.
     pub(crate) bitmap: Bitmap,
     pub(crate) looks: Looks,
 }
@@ -58,14 +58,14 @@ impl<Id: StoreName> Pinned<Id> {
         self.version
     }
 
-    /// What the border of the store's map is.
+    /// The edge of the store's map.
     pub fn edge(&self) -> Edge
         ensures { result ≡ Id.store.base.setting.edge }
     {
         self.seat.edge()
     }
 
-    /// How many of its session's commands were accepted.
+    /// How many commands of its session were accepted.
     pub fn made(&self) -> u32
         ensures { result ≡ self.now.seat.made }
     {
@@ -77,8 +77,8 @@ impl<Id: StoreName> Pinned<Id> {
         self.looks.is_whole()
     }
 
-    /// The bitmap of the version that it holds, where the version has been read as a whole: by `bitmap`, or by queries that had looked at eight words for each tile of the
-    /// map. `None` before.
+    /// The bitmap of the version that it holds, if that version has been read as a whole: by
+    /// `bitmap`, or by queries after they had read eight words per tile of the map. `None` before.
     pub fn bitmap_read(&self) -> Option<&Bitmap>
         ensures { IfSome result (λ bitmap. bitmap.now ≡ bitmap_pinned Id.store self.now) }
     {
@@ -88,8 +88,8 @@ impl<Id: StoreName> Pinned<Id> {
         }
     }
 
-    /// The bitmap that was published as the version that it holds. It is read from the shared words when it is first asked for: 65 loads for
-    /// each tile. It waits for nobody.
+    /// The bitmap that was published as the version that it holds. The first call reads it from the
+    /// shared words: 65 loads per tile. It waits for nobody.
     pub fn bitmap(&mut self) -> &Bitmap
         ensures bitmap { result.now ≡ bitmap_pinned Id.store self.old }
         ensures* pin { sem 𝓛 (KeepsPin Id.row Id.StoreName self.entry) }
@@ -101,7 +101,8 @@ impl<Id: StoreName> Pinned<Id> {
         &self.bitmap
     }
 
-    /// Learns a ticket: loads NOW, and has then seen all that it and the ticket had. The version that it holds stays. It waits for nobody.
+    /// Learns a ticket: loads NOW, and has then seen all that it and the ticket had seen. It keeps
+    /// its version, and waits for nobody.
     pub fn learn(&mut self, ticket: Ticket<Id>)
         ensures seat { self.new.seat ≡ record self.old.seat { seen = self.new.seat.seen } }
         ensures version { self.new.version ≡ self.old.version }
@@ -113,7 +114,8 @@ impl<Id: StoreName> Pinned<Id> {
         self.seat.learn(ticket);
     }
 
-    /// Lets the version go: takes the announcement back. The session has seen what the pin had. It waits for nobody.
+    /// Releases the version: withdraws the announcement. The session has seen what the pin had
+    /// seen. It waits for nobody.
     pub fn unpin(self) -> Session<Id>
         ensures seat { result ≡ leaving self.seat }
         ensures left { (result.announced ≡ None) × (result.holds ≡ None) }

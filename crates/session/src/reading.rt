@@ -1,4 +1,4 @@
-//! Reading a version by the shared words.
+//! Reads a version from the shared words.
 
 ghost use Rattle.std.specs.Prelude.{◌≡◌, ◌<◌, true, Some, slice_index};
 ghost use Rattle.bits.specs.TileWords.{tile_words};
@@ -11,7 +11,8 @@ ghost use Rattle.session.specs.Sessions.{bitmap_seen, HasSlot};
 use bits::Bitmap;
 use shelf::{ReaderSeat, StoreName};
 
-/// Reads the words of the tile that the held version has at a position: its block, and the block's rows.
+/// Reads the words of the tile at a position of the held version: its block number, and the block's
+/// rows.
 fn read_tile<Id: StoreName>(
     seat: &mut ReaderSeat<Id>,
     version: u32,
@@ -31,7 +32,8 @@ fn read_tile<Id: StoreName>(
     }
 }
 
-/// Looks at one word of a row of the held version, whose rows take so many: at the block of its tile, and at the tile's row.
+/// Reads one word of a row of the held version, whose rows take `across` words: the block number of
+/// its tile, and the tile's row.
 pub fn look_word<Id: StoreName>(
     seat: &mut ReaderSeat<Id>,
     version: u32,
@@ -75,7 +77,8 @@ fn read_version<Id: StoreName>(
     }
 }
 
-/// Reads the held version into a bitmap of the map's size, unless it is read already. The bitmap is cleared first, so that it forgets the bands of what it held before.
+/// Reads the held version into a bitmap of the map's size, unless it has been read. Clears the
+/// bitmap first, so that no band of its earlier contents counts.
 pub fn read_once<Id: StoreName>(
     seat: &mut ReaderSeat<Id>,
     version: u32,

@@ -1,4 +1,4 @@
-//! Room for a pin's bitmap, which a session keeps from one pin to the next.
+//! The buffer of a pin's bitmap, which a session keeps from one pin to the next.
 
 ghost use Rattle.std.specs.Prelude.{◌≡◌, IfOk, IfErr};
 ghost use Rattle.bits.specs.Cells.{IsSide};
@@ -9,7 +9,8 @@ use metric::Refusal;
 use std::alloc::Global;
 use std::marker::Model;
 
-/// The size of a store's map, and a bitmap of that size where a pin has left one. Contracts see the size.
+/// The size of a store's map, and a bitmap of that size if a pin has left one. Contracts see the
+/// size.
 #[derive(Drop)]
 pub struct Room {
     width: u16,
@@ -29,7 +30,7 @@ impl Model for Room {
 }
 
 impl Room {
-    /// The size alone: the first pin makes the bitmap.
+    /// Only the size: the first pin makes the bitmap.
     pub fn empty(width: u16, height: u16) -> Room
         ensures { result ≡ record { width = width; height = height } }
     {
@@ -40,7 +41,7 @@ impl Room {
         }
     }
 
-    /// This bitmap, which a pin has left.
+    /// Holds this bitmap, which a pin has left.
     pub fn with(bitmap: Bitmap) -> Room
         ensures { result ≡ record { width = bitmap.width; height = bitmap.height } }
     {
@@ -51,8 +52,8 @@ impl Room {
         }
     }
 
-    /// A bitmap of this size, whatever its cells are: the one that a pin has left, or else a new one.
-    /// Fails only when out of memory.
+    /// A bitmap of this size, whatever its cells: the one that a pin has left, or a new one. Fails
+    /// only when out of memory.
     pub fn take(&mut self, alloc: Global) -> Result<Bitmap, Refusal>
         requires width { IsSide self.old.width }
         requires height { IsSide self.old.height }

@@ -1,4 +1,4 @@
-//! A session, and how it pins.
+//! Sessions, and how they pin.
 
 ghost use Rattle.std.specs.Prelude.{◌≡◌, Some, None, IfOk, IfErr};
 ghost use mathlib.Core.List.{IsPrefix};
@@ -17,13 +17,15 @@ use shelf::{ReaderSeat, StoreName, Ticket};
 use std::alloc::Global;
 use std::marker::Model;
 
-/// For each tile of the map a pin's queries look at so many words one by one, before they read the version as a whole.
+/// Words per tile of the map that a pin's queries read one by one before they read the whole
+/// version.
 const LOOKS: u32 = 8;
 
-/// A session of a store: it makes commands, and pins versions. Contracts see it as its number, what it has seen of the log, and how many
-/// entries of it are its own. It has announced nothing and holds nothing.
+/// A session of a store: it runs commands, and pins versions. Contracts see it as its number, what
+/// it has seen of the log, and how many entries of the log are its own. It has announced nothing
+/// and holds nothing.
 ///
-/// It can't be let go: a store that is closed takes it back.
+/// It can't be dropped: closing its store takes it back.
 pub struct Session<Id: StoreName> {
     pub(crate) seat: ReaderSeat<Id>,
     pub(crate) room: Room,
@@ -57,10 +59,13 @@ impl<Id: StoreName> Session<Id> {
         self.seat.made()
     }
 
-    /// Pins the newest version: makes room for one bitmap, unless a pin before has left it, then loads what is newest, announces it and what comes after it, loads again and holds
-    /// that, and announces that one alone: from then on it keeps its own version, and no other. It waits for nobody, whatever others publish and collect meanwhile, and the version is at least the newest that the session had seen.
+    /// Pins the newest version. Makes a bitmap, unless an earlier pin has left one; loads the
+    /// newest version's number, announces that version and all later ones, loads again, holds the
+    /// version loaded, and announces it exactly: from then on it keeps its own version, and no
+    /// other. It waits for nobody, whatever others publish and collect meanwhile, and the version
+    /// is at least the newest that the session had seen.
     ///
-    /// Refused for want of memory alone; the session is returned, and nothing was announced.
+    /// Fails only when out of memory; returns the session, and has announced nothing.
     pub fn pin(self, alloc: Global) -> Result<Pinned<Id>, (Session<Id>, Refusal)>
         ensures free { (self.announced ≡ None) × (self.holds ≡ None) }
         ensures seat { IfOk result (λ pinned. pinned.seat ≡ record self {
@@ -95,7 +100,8 @@ impl<Id: StoreName> Session<Id> {
         })
     }
 
-    /// Learns a ticket: loads NOW, and has then seen all that it and the ticket had. It waits for nobody.
+    /// Learns a ticket: loads NOW, and has then seen all that it and the ticket had seen. It waits
+    /// for nobody.
     pub fn learn(&mut self, ticket: Ticket<Id>)
         ensures seat { self.new ≡ record self.old { seen = self.new.seen } }
         ensures began { IsPrefix self.old.seen self.new.seen }

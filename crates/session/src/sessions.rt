@@ -1,4 +1,4 @@
-//! All sessions of a store: named at its opening, and given up at its close.
+//! All sessions of a store: made when it opens, given up when it closes.
 
 ghost use Rattle.std.specs.Prelude.{◌≡◌, ◌+◌, ◌≤◌, [], All, length, sum_by};
 ghost use Rattle.std.specs.Vec.{vec_capacity};
@@ -32,7 +32,7 @@ pub fn sessions_of<Id: StoreName>(
     sessions
 }
 
-/// Gives sessions up, one after another.
+/// Gives up sessions, one after another.
 pub fn give_up<Id: StoreName>(closing: &mut Closing<Id>, mut sessions: Vec<Session<Id>>)
     ensures counts { closing.new ≡ record closing.old {
       readers = closing.old.readers + length sessions.items;

@@ -1,4 +1,4 @@
-//! A store: the lock of its desk, and how it is opened and closed.
+//! A store: the lock of its desk, and how it opens and closes.
 
 ghost use Rattle.std.specs.Prelude.{◌≡◌, IfOk, IfErr};
 ghost use Rattle.metric.specs.declared.refusal.Refusal.TheVariants.{Memory};
@@ -15,15 +15,16 @@ use std::sync::{Mutex, MutexGuard, Wait};
 
 /// A store of one map. Its sessions are values of their own, which may go to other threads.
 ///
-/// It can't be let go: it is closed.
+/// It can't be dropped: close it.
 pub struct Store<Id: StoreName> {
     desk: Mutex<Desk<Id>>,
 }
 
 impl<Id: StoreName> Store<Id> {
-    /// Opens a store, and gives its sessions, numbered from 0. Each has seen the empty log. Condition: the name is the blank's store.
+    /// Opens a store, and returns it with its sessions, numbered from 0. Each has seen the empty
+    /// log. Requires the name to be that of the blank's store.
     ///
-    /// Refused for want of memory alone; the blank is returned.
+    /// Fails only when out of memory; returns the blank.
     pub fn open(
         alloc: Global,
         blank: Blank,
@@ -48,10 +49,11 @@ impl<Id: StoreName> Store<Id> {
         self.desk.lock(rt)
     }
 
-    /// Closes the store: the place of its log's last checkpoint, 0 where there is none, and the entries after it.
-    /// The log starts with what each session has seen, and has as many entries by it as it counts.
+    /// Closes the store. Returns the place of its log's last checkpoint, 0 where there is none, and
+    /// the entries after it. The log extends what each session has seen, and has as many entries by
+    /// that session as it counts.
     ///
-    /// Where all sessions are given to this call, their counts add up to the log's length.
+    /// If this call takes all sessions, their counts add up to the log's length.
     pub fn close(self, sessions: Vec<Session<Id>>) -> (u32, Vec<StoreEntry>)
         ensures { IsHandedOut Id.store sessions.items result.0 result.1.items }
     {

@@ -1,4 +1,5 @@
-//! A collect, word by word: what each reader announces is loaded, and the versions stay that one of them may still need.
+//! A collect, word by word: it loads what each reader announces, and keeps the versions that a
+//! reader may still need.
 
 ghost use Rattle.std.specs.Prelude.{◌≡◌, ◌+◌, ◌<◌, ◌^◌, [], length, map, None};
 ghost use Rattle.map_core.specs.declared.command.Command.TheVariants.{Collect};
@@ -17,7 +18,7 @@ use epoch::kept_after;
 use map_core::{Reply, Seen};
 use shelf::{KeeperSeat, StoreName};
 
-/// Loads each reader's word, by number, and leaves there what it announces.
+/// Loads each reader's word, by number, and stores what it announces in `announced`.
 fn scan_all<Id: StoreName>(
     keeper: &mut KeeperSeat<Id>,
     by: u32,
@@ -37,7 +38,8 @@ fn scan_all<Id: StoreName>(
     }
 }
 
-/// Carries out a collect in hand, up to its commit. It keeps the versions that what its scan saw asks for, which is left in `announced`.
+/// Carries out the current collect, up to its commit. Stores what its scan saw in `announced`, and
+/// keeps the versions that this asks for.
 pub fn carry_collect<Id: StoreName>(
     keeper: &mut KeeperSeat<Id>,
     holding: &mut Holding,

@@ -1,4 +1,5 @@
-//! A publish, word by word: the rows of the draft's own tiles, then the directory of the next version.
+//! A publish, word by word: the rows of the draft's own tiles, then the directory of the next
+//! version.
 
 ghost use Rattle.std.specs.Prelude.{◌≡◌, ℕ, ◌+◌, ◌*◌, ◌<◌, length, take, None};
 ghost use Rattle.bits.specs.TileWords.{tile_words};
@@ -18,7 +19,7 @@ use crate::holding::Holding;
 use map_core::{Plan, Reply};
 use shelf::{KeeperSeat, StoreName};
 
-/// Stores the rows of one of the draft's own blocks, the one at this place among them, counted from 0.
+/// Stores the rows of one of the draft's own blocks, counted from 0.
 fn write_rows<Id: StoreName>(
     keeper: &mut KeeperSeat<Id>,
     plan: Plan,
@@ -38,7 +39,8 @@ fn write_rows<Id: StoreName>(
     }
 }
 
-/// Stores the rows of the tile that the draft has of its own at a position, if it has one, and answers how many tiles that were.
+/// Stores the rows of the tile at a position if the draft has its own there. Returns how many tiles
+/// it stored: 0 or 1.
 fn write_tile<Id: StoreName>(
     keeper: &mut KeeperSeat<Id>,
     plan: Plan,
@@ -64,7 +66,8 @@ fn write_tile<Id: StoreName>(
     }
 }
 
-/// Stores the rows of all of the draft's own tiles, by position, and answers how many tiles there are.
+/// Stores the rows of all of the draft's own tiles, by position, and returns how many tiles those
+/// are.
 fn write_tiles<Id: StoreName>(
     keeper: &mut KeeperSeat<Id>,
     plan: Plan,
@@ -84,7 +87,7 @@ fn write_tiles<Id: StoreName>(
     stored
 }
 
-/// Stores the directory of the next version, after the rows of so many tiles.
+/// Stores the directory of the next version, after the rows of the draft's own tiles.
 fn write_directory<Id: StoreName>(
     keeper: &mut KeeperSeat<Id>,
     plan: Plan,
@@ -106,7 +109,7 @@ fn write_directory<Id: StoreName>(
     }
 }
 
-/// Carries out a publish in hand, up to its commit.
+/// Carries out the current publish, up to its commit.
 pub fn carry_publish<Id: StoreName>(
     keeper: &mut KeeperSeat<Id>,
     holding: &mut Holding,

@@ -1,4 +1,4 @@
-//! What a command was answered, once it is known which one it was.
+//! The answers of single commands.
 
 ghost use Rattle.std.specs.Prelude.{◌≡◌, ℕ, IfErr};
 ghost use Rattle.bits.specs.Cells.{Cells};
@@ -9,7 +9,7 @@ use bits::Bitmap;
 use map_core::{Command, Reply};
 use metric::Refusal;
 
-/// What a command was answered; a command that was returned is let go.
+/// The answer to a command; a command that was returned is dropped.
 pub fn answered(applied: Result<Reply, (Command, Refusal)>) -> Result<Reply, Refusal>
     ensures { result ≡ outcome_of applied }
 {
@@ -19,7 +19,7 @@ pub fn answered(applied: Result<Reply, (Command, Refusal)>) -> Result<Reply, Ref
     }
 }
 
-/// What a stamp was answered; of a command that was returned the bitmap is.
+/// The answer to a stamp; of a command that was returned, only the bitmap.
 pub fn stamp_answered(
     applied: Result<Reply, (Command, Refusal)>,
 ) -> Result<Reply, (Bitmap, Refusal)>

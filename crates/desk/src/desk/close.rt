@@ -1,4 +1,4 @@
-//! A desk that is closed.
+//! Closes a desk.
 
 ghost use Rattle.std.specs.Prelude.{◌≡◌};
 ghost use Rattle.desk.specs.Desks.{base_place, kept_part};
@@ -7,7 +7,8 @@ use crate::desk::Desk;
 use shelf::{Closing, StoreEntry, StoreName};
 
 impl<Id: StoreName> Desk<Id> {
-    /// Closes the desk, whose blocks all go back: its keeper's seat, to which the readers' seats are to be given up, the place of the last checkpoint, and the entries that are kept.
+    /// Closes the desk, and frees all its blocks. Returns its keeper's seat, to which the readers'
+    /// seats are to be given up, the place of the last checkpoint, and the entries it keeps.
     pub fn close(self) -> (Closing<Id>, u32, Vec<StoreEntry>)
         ensures closing { result.0 ≡ record { log = self.log; readers = 0; made = 0 } }
         ensures base { result.1 ≡ base_place Id.store self.log }

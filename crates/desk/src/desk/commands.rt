@@ -1,6 +1,7 @@
-//! The commands of a desk. Each lends a session's seat, which has seen a beginning of the log before its command's place, and the whole log at its end.
+//! The commands of a desk. Each borrows a session's seat, which has seen a prefix of the log before
+//! the command's place, and sees the whole log at its end.
 //!
-//! Condition of each: a seat that has announced a version holds one.
+//! Each requires that a seat that has announced a version holds one.
 
 ghost use Rattle.std.specs.Prelude.{◌≡◌, ◌<◌, true, Some, vec_len, vec_capacity, IfOk, IfErr, OnOk};
 ghost use Rattle.map_core.specs.declared.command.Command.TheVariants.{Paint, Stamp, Publish, Revert, Collect, Checkpoint};
@@ -20,7 +21,8 @@ use map_core::{Command, Entry, Reply};
 use metric::{Rect, Refusal};
 use shelf::{ReaderSeat, Request, StoreEntry, StoreName, Ticket, meet};
 
-/// Judges a command, and finds room for its entry, which is asked for after the other refusals; a checkpoint needs none.
+/// Judges a command, and reserves capacity for its entry, after all other refusals; a checkpoint
+/// needs none.
 fn admit<'a>(
     holding: &Holding,
     command: &'a Command,
@@ -39,7 +41,8 @@ fn admit<'a>(
     Ok(judged)
 }
 
-/// Keeps an entry after the others. A checkpoint drops them all, and isn't kept itself; the room stays.
+/// Appends an entry to those kept. A checkpoint drops them all, and isn't kept itself; the capacity
+/// stays.
 fn keep(log: &mut Vec<StoreEntry>, signed: StoreEntry)
     requires { takes_room signed.entry.command ≡ true → vec_len log.old < vec_capacity log.old }
     ensures { log.new.items ≡ entries_kept_after log.old.items signed }
@@ -52,10 +55,13 @@ fn keep(log: &mut Vec<StoreEntry>, signed: StoreEntry)
 }
 
 impl<Id: StoreName> Desk<Id> {
-    /// Does a command: its reply, with its place in the log, from 1, as the call of its name says (`paint`, `stamp`, `publish`, `revert`, `collect`, `checkpoint`).
+    /// Runs a command. Returns its reply, with its place in the log, from 1, as the call of its
+    /// name says (`paint`, `stamp`, `publish`, `revert`, `collect`, `checkpoint`).
     ///
-    /// Refused, in this order, for its area (`OutOfRange`), for want of room in the log (`LogFull`), of a place (`PlacesUsed`), of blocks (`BlocksFull`, a paint or a
-    /// stamp) or of a slot (`VersionsFull`, a publish), and of memory; the command is returned, and the desk is as before. Refused or not, the seat has then seen the whole log.
+    /// Refuses, in this order, for its area (`OutOfRange`), a full log (`LogFull`), no place left
+    /// (`PlacesUsed`), too few free blocks (`BlocksFull`, a paint or a stamp) or no free slot
+    /// (`VersionsFull`, a publish), and when out of memory; the command is returned, and the desk
+    /// is as before. Refused or not, the seat has then seen the whole log.
     pub fn apply(
         &mut self,
         seat: &mut ReaderSeat<Id>,
@@ -88,11 +94,12 @@ impl<Id: StoreName> Desk<Id> {
         Ok(reply)
     }
 
-    /// Gives the cells of a rectangle of the draft one value: `Reply::Painted`, with the command's place in the log, from 1, and how many
-    /// cells became another.
+    /// Sets the cells of a rectangle of the draft to one value: `Reply::Painted`, with the
+    /// command's place in the log, from 1, and how many cells changed.
     ///
-    /// Refused, in this order, where the rectangle isn't in the map (`OutOfRange`), for want of room in the log (`LogFull`), of a place (`PlacesUsed`), of blocks
-    /// (`BlocksFull`) and of memory. Refused or not, the seat has then seen the whole log.
+    /// Refuses, in this order, a rectangle outside the map (`OutOfRange`), a full log (`LogFull`),
+    /// no place left (`PlacesUsed`), too few free blocks (`BlocksFull`), and when out of memory.
+    /// Refused or not, the seat has then seen the whole log.
     pub fn paint(
         &mut self,
         seat: &mut ReaderSeat<Id>,
@@ -105,9 +112,10 @@ impl<Id: StoreName> Desk<Id> {
         answered(self.apply(seat, Command::Paint { rect, black }))
     }
 
-    /// Gives each cell of the rectangle at `(x, y)` of the bitmap's size the bitmap's value, obstacle or not: `Reply::Painted`.
+    /// Sets each cell of the rectangle at `(x, y)`, of the bitmap's size, to the bitmap's value,
+    /// obstacle or not: `Reply::Painted`.
     ///
-    /// Refused as `paint` is; the bitmap is returned.
+    /// Refuses as `paint` does; returns the bitmap.
     pub fn stamp(
         &mut self,
         seat: &mut ReaderSeat<Id>,
@@ -122,9 +130,10 @@ impl<Id: StoreName> Desk<Id> {
         stamp_answered(self.apply(seat, Command::Stamp { x, y, bitmap }))
     }
 
-    /// Appends the draft as the next version, also where nothing changed: `Reply::Published`.
+    /// Appends the draft as the next version, even if nothing changed: `Reply::Published`.
     ///
-    /// Refused, in this order, for want of room in the log (`LogFull`), of a place (`PlacesUsed`), of a slot (`VersionsFull`) and of memory.
+    /// Refuses, in this order, a full log (`LogFull`), no place left (`PlacesUsed`), no free slot
+    /// (`VersionsFull`), and when out of memory.
     pub fn publish(&mut self, seat: &mut ReaderSeat<Id>) -> Result<Reply, Refusal>
         requires { IsSteady seat.old }
         ensures { IsApplied Id.store self.old seat.old Publish result self.new seat.new }
@@ -134,7 +143,8 @@ impl<Id: StoreName> Desk<Id> {
 
     /// Makes the draft the newest version: `Reply::Reverted`.
     ///
-    /// Refused, in this order, for want of room in the log (`LogFull`), of a place (`PlacesUsed`) and of memory.
+    /// Refuses, in this order, a full log (`LogFull`), no place left (`PlacesUsed`), and when out
+    /// of memory.
     pub fn revert(&mut self, seat: &mut ReaderSeat<Id>) -> Result<Reply, Refusal>
         requires { IsSteady seat.old }
         ensures { IsApplied Id.store self.old seat.old Revert result self.new seat.new }
@@ -142,13 +152,15 @@ impl<Id: StoreName> Desk<Id> {
         answered(self.apply(seat, Command::Revert))
     }
 
-    /// Keeps newest, each version that a reader has announced exactly, and from each other announcement on all
-    /// that were kept, as one word after another is loaded: `Reply::Collected`, with the least of them and how
-    /// many blocks came back. Where all that the scan saw is exact, it keeps at most one version more than
-    /// there are announcements (`collects`). That the scan saw the readers' words as they stood when it
-    /// loaded them is a clause of the keeper's step (`KeeperSeat::scan`).
+    /// Keeps the newest version, each version that a reader has announced exactly, and from each
+    /// other announcement on all that were kept, as it loads one word after another:
+    /// `Reply::Collected`, with the least version kept and how many blocks came back. If all that
+    /// the scan saw is exact, it keeps at most one version more than there are announcements
+    /// (`collects`). A clause of the keeper's step (`KeeperSeat::scan`) says that the scan saw the
+    /// readers' words as they stood when it loaded them.
     ///
-    /// Refused, in this order, for want of room in the log (`LogFull`), of a place (`PlacesUsed`) and of memory.
+    /// Refuses, in this order, a full log (`LogFull`), no place left (`PlacesUsed`), and when out
+    /// of memory.
     pub fn collect(&mut self, seat: &mut ReaderSeat<Id>) -> Result<Reply, Refusal>
         requires { IsSteady seat.old }
         ensures { IsApplied Id.store self.old seat.old Collect result self.new seat.new }
@@ -156,9 +168,11 @@ impl<Id: StoreName> Desk<Id> {
         answered(self.apply(seat, Command::Collect))
     }
 
-    /// Drops the entries that are kept, its own among them: `Reply::Checkpointed`, whose place is the base place then. Places go on counting. It takes no memory, and no bitmap and no version changes.
+    /// Drops the entries it keeps, its own among them: `Reply::Checkpointed`, whose place is then
+    /// the base place. Places go on counting. It allocates no memory, and changes no bitmap and no
+    /// version.
     ///
-    /// Refused where no place is left (`PlacesUsed`) alone.
+    /// Refuses only if no place is left (`PlacesUsed`).
     pub fn checkpoint(&mut self, seat: &mut ReaderSeat<Id>) -> Result<Reply, Refusal>
         requires { IsSteady seat.old }
         ensures { IsApplied Id.store self.old seat.old Checkpoint result self.new seat.new }
@@ -166,7 +180,8 @@ impl<Id: StoreName> Desk<Id> {
         answered(self.apply(seat, Command::Checkpoint))
     }
 
-    /// The entries that are kept: each command that was accepted since the last checkpoint, with its reply and its session.
+    /// The entries it keeps: each command accepted since the last checkpoint, with its reply and
+    /// its session.
     pub fn log(&self) -> &[StoreEntry]
         ensures kept { result.now ≡ kept_part Id.store self.now.log }
         ensures legal { IsLegal Id.store.base.setting Id.store.base.opening (entries self.now.log) }
@@ -174,14 +189,16 @@ impl<Id: StoreName> Desk<Id> {
         self.log.as_slice()
     }
 
-    /// The place of the last checkpoint, 0 where there is none: the entries that are kept have the places after it.
+    /// The place of the last checkpoint, 0 where there is none: the entries it keeps have the
+    /// places after it.
     pub fn base_place(&self) -> u32
         ensures { result ≡ base_place Id.store self.now.log }
     {
         self.holding.ledger.base
     }
 
-    /// A token of the log as it is now. Whoever learns it has then seen that log. It is always given.
+    /// A token of the log as it is now. Whoever learns it has then seen that log. It is always
+    /// `Some`.
     pub fn ticket(&mut self) -> Option<Ticket<Id>>
         ensures ticket { result ≡ Some self.old.log }
         ensures desk { self.new ≡ self.old }

@@ -16,7 +16,7 @@ use std::marker::Model;
 
 /// A desk of a store that has no name yet. Contracts see it as the store.
 ///
-/// It can't be let go: it is named, or discarded.
+/// It can't be dropped: name or discard it.
 pub struct FreshDesk {
     keeper: FreshKeeper,
     holding: Holding,
@@ -37,9 +37,11 @@ impl Model for FreshDesk {
 }
 
 impl FreshDesk {
-    /// A desk with an empty log on this bitmap. All room but that of the log is taken here. Refused for want of memory alone.
+    /// A desk with an empty log for this bitmap. Allocates everything but the log. Fails only when
+    /// out of memory.
     ///
-    /// Conditions: the setting is within its limits for the map, and the keeper's store was opened with both.
+    /// Requires the setting to be within its limits for the map, and the keeper's store to have
+    /// been opened with both.
     pub fn of(
         alloc: Global,
         setting: Setting,
@@ -60,7 +62,7 @@ impl FreshDesk {
         })
     }
 
-    /// Lets it go: nothing was opened.
+    /// Drops a desk whose store was never opened.
     pub fn discard(self) {
         let FreshDesk {
             keeper: _,
@@ -71,7 +73,7 @@ impl FreshDesk {
         holding.end();
     }
 
-    /// The desk of the store with this name. Condition: the name is its store's.
+    /// The desk of the store with this name. Requires the name to be its store's.
     pub fn named<Id: StoreName>(self) -> Desk<Id>
         requires { self ≡ Id.store }
         ensures { result.log ≡ [] }

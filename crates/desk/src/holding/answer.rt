@@ -1,4 +1,4 @@
-//! How commands that are judged are done on what a desk holds.
+//! The effect of commands that have been judged on what a desk holds.
 
 ghost use Rattle.std.specs.Prelude.{◌≡◌, None};
 ghost use Rattle.map_core.specs.declared.command.Command.{Command};
@@ -15,7 +15,7 @@ use grid::Stroke;
 use map_core::{Kept, Reply};
 
 impl Holding {
-    /// A paint or a stamp that is judged.
+    /// Does a paint or a stamp that has been judged.
     pub fn draw(&mut self, stroke: Stroke) -> Reply
         requires able { CanAnswer self.old }
         requires judged { (c : Command) × IsJudged self.old c (kinds.Draw stroke) }
@@ -25,7 +25,7 @@ impl Holding {
         self.ledger.enter_draw(changed)
     }
 
-    /// A publish that the ledger doesn't refuse.
+    /// Does a publish that the ledger doesn't refuse.
     pub fn publish(&mut self) -> Reply
         requires able { CanAnswer self.old }
         requires judged { refused_by_ledger self.old.ledger Publish ≡ None }
@@ -35,7 +35,7 @@ impl Holding {
         self.ledger.enter_publish()
     }
 
-    /// A revert that the ledger doesn't refuse.
+    /// Does a revert that the ledger doesn't refuse.
     pub fn revert(&mut self) -> Reply
         requires able { CanAnswer self.old }
         requires judged { refused_by_ledger self.old.ledger Revert ≡ None }
@@ -45,7 +45,7 @@ impl Holding {
         self.ledger.enter_revert()
     }
 
-    /// A checkpoint that the ledger doesn't refuse: draft, versions and blocks stay.
+    /// Does a checkpoint that the ledger doesn't refuse: draft, versions and blocks stay.
     pub fn checkpoint(&mut self) -> Reply
         requires able { CanAnswer self.old }
         requires judged { refused_by_ledger self.old.ledger Checkpoint ≡ None }
@@ -54,7 +54,8 @@ impl Holding {
         self.ledger.enter_checkpoint()
     }
 
-    /// A collect that the ledger doesn't refuse, which keeps these versions. Conditions: they were kept, and newest is among them.
+    /// Does a collect that the ledger doesn't refuse, and keeps these versions. Requires that they
+    /// were kept, and that the newest is among them.
     pub fn collect(&mut self, kept: Kept) -> Reply
         requires able { CanAnswer self.old }
         requires judged { refused_by_ledger self.old.ledger Collect ≡ None }

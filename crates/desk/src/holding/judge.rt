@@ -1,4 +1,4 @@
-//! Why commands are refused by what a desk holds, and what those do that aren't.
+//! Why what a desk holds refuses a command, and what a command does otherwise.
 
 ghost use Rattle.std.specs.Prelude.{◌≡◌, Some, None, IfOk, IfErr};
 ghost use Rattle.map_core.specs.Ledger.{refused_by_ledger};
@@ -10,7 +10,7 @@ use map_core::Command;
 use metric::Refusal;
 
 impl Holding {
-    /// What a command does that the ledger doesn't refuse, or that it is refused for want of blocks.
+    /// What a command does that the ledger doesn't refuse, or its refusal for too few free blocks.
     fn judge_blocks<'a>(&self, command: &'a Command) -> Result<Judged<'a>, Refusal>
         requires able { CanAnswer self.now }
         requires judged { refused_by_ledger self.now.ledger command.now ≡ None }
@@ -33,8 +33,10 @@ impl Holding {
         }
     }
 
-    /// Judges a command: what it does, or why it is refused: for its area (`OutOfRange`), for want of room in the log (`LogFull`), of a place (`PlacesUsed`), of
-    /// a slot (`VersionsFull`, a publish) or of blocks (`BlocksFull`, a paint or a stamp), in this order. It takes no memory.
+    /// Judges a command: what it does, or why it is refused: for its area (`OutOfRange`), a full
+    /// log (`LogFull`), no place left (`PlacesUsed`), no free slot (`VersionsFull`, a publish) or
+    /// too few free blocks (`BlocksFull`, a paint or a stamp), in this order. It allocates no
+    /// memory.
     pub fn judge<'a>(&self, command: &'a Command) -> Result<Judged<'a>, Refusal>
         requires { CanAnswer self.now }
         ensures judged { IfOk result (IsJudged self.now command.now) }

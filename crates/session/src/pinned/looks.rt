@@ -1,11 +1,11 @@
-//! What the queries of a pin look at.
+//! What the queries of a pin read.
 
 /// Single words of the version, or all of it.
 #[derive(Clone, Copy)]
 pub enum Looks {
-    /// Words, one by one, and as many more of them as are left before the version is read.
+    /// Single words, and how many more of them before the whole version is read.
     Words { left: u32 },
-    /// The version's bitmap, which is read.
+    /// The version's bitmap, already read.
     Whole,
 }
 
@@ -13,7 +13,7 @@ impl Looks {
     ghost use Rattle.std.specs.Prelude.{◌≡◌};
     ghost use Rattle.session.specs.Sessions.{is_whole};
 
-    /// Whether the version is read.
+    /// Whether the whole version has been read.
     pub fn is_whole(self) -> bool
         ensures { result ≡ is_whole self }
     {

@@ -1,4 +1,4 @@
-//! What a pin is asked: the queries over the version that it holds.
+//! The queries of a pin, over the version that it holds.
 
 ghost use Rattle.std.specs.Prelude.{◌≡◌, None, IfOk, IfErr};
 ghost use Rattle.metric.specs.Nearest.{IsNear};
@@ -14,9 +14,10 @@ use shelf::StoreName;
 use std::alloc::Global;
 
 impl<Id: StoreName> Pinned<Id> {
-    /// The nearest obstacle of a cell in the version that it holds, as `clearance::at` answers with the store's edge.
+    /// The nearest obstacle of a cell in the pinned version, as `clearance::at` answers with the
+    /// store's edge.
     ///
-    /// Refused for a cell outside the map (`OutOfRange`) alone. No memory is asked for.
+    /// Refuses only a cell outside the map (`OutOfRange`). It allocates no memory.
     pub fn at<M: Metric>(&mut self, alloc: Global, cell: Cell) -> Result<Option<Near>, Refusal>
         ensures pin { self.new ≡ self.old }
         ensures inside { IfOk result (λ _. IsInside (bitmap_pinned Id.store self.old) cell.x cell.y) }
@@ -33,9 +34,11 @@ impl<Id: StoreName> Pinned<Id> {
         }
     }
 
-    /// The least distance over a rectangle in the version that it holds, as `clearance::least_in` answers with the store's edge.
+    /// The least distance in a rectangle of the pinned version, as `clearance::least_in` answers
+    /// with the store's edge.
     ///
-    /// Refused for a rectangle that isn't wholly in the map (`OutOfRange`) alone. No memory is asked for.
+    /// Refuses only a rectangle that isn't wholly within the map (`OutOfRange`). It allocates no
+    /// memory.
     pub fn least_in<M: Metric>(
         &mut self,
         alloc: Global,
@@ -55,10 +58,12 @@ impl<Id: StoreName> Pinned<Id> {
         }
     }
 
-    /// The least distance along a path in the version that it holds, as `clearance::along` answers with the store's edge.
+    /// The least distance along a path in the pinned version, as `clearance::along` answers with
+    /// the store's edge.
     ///
-    /// Refused, in this order, for no point or over 1000 (`BadPath`), a point outside the map (`OutOfRange`), the first point that is in
-    /// neither the row nor the column of the one before it (`Crooked`). No memory is asked for.
+    /// Refuses, in this order, no points or over 1000 (`BadPath`), a point outside the map
+    /// (`OutOfRange`), the first point that is in neither the row nor the column of the one before
+    /// it (`Crooked`). It allocates no memory.
     pub fn along<M: Metric>(
         &mut self,
         alloc: Global,
@@ -78,8 +83,9 @@ impl<Id: StoreName> Pinned<Id> {
         }
     }
 
-    /// Whether each cell of a path is at least `d` away from the obstacles of the version that it holds, in the metric's unit, as
-    /// `clearance::clear_of` answers with the store's edge. Refused as `along` is.
+    /// Whether each cell of a path is at least `d` away from the obstacles of the pinned version,
+    /// in the metric's unit, as `clearance::clear_of` answers with the store's edge. Refuses as
+    /// `along` does.
     pub fn clear_of<M: Metric>(
         &mut self,
         alloc: Global,

@@ -1,4 +1,4 @@
-//! The words of the version that a pin holds, one by one: a fresh pin looks at those that it is asked for.
+//! The words of the pinned version, one by one: a fresh pin reads only those that a query asks for.
 
 ghost use Rattle.std.specs.Prelude.{◌≡◌, ◌<◌, ◌≤◌};
 
@@ -51,7 +51,7 @@ impl<Id: StoreName> Rows for Pinned<Id> {
         true
     }
 
-    /// A fresh pin knows of no band that is blank, and one that was read knows what its bitmap does.
+    /// A fresh pin knows no band to be blank; one that was read knows what its bitmap does.
     fn bands(&self) -> u64 {
         match self.looks {
             Looks::Whole => self.bitmap.bands(),
@@ -59,7 +59,7 @@ impl<Id: StoreName> Rows for Pinned<Id> {
         }
     }
 
-    /// The same of tiles.
+    /// As `bands`, of tiles.
     fn tiles(&self, band: u16) -> u64 {
         match self.looks {
             Looks::Whole => self.bitmap.marked_tiles(band),

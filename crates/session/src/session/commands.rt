@@ -1,4 +1,4 @@
-//! A session's commands.
+//! The commands of a session.
 
 ghost use Rattle.std.specs.Prelude.{◌≡◌, IfErr};
 ghost use Rattle.map_core.specs.declared.command.Command.TheVariants.{Paint, Stamp, Publish, Revert, Collect, Checkpoint};
@@ -12,7 +12,7 @@ use metric::{Rect, Refusal};
 use shelf::StoreName;
 
 impl<Id: StoreName> Session<Id> {
-    /// Does a command, as `Desk::apply` does with its seat; where it is refused, it is returned.
+    /// Runs a command, as `Desk::apply` does with its seat; returns the command if it is refused.
     pub fn apply(
         &mut self,
         desk: &mut Desk<Id>,
@@ -24,7 +24,7 @@ impl<Id: StoreName> Session<Id> {
         desk.apply(&mut self.seat, command)
     }
 
-    /// Gives the cells of a rectangle of the draft one value, as `Desk::paint` does.
+    /// Sets the cells of a rectangle of the draft to one value, as `Desk::paint` does.
     pub fn paint(&mut self, desk: &mut Desk<Id>, rect: Rect, black: bool) -> Result<Reply, Refusal>
         ensures { IsApplied Id.store desk.old self.old (Paint rect black) result desk.new self.new }
     {
@@ -59,14 +59,14 @@ impl<Id: StoreName> Session<Id> {
         answered(self.apply(desk, Command::Revert))
     }
 
-    /// Lets versions go that nobody holds, as `Desk::collect` does.
+    /// Releases versions that nobody holds, as `Desk::collect` does.
     pub fn collect(&mut self, desk: &mut Desk<Id>) -> Result<Reply, Refusal>
         ensures { IsApplied Id.store desk.old self.old Collect result desk.new self.new }
     {
         answered(self.apply(desk, Command::Collect))
     }
 
-    /// Drops the entries that the desk keeps, as `Desk::checkpoint` does. It takes no memory.
+    /// Drops the entries that the desk keeps, as `Desk::checkpoint` does. It allocates no memory.
     pub fn checkpoint(&mut self, desk: &mut Desk<Id>) -> Result<Reply, Refusal>
         ensures { IsApplied Id.store desk.old self.old Checkpoint result desk.new self.new }
     {
