@@ -7,24 +7,26 @@ use metric::Rect;
 /// A command to the keeper of the map. There is one draft, and the published versions.
 #[derive(Debug, Drop)]
 pub enum Command {
-    /// Gives each cell of a rectangle of the draft one value.
+    /// Sets each cell of a rectangle of the draft to one value.
     Paint { rect: Rect, black: bool },
-    /// Gives each cell of the rectangle at `(x, y)` of the bitmap's size the bitmap's value, obstacle or not.
+    /// Sets each cell of the rectangle at `(x, y)`, of the bitmap's size, to the bitmap's value,
+    /// obstacle or not.
     Stamp { x: u16, y: u16, bitmap: Bitmap },
-    /// Appends the draft as the next version, also where nothing changed.
+    /// Appends the draft as the next version, even if nothing changed.
     Publish,
     /// Makes the draft the newest version.
     Revert,
-    /// Lets versions go that no reader may need, and gives back blocks. It changes no bitmap.
+    /// Releases versions that no reader may need, and frees blocks. It changes no bitmap.
     Collect,
-    /// Changes no bitmap. The entries up to it, itself included, count no longer against the log's limit; places count on.
+    /// Changes no bitmap. The entries up to and including its own no longer count against the log's
+    /// limit; places go on counting.
     Checkpoint,
 }
 
-/// The reply to a command that was accepted. Each has the command's place in the log, from 1.
+/// The reply to an accepted command. Each has the command's place in the log, from 1.
 #[derive(Clone, Copy, Debug, PartialEq, Eq)]
 pub enum Reply {
-    /// To a paint or a stamp, with the number of cells that became another.
+    /// To a paint or a stamp, with the number of cells that changed.
     Painted {
         place: u32,
         changed: u32,
@@ -38,7 +40,8 @@ pub enum Reply {
     Reverted {
         place: u32,
     },
-    /// To a collect, with the least version that is kept, the number of blocks that were given back, and the versions that are kept.
+    /// To a collect, with the least version kept, the number of blocks freed, and the versions
+    /// kept.
     Collected {
         place: u32,
         floor: u32,
@@ -51,7 +54,7 @@ pub enum Reply {
     },
 }
 
-/// An entry of the log: a command that was accepted, with its reply.
+/// An entry of the log: an accepted command with its reply.
 #[derive(Debug, Drop)]
 pub struct Entry {
     pub command: Command,

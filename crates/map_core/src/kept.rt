@@ -5,7 +5,7 @@ ghost use Rattle.map_core.specs.declared.kept.Seen.TheVariants.{From, Exact};
 ghost use Rattle.map_core.specs.Words.{pin_word, seen_in};
 ghost use Rattle.map_core.specs.Kept.{members, IsIn, first_free, first_kept, with_version, lowered, slots_after, kept_after, is_stay, slot_after, asks, is_spanned, IsPartOfKept, IsApart, AreExact, announcements};
 
-/// The versions that are kept, at most 64: for each slot 0 where it is free, or its version plus 1.
+/// The versions that are kept, at most 64: for each slot, 0 if it is free, or its version plus 1.
 #[derive(Clone, Copy, Debug, PartialEq, Eq)]
 pub struct Kept {
     pub slots: [u32; 64],
@@ -14,14 +14,15 @@ pub struct Kept {
 /// What a reader has announced.
 #[derive(Clone, Copy, Debug, PartialEq, Eq)]
 pub enum Seen {
-    /// A version: it may hold that one, or yet take any later one that is kept.
+    /// A version: the reader may hold it, or still take any later one that is kept.
     From(u32),
-    /// The version that it holds, and no other.
+    /// The only version that the reader holds.
     Exact(u32),
 }
 
 impl Seen {
-    /// What a reader's word announces: nothing if it is 0, an odd one its half, an even one its half less 1. Condition: its halves fit.
+    /// What a reader's word announces: nothing for 0, `From(n)` for 2n + 1, and `Exact(n)` for 2n +
+    /// 2. Requires that n fits 32 bits.
     #[tactic(auto, unfolding(crate::specs::Words::pin_word))]
     pub fn in_word(word: u64) -> Option<Seen>
         requires { word < 2 ^ 33 }
@@ -48,7 +49,7 @@ fn asks(seen: Option<Seen>, version: u32) -> bool
     }
 }
 
-/// Whether a version stays: the newest one does, and each that an announcement keeps.
+/// Whether a version stays: the newest does, and each that an announcement keeps.
 fn is_stay(newest: u32, seen: &[Option<Seen>], version: u32) -> bool
     ensures { result ≡ is_stay newest seen.now version }
 {
@@ -76,7 +77,7 @@ fn word_asks(word: u64, version: u32) -> bool
     word / 2 - 1 == u64::from(version)
 }
 
-/// Whether a version stays by these readers' words.
+/// Whether a version stays, going by these readers' words.
 fn is_stay_by(newest: u32, words: &[u64], version: u32) -> bool
     ensures { result ≡ is_stay newest (map seen_in words.now) version }
 {
@@ -91,7 +92,7 @@ fn is_stay_by(newest: u32, words: &[u64], version: u32) -> bool
     false
 }
 
-/// What a slot has after a collect whose scan saw these words.
+/// The content of a slot after a collect whose scan saw these words.
 fn slot_after_scan(newest: u32, words: &[u64], slot: u32) -> u32
     ensures { result ≡ slot_after newest (map seen_in words.now) slot }
 {
@@ -102,7 +103,7 @@ fn slot_after_scan(newest: u32, words: &[u64], slot: u32) -> u32
     }
 }
 
-/// What a slot has after a collect.
+/// The content of a slot after a collect.
 fn slot_after(newest: u32, seen: &[Option<Seen>], slot: u32) -> u32
     ensures { result ≡ slot_after newest seen.now slot }
 {
@@ -113,7 +114,7 @@ fn slot_after(newest: u32, seen: &[Option<Seen>], slot: u32) -> u32
     }
 }
 
-/// The least free slot; their number where none is free.
+/// The least free slot; the number of slots if none is free.
 fn first_free(slots: &[u32]) -> usize
     ensures { result ≡ first_free slots.now }
 {
@@ -126,7 +127,7 @@ fn first_free(slots: &[u32]) -> usize
 }
 
 impl Kept {
-    /// Version 0 alone, in slot 0.
+    /// Only version 0, in slot 0.
     pub fn first() -> Kept
         ensures { result ≡ first_kept }
     {
@@ -148,7 +149,7 @@ impl Kept {
         count
     }
 
-    /// The least version that is kept, or the newest one where that is less.
+    /// The least version that is kept, or the newest if that is less.
     pub fn least(&self, newest: u32) -> u32
         ensures { result ≡ fold lowered newest self.now.slots }
     {
@@ -161,7 +162,7 @@ impl Kept {
         least
     }
 
-    /// The least free slot. Condition: there is one.
+    /// The least free slot. Requires a free slot.
     pub fn next_slot(&self) -> u32
         requires { length (members self.now.slots) < 64 }
         ensures { result ≡ first_free self.now.slots }
@@ -169,7 +170,7 @@ impl Kept {
         first_free(&self.slots) as u32
     }
 
-    /// The slot of a version. Condition: it is kept.
+    /// The slot of a version. Requires that the version is kept.
     pub fn slot_of(&self, version: u32) -> u32
         requires { IsIn self.now version }
         ensures { slice_index self.now.slots result ≡ version + 1 }
@@ -182,7 +183,7 @@ impl Kept {
         unreachable!()
     }
 
-    /// Keeps one version more, in the least free slot, and answers that slot. Condition: there is one.
+    /// Keeps one more version, in the least free slot, and returns that slot. Requires a free slot.
     pub fn add(&mut self, version: u32) -> u32
         requires room { length (members self.old.slots) < 64 }
         requires few { version + 1 < 2 ^ 32 }
@@ -206,7 +207,7 @@ impl Kept {
         false
     }
 
-    /// The versions that stay kept after a collect whose scan saw these words.
+    /// The versions kept after a collect whose scan saw these words.
     pub fn after_scan(&self, newest: u32, words: &[u64]) -> Kept
         ensures { result ≡ record { slots = slots_after newest (map seen_in words.now) self.now.slots } }
     {
@@ -217,10 +218,11 @@ impl Kept {
         Kept { slots }
     }
 
-    /// The versions that stay kept after a collect, each in its slot.
+    /// The versions kept after a collect, each in its slot.
     ///
-    /// These are newest, each version that is announced exactly, and from each other announcement on all that were kept. Where each announcement
-    /// is exact, there is one more of them than announcements at most.
+    /// These are the newest, each version announced exactly, and from each other announcement on
+    /// all that were kept. If each announcement is exact, there is at most one version more than
+    /// announcements.
     pub fn after(&self, newest: u32, seen: &[Option<Seen>]) -> Kept
         ensures kept { result ≡ kept_after self.now newest seen.now }
         ensures newest { IsIn self.now newest → IsIn result newest }
@@ -232,7 +234,7 @@ impl Kept {
         self.stays(newest, seen)
     }
 
-    /// What each slot has after a collect.
+    /// The content of each slot after a collect.
     fn stays(&self, newest: u32, seen: &[Option<Seen>]) -> Kept
         ensures { result ≡ kept_after self.now newest seen.now }
     {

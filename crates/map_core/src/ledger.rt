@@ -1,4 +1,4 @@
-//! The ledger of a log: what is counted of it, which commands that refuses, and the replies.
+//! The ledger of a log: what it counts, which commands that refuses, and the replies.
 
 ghost use Rattle.std.specs.Prelude.{◌≡◌, ◌+◌, ◌^◌, ◌<◌, length, Some, None, if◌then◌else◌};
 ghost use Rattle.map_core.specs.Kept.{members, first_free, first_kept, with_version, least_kept};
@@ -14,22 +14,25 @@ use crate::setting::Setting;
 use bits::Bitmap;
 use metric::Refusal;
 
-/// The most entries that a log may have: places count no further.
+/// The most entries that a log may have: places count no higher.
 const MOST_PLACES: u32 = 536_870_911;
 
-/// What is counted of a log, with the setting and the size of the map.
+/// The counts of a log, with the setting and the size of the map.
 ///
-/// Whoever keeps a log judges each command by its ledger and enters each that it does, which gives the reply. The conditions of these calls hold
-/// after any legal log: neither the newest version nor the last checkpoint's place is over the last place. A command is entered where a place is left for it.
+/// Whoever keeps a log judges each command by its ledger, and enters each command that it does,
+/// which gives the reply. What these calls require holds after any legal log: neither the newest
+/// version nor the last checkpoint's place exceeds the last place. To enter a command requires a
+/// place for it.
 #[derive(Clone, Copy, Debug)]
 pub struct Ledger {
     pub setting: Setting,
     /// The map's columns and rows, 1 to 4096 each.
     pub width: u16,
     pub height: u16,
-    /// How many entries the log has: the place of its last one, from 1.
+    /// The number of entries of the log: the place of its last one, from 1.
     pub places: u32,
-    /// The place of the last checkpoint, 0 where there is none: the entries after it count against the log's limit.
+    /// The place of the last checkpoint, 0 where there is none: the entries after it count against
+    /// the log's limit.
     pub base: u32,
     /// The newest version, from 0.
     pub newest: u32,
@@ -40,7 +43,7 @@ pub struct Ledger {
 }
 
 impl Ledger {
-    /// The ledger of the empty log of a map that is opened on this bitmap.
+    /// The ledger of the empty log of a map opened with this bitmap.
     pub fn of(setting: Setting, map: &Bitmap) -> Ledger
         ensures { result ≡ record {
           setting = setting;
@@ -65,7 +68,7 @@ impl Ledger {
         }
     }
 
-    /// Whether a publish is refused for want of a slot.
+    /// Whether a publish is refused because no slot is free.
     fn judge_slots(&self) -> Option<Refusal>
         ensures { result ≡ (if has_no_slot self.now then Some VersionsFull else None) }
     {
@@ -76,8 +79,9 @@ impl Ledger {
         }
     }
 
-    /// Why a command is refused, blocks aside, if it is: for its area (`OutOfRange`), for want of room in the log (`LogFull`, never a checkpoint),
-    /// of a place (`PlacesUsed`) or, a publish, of a slot (`VersionsFull`), in this order.
+    /// Why a command is refused, blocks aside, if it is: for its area (`OutOfRange`), a full log
+    /// (`LogFull`, never a checkpoint), no place left (`PlacesUsed`) or no free slot
+    /// (`VersionsFull`, a publish), in this order.
     #[tactic(auto, unfolding(crate::specs::Ledger::refused_by_ledger))]
     pub fn judge(&self, command: &Command) -> Option<Refusal>
         requires { IsBalanced self.now }
@@ -102,7 +106,7 @@ impl Ledger {
         }
     }
 
-    /// Enters a paint or a stamp that changed so many cells: `Reply::Painted`, with its place.
+    /// Enters a paint or a stamp that changed this many cells: `Reply::Painted`, with its place.
     pub fn enter_draw(&mut self, changed: u32) -> Reply
         requires { HasPlace self.old }
         ensures entered { self.new ≡ record self.old { places = self.old.places + 1 } }
@@ -115,7 +119,8 @@ impl Ledger {
         }
     }
 
-    /// Enters a publish: `Reply::Published`, with its place and the next version, which is newest then.
+    /// Enters a publish: `Reply::Published`, with its place and the next version, which is then the
+    /// newest.
     pub fn enter_publish(&mut self) -> Reply
         requires balanced { IsBalanced self.old }
         requires place { HasPlace self.old }
@@ -147,7 +152,8 @@ impl Ledger {
         Reply::Reverted { place: self.places }
     }
 
-    /// Enters a collect that kept these versions, and gave so many blocks back: `Reply::Collected`, with its place, both, and the least of the versions.
+    /// Enters a collect that kept these versions and freed `freed` blocks: `Reply::Collected`, with
+    /// its place, both, and the least version kept.
     pub fn enter_collect(&mut self, kept: Kept, freed: u32) -> Reply
         requires { HasPlace self.old }
         ensures entered { self.new ≡ record self.old { places = self.old.places + 1; kept = kept } }
@@ -163,7 +169,7 @@ impl Ledger {
         }
     }
 
-    /// Enters a checkpoint: `Reply::Checkpointed`, with its place, which is the base place then.
+    /// Enters a checkpoint: `Reply::Checkpointed`, with its place, which is then the base place.
     pub fn enter_checkpoint(&mut self) -> Reply
         requires { HasPlace self.old }
         ensures entered { self.new ≡ record self.old { places = self.old.places + 1; base = self.old.places + 1 } }
@@ -174,7 +180,8 @@ impl Ledger {
         Reply::Checkpointed { place: self.places }
     }
 
-    /// The word NOW after the log: the place of its last entry, newest, and its slot. Conditions: there is room for each.
+    /// The word NOW after the log: the place of its last entry, the newest version, and its slot.
+    /// Requires that each fits the word.
     pub fn now_word(&self) -> u64
         requires place { self.now.places < 2 ^ 29 }
         requires version { self.now.newest < 2 ^ 29 }

@@ -1,11 +1,12 @@
-//! The sizes of a store, and where its words stand.
+//! The sizes of a store, and the layout of its words.
 
 ghost use Rattle.std.specs.Prelude.{◌≡◌, ◌+◌, ◌*◌};
 
 use crate::setting::Setting;
 use bits::Bitmap;
 
-/// The setting of a store, how many positions its map has, and where its directories and the rows of its blocks begin among the words.
+/// The setting of a store, the number of positions of its map, and where its directories and the
+/// rows of its blocks start among the words.
 #[derive(Clone, Copy)]
 pub struct Plan {
     pub setting: Setting,
@@ -20,7 +21,7 @@ impl Plan {
     ghost use Rattle.bits.specs.Cells.{IsBitmap};
     ghost use Rattle.map_core.specs.Words.{Base, IsPlan, pin_at, map_at, tile_at};
 
-    /// The sizes of a store on this map.
+    /// The sizes of a store with this map.
     pub fn of(setting: Setting, map: &Bitmap) -> Plan
         ensures plan { IsPlan record { setting = setting; opening = map.now } result }
         ensures bitmap { IsBitmap map.now }
@@ -35,14 +36,14 @@ impl Plan {
         }
     }
 
-    /// Where a reader's word stands.
+    /// The index of a reader's word.
     pub fn pin_at(reader: u32) -> usize
         ensures { result ≡ pin_at reader }
     {
         8 + 8 * reader as usize
     }
 
-    /// Where the word stands that has the block of a position in a slot.
+    /// The index of the word that has the block of a position in a slot.
     #[inline(always)]
     pub fn map_at(self, slot: u32, position: u32) -> usize
         ensures { (k : Base) → IsPlan k self → result ≡ map_at k slot position }
@@ -50,7 +51,7 @@ impl Plan {
         self.directories + (slot as usize * usize::from(self.tiles) + position as usize)
     }
 
-    /// Where the word stands that has a row of a block.
+    /// The index of the word that has a row of a block.
     #[inline(always)]
     pub fn tile_at(self, block: u32, row: u32) -> usize
         ensures { (k : Base) → IsPlan k self → result ≡ tile_at k block row }

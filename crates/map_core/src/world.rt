@@ -20,30 +20,32 @@ use std::alloc::Global;
 use std::collections::VecDeque;
 use std::marker::Model;
 
-/// A world. Contracts see it as what it was opened with, its words, its keeper and its readers.
+/// A world. Contracts see what it was opened with, its words, its keeper and its readers.
 #[derive(Drop)]
 pub struct World {
-    // What is counted of its log, and what it was opened with.
+    // The ledger of its log, and the bitmap it was opened with.
     ledger: Ledger,
     opening: Bitmap,
     // NOW, a word for each reader, the slots' directories, the blocks' rows.
     words: Vec<u64>,
     log: Vec<Entry>,
-    // The command in hand: how many of its steps are done, how many come before its last, and the words that its scan has seen.
+    // The current command: how many of its steps are done, how many come before its last, and the
+    // words that its scan has seen.
     hand: Option<Command>,
     done: u32,
     steps: u32,
     scanned: Vec<u64>,
     readers: Vec<Standing>,
-    // What the log says: the draft, and the newest version's bitmap.
+    // What follows from the log: the draft, and the newest version's bitmap.
     draft: Bitmap,
     published: Bitmap,
-    // Room to draw on before a command is accepted, and while it is done.
+    // A bitmap to draw on before a command is accepted, and while it is done.
     scratch: Bitmap,
-    // For each position, with which version newest's block came, and the draft's own block.
+    // For each position, the version with which the newest version's block came, and the draft's
+    // own block.
     came: Vec<u32>,
     own: Vec<Option<u32>>,
-    // The free blocks, the next one first, and those that newest no longer maps.
+    // The free blocks, the next one first, and those that the newest version no longer maps.
     free: VecDeque<u32>,
     retired: Vec<RetiredBlock>,
 }
@@ -63,11 +65,13 @@ impl Model for World {
 }
 
 impl World {
-    /// Does an event and answers it, or answers that it isn't enabled and changes nothing.
+    /// Does an event and returns its answer; an event that isn't enabled changes nothing.
     ///
-    /// An order is refused, in this order, for its area (`OutOfRange`), for want of room in the log (`LogFull`, never a checkpoint), of a place (`PlacesUsed`), of blocks (`BlocksFull`, a
-    /// paint or a stamp) or of a slot (`VersionsFull`, a publish), and of memory; only a command that is accepted is copied. No other event asks for memory. That memory is found
-    /// where there is some isn't promised.
+    /// Refuses an order, in this order, for its area (`OutOfRange`), a full log (`LogFull`, never a
+    /// checkpoint), no place left (`PlacesUsed`), too few free blocks (`BlocksFull`, a paint or a
+    /// stamp) or no free slot (`VersionsFull`, a publish), and when out of memory; copies only an
+    /// accepted command. No other event allocates memory. No clause promises that an allocation
+    /// succeeds where there is memory.
     pub fn step(&mut self, alloc: Global, event: &Event) -> Result<StepReply, NotEnabled>
         ensures { SafeStep self.old event.now result self.new }
     {

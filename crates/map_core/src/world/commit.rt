@@ -1,4 +1,4 @@
-//! The last steps of commands: each stores NOW, and appends its entry to the log.
+//! The last steps of commands: each stores NOW, and appends an entry to the log.
 
 ghost use Rattle.std.specs.Prelude.{◌≡◌, ◌<◌, [], ◌∷◌, ◌++◌, Ok, vec_len, vec_capacity};
 ghost use Rattle.map_core.specs.Runs.{SafeStep};
@@ -16,7 +16,8 @@ use crate::ledger::Ledger;
 use crate::world::World;
 use crate::world::words::NOW_AT;
 
-/// Keeps an entry after the others, for which there is room, and stores NOW as the ledger has it then.
+/// Appends an entry to the log, which has capacity for it, and stores NOW as the ledger has it
+/// then.
 fn commit(ledger: &Ledger, now: &mut u64, log: &mut Vec<Entry>, entry: Entry) -> StepReply
     requires now { HasNowRoom ledger.now }
     requires room { vec_len log.old < vec_capacity log.old }
@@ -31,7 +32,8 @@ fn commit(ledger: &Ledger, now: &mut u64, log: &mut Vec<Entry>, entry: Entry) ->
 }
 
 impl World {
-    /// The step of a paint or a stamp: it draws on the draft, and each tile that changes takes a block, where it has none.
+    /// The only step of a paint or a stamp: it draws on the draft, and each tile that changes takes
+    /// a block if it has none.
     pub(super) fn draw(&mut self) -> StepReply
         requires { IsDrawing self.old }
         ensures { SafeStep self.old Keep (Ok result) self.new }
@@ -53,7 +55,8 @@ impl World {
         commit(&self.ledger, &mut self.words[NOW_AT], &mut self.log, entry)
     }
 
-    /// The last step of a publish: the draft is the newest version then, and its own blocks are that version's.
+    /// The last step of a publish: the draft becomes the newest version, and its own blocks that
+    /// version's.
     pub(super) fn publish(&mut self) -> StepReply
         requires { IsLastOf self.old Publish }
         ensures { SafeStep self.old Keep (Ok result) self.new }
@@ -75,7 +78,8 @@ impl World {
         commit(&self.ledger, &mut self.words[NOW_AT], &mut self.log, entry)
     }
 
-    /// The last step of a revert: the draft is the newest version again, and its own blocks are given back.
+    /// The last step of a revert: the draft becomes the newest version again, and its own blocks
+    /// are freed.
     pub(super) fn revert(&mut self) -> StepReply
         requires { IsLastOf self.old Revert }
         ensures { SafeStep self.old Keep (Ok result) self.new }
@@ -89,7 +93,7 @@ impl World {
         commit(&self.ledger, &mut self.words[NOW_AT], &mut self.log, entry)
     }
 
-    /// The one step of a checkpoint: the log has its entry, and counts anew against its limit.
+    /// The only step of a checkpoint: the log has its entry, and counts from 0 against its limit.
     pub(super) fn checkpoint(&mut self) -> StepReply
         requires { IsLastOf self.old Checkpoint }
         ensures { SafeStep self.old Keep (Ok result) self.new }
@@ -101,7 +105,8 @@ impl World {
         commit(&self.ledger, &mut self.words[NOW_AT], &mut self.log, entry)
     }
 
-    /// The last step of a collect: the versions that no reader may need are let go, and the blocks that no kept version maps are given back.
+    /// The last step of a collect: releases the versions that no reader may need, and frees the
+    /// blocks that no kept version maps.
     pub(super) fn collect(&mut self) -> StepReply
         requires { IsLastOf self.old Collect }
         ensures { SafeStep self.old Keep (Ok result) self.new }

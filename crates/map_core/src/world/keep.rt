@@ -1,4 +1,5 @@
-//! The keeper's steps of the command in hand: the words that a publish stores, those that a collect loads, and which step is next.
+//! The keeper's steps of the current command: the words that a publish stores, those that a collect
+//! loads, and which step is next.
 
 ghost use Rattle.std.specs.Prelude.{◌≡◌, ◌<◌, length, Ok, None};
 ghost use Rattle.map_core.specs.Legal.{refused};
@@ -17,7 +18,7 @@ use crate::tiles::{count_own, nth_own};
 use crate::world::World;
 
 impl World {
-    /// A step of a collect: the next reader's word is loaded.
+    /// A step of a collect: loads the next reader's word.
     pub(super) fn scan(&mut self) -> StepReply
         requires { IsStepOf self.old Collect }
         ensures { SafeStep self.old Keep (Ok result) self.new }
@@ -29,7 +30,7 @@ impl World {
         StepReply::Scanned { reader, word }
     }
 
-    /// Where a word of the next version's directory goes, and the word.
+    /// The index of a word of the next version's directory, and the word.
     fn map_word(&self, position: u32) -> (usize, u64)
         requires accepted { refused self.now.base.setting (story_of self.now) Publish ≡ None }
         requires inside { position < tiles self.now.base }
@@ -45,7 +46,7 @@ impl World {
         (place, word)
     }
 
-    /// Where a word of the draft's own blocks goes, and the word.
+    /// The index of a word of the draft's own blocks, and the word.
     fn tile_word(&self, number: usize) -> (usize, u64)
         requires { number < tile_steps (blocks_of_state self.now) }
         ensures place { result.0 ≡ (tile_write self.now.base (story_of self.now) (blocks_of_state self.now) number).at }
@@ -62,7 +63,8 @@ impl World {
         )
     }
 
-    /// Where the next word of a publish goes, and the word: first the rows of the draft's own blocks, then the directory.
+    /// The index of the next word of a publish, and the word: first the rows of the draft's own
+    /// blocks, then the directory.
     fn next_word(&self, number: usize) -> (usize, u64)
         requires accepted { refused self.now.base.setting (story_of self.now) Publish ≡ None }
         requires below { number < steps_before self.now.base (blocks_of_state self.now) Publish }
@@ -78,7 +80,7 @@ impl World {
         }
     }
 
-    /// A step of a publish: the next word is stored.
+    /// A step of a publish: stores the next word.
     pub(super) fn write(&mut self) -> StepReply
         requires { IsStepOf self.old Publish }
         ensures { SafeStep self.old Keep (Ok result) self.new }
@@ -89,7 +91,7 @@ impl World {
         StepReply::Written
     }
 
-    /// The keeper does the next step of the command in hand, if there is one.
+    /// Does the next step of the current command, if there is one.
     pub(super) fn keep(&mut self) -> Result<StepReply, NotEnabled>
         ensures { SafeStep self.old Keep result self.new }
     {
