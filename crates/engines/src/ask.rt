@@ -1,4 +1,4 @@
-//! The command `ask`: lines to a server, and its replies.
+//! The command `ask`: sends lines to a server, and prints its replies.
 
 ghost use Rattle.std.specs.Prelude.{◌≡◌, ◌≢◌, ◌≤◌, ◌+◌, ◌++◌, ◌∷◌, [], IfOk, OnOk, OnErr, IfErr, Err, Ok, true, false, bytes_eq, codes};
 ghost use Rattle.metric.specs.Stream.{Appends, AppendsFront, CanFail, Counts};
@@ -27,9 +27,13 @@ pub enum Stop {
     Memory,
 }
 
-/// Sends the reader's lines to the stream, each with the bytes that it counts, and writes each reply before the next line is sent, with the bytes that it counts. Answers the status.
+/// Sends the reader's lines to the stream, each with the bytes that it counts, and writes each
+/// reply, with the bytes that it counts, before it sends the next line. Returns the status.
 ///
-/// It ends after `BYE`, or at the reader's end; a last line without its LF, or without all bytes that it counts, isn't sent. Where the stream fails, or ends before the end of a reply that is due, it writes `FAULT net`, and where there is no memory `ERR 5 Memory`, with status 1. Where a call of the reader or the writer fails nothing more is written, and the status is 1.
+/// It ends after `BYE`, or at the reader's end; it doesn't send a last line without its LF, or
+/// without all bytes that it counts. If the stream fails, or ends before the end of a reply that is
+/// due, it writes `FAULT net`, and when out of memory `ERR 5 Memory`, with status 1. If a call of
+/// the reader or the writer fails, it writes nothing more, and the status is 1.
 pub fn ask_run<S: Stream, R: Source, W: Sink>(
     alloc: Global,
     stream: &mut S,
@@ -41,34 +45,36 @@ pub fn ask_run<S: Stream, R: Source, W: Sink>(
     requires reader { CanFail (R.failed_reads reader.old) }
     requires writer { CanFail (W.failed_writes writer.old) }
 
-    // What was sent is a beginning of what was read.
+    // What was sent is a prefix of what was read.
     ensures sent { PassesFront (R.rest reader.old) (R.rest reader.new) (S.held stream.old) (S.held stream.new) }
 
-    // A run that is done has sent each request that there was, until the server said BYE.
+    // A run that succeeds has sent each request that there was, until the server said BYE.
     ensures asked { result ≡ 0 → AsksAll (R.rest reader.old) (R.rest reader.new) (S.held stream.old) (S.held stream.new)
         (W.held writer.old) (W.held writer.new) }
 
-    // A run that is done has written all that the server said, and nothing else.
+    // A run that succeeds has written all that the server said, and nothing else.
     ensures printed { result ≡ 0 → PassesOn (S.rest stream.old) (S.rest stream.new) (W.held writer.old) (W.held writer.new) }
     ensures well { result ≡ 0 → (R.failed_reads reader.new ≡ R.failed_reads reader.old)
         × (W.failed_writes writer.new ≡ W.failed_writes writer.old)
         × (S.failed_reads stream.new ≡ S.failed_reads stream.old) × (S.failed_writes stream.new ≡ S.failed_writes stream.old) }
 
-    // Where a read failed, a beginning of that was written, and nothing after it.
+    // If a read failed, a prefix of that was written, and nothing after it.
     ensures failed_read { R.failed_reads reader.new ≢ R.failed_reads reader.old
         → PassesFront (S.rest stream.old) (S.rest stream.new) (W.held writer.old) (W.held writer.new) × (result ≡ 1) }
 
-    // Where a write failed, a beginning of that was written, and after it at most a beginning of why the run ended.
+    // If a write failed, a prefix of that was written, and after it at most a prefix of why the run
+    // ended.
     ensures failed_write { W.failed_writes writer.new ≢ W.failed_writes writer.old
         → BreaksOff ((S.failed_reads stream.new ≡ S.failed_reads stream.old) × (S.failed_writes stream.new ≡ S.failed_writes stream.old))
         (S.rest stream.old) (S.rest stream.new) (W.held writer.old) (W.held writer.new) × (result ≡ 1) }
 
-    // Where neither failed, a run that isn't done has written a beginning of that, and after it the line of why it ended.
+    // If neither failed, a run that doesn't succeed has written a prefix of that, and after it the
+    // line of why it ended.
     ensures ended { R.failed_reads reader.new ≡ R.failed_reads reader.old → W.failed_writes writer.new ≡ W.failed_writes writer.old
         → result ≢ 0
         → EndsEarly ((S.failed_reads stream.new ≡ S.failed_reads stream.old) × (S.failed_writes stream.new ≡ S.failed_writes stream.old))
         (S.rest stream.old) (S.rest stream.new) (W.held writer.old) (W.held writer.new) × (result ≡ 1) }
-    // Each request was sent once the reply to the one before it was received and printed.
+    // Each request was sent after the reply to the one before it was received and printed.
     ensures order { Converses
         (talk_at (R.rest reader.old) (S.held stream.old) (S.rest stream.old) (W.held writer.old))
         (talk_at (R.rest reader.new) (S.held stream.new) (S.rest stream.new) (W.held writer.new)) }
@@ -83,7 +89,7 @@ pub fn ask_run<S: Stream, R: Source, W: Sink>(
     }
 }
 
-/// Ends a run early, and answers its status.
+/// Ends a run early, and returns its status.
 fn end<W: Sink>(writer: &mut W, stop: Stop) -> u8
     requires { stop ≢ Standard → CanFail (W.failed_writes writer.old) }
     ensures status { result ≡ 1 }
@@ -96,7 +102,7 @@ fn end<W: Sink>(writer: &mut W, stop: Stop) -> u8
     write_end(writer, stop).unwrap_or(REFUSED)
 }
 
-/// Writes why a run ended early; nothing where a standard stream failed.
+/// Writes why a run ended early; nothing if a standard stream failed.
 fn write_end<W: Sink>(writer: &mut W, stop: Stop) -> Result<u8, WriteFault>
     requires { stop ≢ Standard → CanFail (W.failed_writes writer.old) }
     ensures status { IfOk result (λ status. status ≡ 1) }
@@ -112,7 +118,7 @@ fn write_end<W: Sink>(writer: &mut W, stop: Stop) -> Result<u8, WriteFault>
     }
 }
 
-/// Writes a reply, and passes it on.
+/// Writes a reply, and flushes it.
 fn print<W: Sink>(writer: &mut W, reply: &[u8]) -> Result<(), Stop>
     requires { CanFail (W.failed_writes writer.old) }
     ensures all { OnOk result (Appends (W.held writer.old) reply.now (W.held writer.new)) }
@@ -161,7 +167,8 @@ fn ask_lines<S: Stream, R: Source, W: Sink>(
     Err(Stop::Net)
 }
 
-/// Asks one line, and says whether another may follow. The buffers are for the line and its reply.
+/// Asks one line, and returns whether another may follow. The buffers are for the line and its
+/// reply.
 fn ask_line<S: Stream, R: Source, W: Sink>(
     stream: &mut S,
     reader: &mut R,

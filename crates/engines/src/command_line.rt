@@ -1,4 +1,4 @@
-//! Which words the program takes, by `clap`.
+//! The words that the program accepts, by `clap`.
 
 ghost use Rattle.std.specs.Prelude.{◌≡◌, ℕ, List, [], ◌∷◌, IfOk, IfErr, OnErr, MatchResult, true, false, map, option_and_then, Some, None, codes};
 ghost use Rattle.clap.specs.Words.{HasMatchesOf, app_of, first_of, first_value, found_of, kind_of, rows_of, rule_of, takes};
@@ -73,7 +73,7 @@ fn metric_given(flags: &ArgMatches<'_>) -> Option<MetricKind>
         .and_then(|name| MetricKind::named(name.as_bytes()))
 }
 
-/// What the words say to the program's commands and flags.
+/// What the words say, by the program's commands and flags.
 fn matches_of<'a>(alloc: Global, words: &'a [&'a str]) -> Result<ArgMatches<'a>, Error>
     ensures found { IfOk result (HasMatchesOf program_app (texts_of words.entry.now)) }
     ensures passes { IfErr result (λ error. takes program_app (texts_of words.entry.now) ≡ true → kind_of error ≡ OutOfMemory) }

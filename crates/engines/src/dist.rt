@@ -34,9 +34,13 @@ use pbm::{ImageStop, read_source};
 use std::alloc::Global;
 use std::thread::Threads;
 
-/// Reads an image, and the reader to its end, and writes its cells' distances to their nearest obstacles, a line a row, as the options ask. Answers the status.
+/// Reads an image, and the reader to its end, and writes its cells' distances to their nearest
+/// obstacles, one line per row, as the options ask. Returns the status.
 ///
-/// The rows are shared by as many workers as the options say; the text is the same for each number. A refused image, or want of memory, is one line instead, with status 1. All is computed before the first byte is written. Where a call of the reader or the writer fails, neither is called again, and the status is 1.
+/// As many workers as the options say share the rows; the text doesn't depend on their number. A
+/// refused image, or out of memory, is one line instead, with status 1. Everything is computed
+/// before the first byte is written. If a call of the reader or the writer fails, it calls neither
+/// again, and the status is 1.
 pub fn dist_run<R: Source, W: Sink, T: Threads + Sync>(
     rt: &T,
     alloc: Global,
@@ -47,15 +51,15 @@ pub fn dist_run<R: Source, W: Sink, T: Threads + Sync>(
     requires reader { CanFail (R.failed_reads reader.old) }
     requires writer { CanFail (W.failed_writes writer.old) }
 
-    // Where no call failed, the answer is whole.
+    // If no call failed, the whole answer was written.
     ensures answers { R.failed_reads reader.new ≡ R.failed_reads reader.old → W.failed_writes writer.new ≡ W.failed_writes writer.old
         → AnswersImage options.now (R.rest reader.old) (W.held writer.old) (W.held writer.new) result }
 
-    // Where a read failed, nothing was written.
+    // If a read failed, nothing was written.
     ensures failed_read { R.failed_reads reader.new ≢ R.failed_reads reader.old
         → (W.held writer.new ≡ W.held writer.old) × (W.failed_writes writer.new ≡ W.failed_writes writer.old) × (result ≡ 1) }
 
-    // Where a write failed, a beginning of the answer was written.
+    // If a write failed, a prefix of the answer was written.
     ensures failed_write { W.failed_writes writer.new ≢ W.failed_writes writer.old
         → BeginsToAnswerImage options.now (R.rest reader.old) (W.held writer.old) (W.held writer.new) × (result ≡ 1) }
     ensures one_failure { R.failed_reads reader.new + W.failed_writes writer.new ≤ R.failed_reads reader.old + W.failed_writes writer.old + 1 }
@@ -94,7 +98,7 @@ fn write_answer<W: Sink, T: Threads + Sync>(
     }
 }
 
-/// Writes the lines of a map's table by this metric, which is that of the options.
+/// Writes the lines of a map's table by this metric, which is the one in the options.
 fn write_map<M: Metric + Sync, W: Sink, T: Threads + Sync>(
     rt: &T,
     alloc: Global,
@@ -116,7 +120,7 @@ fn write_map<M: Metric + Sync, W: Sink, T: Threads + Sync>(
     }
 }
 
-/// So many workers, or one where there can't be so many.
+/// This number of workers, or one worker if the number is out of range.
 fn workers_of(count: u32) -> Workers
     ensures { (1 ≤ count) × (count ≤ 16) → result.count ≡ count }
 {

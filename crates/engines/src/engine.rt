@@ -1,4 +1,4 @@
-//! From words and streams to the engine that the words name, and the status of the run.
+//! Chooses the engine that the words name, and runs it.
 
 ghost use Rattle.std.specs.Prelude.{◌≡◌, ◌≢◌, ◌+◌, ◌≤◌, IsErr};
 ghost use Rattle.metric.specs.Stream.{CanFail};
@@ -15,9 +15,12 @@ use metric::{Sink, Source};
 use std::alloc::Global;
 use std::thread::Threads;
 
-/// Runs what the words name, of which the first is the program's name. Answers the status.
+/// Runs what the words name, of which the first is the program's name. Returns the status.
 ///
-/// `serve` and `ask` need the network, and are left to the caller: nothing is written then, and the status is 1. Words that are refused are told on `errors`, with status 2. Help and the version go to the writer, with status 0, and so does want of memory, with status 1. Where a call of a stream fails, none is called again, and the status is 1.
+/// `serve` and `ask` need the network, and are left to the caller: here they write nothing, and the
+/// status is 1. Reports on `errors` why words are refused, with status 2. Help and the version go
+/// to the writer, with status 0, and so does out of memory, with status 1. If a call of a stream
+/// fails, it calls none again, and the status is 1.
 pub fn run_words<R: Source, W: Sink, E: Sink, T: Threads + Sync>(
     rt: &T,
     alloc: Global,
@@ -30,22 +33,22 @@ pub fn run_words<R: Source, W: Sink, E: Sink, T: Threads + Sync>(
     requires writer { CanFail (W.failed_writes writer.old) }
     requires errors { CanFail (E.failed_writes errors.old) }
 
-    // Where no call failed, the words are done, or told why they aren't.
+    // If no call failed, the words were run, or the reason why not was reported.
     ensures done { R.failed_reads reader.new ≡ R.failed_reads reader.old
         → W.failed_writes writer.new ≡ W.failed_writes writer.old → E.failed_writes errors.new ≡ E.failed_writes errors.old
         → IsRunOf (texts_of words.entry.now) (R.rest reader.old) (W.held writer.old) (W.held writer.new) (E.held errors.old)
         (E.held errors.new) result }
 
-    // Where a read failed, nothing was written.
+    // If a read failed, nothing was written.
     ensures failed_read { R.failed_reads reader.new ≢ R.failed_reads reader.old
         → (W.held writer.new ≡ W.held writer.old) × (E.held errors.new ≡ E.held errors.old) × (result ≡ 1) }
 
-    // Where a write failed, a beginning of what these words ask for was written.
+    // If a write failed, a prefix of what these words ask for was written.
     ensures failed_write { W.failed_writes writer.new ≢ W.failed_writes writer.old
         → BeginsRunOf (texts_of words.entry.now) (R.rest reader.old) (W.held writer.old) (W.held writer.new)
         × (E.held errors.new ≡ E.held errors.old) × (result ≡ 1) }
 
-    // Where the mistake couldn't be told, a beginning of its text was.
+    // If the mistake couldn't be reported, a prefix of its text was.
     ensures failed_error { E.failed_writes errors.new ≢ E.failed_writes errors.old
         → Begins (E.held errors.old) (E.held errors.new) × (W.held writer.new ≡ W.held writer.old) × (result ≡ 1) }
     ensures one_failure { R.failed_reads reader.new + W.failed_writes writer.new + E.failed_writes errors.new
@@ -54,7 +57,7 @@ pub fn run_words<R: Source, W: Sink, E: Sink, T: Threads + Sync>(
     run_said(rt, alloc, options(alloc, words), reader, writer, errors)
 }
 
-/// Runs what words have said, or tells why they are refused. Answers the status.
+/// Runs what words have said, or reports why they are refused. Returns the status.
 pub fn run_said<R: Source, W: Sink, E: Sink, T: Threads + Sync>(
     rt: &T,
     alloc: Global,

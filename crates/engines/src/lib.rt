@@ -1,4 +1,5 @@
-//! The commands of the program `clearmap`, `dist`, `steps`, `serve` and `ask`, over any streams, and the words that name them.
+//! The commands of the program `clearmap` (`dist`, `steps`, `serve` and `ask`) over any streams,
+//! and the words that name them.
 #![tactic(auto)]
 
 mod ask;
@@ -21,7 +22,7 @@ pub use serve::{Listening, serve_run};
 pub use steps::steps_run;
 pub use streams::socket::{NoSocket, Socket};
 
-/// The status of a run that did what it was asked for.
+/// The status of a run that did what was asked.
 const DONE: u8 = 0;
 
 /// The status of a run that was refused, or whose reader or writer failed.

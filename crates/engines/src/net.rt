@@ -20,12 +20,13 @@ use std::sync::Wait;
 use std::thread::Threads;
 use std::time::Clock;
 
-/// A port of this machine, which no other machine reaches.
+/// A port of this machine, which no other machine can reach.
 fn local(port: u16) -> SocketAddr {
     SocketAddr::V4(SocketAddrV4::new(Ipv4Addr::LOCALHOST, port))
 }
 
-/// The map at the front of what the reader has. An error is the refusal of its image, or want of memory; none where a read failed.
+/// The map at the front of the reader's bytes. An error is the refusal of its image, or out of
+/// memory; none if a read failed.
 fn read_map<R: Source>(alloc: Global, reader: &mut R) -> Result<Bitmap, Option<Refusal>>
     requires { CanFail (R.failed_reads reader.old) }
     ensures { IfErr result (λ refusal. IfSome refusal HasWordsAlone) }
@@ -38,7 +39,7 @@ fn read_map<R: Source>(alloc: Global, reader: &mut R) -> Result<Bitmap, Option<R
     }
 }
 
-/// Listens on the port that is asked for.
+/// Listens on the port of the options.
 fn listen<N>(rt: &N, options: &ServeOptions) -> io::Result<Listening>
 where
     N: Net<Listener = TcpListener, Stream = TcpStream>,
@@ -47,9 +48,10 @@ where
     Listening::of(listener, options.connections)
 }
 
-/// Reads the map and listens on the port, and then serves. Answers the status.
+/// Reads the map and listens on the port, then serves. Returns the status.
 ///
-/// Refused, in this order and with one line each: the image (`ERR 15 ..`, `ERR 5 Memory`), the port (`FAULT net`), and what `serve_run` refuses.
+/// Refuses, in this order and with one line each: the image (`ERR 15 ..`, `ERR 5 Memory`), the port
+/// (`FAULT net`), and what `serve_run` refuses.
 pub fn serve<N, R, W>(
     rt: &N,
     alloc: Global,
@@ -75,9 +77,10 @@ where
     }
 }
 
-/// Connects to the server, and asks it the reader's lines. Answers the status.
+/// Connects to the server, and sends it the reader's lines. Returns the status.
 ///
-/// Without a server it writes `FAULT net`, and without memory for the connection's buffers `ERR 5 Memory`, with status 1.
+/// Without a server it writes `FAULT net`, and when out of memory for the connection's buffers `ERR
+/// 5 Memory`, with status 1.
 pub fn ask<N, R, W>(
     rt: &N,
     alloc: Global,

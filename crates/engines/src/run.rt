@@ -1,4 +1,4 @@
-//! From the process's words and standard streams to a run.
+//! Runs the process's words on its standard streams.
 
 ghost use Rattle.std.specs.Prelude.{◌≡◌};
 
@@ -19,9 +19,11 @@ use std::thread::Threads;
 use std::time::Clock;
 use std::{env, io};
 
-/// Runs what the process's words name, on the standard streams. Answers the exit status. Standard streams that are closed stay closed: nothing that is opened takes their place.
+/// Runs what the process's words name, on the standard streams. Returns the exit status. Standard
+/// streams that are closed stay closed: nothing that is opened takes their place.
 ///
-/// A command reads the standard input and writes the standard output. Where one of them is closed it does nothing, and the status is 1.
+/// A command reads standard input and writes standard output. If one of them is closed, it does
+/// nothing, and the status is 1.
 pub fn run_process<R>(rt: &R) -> u8
 where
     R: Env
@@ -51,7 +53,7 @@ fn words_of<R: Env + AllocGlobal>(rt: &R) -> Result<Vec<String>, Fault<'static>>
     Ok(env::args(rt)?.collect(rt.alloc())?)
 }
 
-/// Runs what these words name, where the streams that it needs are open. Answers the exit status.
+/// Runs what these words name, if the streams that it needs are open. Returns the exit status.
 fn run_texts<R>(rt: &R, words: &[String], held: &Held) -> Result<u8, Refusal>
 where
     R: Input
@@ -86,7 +88,7 @@ where
     })
 }
 
-/// Tells why the process's words can't be had.
+/// Reports why the process's words can't be read.
 fn tell_fault<R: Print + Eprint + AllocGlobal>(rt: &R, fault: &Fault<'_>) -> u8 {
     let alloc = rt.alloc();
     match WriterSink::new(alloc, io::writer(rt)) {
@@ -95,7 +97,7 @@ fn tell_fault<R: Print + Eprint + AllocGlobal>(rt: &R, fault: &Fault<'_>) -> u8 
     }
 }
 
-/// Tells why a run is refused where there is no memory for a stream.
+/// Reports that a run is refused because there is no memory for a stream.
 fn refuse(rt: &impl Print, refusal: Refusal) -> u8
     ensures { result ≡ 1 }
 {

@@ -1,4 +1,5 @@
-//! The command `serve`: a store of one map, and its sessions for the connections of a listener.
+//! The command `serve`: opens a store of one map, and serves a listener's connections with its
+//! sessions.
 
 ghost use Rattle.std.specs.Prelude.{◌≡◌, ◌≢◌, ◌≤◌, ◌+◌, ◌++◌, ◌∷◌, [], IfOk, IfSome, None, OnErr};
 ghost use Rattle.metric.specs.Refusal.{refusal_text};
@@ -31,7 +32,7 @@ use std::sync::Wait;
 use std::thread::Threads;
 use std::time::Clock;
 
-/// Where connections come from, and how many are served.
+/// A listener, and how many connections it serves.
 #[derive(Drop)]
 pub struct Listening {
     listener: TcpListener,
@@ -40,7 +41,7 @@ pub struct Listening {
 }
 
 impl Listening {
-    /// A listener, and how many connections it accepts. It fails where the listener has no port.
+    /// A listener that accepts this many connections. Fails if the listener has no port.
     pub fn of(listener: TcpListener, connections: u32) -> io::Result<Self>
         ensures { IfOk result (λ place. place.connections ≡ connections) }
     {
@@ -75,10 +76,14 @@ impl ServeOptions {
     }
 }
 
-/// Serves the map to the connections that the listener accepts, and answers the status once there were so many.
-/// The line `LISTENING <port>` is written before the first is accepted, and `SERVED <connections> <log length>` after the last.
+/// Serves the map to the connections that the listener accepts, and returns the status after the
+/// last of them. Writes `LISTENING <port>` before it accepts the first, and `SERVED <connections>
+/// <log length>` after the last.
 ///
-/// In place of these it writes one line, with status 1: `ERR 16 ..` for the first of blocks, versions, workers (as `Sessions`) and log that is out of its limits for this map, and `ERR 5 Memory`. A connection that can't be accepted, or fails, counts as served. Where a write fails nothing more is written, and the status is 1.
+/// In place of these it writes one line, with status 1: `ERR 16 ..` for the first of blocks,
+/// versions, workers (as `Sessions`) and log that is out of its limits for this map, and `ERR 5
+/// Memory`. A connection that can't be accepted, or fails, counts as served. If a write fails, it
+/// writes nothing more, and the status is 1.
 pub fn serve_run<R: Clock + Wait + Threads + Sync, W: Sink>(
     rt: &R,
     alloc: Global,
@@ -89,12 +94,13 @@ pub fn serve_run<R: Clock + Wait + Threads + Sync, W: Sink>(
 ) -> u8
     requires { CanFail (W.failed_writes writer.old) }
 
-    // Where the setting is out of its limits nothing is served, and one line says so.
+    // If the setting is out of its limits, nothing is served, and one line says so.
     ensures setting { IfSome (bad_field (tile_count map) (setting_served options.now)) (λ field.
         WritesOnly (refusal_text (BadSetting field) ++ 10 ∷ []) (W.failed_writes writer.old) (W.failed_writes writer.new)
         (W.held writer.old) (W.held writer.new) × (result ≡ 1)) }
 
-    // Otherwise the port is told, and how many connections were served; or why nothing is.
+    // Otherwise the port is printed, and how many connections were served; or why nothing is
+    // served.
     ensures served { bad_field (tile_count map) (setting_served options.now) ≡ None
         → W.failed_writes writer.new ≡ W.failed_writes writer.old
         → WritesServed place.port place.connections (W.held writer.old) (W.held writer.new) result }
@@ -131,7 +137,7 @@ fn serve_at<R: Clock + Wait + Threads + Sync, W: Sink>(
     }
 }
 
-/// Serves a store that this opens.
+/// Serves a store that it opens.
 fn serve_blank<Id: StoreName + Send + Sync, R: Clock + Wait + Threads + Sync, W: Sink>(
     rt: &R,
     alloc: Global,
@@ -154,7 +160,7 @@ fn serve_blank<Id: StoreName + Send + Sync, R: Clock + Wait + Threads + Sync, W:
     }
 }
 
-/// Serves a store that is open, and closes it.
+/// Serves an open store, and closes it.
 fn serve_store<Id: StoreName + Send + Sync, R: Clock + Wait + Threads + Sync, W: Sink>(
     rt: &R,
     alloc: Global,

@@ -1,4 +1,4 @@
-//! The streams of the commands: standard streams, connections, and what is read from them and written to them.
+//! The streams of the commands: standard streams and connections, and reads and writes on them.
 
 pub mod errors;
 pub mod gather;

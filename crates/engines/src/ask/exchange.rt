@@ -1,4 +1,4 @@
-//! A line that is sent, and its reply.
+//! Sends a line, and reads its reply.
 
 ghost use Rattle.std.specs.Prelude.{◌≡◌, ◌≢◌, ◌⊎◌, ℕ, List, [], OnOk, OnErr, IfErr, Err};
 ghost use Rattle.metric.specs.Stream.{Appends, AppendsFront, CanFail, Takes};
@@ -16,7 +16,8 @@ use crate::streams::text::split_line;
 use metric::Stream;
 use proto::{Verb, only_number, split_word, verb_of};
 
-/// Sends a line with the bytes that it counts, and reads its reply, with the bytes that it counts, over what the buffer held.
+/// Sends a line with the bytes that it counts, and replaces the buffer by its reply, with the bytes
+/// that the reply counts.
 pub fn exchange<S: Stream>(stream: &mut S, request: &[u8], reply: &mut Vec<u8>) -> Result<(), Stop>
     requires reads { CanFail (S.failed_reads stream.old) }
     requires writes { CanFail (S.failed_writes stream.old) }
@@ -36,7 +37,7 @@ pub fn exchange<S: Stream>(stream: &mut S, request: &[u8], reply: &mut Vec<u8>) 
     read_reply(stream, asks_for_bytes(request), reply)
 }
 
-/// Whether a good reply to a request is followed by bytes.
+/// Whether bytes follow a good reply to a request.
 fn asks_for_bytes(request: &[u8]) -> bool
     ensures { result ≡ asks_for_bytes (lines_of request.now) }
 {
@@ -61,7 +62,7 @@ fn send<S: Stream>(stream: &mut S, request: &[u8]) -> Result<(), Stop>
     Ok(())
 }
 
-/// Reads a reply after what the buffer holds, with the bytes that it counts where they are asked for.
+/// Appends a reply to the buffer, with the bytes that it counts if it was asked for bytes.
 fn read_reply<S: Stream>(stream: &mut S, dump: bool, reply: &mut Vec<u8>) -> Result<(), Stop>
     requires { CanFail (S.failed_reads stream.old) }
     ensures all { OnOk result (Gathers (S.rest stream.old) reply.old.items reply.new.items (S.rest stream.new)) }
@@ -78,7 +79,7 @@ fn read_reply<S: Stream>(stream: &mut S, dump: bool, reply: &mut Vec<u8>) -> Res
     }
 }
 
-/// Reads a line after what the buffer holds, which is nothing, and the bytes that it counts where they are asked for.
+/// Reads a line into the empty buffer, and the bytes that it counts if it was asked for bytes.
 fn read_whole<S: Stream>(stream: &mut S, dump: bool, reply: &mut Vec<u8>) -> Result<(), PartStop>
     requires { CanFail (S.failed_reads stream.old) }
     ensures all { OnOk result (Gathers (S.rest stream.old) reply.old.items reply.new.items (S.rest stream.new)) }
@@ -92,7 +93,8 @@ fn read_whole<S: Stream>(stream: &mut S, dump: bool, reply: &mut Vec<u8>) -> Res
     read_count(stream, reply, count)
 }
 
-/// How many bytes follow a line that is `OK` and a number, where bytes were asked for; none follow another one.
+/// How many bytes follow a line that is `OK` and a number, if bytes were asked for; none follow any
+/// other line.
 fn promised(line: &[u8], dump: bool) -> u32
     ensures { result ≡ bytes_promised dump line.now }
 {

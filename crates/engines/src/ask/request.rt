@@ -13,7 +13,8 @@ use crate::streams::gather::{PartStop, read_count, read_line};
 use metric::Source;
 use proto::{Line, MOST_COUNTED, Verb, read_stamp, split_verb, without_cr};
 
-/// Reads a line and the bytes that it counts over what the buffer held. `false` where the reader ends before all of them.
+/// Replaces the buffer by a line and the bytes that it counts. `false` if the reader ends before
+/// all of them.
 pub fn read_request<R: Source>(reader: &mut R, request: &mut Vec<u8>) -> Result<bool, Stop>
     requires { CanFail (R.failed_reads reader.old) }
     ensures all { result ≡ Ok true → Takes (R.rest reader.old) request.new.items (R.rest reader.new) }
@@ -32,7 +33,7 @@ pub fn read_request<R: Source>(reader: &mut R, request: &mut Vec<u8>) -> Result<
     }
 }
 
-/// Reads a line and the bytes that it counts after what the buffer holds, which is nothing.
+/// Reads a line and the bytes that it counts into the empty buffer.
 fn read_whole<R: Source>(reader: &mut R, request: &mut Vec<u8>) -> Result<(), PartStop>
     requires { CanFail (R.failed_reads reader.old) }
     ensures all { OnOk result (Gathers (R.rest reader.old) request.old.items request.new.items (R.rest reader.new)) }

@@ -7,7 +7,7 @@ use std::alloc::AllocError;
 use std::io;
 use thiserror::Error;
 
-/// What the program is to do.
+/// What the program shall do.
 #[derive(Clone, Copy, PartialEq, Eq)]
 pub enum Options<'a> {
     /// Answer an image.
@@ -20,51 +20,51 @@ pub enum Options<'a> {
     Ask(AskOptions),
 }
 
-/// How `dist` is to answer.
+/// The options of `dist`.
 #[derive(Clone, Copy, PartialEq, Eq)]
 pub struct DistOptions<'a> {
-    /// The distance.
+    /// The metric.
     pub metric: MetricKind,
-    /// What the border of the image is.
+    /// The edge of the image.
     pub edge: Edge,
-    /// Whether each entry tells its nearest obstacle.
+    /// Whether each entry includes its nearest obstacle.
     pub nearest: bool,
-    /// The line to answer in place of the whole table.
+    /// The line to answer instead of the whole table.
     pub query: Option<&'a str>,
-    /// How many workers share the rows of the table, 1 to 16; any other number is one worker.
+    /// How many workers share the rows of the table, 1 to 16; any other number means one worker.
     pub workers: u32,
 }
 
-/// How `serve` is to run.
+/// The options of `serve`.
 #[derive(Clone, Copy, PartialEq, Eq)]
 pub struct ServeOptions {
-    /// How many connections are served before the run ends, 1 to 1,000,000.
+    /// How many connections it serves before the run ends, 1 to 1,000,000.
     pub connections: u32,
-    /// The port to listen on; at 0 the system picks one.
+    /// The port to listen on; 0 lets the system choose one.
     pub port: u16,
-    /// How many blocks the store has.
+    /// The number of blocks of the store.
     pub blocks: u32,
-    /// How many versions it keeps at most.
+    /// The most versions it keeps.
     pub versions: u32,
-    /// How many commands are accepted between two checkpoints, at most.
+    /// The most commands accepted between two checkpoints.
     pub log: u32,
-    /// How many connections are served at once, 1 to 16.
+    /// How many connections it serves at once, 1 to 16.
     pub workers: u32,
-    /// What the border of the map is.
+    /// The edge of the map.
     pub edge: Edge,
 }
 
-/// How `ask` is to run.
+/// The options of `ask`.
 #[derive(Clone, Copy, PartialEq, Eq)]
 pub struct AskOptions {
     /// The port of the server, from 1.
     pub port: u16,
 }
 
-/// Why the words aren't a command to run.
+/// Why the words don't name a command to run.
 #[derive(Debug, Drop, Error)]
 pub enum Fault<'a> {
-    /// A mistake in the words, or a wish for help or the version.
+    /// A mistake in the words, or a request for help or the version.
     #[error("{0}")]
     Words(ClapError),
     /// `--metric` names no metric.
@@ -72,7 +72,7 @@ pub enum Fault<'a> {
     UnknownMetric {
         name: &'a str,
     },
-    /// `--edge` names no border.
+    /// `--edge` names no edge.
     #[error("--edge is one of open and wall, not '{name}'")]
     UnknownEdge {
         name: &'a str,
@@ -87,7 +87,7 @@ pub enum Fault<'a> {
     /// No command was named.
     #[error("no command was named")]
     NoCommand,
-    /// The process's words couldn't be had, as where they aren't UTF-8.
+    /// The process's words couldn't be read, for example because they aren't UTF-8.
     #[error("the command line can't be read: {0}")]
     Unreadable(io::Error),
     /// There was no memory to read the words.

@@ -1,4 +1,4 @@
-//! Telling why words are refused, or what they asked to be told.
+//! Reports why words are refused, or prints the help or the version that they ask for.
 
 ghost use Rattle.std.specs.Prelude.{◌≡◌, ◌≢◌, ◌+◌, ◌≤◌, ◌∷◌, ◌++◌, []};
 ghost use Rattle.metric.specs.Stream.{Appends, CanFail};
@@ -27,7 +27,7 @@ fn status_of(fault: &Fault<'_>) -> u8
     }
 }
 
-/// What is told: the text of `clap` as it is, and any other with the program's name.
+/// The text to print: that of `clap` as it is, and any other with the program's name.
 fn text_of(alloc: Global, fault: &Fault<'_>) -> Result<String, AllocError> {
     match fault {
         Fault::Words(error) => format!(in alloc; "{error}"),
@@ -35,7 +35,7 @@ fn text_of(alloc: Global, fault: &Fault<'_>) -> Result<String, AllocError> {
     }
 }
 
-/// Writes a text, and answers this status, or 1 where the writer fails.
+/// Writes a text, and returns this status, or 1 if the writer fails.
 fn write_or_fail<W: Sink>(writer: &mut W, text: &[u8], status: u8) -> u8
     requires { CanFail (W.failed_writes writer.old) }
     ensures written { W.failed_writes writer.new ≡ W.failed_writes writer.old
@@ -47,7 +47,7 @@ fn write_or_fail<W: Sink>(writer: &mut W, text: &[u8], status: u8) -> u8
     write_text(writer, text, status).unwrap_or(REFUSED)
 }
 
-/// Tells that there is no memory. Answers the status.
+/// Reports that memory has run out. Returns the status.
 fn tell_memory<W: Sink>(writer: &mut W, refusal: Refusal) -> u8
     requires writer { CanFail (W.failed_writes writer.old) }
     requires memory { refusal ≡ Refusal.Memory }
@@ -60,7 +60,8 @@ fn tell_memory<W: Sink>(writer: &mut W, refusal: Refusal) -> u8
     write_refusal(writer, refusal).unwrap_or(REFUSED)
 }
 
-/// Tells why words are refused, on `errors`, or what they asked to be told, on the writer. Answers the status.
+/// Reports on `errors` why words are refused, or prints on the writer what they ask for. Returns
+/// the status.
 pub fn tell<W: Sink, E: Sink>(
     alloc: Global,
     fault: &Fault<'_>,

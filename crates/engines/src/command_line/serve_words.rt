@@ -1,4 +1,4 @@
-//! Which words `serve` and `ask` take, by `clap`.
+//! The words that `serve` and `ask` accept, by `clap`.
 
 ghost use Rattle.std.specs.Prelude.{◌≡◌, ◌≤◌, IfOk, IfErr, OnErr, MatchResult, true, false, Some, None, codes, option_and_then};
 ghost use Rattle.clap.specs.Words.{app_of, first_value, found_of, kind_of, rows_of, rule_of};
@@ -31,7 +31,7 @@ const LOG_HELP: &str = "How many commands are accepted between two checkpoints, 
 
 const WORKERS_HELP: &str = "How many connections are served at once, 1 to 16";
 
-/// The options of `serve` or `ask`, where one of them was named.
+/// The options of `serve` or `ask`, if one of them is named.
 pub fn serve_or_ask<'a>(matches: &ArgMatches<'a>) -> Result<Options<'a>, Fault<'a>>
     ensures options { IfOk result (AreMatched matches.now) }
     ensures refused { OnErr result (AreNoMatch matches.now) }
@@ -61,7 +61,7 @@ fn serve_options<'a>(flags: &ArgMatches<'a>) -> Result<ServeOptions, Fault<'a>>
     })
 }
 
-/// The border that `--edge` names.
+/// The edge that `--edge` names.
 pub fn edge_given<'a>(flags: &ArgMatches<'a>) -> Result<Edge, Fault<'a>>
     ensures { MatchResult result (λ edge. option_and_then edge_named (first_value (found_of flags.now) (codes "edge"))
         ≡ Some edge) (λ _. option_and_then edge_named (first_value (found_of flags.now) (codes "edge")) ≡ None) }
@@ -74,7 +74,7 @@ pub fn edge_given<'a>(flags: &ArgMatches<'a>) -> Result<Edge, Fault<'a>>
     }
 }
 
-/// The border of this name, where there is one.
+/// The edge of this name, if there is one.
 fn edge_of(flags: &ArgMatches<'_>) -> Option<Edge>
     ensures { result ≡ option_and_then edge_named (first_value (found_of flags.now) (codes "edge")) }
 {
@@ -93,7 +93,7 @@ fn ask_options(flags: &ArgMatches<'_>) -> Result<AskOptions, Fault<'static>>
     })
 }
 
-/// The port that `--port` gives, from this one on.
+/// The port that `--port` gives, at least `least`.
 fn port_given(flags: &ArgMatches<'_>, least: u32) -> Result<u16, Fault<'static>>
     ensures { MatchResult result (λ port. in_range least 65535 (first_value (found_of flags.now) (codes "port")) ≡ Some port)
         (λ _. in_range least 65535 (first_value (found_of flags.now) (codes "port")) ≡ None) }
@@ -167,7 +167,7 @@ pub fn ask_command<'a>(alloc: Global) -> Result<Command<'a>, Error>
     )
 }
 
-/// A flag that has to be given, with one value.
+/// A required flag with one value.
 fn required_flag<'a>(alloc: Global, name: &'a str, help: &'a str) -> Arg<'a>
     ensures rule { rule_of result ≡ required_rule name.entry.now }
     ensures local { result.global ≡ false }
@@ -179,7 +179,7 @@ fn required_flag<'a>(alloc: Global, name: &'a str, help: &'a str) -> Arg<'a>
         .help(help)
 }
 
-/// A flag with one value, and its default.
+/// A flag with one value and a default.
 pub fn default_flag<'a>(alloc: Global, name: &'a str, value: &'a str, help: &'a str) -> Arg<'a>
     ensures rule { rule_of result ≡ default_rule name.entry.now value.entry.now }
     ensures local { result.global ≡ false }

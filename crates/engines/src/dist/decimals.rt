@@ -1,4 +1,4 @@
-//! Numbers in decimal, four digits a step, from a table.
+//! Numbers in decimal, four digits per step, from a table.
 
 ghost use Rattle.std.specs.Prelude.{◌≡◌, ◌+◌, ◌*◌, ◌<◌, ◌≤◌, ◌^◌, ◌∷◌, length, vec_len, IfOk};
 ghost use Rattle.std.specs.Fmt.{decimal};
@@ -8,11 +8,11 @@ use crate::dist::put::{put_byte, put_front};
 use crate::dist::quad::{Quad, quads, spaced};
 use std::alloc::{AllocError, Global};
 
-/// The digits of all numbers below 10,000, ready to be copied.
+/// The digits of all numbers below 10,000, ready to copy.
 #[derive(Drop)]
 pub struct Decimals {
     quads: Vec<Quad>,
-    /// The same after a blank each, as they are copied eight bytes at a time.
+    /// The same digits, each after a blank, to copy eight bytes at a time.
     spaced: Vec<[u8; 8]>,
     ghost all: { vec_len quads ≡ 10000 },
     ghost each: { AreQuads 10000 quads.items },
@@ -31,7 +31,8 @@ impl Decimals {
         })
     }
 
-    /// Puts a number after a blank, and answers where the next byte goes. There is room for thirteen bytes.
+    /// Writes a blank and a number, and returns the index of the next byte. The text has room for
+    /// thirteen bytes.
     #[inline(always)]
     pub fn put_behind_blank(&self, text: &mut [u8], at: usize, number: u32) -> usize
         requires { at + 13 ≤ length text.old }
@@ -49,7 +50,7 @@ impl Decimals {
         self.put(text, next, number)
     }
 
-    /// Puts a number, and answers where the next byte goes. There is room for twelve bytes.
+    /// Writes a number, and returns the index of the next byte. The text has room for twelve bytes.
     #[inline(always)]
     pub fn put(&self, text: &mut [u8], at: usize, number: u32) -> usize
         requires { at + 12 ≤ length text.old }
@@ -62,7 +63,7 @@ impl Decimals {
         self.put_padded(text, next, number % 10_000)
     }
 
-    /// Puts a number of eight digits at most. There is room for eight bytes.
+    /// Writes a number of at most eight digits. The text has room for eight bytes.
     #[inline(always)]
     pub fn put_eight(&self, text: &mut [u8], at: usize, number: u32) -> usize
         requires few { number < 100000000 }
@@ -76,7 +77,7 @@ impl Decimals {
         self.put_padded(text, next, number % 10_000)
     }
 
-    /// Puts a number of four digits at most after a blank. There is room for eight bytes.
+    /// Writes a blank and a number of at most four digits. The text has room for eight bytes.
     #[inline(always)]
     fn put_spaced(&self, text: &mut [u8], at: usize, number: u32) -> usize
         requires few { number < 10000 }
@@ -87,7 +88,7 @@ impl Decimals {
         put_front(text, at, word, usize::from(word[7]))
     }
 
-    /// Puts a number of four digits at most. There is room for four bytes.
+    /// Writes a number of at most four digits. The text has room for four bytes.
     #[inline(always)]
     fn put_short(&self, text: &mut [u8], at: usize, number: u32) -> usize
         requires few { number < 10000 }
@@ -98,7 +99,7 @@ impl Decimals {
         put_front(text, at, quad.short, usize::from(quad.count))
     }
 
-    /// Puts a number of four digits at most, with zeros in front.
+    /// Writes a number of at most four digits, with leading zeros.
     #[inline(always)]
     fn put_padded(&self, text: &mut [u8], at: usize, number: u32) -> usize
         requires few { number < 10000 }

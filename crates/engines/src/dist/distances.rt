@@ -1,4 +1,4 @@
-//! The lines of rows of distances alone.
+//! The lines of rows that have only distances.
 
 ghost use Rattle.std.specs.Prelude.{◌≡◌, ◌+◌, ◌*◌, ◌≤◌, ◌∷◌, length};
 ghost use Rattle.std.specs.List.{flat_map};
@@ -8,10 +8,10 @@ ghost use Rattle.engines.specs.dist.Putting.{Puts};
 use crate::dist::decimals::Decimals;
 use crate::dist::put::put_byte;
 
-/// What stands for the distance of a cell where there is no obstacle.
+/// The distance of a cell where there is no obstacle.
 const NOWHERE: u32 = u32::MAX;
 
-/// Puts the line of a row's distances, and answers where the next one goes.
+/// Writes the line of a row's distances, and returns the index after it.
 pub fn put_distances(decimals: &Decimals, text: &mut [u8], at: usize, distances: &[u32]) -> usize
     requires { at + (25 * length distances.now + 3) ≤ length text.old }
     ensures line { Puts text.old at (distances_line distances.now) text.new result }
@@ -27,7 +27,7 @@ pub fn put_distances(decimals: &Decimals, text: &mut [u8], at: usize, distances:
     }
 }
 
-/// Puts distances, each after a blank.
+/// Writes distances, each after a blank.
 #[inline(always)]
 fn put_others(decimals: &Decimals, text: &mut [u8], at: usize, distances: &[u32]) -> usize
     requires { at + (25 * length distances.now + 3) ≤ length text.old }
@@ -41,7 +41,7 @@ fn put_others(decimals: &Decimals, text: &mut [u8], at: usize, distances: &[u32]
     end
 }
 
-/// Puts a distance after a blank.
+/// Writes a blank and a distance.
 #[inline(always)]
 fn put_other(decimals: &Decimals, text: &mut [u8], at: usize, distance: u32) -> usize
     requires { at + 28 ≤ length text.old }
@@ -55,7 +55,7 @@ fn put_other(decimals: &Decimals, text: &mut [u8], at: usize, distance: u32) -> 
     decimals.put_behind_blank(text, at, distance)
 }
 
-/// Puts the first distance of a line.
+/// Writes the first distance of a line.
 fn put_first(decimals: &Decimals, text: &mut [u8], at: usize, distance: u32) -> usize
     requires { at + 28 ≤ length text.old }
     ensures text { Puts text.old at (distance_text distance) text.new result }

@@ -10,13 +10,15 @@ use crate::dist::decimals::Decimals;
 use crate::dist::put::put_byte;
 use metric::{Near, Spot};
 
-/// The most bytes that an entry and what follows it take: ten digits, two slashes, two coordinates of a `-` and five digits, and a blank or LF.
+/// The most bytes of an entry and what follows it: ten digits, two slashes, two coordinates of `-`
+/// and five digits each, and a blank or LF.
 pub const ENTRY_ROOM: usize = 25;
 
-/// What has to be left after a row's entries, so that a number's digits can be put four at a time.
+/// The bytes that must remain after a row's entries, so that digits can be copied four at a time.
 pub const SPARE_ROOM: usize = 3;
 
-/// Puts the line of a row, each distance with its nearest obstacle, and answers where the next one goes.
+/// Writes the line of a row, each distance with its nearest obstacle, and returns the index after
+/// it.
 pub fn put_row(decimals: &Decimals, text: &mut [u8], at: usize, nears: &[Option<Near>]) -> usize
     requires { at + (25 * length nears.now + 3) ≤ length text.old }
     ensures line { Puts text.old at (row_line true nears.now) text.new result }
@@ -32,7 +34,7 @@ pub fn put_row(decimals: &Decimals, text: &mut [u8], at: usize, nears: &[Option<
     }
 }
 
-/// Puts entries, each after a blank.
+/// Writes entries, each after a blank.
 #[inline(always)]
 fn put_others(decimals: &Decimals, text: &mut [u8], at: usize, nears: &[Option<Near>]) -> usize
     requires { at + (25 * length nears.now + 3) ≤ length text.old }
@@ -47,7 +49,7 @@ fn put_others(decimals: &Decimals, text: &mut [u8], at: usize, nears: &[Option<N
     end
 }
 
-/// Puts what is printed for a cell.
+/// Writes the entry of a cell.
 #[inline(always)]
 fn put_entry(decimals: &Decimals, text: &mut [u8], at: usize, near: Option<Near>) -> usize
     requires { at + 27 ≤ length text.old }
@@ -61,7 +63,7 @@ fn put_entry(decimals: &Decimals, text: &mut [u8], at: usize, near: Option<Near>
     put_place(decimals, text, next, near.cell)
 }
 
-/// Puts where an obstacle is.
+/// Writes the position of an obstacle.
 #[inline(always)]
 fn put_place(decimals: &Decimals, text: &mut [u8], at: usize, spot: Spot) -> usize
     requires { at + 17 ≤ length text.old }
@@ -72,7 +74,7 @@ fn put_place(decimals: &Decimals, text: &mut [u8], at: usize, spot: Spot) -> usi
     put_coordinate(decimals, text, next, spot.y)
 }
 
-/// Puts a slash and a coordinate.
+/// Writes a slash and a coordinate.
 #[inline(always)]
 fn put_coordinate(decimals: &Decimals, text: &mut [u8], at: usize, coordinate: i16) -> usize
     requires { at + 10 ≤ length text.old }
@@ -83,7 +85,7 @@ fn put_coordinate(decimals: &Decimals, text: &mut [u8], at: usize, coordinate: i
     put_signed(decimals, text, next, coordinate)
 }
 
-/// Puts a whole number, after a `-` where it is negative.
+/// Writes a signed number.
 #[inline(always)]
 fn put_signed(decimals: &Decimals, text: &mut [u8], at: usize, number: i16) -> usize
     requires { at + 9 ≤ length text.old }

@@ -1,4 +1,4 @@
-//! The lines of a table's rows, put by workers side by side.
+//! The lines of a table's rows, written by workers in parallel.
 
 ghost use Rattle.std.specs.Prelude.{◌≡◌, ◌+◌, ◌-◌, ◌*◌, ◌<◌, ◌≤◌, All, IfOk, length, vec_capacity, vec_len};
 ghost use Rattle.std.specs.List.{slice_range};
@@ -11,26 +11,27 @@ use crate::dist::printer::Printer;
 use metric::{Metric, Near};
 use std::alloc::{AllocError, Global};
 
-/// The cells of one row of the table: their nearest obstacles, or their distances alone.
+/// The cells of one row of the table: their nearest obstacles, or only their distances.
 #[derive(Drop)]
 pub enum RowCells {
     Nears(Vec<Option<Near>>),
     Distances(Vec<u32>),
 }
 
-/// Where a worker puts the lines of its rows, and one row of the table and its line.
+/// A worker's buffers: the lines of its rows, and one row of the table with its line.
 #[derive(Drop)]
 pub struct WorkerLines {
     pub row: RowCells,
     pub line: Vec<u8>,
-    /// The lines. Its room is asked for once, and only as much of it is touched as the lines take.
+    /// The lines. Their capacity is allocated once, and only as much of it is touched as the lines
+    /// take.
     pub text: Vec<u8>,
 }
 
 impl RowCells {
     ghost use Rattle.engines.specs.dist.Parts.{IsRowRoom};
 
-    /// Room for the cells of a row of this width.
+    /// Buffers for the cells of a row of this width.
     fn new(alloc: Global, nearest: bool, width: u16) -> Result<Self, AllocError>
         ensures { IfOk result (IsRowRoom nearest width) }
     {
@@ -41,8 +42,7 @@ impl RowCells {
         Ok(RowCells::Distances(vec![in alloc; 0; across]?))
     }
 
-    /// Puts the lines of the rows `from` to `to - 1` in place of what the text has. There is room
-    /// for them.
+    /// Replaces the text by the lines of rows `from` to `to - 1`. The text has capacity for them.
     fn put_lines<M: Metric + Sync>(
         &mut self,
         printer: &Printer<M>,
@@ -68,7 +68,7 @@ impl RowCells {
         }
     }
 
-    /// Puts the line of row `y`, and answers where it ends.
+    /// Writes the line of row `y`, and returns where it ends.
     fn put_line<M: Metric + Sync>(&mut self, printer: &Printer<M>, y: u16, line: &mut [u8]) -> usize
         requires row { y < printer.now.table.height }
         requires cells { IsRowRoom printer.now.nearest printer.now.table.width self.old }
@@ -95,7 +95,7 @@ impl RowCells {
 impl WorkerLines {
     ghost use Rattle.engines.specs.dist.Parts.{HasRows, IsShare};
 
-    /// A place for the lines of so many rows of this width.
+    /// Buffers for the lines of this many rows of this width.
     fn new(alloc: Global, nearest: bool, width: u16, rows: u32) -> Result<Self, AllocError>
         requires { rows ≤ 4096 }
         ensures { IfOk result (IsShare nearest width rows) }
@@ -108,8 +108,8 @@ impl WorkerLines {
         })
     }
 
-    /// Puts the lines of the printer's number of rows from this one on, or of those of them that
-    /// there are.
+    /// Writes the lines of as many rows from this one on as the printer's number says, or as there
+    /// are.
     pub fn put<M: Metric + Sync>(&mut self, printer: &Printer<M>, from: u32)
         requires part { IsShare printer.now.nearest printer.now.table.width printer.now.rows
             self.old }
@@ -124,14 +124,14 @@ impl WorkerLines {
         self.row.put_lines(printer, from, to, line, &mut self.text);
     }
 
-    /// What was put.
+    /// The lines written.
     pub fn text(&self) -> &[u8]
         ensures { result.now ≡ self.now.text.items }
     {
         self.text.as_slice()
     }
 
-    /// So many places, each for the lines of so many rows of this width.
+    /// Several workers' buffers, each for the lines of this many rows of this width.
     pub fn several(
         alloc: Global,
         nearest: bool,

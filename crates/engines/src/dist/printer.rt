@@ -1,4 +1,4 @@
-//! Putting the lines of a table's rows by several workers, and writing what they put.
+//! Writes a table: several workers make the lines of its rows.
 
 ghost use Rattle.std.specs.Prelude.{◌≡◌, ◌+◌, ◌*◌, ◌<◌, ◌≤◌, OnOk, OnErr, length};
 ghost use Rattle.std.specs.Thread.{IsSync};
@@ -12,18 +12,18 @@ use metric::{MOST_SIDE, Metric, Sink, WriteFault};
 use std::mem::swap;
 use std::thread::{Threads, for_each_mut, join_mut};
 
-/// A set has parts for at most so many rows: 16 parts, each for no more rows than a map has.
+/// The most rows of a set: 16 parts, each with no more rows than a map has.
 const SET_ROWS: u32 = 16 * MOST_SIDE as u32;
 
-/// Each turn begins before this row: the first one within a table, whose height is a number of 16
+/// Each turn starts before this row: the first row of a turn is within a table, whose height has 16
 /// bits.
 const LATEST_TURN: u32 = 1 << 16;
 
-/// The rows that a turn puts begin before this one.
+/// The rows of a turn start before this one.
 const LATEST_ROWS: u32 = LATEST_TURN + SET_ROWS;
 
-/// A table, and how its lines are put: with the digits of numbers, with obstacles or without, and
-/// so many rows in each part.
+/// A table, and how to write its lines: with the digits of numbers, with obstacles or without, and
+/// this many rows per part.
 #[derive(Drop)]
 pub struct Printer<M: Metric> {
     pub table: Table<M>,
@@ -35,8 +35,8 @@ pub struct Printer<M: Metric> {
 impl<M: Metric + Sync> Printer<M> {
     ghost use Rattle.engines.specs.dist.Parts.{AreShares, HasRows, IsShare, ShareRows, parts_text};
 
-    /// Writes the lines of all rows. In each turn what the full parts hold is written, while the
-    /// workers put the rows after those into the free ones. Then the two sets change roles.
+    /// Writes the lines of all rows. In each turn it writes what the full parts hold while the
+    /// workers fill the free ones with the rows after those. Then the two sets swap roles.
     pub fn write_turns<W: Sink, R: Threads + Sync>(
         &self,
         rt: &R,
@@ -66,8 +66,8 @@ impl<M: Metric + Sync> Printer<M> {
         Ok(())
     }
 
-    /// Writes what the full parts hold, the rows from this one on, and puts the rows after those
-    /// into the free ones: side by side, or one after the other where one thread does.
+    /// Writes what the full parts hold, the rows from this one on, and fills the free ones with the
+    /// rows after those: in parallel, or one after the other if there is only one thread.
     fn write_and_put<W: Sink, R: Threads + Sync>(
         &self,
         rt: &R,
@@ -118,8 +118,8 @@ impl<M: Metric + Sync> Printer<M> {
         written
     }
 
-    /// How many threads put the rows from this one on into so many parts: one each, or one in all
-    /// where there are no such rows or the table is small.
+    /// How many threads fill this many parts with the rows from this one on: one each, or one in
+    /// all if there are no such rows or the table is small.
     fn threads_for(&self, parts: usize, from: u32) -> usize
         requires { 1 ≤ parts }
         ensures { 1 ≤ result }
@@ -130,7 +130,7 @@ impl<M: Metric + Sync> Printer<M> {
         1
     }
 
-    /// Puts the lines of the rows from this one on, so many in each part.
+    /// Fills the parts with the lines of the rows from this one on, this many per part.
     fn put_parts<R: Threads + Sync>(&self, rt: &R, parts: &mut [WorkerLines], from: u32)
         requires from { from < LATEST_ROWS }
         requires parts { AreShares self.now.nearest self.now.table.width self.now.rows parts.old }
@@ -152,7 +152,7 @@ impl<M: Metric + Sync> Printer<M> {
         );
     }
 
-    /// Writes what the parts hold, the rows from this one on, in their order.
+    /// Writes what the parts hold, the rows from this one on, in order.
     fn write_parts<W: Sink>(
         &self,
         writer: &mut W,
@@ -174,7 +174,7 @@ impl<M: Metric + Sync> Printer<M> {
     }
 }
 
-/// The row so many parts of so many rows each after this one.
+/// The row that is `parts` parts of `rows` rows each after this one.
 fn row_after(from: u32, rows: u32, parts: usize) -> u32
     requires from { from < LATEST_ROWS }
     requires some { 1 ≤ rows }

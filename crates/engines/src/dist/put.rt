@@ -1,9 +1,9 @@
-//! Putting bytes into a buffer that has room for them.
+//! Writes bytes to a buffer that has room for them.
 
 ghost use Rattle.std.specs.Prelude.{◌≡◌, ◌+◌, ◌<◌, ◌≤◌, ◌∷◌, ◌++◌, [], length, take};
 ghost use Rattle.engines.specs.dist.Putting.{Puts};
 
-/// Puts a byte, and answers where the next one goes.
+/// Writes a byte, and returns the index of the next one.
 #[inline(always)]
 pub fn put_byte(text: &mut [u8], at: usize, byte: u8) -> usize
     requires { at < length text.old }
@@ -13,8 +13,8 @@ pub fn put_byte(text: &mut [u8], at: usize, byte: u8) -> usize
     at + 1
 }
 
-/// Puts the first `count` of some bytes, and answers where the next one goes. There is room for all
-/// of them.
+/// Writes the first `count` of some bytes, and returns the index of the next one. The buffer has
+/// room for all of them.
 #[inline(always)]
 pub fn put_front<const N: usize>(text: &mut [u8], at: usize, bytes: [u8; N], count: usize) -> usize
     requires few { count ≤ N }

@@ -5,10 +5,11 @@ ghost use Rattle.engines.specs.dist.Putting.{AreQuads, AreSpaced, IsQuad, IsSpac
 
 use std::alloc::{AllocError, Global};
 
-/// How many numbers have four digits at most.
+/// How many numbers have at most four digits.
 const QUADS: u32 = 10_000;
 
-/// The digits of a number below 10,000: without zeros in front, as many as `count`, and with them.
+/// The digits of a number below 10,000: without leading zeros, `count` of them, and with leading
+/// zeros.
 #[derive(Clone, Copy)]
 pub struct Quad {
     pub short: [u8; 4],
@@ -16,7 +17,7 @@ pub struct Quad {
     pub count: u8,
 }
 
-/// The digits of all numbers below 10,000, in their order.
+/// The digits of all numbers below 10,000, in order.
 pub fn quads(alloc: Global) -> Result<Vec<Quad>, AllocError>
     ensures all { IfOk result (λ quads. vec_len quads ≡ 10000) }
     ensures each { IfOk result (λ quads. AreQuads 10000 quads.items) }
@@ -28,8 +29,8 @@ pub fn quads(alloc: Global) -> Result<Vec<Quad>, AllocError>
     Ok(quads)
 }
 
-/// All numbers below 10,000 after a blank, in their order: the blank, the digits without zeros in front, and in the last of the eight
-/// bytes how many these are together.
+/// All numbers below 10,000 after a blank, in order: the blank, the digits without leading zeros,
+/// and in the last of the eight bytes how many bytes these are.
 pub fn spaced(alloc: Global) -> Result<Vec<[u8; 8]>, AllocError>
     ensures all { IfOk result (λ words. vec_len words ≡ 10000) }
     ensures each { IfOk result (λ words. AreSpaced 10000 words.items) }

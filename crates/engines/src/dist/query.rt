@@ -11,7 +11,7 @@ use metric::{Edge, Refusal};
 use proto::{Answer, Query, Verb, answer_query, read_query, split_verb};
 use std::alloc::Global;
 
-/// The answer to a line, a refusal of the line or of its query included.
+/// The answer to a line, which may be a refusal of the line or of its query.
 pub fn answer_query_line(alloc: Global, bitmap: &Bitmap, edge: Edge, line: &[u8]) -> Answer
     ensures { IsReplyTo bitmap.now edge (asked_in line.now) result }
 {
@@ -21,7 +21,7 @@ pub fn answer_query_line(alloc: Global, bitmap: &Bitmap, edge: Edge, line: &[u8]
     }
 }
 
-/// The query that a line is. A command that is no query is unknown here, whatever its arguments.
+/// The query in a line. A command that isn't a query is unknown here, whatever its arguments.
 fn query_in(alloc: Global, line: &[u8]) -> Result<Query, Refusal>
     ensures query { IfOk result (λ query. asked_in line.now ≡ Ok (asked_by query)) }
     ensures refusal { IfErr result (λ refusal. refusal ≢ Refusal.Memory → asked_in line.now ≡ Err refusal) }

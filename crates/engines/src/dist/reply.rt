@@ -1,4 +1,4 @@
-//! The reply to one query line on a map, and all that is needed to write it.
+//! The reply to one query line on a map, and what is needed to write it.
 
 ghost use Rattle.std.specs.Prelude.{◌≡◌, IfOk, IfErr};
 ghost use Rattle.metric.specs.declared.refusal.Refusal.TheVariants.{Memory};
@@ -19,7 +19,7 @@ pub struct QueryReply {
 impl QueryReply {
     ghost use Rattle.engines.specs.dist.Replied.{IsReplyOf};
 
-    /// The reply to the line on a map, whose border is this. Everything that takes memory is done here.
+    /// The reply to the line on a map with this edge. Does here everything that allocates memory.
     pub fn of(alloc: Global, map: &Bitmap, edge: Edge, line: &[u8]) -> Result<Self, Refusal>
         ensures reply { IfOk result (IsReplyOf edge line.now map.now) }
         ensures memory { IfErr result (λ refusal. refusal ≡ Memory) }

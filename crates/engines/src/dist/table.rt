@@ -1,4 +1,4 @@
-//! The nearest obstacles of one image's cells by one metric, found by workers.
+//! The nearest obstacles of one image's cells by one metric, computed by workers.
 
 ghost use Rattle.std.specs.Prelude.{◌≡◌, ◌+◌, ◌*◌, ◌<◌, ◌≤◌, IfErr, IfOk, length, slice_range};
 ghost use Rattle.metric.specs.declared.refusal.Refusal.TheVariants.{Memory};
@@ -12,8 +12,8 @@ use std::alloc::Global;
 use std::marker::Model;
 use std::thread::Threads;
 
-/// The nearest obstacles of all cells by one metric, four bytes a cell. Contracts see it as its size and these
-/// obstacles, row by row.
+/// The nearest obstacles of all cells by one metric, four bytes per cell. Contracts see its size
+/// and these obstacles, in row-major order.
 #[derive(Drop)]
 pub struct Table<M: Metric> {
     width: u16,
@@ -33,7 +33,8 @@ impl<M: Metric> Model for Table<M> {
 }
 
 impl<M: Metric + Sync> Table<M> {
-    /// The nearest obstacles of the cells of this bitmap, whose border is this, found by so many workers, or by one where there are few cells.
+    /// The nearest obstacles of the cells of this bitmap with this edge, computed by this many
+    /// workers, or by one if there are few cells.
     pub fn of<T: Threads + Sync>(
         rt: &T,
         alloc: Global,
@@ -65,7 +66,7 @@ impl<M: Metric + Sync> Table<M> {
         })
     }
 
-    /// How many rows there are.
+    /// The number of rows.
     pub fn height(&self) -> u16
         ensures { result ≡ self.now.height }
     {
@@ -81,7 +82,8 @@ impl<M: Metric + Sync> Table<M> {
         self.obstacles.fill_row(y, nears);
     }
 
-    /// Fills a line with the distances of the cells of row `y`, in the metric's unit; `u32::MAX` where there is no obstacle.
+    /// Fills a line with the distances of the cells of row `y`, in the metric's unit; `u32::MAX`
+    /// where there is no obstacle.
     pub fn fill_distances(&self, y: u16, distances: &mut [u32])
         requires row { y < self.now.height }
         requires width { length distances.old ≡ self.now.width }
@@ -90,7 +92,8 @@ impl<M: Metric + Sync> Table<M> {
         self.obstacles.fill_distances(y, distances);
     }
 
-    /// How many threads do the work of so many: as many where the table is large, and one where it has fewer than 2^20 cells.
+    /// How many threads do the work of this many workers: as many if the table is large, one if it
+    /// has fewer than 2^20 cells.
     pub fn threads(&self, workers: usize) -> usize
         requires { 1 ≤ workers }
         ensures { 1 ≤ result }
@@ -101,7 +104,9 @@ impl<M: Metric + Sync> Table<M> {
         1
     }
 
-    /// How many rows each of so many workers puts at a time: 16 where one thread does the work, and else as many as give all of them about 2^21 cells, or half of that where obstacles are told too, but no more than their share of the map.
+    /// Rows that each worker writes per batch: 16 if one thread does the work; otherwise as many as
+    /// give all of them about 2^21 cells, or half of that with obstacles, but at most their share
+    /// of the map and at least 16.
     pub fn rows_at_a_time(&self, workers: u8, nearest: bool) -> u32
         requires { 1 ≤ workers }
         ensures some { 1 ≤ result }
@@ -118,13 +123,14 @@ impl<M: Metric + Sync> Table<M> {
     }
 }
 
-/// How many rows a thread puts at a time where it's the only one: their lines stay near at hand until they are written.
+/// Rows a thread writes per batch when it is the only one, so that their lines stay in cache.
 const FEW_ROWS: u32 = 16;
 
-/// The fewest cells of a map whose rows are shared by several threads. Below them starting threads, and waiting for the last one on a busy machine, takes longer than the work that they take off one.
+/// The fewest cells of a map whose rows several threads share. On a smaller map, starting threads,
+/// and waiting for the last one on a busy machine, takes longer than it saves.
 const LARGE: u32 = 1 << 20;
 
-/// Whether a map of this size has so many cells that threads share its rows.
+/// Whether a map of this size has enough cells for threads to share its rows.
 fn is_large(width: u16, height: u16) -> bool {
     u32::from(width) * u32::from(height) >= LARGE
 }

@@ -1,4 +1,4 @@
-//! Writing the lines of a table, which workers put side by side.
+//! Writes the lines of a table, which workers make in parallel.
 
 ghost use Rattle.std.specs.Prelude.{◌≡◌, IfErr, IfOk, OnErr, OnOk, vec_len};
 ghost use Rattle.metric.specs.Stream.{Appends, AppendsFront, Counts, CanFail};
@@ -17,7 +17,7 @@ use metric::{Edge, Metric, Refusal, Sink, WriteFault};
 use std::alloc::Global;
 use std::thread::Threads;
 
-/// A table's printer, and two sets of parts: what one holds is written while the other is filled.
+/// A table's printer, and two sets of parts: one is written while the other is filled.
 #[derive(Drop)]
 pub struct TableWriter<M: Metric> {
     pub printer: Printer<M>,
@@ -26,9 +26,9 @@ pub struct TableWriter<M: Metric> {
 }
 
 impl<M: Metric + Sync> TableWriter<M> {
-    /// The table of a map with this border, with a part in each set for each of the workers. How
-    /// many rows a part has room for depends on whether obstacles are told too. Everything that
-    /// takes memory is done here.
+    /// The table of a map with this edge, with a part in each set for each worker. The rows per
+    /// part depend on whether obstacles are printed too. Does here everything that allocates
+    /// memory.
     pub fn of<T: Threads + Sync>(
         rt: &T,
         alloc: Global,

@@ -9,7 +9,8 @@ use std::alloc::Global;
 use std::net::{TcpListener, TcpStream};
 use std::time::Clock;
 
-/// The next connections that a listener accepts, up to a number. One that can't be accepted counts too, and after it the listener waits.
+/// The next connections of a listener, up to a number. One that can't be accepted counts too, and a
+/// wait follows it.
 #[derive(Drop)]
 pub struct Accepted<'a, C> {
     alloc: Global,
@@ -20,7 +21,7 @@ pub struct Accepted<'a, C> {
 }
 
 impl<'a, C: Clock> Accepted<'a, C> {
-    /// So many connections of this listener, with the clock that measures its waits.
+    /// This many connections of this listener, with the clock for its waits.
     pub fn of(alloc: Global, clock: &'a C, listener: TcpListener, connections: u32) -> Self {
         Accepted {
             alloc,
@@ -31,7 +32,7 @@ impl<'a, C: Clock> Accepted<'a, C> {
         }
     }
 
-    /// The next connection, or none after a wait where it can't be accepted.
+    /// The next connection; none, after a wait, if it can't be accepted.
     fn accept(&mut self) -> Option<TcpStream>
         ensures { self.new.left ≡ self.old.left }
     {
@@ -48,7 +49,7 @@ impl<'a, C: Clock> Accepted<'a, C> {
     }
 }
 
-/// The connection as a stream; one for which there is no memory is told so, and ends.
+/// The connection as a stream. Reports to one for which there is no memory, and ends it.
 fn stream_of(alloc: Global, connection: TcpStream) -> Option<Socket>
     ensures { IfSome result (λ socket. socket ≡ (0, 0)) }
 {

@@ -1,11 +1,11 @@
-//! The two lines that `serve` writes: its port, and at the end how much was served.
+//! The two lines that `serve` writes: its port, and at the end how much it served.
 
 ghost use Rattle.std.specs.Prelude.{◌≡◌, ◌≤◌, length};
 ghost use Rattle.engines.specs.serve.Serving.{listening_text, served_text};
 
 use proto::Text;
 
-/// Writes the line that tells the port over what the text held.
+/// Replaces the text by the line that has the port.
 pub fn listening_line(port: u16, text: &mut Text)
     ensures { text.new ≡ listening_text port }
 {
@@ -15,7 +15,7 @@ pub fn listening_line(port: u16, text: &mut Text)
     text.put(b"\n");
 }
 
-/// Writes the line that tells how many connections were served, and how long the log is, over what the text held.
+/// Replaces the text by the line that has how many connections were served, and the log's length.
 pub fn served_line(connections: u32, log: u64, text: &mut Text)
     ensures { text.new ≡ served_text connections log }
 {

@@ -1,4 +1,4 @@
-//! How long a listener waits after connections that it couldn't accept.
+//! How long a listener waits after connections that it can't accept.
 
 ghost use Rattle.std.specs.Prelude.{◌≡◌, ◌*◌, min};
 
@@ -18,14 +18,14 @@ pub struct Pause {
 }
 
 impl Pause {
-    /// Nothing has failed: the next wait is the first.
+    /// The first wait: nothing has failed.
     pub fn new() -> Self
         ensures { result.next ≡ 10 }
     {
         Pause { next: LEAST }
     }
 
-    /// Waits, and doubles the next wait, up to a second.
+    /// Waits, and doubles the next wait, up to one second.
     pub fn wait(&mut self, clock: &impl Clock)
         ensures { self.new.next ≡ min (self.old.next * 2) 1000 }
     {
@@ -37,7 +37,7 @@ impl Pause {
         };
     }
 
-    /// After a connection that was accepted the next wait is the first again.
+    /// Resets the next wait to the first, after an accepted connection.
     pub fn reset(&mut self)
         ensures { self.new.next ≡ 10 }
     {

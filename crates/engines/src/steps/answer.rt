@@ -1,4 +1,4 @@
-//! The text of an event's answer.
+//! The texts of events' answers.
 
 ghost use Rattle.std.specs.Prelude.{◌≡◌, ◌≤◌, ◌∷◌, ◌++◌, [], codes, length};
 ghost use Rattle.std.specs.Fmt.{decimal};
@@ -18,7 +18,7 @@ fn put_named(text: &mut Text, name: &[u8], number: u32)
     text.put_number(number);
 }
 
-/// Writes what an event answers, without its LF.
+/// Writes the answer to an event, without its LF.
 fn put_reply(text: &mut Text, reply: StepReply)
     requires { text.old ≡ [] }
     ensures text { text.new ≡ step_text (Ok reply) }
@@ -50,7 +50,7 @@ fn put_reply(text: &mut Text, reply: StepReply)
     }
 }
 
-/// Writes the answer line of an event over what the text held. Each fits a text.
+/// Replaces the text by the answer line of an event. Every one fits a text.
 pub fn step_line(answer: Result<StepReply, NotEnabled>, text: &mut Text)
     ensures line { text.new ≡ step_text answer ++ 10 ∷ [] }
     ensures fits { length text.new ≤ 128 }
@@ -63,7 +63,7 @@ pub fn step_line(answer: Result<StepReply, NotEnabled>, text: &mut Text)
     text.put(b"\n");
 }
 
-/// Writes the answer line of a line that says nothing known.
+/// Writes the answer line of a line that has none of the known forms.
 pub fn bad_line(text: &mut Text)
     ensures line { text.new ≡ codes "BAD LINE" ++ 10 ∷ [] }
     ensures fits { length text.new ≤ 128 }
@@ -72,7 +72,7 @@ pub fn bad_line(text: &mut Text)
     text.put(b"BAD LINE\n");
 }
 
-/// Writes the answer line of the first line, with how many positions the map has.
+/// Writes the answer line of the first line, with the map's number of positions.
 pub fn opened_line(tiles: u16, text: &mut Text)
     ensures line { text.new ≡ (codes "OPENED " ++ decimal tiles) ++ 10 ∷ [] }
     ensures fits { length text.new ≤ 128 }

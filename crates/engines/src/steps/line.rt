@@ -1,4 +1,4 @@
-//! A line of steps, and what it says.
+//! Lines of steps, and what they say.
 
 ghost use Rattle.std.specs.Prelude.{◌≡◌, option_map, unwrap_or};
 ghost use Rattle.proto.specs.Said.{first_verb, said_of};
@@ -14,7 +14,7 @@ use proto::{Verb, number_pair, number_triple, only_number, read_order, split_ver
 pub enum StepLine {
     /// One event.
     Event(Event),
-    /// So many steps of the keeper.
+    /// Several steps of the keeper.
     Keep { count: u32 },
     /// A command of the keeper that is refused before it is an order.
     Refused(Refusal),
@@ -22,7 +22,7 @@ pub enum StepLine {
     Bad,
 }
 
-/// What the first word of a line begins.
+/// The kinds of lines, by their first word.
 #[derive(Clone, Copy)]
 pub enum Letter {
     Announce,
@@ -35,7 +35,7 @@ pub enum Letter {
     Keep,
 }
 
-/// What this letter begins.
+/// The kind of line that this letter starts.
 fn letter_of(word: &[u8]) -> Option<Letter>
     ensures { result ≡ letter_named word.now }
 {
@@ -60,7 +60,8 @@ fn letter_of(word: &[u8]) -> Option<Letter>
     }
 }
 
-/// What the line of the protocol that is left of a line says. Only a command to the keeper says anything.
+/// What the line of the protocol in the rest of a line says. Only a command to the keeper says
+/// anything.
 #[tactic(auto, unfolding(proto::specs::Said::said, proto::specs::Said::verb_in))]
 fn order(rest: Option<&[u8]>) -> StepLine
     ensures { step_said_by result ≡ order_said (first_verb (words_left rest.entry)) (said_of (words_left rest.entry)) }
@@ -77,7 +78,7 @@ fn order(rest: Option<&[u8]>) -> StepLine
     }
 }
 
-/// What a letter says with what is left of its line; nothing where that isn't what the letter takes.
+/// What a letter says with the rest of its line; nothing if that isn't what the letter takes.
 fn letter_line(letter: Letter, rest: Option<&[u8]>) -> Option<StepLine>
     ensures { unwrap_or (option_map step_said_by result) bad ≡ letter_said letter (words_left rest.entry) }
 {

@@ -15,7 +15,7 @@ use metric::{Edge, Refusal};
 use proto::{Text, next_number, number_triple, split_word};
 use std::alloc::Global;
 
-/// What a first line tells: a blank map, and the room of its world.
+/// What a first line says: a blank map, and the setting of its world.
 #[derive(Clone, Copy)]
 pub struct OpenLine {
     /// Columns, 1 to 4096.
@@ -25,7 +25,7 @@ pub struct OpenLine {
     pub setting: Setting,
 }
 
-/// A world that a first line opened, how many positions its map has, and the room of the answers.
+/// A world that a first line opened, the map's number of positions, and the buffer of the answers.
 #[derive(Drop)]
 pub struct Opened {
     pub world: World,
@@ -44,7 +44,7 @@ fn side(number: u32) -> Option<u16>
     }
 }
 
-/// The setting that is left of a line.
+/// The setting in the rest of a line.
 fn read_setting(rest: Option<&[u8]>) -> Option<Setting>
     ensures { result ≡ option_and_then setting_of (numbers (words_left rest.entry)) }
 {
@@ -60,7 +60,7 @@ fn read_setting(rest: Option<&[u8]>) -> Option<Setting>
 }
 
 impl OpenLine {
-    /// What a first line tells, without its LF and the CR before it.
+    /// What a first line says, without its LF and the CR before it.
     #[tactic(auto, unfolding(crate::specs::steps::Opening::opening_told))]
     pub fn parse(line: &[u8]) -> Option<OpenLine>
         ensures told { result ≡ opening_told line.now }
@@ -85,7 +85,8 @@ impl OpenLine {
 }
 
 impl Opened {
-    /// The world that a first line opens. Memory can be wanting for a map and a setting alone that are good.
+    /// The world that a first line opens. Runs out of memory only if the map and the setting are
+    /// valid.
     pub fn of(alloc: Global, line: &[u8]) -> Result<Self, Refusal>
         ensures opened { IfOk result (λ opened. (opening : OpenLine) × (judged (opening_told line.now) ≡ Ok opening)
             × IsOpened (base_opened opening) opened.world × (opened.tiles ≡ tiles (base_opened opening))) }

@@ -18,7 +18,7 @@ use metric::{Refusal, Sink, WriteFault};
 use proto::{Answer, Text, reply_text};
 use std::alloc::Global;
 
-/// So many steps of the keeper, where all of them are enabled; answered as the last.
+/// Does this many steps of the keeper if all of them are enabled. Returns the answer to the last.
 fn keep(alloc: Global, world: &mut World, count: u32) -> Result<StepReply, NotEnabled>
     ensures { KeepsAll count world.old result world.new }
 {
@@ -32,7 +32,7 @@ fn keep(alloc: Global, world: &mut World, count: u32) -> Result<StepReply, NotEn
     answer
 }
 
-/// Does what a line says, and writes its answer line over what the text held.
+/// Does what a line says, and replaces the text by its answer line.
 fn answer_line(alloc: Global, world: &mut World, line: &[u8], text: &mut Text)
     ensures answered { IsAnswerLine (step_said line.now) world.old text.new world.new }
     ensures fits { length text.new ≤ 128 }
@@ -67,7 +67,7 @@ fn answer_lines<W: Sink>(
     Ok(())
 }
 
-/// Writes how many positions the map of a world has, and the answers to the lines of a text.
+/// Writes the number of positions of a world's map, and the answers to the lines of a text.
 fn write_world<W: Sink>(
     alloc: Global,
     opened: Opened,

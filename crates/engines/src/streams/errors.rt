@@ -1,4 +1,4 @@
-//! The standard error as a stream.
+//! Standard error as a stream.
 
 ghost use Rattle.std.specs.Prelude.{◌≡◌, ℕ, None};
 
@@ -6,7 +6,8 @@ use metric::{Sink, WriteFault};
 use std::marker::Model;
 use std::str;
 
-/// What prints to the standard error, as a stream of text that keeps nothing back. Contracts see how many writes have failed.
+/// A stream of text, without a buffer, that prints to standard error. Contracts see the count of
+/// failed writes.
 #[derive(Drop)]
 pub struct ErrorSink<'a, P> {
     to: &'a P,
@@ -20,7 +21,7 @@ impl<'a, P> Model for ErrorSink<'a, P> {
 }
 
 impl<'a, P: Eprint> ErrorSink<'a, P> {
-    /// A stream none of whose writes has failed.
+    /// A stream of which no write has failed.
     pub fn new(to: &'a P) -> Self
         ensures { result ≡ 0 }
     {

@@ -1,4 +1,4 @@
-//! Reading a line, or so many bytes, into a buffer.
+//! Reads a line, or a number of bytes, into a buffer.
 
 ghost use Rattle.std.specs.Prelude.{◌≡◌, ◌≢◌, ◌+◌, ◌++◌, ◌∷◌, [], ℕ, List, vec_len, IfOk, OnOk, OnErr, Err};
 ghost use Rattle.metric.specs.Stream.{CanFail, Takes};
@@ -9,18 +9,18 @@ ghost use Rattle.engines.specs.declared.streams.gather.PartStop.TheVariants.{End
 use metric::Source;
 use std::alloc::AllocFailed;
 
-/// Why not all was read.
+/// Why not everything was read.
 #[derive(Clone, Copy)]
 pub enum PartStop {
-    /// The stream ended before.
+    /// The stream ended too early.
     Ended,
     /// A read failed.
     Failed,
-    /// There was no memory for what was read.
+    /// There was no memory for the bytes read.
     Memory,
 }
 
-/// A growth that was refused.
+/// An allocation that was refused.
 impl From<AllocFailed<u8>> for PartStop {
     ghost use Rattle.engines.specs.declared.streams.gather.PartStop.TheVariants.{Memory};
 
@@ -31,7 +31,7 @@ impl From<AllocFailed<u8>> for PartStop {
     }
 }
 
-/// Reads a line with its LF after what the buffer holds.
+/// Appends a line with its LF to the buffer.
 pub fn read_line<R: Source>(reader: &mut R, bytes: &mut Vec<u8>) -> Result<(), PartStop>
     requires { CanFail (R.failed_reads reader.old) }
     ensures all { OnOk result (Gathers (R.rest reader.old) bytes.old.items bytes.new.items (R.rest reader.new)) }
@@ -51,7 +51,7 @@ pub fn read_line<R: Source>(reader: &mut R, bytes: &mut Vec<u8>) -> Result<(), P
     unreachable!()
 }
 
-/// Reads so many bytes after what the buffer holds.
+/// Appends the next `count` bytes to the buffer.
 pub fn read_count<R: Source>(
     reader: &mut R,
     bytes: &mut Vec<u8>,
@@ -73,7 +73,7 @@ pub fn read_count<R: Source>(
     Ok(())
 }
 
-/// Reads one byte after what the buffer holds.
+/// Appends the next byte to the buffer.
 fn read_byte<R: Source>(reader: &mut R, bytes: &mut Vec<u8>) -> Result<u8, PartStop>
     requires { CanFail (R.failed_reads reader.old) }
     ensures all { OnOk result (Gathers (R.rest reader.old) bytes.old.items bytes.new.items (R.rest reader.new)) }

@@ -1,4 +1,4 @@
-//! Reading all that a stream has.
+//! Reads a stream to its end.
 
 ghost use Rattle.std.specs.Prelude.{◌≡◌, ◌≢◌, ◌+◌, IfOk, IfErr, OnOk, Err};
 ghost use Rattle.metric.specs.Stream.{AreAll, CanFail};
@@ -7,7 +7,7 @@ ghost use Rattle.engines.specs.declared.streams.input.InputStop.TheVariants.{Fai
 use metric::Source;
 use std::alloc::{AllocError, Global};
 
-/// How many bytes are read at a time, at most.
+/// The most bytes of one read.
 const BLOCK: usize = 65536;
 
 /// Why the input wasn't read to its end.
@@ -15,11 +15,11 @@ const BLOCK: usize = 65536;
 pub enum InputStop {
     /// A read failed.
     Failed,
-    /// There was no memory for what was read.
+    /// There was no memory for the bytes read.
     Memory,
 }
 
-/// A growth that was refused.
+/// An allocation that was refused.
 impl From<AllocError> for InputStop {
     ghost from_gives = { λ _ stop. stop ≡ Memory };
 

@@ -1,4 +1,4 @@
-//! Writing a text, or the line of a refusal.
+//! Writes a text, or the line of a refusal.
 
 ghost use Rattle.std.specs.Prelude.{◌≡◌, ◌∷◌, ◌++◌, [], IfOk, OnOk, OnErr};
 ghost use Rattle.metric.specs.Stream.{Appends, AppendsFront, Counts, CanFail};
@@ -8,7 +8,7 @@ ghost use Rattle.engines.specs.words.Refusals.{HasWordsAlone, name_text, net_tex
 use crate::REFUSED;
 use metric::{PbmFault, Refusal, Sink, WriteFault};
 
-/// Writes a text, and answers the status that goes with it.
+/// Writes a text, and returns the status that goes with it.
 pub fn write_text<W: Sink>(writer: &mut W, text: &[u8], status: u8) -> Result<u8, WriteFault>
     requires { CanFail (W.failed_writes writer.old) }
     ensures status { IfOk result (λ told. told ≡ status) }
@@ -21,7 +21,8 @@ pub fn write_text<W: Sink>(writer: &mut W, text: &[u8], status: u8) -> Result<u8
     Ok(status)
 }
 
-/// Writes the line of a refusal that has no number in it, and answers the status of a refused run. No memory is needed.
+/// Writes the line of a refusal that has no number in it, and returns the status of a refused run.
+/// It allocates no memory.
 pub fn write_refusal<W: Sink>(writer: &mut W, refusal: Refusal) -> Result<u8, WriteFault>
     requires can_fail { CanFail (W.failed_writes writer.old) }
     requires words { HasWordsAlone refusal }
@@ -35,7 +36,7 @@ pub fn write_refusal<W: Sink>(writer: &mut W, refusal: Refusal) -> Result<u8, Wr
     Ok(REFUSED)
 }
 
-/// Writes the line of the network's fault, and answers the status of a refused run.
+/// Writes the line of a network fault, and returns the status of a refused run.
 pub fn write_net_fault<W: Sink>(writer: &mut W) -> Result<u8, WriteFault>
     requires { CanFail (W.failed_writes writer.old) }
     ensures status { IfOk result (λ status. status ≡ 1) }
@@ -46,7 +47,7 @@ pub fn write_net_fault<W: Sink>(writer: &mut W) -> Result<u8, WriteFault>
     write_text(writer, b"FAULT net\n", REFUSED)
 }
 
-/// The name after the title of a refusal that has no number, where there is one.
+/// The name after the title of a refusal that has no number, if it has one.
 fn name_behind(refusal: Refusal) -> Option<&'static str>
     requires { HasWordsAlone refusal }
     ensures { refusal_text refusal ≡ refusal_title refusal ++ name_text result }
@@ -59,7 +60,7 @@ fn name_behind(refusal: Refusal) -> Option<&'static str>
     }
 }
 
-/// Writes a title, the name after it where there is one, and LF.
+/// Writes a title, the name after it if there is one, and LF.
 fn write_words<W: Sink>(writer: &mut W, title: &[u8], name: Option<&str>) -> Result<(), WriteFault>
     requires { CanFail (W.failed_writes writer.old) }
     ensures whole { OnOk result (Appends (W.held writer.old) ((title.now ++ name_text name.entry) ++ 10 ∷ []) (W.held writer.new)) }

@@ -1,4 +1,5 @@
-//! A TCP connection as a stream. It tells contracts nothing of its bytes: what becomes of them rests on tests alone.
+//! A TCP connection as a stream. Contracts don't see its bytes: only tests cover what becomes of
+//! them.
 
 ghost use Rattle.std.specs.Prelude.{◌≡◌, ◌+◌, ◌≤◌, length, IfOk, IfSome, None};
 ghost use Rattle.metric.specs.Stream.{CanFail, Counts, StopsAt};
@@ -12,19 +13,20 @@ use std::marker::Model;
 use std::net::{Shutdown, TcpStream};
 use std::time::Duration;
 
-/// How many bytes are read ahead at most, and how many of replies are gathered before they are sent.
+/// The most bytes read ahead, and the most bytes of replies gathered before they are sent.
 const ROOM: usize = 65536;
 
 /// How long a closing connection waits for the next bytes of its peer, in milliseconds.
 const PATIENCE: u64 = 100;
 
-/// How many bytes a closing connection reads at once.
+/// The most bytes of one read of a closing connection.
 const LAST_ROOM: usize = 4096;
 
-/// How many reads a closing connection makes at most: 32 MiB in all.
+/// The most reads of a closing connection: 32 MiB in all.
 const LAST_READS: u32 = 8192;
 
-/// What a stream reads from and writes to: a connection, or none before there is memory for its buffers.
+/// What a stream reads from and writes to: a connection, or none until there is memory for its
+/// buffers.
 #[derive(Drop)]
 struct Connection(Option<TcpStream>);
 
@@ -47,7 +49,7 @@ impl Connection {
     }
 }
 
-/// Why a connection is no stream.
+/// Why a connection isn't a stream.
 #[derive(Drop)]
 pub enum NoSocket {
     /// It is broken.
@@ -57,7 +59,7 @@ pub enum NoSocket {
 }
 
 impl NoSocket {
-    /// Why a connection whose buffers weren't made is no stream.
+    /// Why a connection whose buffers couldn't be made isn't a stream.
     fn unbuffered(fault: &io::Error, stream: TcpStream) -> NoSocket {
         match fault.kind() {
             ErrorKind::OutOfMemory => NoSocket::Memory(stream),
@@ -65,7 +67,7 @@ impl NoSocket {
         }
     }
 
-    /// Tells the peer that there is no memory, where that is why, and ends the connection.
+    /// Tells the peer if memory has run out, and ends the connection.
     pub fn tell(self) {
         if let NoSocket::Memory(mut stream) = self
             && writeln!(stream, "{}", Refusal::Memory).is_ok()
@@ -75,9 +77,11 @@ impl NoSocket {
     }
 }
 
-/// A connection that is read ahead, and whose replies gather until the next read that could wait, until they are `ROOM` bytes, or until its end.
+/// A connection that is read ahead, and whose replies gather until the next read that could wait,
+/// until they are `ROOM` bytes, or until its end.
 ///
-/// A send that fails is a failed call of the stream, be it a read that sends before it waits. Contracts see how many calls have failed.
+/// A send that fails is a failed call of the stream, even if a read sends before it waits.
+/// Contracts see the count of failed calls.
 pub struct Socket {
     reader: BufReader<Connection>,
     replies: Vec<u8>,
@@ -94,7 +98,8 @@ impl Model for Socket {
 }
 
 impl Socket {
-    /// The connection as a stream without a failed call. Its replies go out at once when they are sent.
+    /// The connection as a stream without a failed call. It sends replies without delay
+    /// (TCP_NODELAY).
     pub fn new(alloc: Global, stream: TcpStream) -> Result<Self, NoSocket>
         ensures { IfOk result (λ socket. socket ≡ (0, 0)) }
     {
@@ -114,7 +119,7 @@ impl Socket {
         })
     }
 
-    /// Sends the replies that have gathered. Where it fails they are lost.
+    /// Sends the gathered replies. If that fails, they are lost.
     fn send(&mut self) -> io::Result<()>
         ensures { self.new ≡ self.old }
     {
@@ -126,7 +131,7 @@ impl Socket {
         sent
     }
 
-    /// Reads ahead where nothing is left to take. A read that a signal interrupts is made again.
+    /// Reads ahead if nothing is left to take. Retries a read that a signal interrupts.
     fn fill(&mut self) -> io::Result<()>
         ensures { self.new ≡ self.old }
     {
@@ -140,7 +145,7 @@ impl Socket {
         Err(io::Error::from(ErrorKind::Interrupted))
     }
 
-    /// Sends the replies and reads ahead, where nothing is left to take.
+    /// Sends the replies and reads ahead, if nothing is left to take.
     fn ready(&mut self) -> io::Result<()>
         ensures { self.new ≡ self.old }
     {
@@ -151,8 +156,8 @@ impl Socket {
         Ok(())
     }
 
-    /// The next bytes into the block's front, none of them after a first `stop`, if that is given.
-    /// Answers how many.
+    /// Takes the next bytes into the front of the block, none after a first `stop` if that is
+    /// given. Returns how many.
     fn take_block(&mut self, stop: Option<u8>, block: &mut [u8]) -> io::Result<usize>
         ensures socket { self.new ≡ self.old }
         ensures fits { IfOk result (λ count. count ≤ length block.new) }
@@ -170,7 +175,7 @@ impl Socket {
         Ok(count)
     }
 
-    /// The same, as a read of the stream: one that fails is counted.
+    /// As `take_block`, as a read of the stream: counts one that fails.
     fn read_block(&mut self, stop: Option<u8>, block: &mut [u8]) -> Result<usize, ReadFault>
         requires { CanFail self.old.0 }
         ensures counts { Counts self.old.0 result self.new.0 }
@@ -187,7 +192,7 @@ impl Socket {
         }
     }
 
-    /// Gathers a reply, or sends it where it is long.
+    /// Gathers a reply, or sends it if it is long.
     fn put(&mut self, bytes: &[u8]) -> io::Result<()>
         ensures { self.new ≡ self.old }
     {
@@ -268,7 +273,7 @@ impl Stream for Socket {
     ghost writing = { λ s. refl };
 }
 
-/// How many bytes there are up to the first `stop` and with it, or in all where there is none.
+/// The number of bytes up to and including the first `stop`, or of all bytes if there is none.
 fn count_until(stop: u8, bytes: &[u8]) -> usize
     ensures within { result ≤ length bytes.now }
     ensures stops { StopsAt stop result bytes.now }
@@ -285,7 +290,7 @@ fn buffers(alloc: Global) -> io::Result<(BufReader<Connection>, Vec<u8>)> {
     Ok((reader, Vec::with_capacity(alloc, ROOM)?))
 }
 
-/// Sends what has gathered and ends the connection, so that its peer gets the last reply.
+/// Sends the gathered replies and ends the connection so that its peer gets the last reply.
 impl Drop for Socket {
     fn drop(mut self) {
         let sent = self.send();
@@ -303,7 +308,8 @@ impl Drop for Socket {
     }
 }
 
-/// Ends the writing side and reads away what the peer still sends: a close with bytes unread would take the last reply from it. Bounded in bytes and in time.
+/// Ends the writing side, then reads and drops what the peer still sends: closing with unread bytes
+/// would cost the peer the last reply. Bounded in bytes and in time.
 fn end(mut stream: TcpStream) -> io::Result<()> {
     stream.shutdown(Shutdown::Write)?;
     stream.set_read_timeout(Some(Duration::from_millis(PATIENCE)))?;
