@@ -1,4 +1,4 @@
-//! Some rows of a bitmap, which are worked one after another.
+//! A range of rows of a bitmap, computed in order.
 
 ghost use Rattle.std.specs.Prelude.{◌≡◌, ◌+◌, ◌*◌, ◌≤◌};
 ghost use Rattle.metric.specs.Edge.{shift};
@@ -7,7 +7,7 @@ ghost use Rattle.bits.specs.Cells.{IsBitmap};
 use bits::Bitmap;
 use metric::Edge;
 
-/// The rows `y0` to `y1 - 1` of a bitmap, whose border is as the edge says.
+/// Rows `y0` to `y1 - 1` of a bitmap with this edge.
 #[derive(Clone, Copy, Debug)]
 pub struct Batch<'a> {
     pub bitmap: &'a Bitmap,
@@ -36,7 +36,7 @@ impl<'a> Batch<'a> {
         }
     }
 
-    /// How many cells a row has.
+    /// The number of cells of a row.
     pub fn width(&self) -> usize
         ensures width { result ≡ self.now.bitmap.now.width }
         ensures bitmap { IsBitmap self.now.bitmap.now }
@@ -44,7 +44,7 @@ impl<'a> Batch<'a> {
         usize::from(self.bitmap.width())
     }
 
-    /// How many columns a row has, those of the frame with them where the border is a wall.
+    /// The number of columns of a row, including those of the frame with a wall.
     pub fn columns(&self) -> u16
         ensures columns { result ≡ self.now.bitmap.now.width + 2 * shift self.now.edge }
         ensures bitmap { IsBitmap self.now.bitmap.now }

@@ -1,4 +1,4 @@
-//! The frame's part in rows of entries: its first and last row, and the ends of each row.
+//! The frame in rows of entries: its first and last row, and the ends of each row.
 
 ghost use Rattle.std.specs.Prelude.{◌≡◌, ℕ, ◌+◌, ◌*◌, ◌<◌, ◌≤◌, true, length, slice_index};
 ghost use Rattle.metric.specs.Edge.{shift};
@@ -8,7 +8,7 @@ ghost use Rattle.column.specs.Marks.{AreMissing, first_marked, marked};
 use crate::NONE;
 use metric::{Edge, FRAMED_SIDE, MOST_SIDE};
 
-/// Whether the row `y` is one of the frame's, where the map itself has `height` rows.
+/// Whether row `y` is one of the frame's, in a map of `height` rows without the frame.
 pub fn is_cap(edge: Edge, height: u16, y: u16) -> bool
     requires { height ≤ MOST_SIDE }
     ensures { result ≡ is_cap edge height y }
@@ -19,8 +19,7 @@ pub fn is_cap(edge: Edge, height: u16, y: u16) -> bool
     }
 }
 
-/// Writes its own row into the entries of a row's first and last column, where these are the
-/// frame's.
+/// Writes the row's own number into its first and last entry, if these are the frame's.
 pub fn mark_sides(edge: Edge, y: u16, row: &mut [u16])
     requires { 2 * shift edge ≤ length row.old }
     ensures len { length row.new ≡ length row.old }
@@ -33,7 +32,7 @@ pub fn mark_sides(edge: Edge, y: u16, row: &mut [u16])
     }
 }
 
-/// Writes the row `y` into the first and the last entry.
+/// Writes row `y` into the first and the last entry.
 fn mark_ends(y: u16, row: &mut [u16])
     requires { 2 ≤ length row.old }
     ensures len { length row.new ≡ length row.old }
@@ -46,7 +45,7 @@ fn mark_ends(y: u16, row: &mut [u16])
     row[last] = y;
 }
 
-/// Writes the row `y` into each entry that is missing; no column is missing then.
+/// Writes row `y` into each missing entry; no column is missing then.
 pub fn mark_all(y: u16, missing: &mut [u64], entries: &mut [u16])
     requires { y < FRAMED_SIDE }
     ensures len { length entries.new ≡ length entries.old }

@@ -1,8 +1,8 @@
-//! Lines that are carried from row to row of a batch.
+//! Lines carried from row to row of a batch.
 //!
-//! The rows are looked at in bands of 64. Carried from row to row is the line of the obstacles
-//! before a row. What lies below a row is known for the rows of one band, and below each band from
-//! one walk up the batch.
+//! Rows are read in bands of 64. The line of the obstacles before a row is carried from row to row.
+//! The lines below the rows are known for one band, and the line below each band from one pass up
+//! the batch.
 
 ghost use Rattle.std.specs.Prelude.{◌≡◌, ◌+◌, ◌*◌, ◌<◌, ◌≤◌, IfErr, IfOk, length, replicate};
 ghost use Rattle.metric.specs.Edge.{shift};
@@ -20,16 +20,16 @@ use std::alloc::Global;
 /// What is known of the columns of a batch between two of its rows.
 #[derive(Debug, Drop)]
 pub struct Carried {
-    /// The first row of the band in hand, and the row after its last one.
+    /// The first row of the current band, and the row after its last one.
     pub first: u16,
     pub known: u16,
-    /// The obstacles before the row that comes next.
+    /// The obstacles before the next row.
     pub before: Vec<u16>,
-    /// For each row of the band in hand the obstacles below it.
+    /// The obstacles below each row of the current band.
     pub behind: Vec<u16>,
-    /// For each band the obstacles below it.
+    /// The obstacles below each band.
     pub bands: Vec<u16>,
-    /// Room for a line.
+    /// A buffer for a line.
     pub line: Vec<u16>,
 }
 
@@ -63,7 +63,7 @@ impl Carried {
         })
     }
 
-    /// Looks at row `y`, which comes next: the entries are the row of a table of the bitmap then.
+    /// Reads row `y`, which is the next: the entries are then the row of a table of the bitmap.
     pub fn look(&mut self, batch: &Batch<'_>, y: u16, entries: &mut [u16])
         requires bitmap { IsBitmap batch.now.bitmap.now }
         requires ready { IsCarriedTo batch.now self.old y }
@@ -87,7 +87,7 @@ impl Carried {
         );
     }
 
-    /// Begins the next band where row `y` lies after the one in hand.
+    /// Starts the next band if row `y` lies after the current one.
     fn reach(&mut self, batch: &Batch<'_>, y: u16)
         requires bitmap { IsBitmap batch.now.bitmap.now }
         requires ready { IsCarriedTo batch.now self.old y }
@@ -118,7 +118,7 @@ impl Carried {
     }
 }
 
-/// So many entries that stand for no obstacle. Fails only when out of memory.
+/// This many entries for no obstacle. Fails only when out of memory.
 pub fn no_obstacles(alloc: Global, count: usize) -> Result<Vec<u16>, Refusal>
     ensures count { IfOk result (λ entries. entries.items ≡ replicate count 65535) }
     ensures memory { IfErr result (λ refusal. refusal ≡ Memory) }

@@ -1,5 +1,4 @@
-//! What the rows of a batch are worked from, one after another: the nearest obstacles of all
-//! columns.
+//! What the rows of a batch are computed from, in order: the nearest obstacles of all columns.
 
 ghost use Rattle.std.specs.Prelude.{◌≡◌, ◌+◌, ◌*◌, ◌<◌, IfErr, IfOk, length};
 ghost use Rattle.metric.specs.Edge.{shift};
@@ -14,20 +13,21 @@ use crate::seek::nearest_rows;
 use metric::Refusal;
 use std::alloc::Global;
 
-/// Up to so many rows are looked at from each one outwards; for more it is worth to walk through
-/// the bitmap once.
+/// The most rows for which each is searched outwards by itself; for more, one pass through the
+/// bitmap is cheaper.
 const FEW_ROWS: u16 = 32;
 
-/// And only where no column's nearest obstacle is more than so many rows from the first of them.
+/// The most rows from the first one to a column's nearest obstacle for which rows are searched by
+/// themselves.
 const FAR: u16 = 64;
 
-/// The columns of a batch, as they are seen from one of its rows after another.
+/// The columns of a batch, seen from one of its rows after another.
 #[derive(Debug, Drop)]
 pub struct Columns {
-    /// What is carried from row to row, unless each row is looked at by itself.
+    /// What is carried from row to row, unless each row is searched by itself.
     pub carried: Option<Carried>,
-    /// The nearest obstacles of the row that was looked at last, counted with the frame, and those
-    /// of the frame with them where the border is a wall.
+    /// The nearest obstacles of the row read last, counted with the frame; with a wall they include
+    /// those of the frame.
     pub entries: Vec<u16>,
 }
 
@@ -53,7 +53,7 @@ impl Columns {
         })
     }
 
-    /// Looks at row `y`, which comes next: its entries are the row of a table of the bitmap then.
+    /// Reads row `y`, which is the next: its entries are then the row of a table of the bitmap.
     pub fn look(&mut self, batch: &Batch<'_>, y: u16)
         requires bitmap { IsBitmap batch.now.bitmap.now }
         requires ready { IsNextRow batch.now self.old y }
@@ -70,8 +70,9 @@ impl Columns {
     }
 }
 
-/// Whether the batch has so many rows, or a column's nearest obstacle is so far from its first one,
-/// that to look outwards from each row costs more than to carry lines. `entries` is room for a row.
+/// Whether the batch has so many rows, or a column's nearest obstacle is so far from its first row,
+/// that searching outwards from each row costs more than carrying lines. `entries` is a buffer for
+/// a row.
 fn is_worth_a_walk(batch: &Batch<'_>, entries: &mut [u16]) -> bool
     requires { length entries.old ≡ batch.now.bitmap.now.width + 2 * shift batch.now.edge }
     ensures len { length entries.new ≡ length entries.old }

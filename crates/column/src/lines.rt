@@ -1,5 +1,5 @@
-//! Lines of entries that are carried from row to row: for each column of the map the nearest
-//! obstacle before a row, or from a row on.
+//! Lines of entries carried from row to row: for each column of the map the nearest obstacle before
+//! a row, or from a row on.
 
 ghost use Rattle.std.specs.Prelude.{◌≡◌, ℕ, ◌+◌, ◌-◌, ◌*◌, ◌/◌, ◌<◌, ◌≤◌, ◌⊎◌, length, slice_index};
 ghost use Rattle.metric.specs.Edge.{shift};
@@ -17,11 +17,11 @@ use crate::sought::{seek_before, seek_from};
 use bits::Bitmap;
 use metric::{BAND_ROWS, Edge};
 
-/// How many rows a band has.
+/// Rows per band.
 pub const BAND: u16 = BAND_ROWS;
 
-/// Writes for each row of a band the line of the obstacles below it, where that below the band is
-/// known. `line` is room for a line.
+/// Writes, for each row of a band, the line of the obstacles below it, given the line below the
+/// band. `line` is a buffer for a line.
 pub fn fill_band(band: &Batch<'_>, behind: &[u16], line: &mut [u16], lines: &mut [u16])
     requires bitmap { IsBitmap band.now.bitmap.now }
     requires room { (band.now.y1 - band.now.y0) * band.now.bitmap.now.width ≤ length lines.old }
@@ -40,8 +40,8 @@ pub fn fill_band(band: &Batch<'_>, behind: &[u16], line: &mut [u16], lines: &mut
     }
 }
 
-/// Seeks the line of the obstacles before the batch, and leaves for each band of its rows the line
-/// of the obstacles below it. `line` is room for a line.
+/// Finds the line of the obstacles before the batch, and writes, for each band of its rows, the
+/// line of the obstacles below it. `line` is a buffer for a line.
 pub fn seek_bands(batch: &Batch<'_>, before: &mut [u16], line: &mut [u16], bands: &mut [u16])
     requires bitmap { IsBitmap batch.now.bitmap.now }
     requires room { (batch.now.y1 - batch.now.y0 + 63) / 64 * batch.now.bitmap.now.width
@@ -59,8 +59,8 @@ pub fn seek_bands(batch: &Batch<'_>, before: &mut [u16], line: &mut [u16], bands
     fill_bands(batch, line, bands);
 }
 
-/// Writes for each band of the batch the line of the obstacles below it, where the line in hand is
-/// that of the obstacles below the batch. The line is carried up on the way.
+/// Writes, for each band of the batch, the line of the obstacles below it, given the line below the
+/// batch in `line`, which is carried up on the way.
 fn fill_bands(batch: &Batch<'_>, line: &mut [u16], bands: &mut [u16])
     requires bitmap { IsBitmap batch.now.bitmap.now }
     requires room { (batch.now.y1 - batch.now.y0 + 63) / 64 * batch.now.bitmap.now.width
@@ -93,8 +93,8 @@ fn carry_up(bitmap: &Bitmap, edge: Edge, from: u16, to: u16, line: &mut [u16])
     }
 }
 
-/// The entries of row `y`, those of the frame with them, where the line before it and the line
-/// below it are known. The line before is carried down past the row.
+/// The entries of row `y`, including those of the frame, given the line before it and the line
+/// below it. Carries the line before down past the row.
 pub fn next_row(
     bitmap: &Bitmap,
     edge: Edge,
@@ -119,8 +119,7 @@ pub fn next_row(
     mark_sides(edge, framed, entries);
 }
 
-/// Writes its own row, counted with the frame, into the entry of each obstacle of row `y` of the
-/// map.
+/// Writes row `y`, counted with the frame, into the entry of each of its obstacles.
 fn mark_line(bitmap: &Bitmap, edge: Edge, y: u16, line: &mut [u16])
     requires bitmap { IsBitmap bitmap.now }
     requires row { y < bitmap.now.height }
@@ -133,7 +132,7 @@ fn mark_line(bitmap: &Bitmap, edge: Edge, y: u16, line: &mut [u16])
     mark_row(bitmap.row_words(y), y + edge.shift(), line);
 }
 
-/// Copies a line to a place among others.
+/// Copies a line to index `start` of others.
 pub fn put_line(line: &[u16], start: usize, lines: &mut [u16])
     requires { start + length line.now ≤ length lines.old }
     ensures len { length lines.new ≡ length lines.old }
@@ -145,8 +144,7 @@ pub fn put_line(line: &[u16], start: usize, lines: &mut [u16])
     lines[start..start + line.len()].copy_from_slice(line);
 }
 
-/// Takes for each column the nearer of two entries, as it is seen from row `y`; the first one on a
-/// tie.
+/// Takes for each column the nearer of two entries, seen from row `y`; the first one on a tie.
 #[inline(never)]
 fn pick_line(y: u16, above: &[u16], below: &[u16], entries: &mut [u16])
     requires above { length above.now ≡ length entries.old }

@@ -1,4 +1,4 @@
-//! One row of entries: where it has obstacles, and what the row below it knows.
+//! One row of entries: where it has obstacles, and what the row below it takes over.
 
 ghost use Rattle.std.specs.Prelude.{◌≡◌, ℕ, ◌+◌, ◌*◌, ◌<◌, ◌≤◌, ◌==◌, ◌⊎◌, length, slice_index};
 ghost use Rattle.std.specs.Int.{bit_at};
@@ -8,10 +8,10 @@ use crate::NONE;
 use metric::WORD_BITS;
 use std::simd::prelude::*;
 
-/// The lowest eight bits, each alone.
+/// The lowest eight bits, one each.
 const PLACES: [u16; 8] = [1, 2, 4, 8, 16, 32, 64, 128];
 
-/// Writes its own row into the entry of each obstacle of row `y`.
+/// Writes row `y` into the entry of each of its obstacles.
 pub fn mark_row(words: &[u64], y: u16, row: &mut [u16])
     requires few { length words.now ≤ 64 }
     requires all { length row.old ≤ 64 * length words.now }
@@ -26,8 +26,8 @@ pub fn mark_row(words: &[u64], y: u16, row: &mut [u16])
     }
 }
 
-/// Writes the row `y` into the entries of one word's obstacles; the first column is that of the
-/// word's lowest bit.
+/// Writes row `y` into the entries of one word's obstacles; the first column is that of the lowest
+/// bit.
 pub fn mark_word(word: u64, y: u16, first: usize, row: &mut [u16])
     requires { first ≤ length row.old }
     ensures len { length row.new ≡ length row.old }
@@ -42,7 +42,7 @@ pub fn mark_word(word: u64, y: u16, first: usize, row: &mut [u16])
     }
 }
 
-/// Writes the row `y` into the entries of the obstacles of eight cells, as far as the row has them.
+/// Writes row `y` into the entries of the obstacles of eight cells, as far as the row goes.
 #[inline(always)]
 fn mark_part(bits: u16, y: u16, first: usize, row: &mut [u16])
     requires { first ≤ length row.old + 56 }
@@ -58,7 +58,7 @@ fn mark_part(bits: u16, y: u16, first: usize, row: &mut [u16])
     }
 }
 
-/// Writes the row `y` into the entries of the obstacles of eight cells.
+/// Writes row `y` into the entries of the obstacles of eight cells.
 #[inline(always)]
 fn mark_eight(bits: u16, y: u16, first: usize, row: &mut [u16])
     requires { first + 8 ≤ length row.old }
@@ -71,7 +71,7 @@ fn mark_eight(bits: u16, y: u16, first: usize, row: &mut [u16])
     row[first..first + 8].copy_from_slice(&marked);
 }
 
-/// Eight entries, of which those of obstacles are the row `y`.
+/// Eight entries, with row `y` in those of obstacles.
 #[inline(always)]
 fn marked_lanes(bits: u16, y: u16, entries: u16x8) -> u16x8
     ensures { (i : ℕ) → i < 8 → slice_index result i ≡ marked (bit_at bits i == 1) y (slice_index entries i) }
@@ -81,7 +81,7 @@ fn marked_lanes(bits: u16, y: u16, entries: u16x8) -> u16x8
     obstacles.simd_eq(places).select(u16x8::splat(y), entries)
 }
 
-/// Writes the row `y` into the entries of the obstacles of the row's last cells, fewer than eight.
+/// Writes row `y` into the entries of the obstacles of the row's last cells, fewer than eight.
 fn mark_last(bits: u16, y: u16, first: usize, row: &mut [u16])
     requires some { first ≤ length row.old }
     requires few { length row.old < first + 8 }
@@ -96,7 +96,7 @@ fn mark_last(bits: u16, y: u16, first: usize, row: &mut [u16])
     }
 }
 
-/// The nearer of two entries, as it is seen from row `y`; the first one on a tie.
+/// The nearer of two entries, seen from row `y`; the first one on a tie.
 pub fn nearer(y: u16, above: u16, below: u16) -> u16
     ensures { result ≡ nearer y above below }
 {

@@ -1,5 +1,5 @@
-//! The nearest obstacles of all columns seen from one row, without a table. Where the border is a
-//! wall, rows are counted with the frame.
+//! The nearest obstacles of all columns seen from one row, without a table. With a wall, rows count
+//! the frame.
 
 ghost use Rattle.std.specs.Prelude.{◌≡◌, ℕ, ◌+◌, ◌-◌, ◌*◌, ◌<◌, ◌≤◌, ◌==◌, ◌⊎◌, false, length, slice_index, bit_and};
 ghost use Rattle.std.specs.Int.{bit_at};
@@ -16,14 +16,14 @@ use crate::row::mark_word;
 use bits::Bitmap;
 use metric::{Edge, FRAMED_SIDE, MOST_SIDE, WORD_BITS, WORD_CELLS};
 
-/// How many words the widest row takes.
+/// The number of words of the widest row.
 pub const MOST_WORDS: usize = (MOST_SIDE / WORD_CELLS) as usize;
 
-/// Fills `entries` as the table of the bitmap has them in row `y`, which is counted with the frame
-/// where the border is a wall. No memory is taken.
+/// Fills `entries` with row `y` of the bitmap's table, counted with the frame if there is a wall.
+/// It allocates no memory.
 ///
-/// The rows are looked at from row `y` outwards, so a few rows are found sooner than a table of the
-/// whole bitmap.
+/// Searches the rows from `y` outwards, so that a few rows take less time than a table of the whole
+/// bitmap.
 pub fn nearest_rows(bitmap: &Bitmap, edge: Edge, y: u16, entries: &mut [u16])
     requires row { y < bitmap.now.height + 2 * shift edge }
     requires width { length entries.old ≡ bitmap.now.width + 2 * shift edge }
@@ -35,8 +35,8 @@ pub fn nearest_rows(bitmap: &Bitmap, edge: Edge, y: u16, entries: &mut [u16])
     mark_sides(edge, y, entries);
 }
 
-/// Looks at the rows from row `y` outwards, mostly until each column has an entry. A mask for each
-/// word says which of its columns have none yet.
+/// Searches the rows from `y` outwards, usually until each column has an entry. A mask per word
+/// says which of its columns have none yet.
 fn look_around(bitmap: &Bitmap, edge: Edge, y: u16, entries: &mut [u16])
     requires row { y < bitmap.now.height + 2 * shift edge }
     requires width { length entries.old ≡ bitmap.now.width }
@@ -50,14 +50,14 @@ fn look_around(bitmap: &Bitmap, edge: Edge, y: u16, entries: &mut [u16])
         if (away.is_power_of_two() || away == walled) && !entries.contains(&NONE) {
             return;
         }
-        // Above the first row the number wraps round to one that no row has.
+        // Above the first row the number wraps to one that no row has.
         look_within(bitmap, edge, y.wrapping_sub(away), &mut missing, entries);
         look_within(bitmap, edge, y + away, &mut missing, entries);
     }
 }
 
-/// How many rows away from row `y` the first rows lie past one of the frame, so that all columns
-/// have entries; 0 where the border is open.
+/// How many rows away from row `y` the search has passed a row of the frame, so that all columns
+/// have entries; 0 where the edge is open.
 fn past_frame(edge: Edge, rows: u16, y: u16) -> u16
     requires row { y < rows }
     requires few { rows ≤ FRAMED_SIDE }
@@ -68,7 +68,7 @@ fn past_frame(edge: Edge, rows: u16, y: u16) -> u16
     }
 }
 
-/// Looks at row `y`, if there is one.
+/// Reads row `y`, if there is one.
 fn look_within(bitmap: &Bitmap, edge: Edge, y: u16, missing: &mut [u64], entries: &mut [u16])
     requires bitmap { IsBitmap bitmap.now }
     requires width { length entries.old ≡ bitmap.now.width }
@@ -87,7 +87,7 @@ fn look_within(bitmap: &Bitmap, edge: Edge, y: u16, missing: &mut [u64], entries
     }
 }
 
-/// Looks at row `y`: it becomes the entry of each column of an obstacle that had none.
+/// Reads row `y`: it becomes the entry of each column that has an obstacle there and had no entry.
 pub fn look_at(bitmap: &Bitmap, edge: Edge, y: u16, missing: &mut [u64], entries: &mut [u16])
     requires bitmap { IsBitmap bitmap.now }
     requires row { y < bitmap.now.height + 2 * shift edge }
@@ -108,7 +108,7 @@ pub fn look_at(bitmap: &Bitmap, edge: Edge, y: u16, missing: &mut [u64], entries
     mark_missing(words, y, missing, entries);
 }
 
-/// Writes the row `y` into the entries of those of its obstacles whose columns are missing.
+/// Writes row `y` into the entries of those of its obstacles whose columns are missing.
 fn mark_missing(words: &[u64], y: u16, missing: &mut [u64], entries: &mut [u16])
     requires row { y < FRAMED_SIDE }
     requires few { length words.now ≤ 64 }
@@ -142,8 +142,8 @@ fn has_new(words: &[u64], missing: &[u64]) -> bool
     new != 0
 }
 
-/// Writes the row `y` into the entries of those of a word's obstacles whose columns are missing.
-/// Which columns are missing then.
+/// Writes row `y` into the entries of those of a word's obstacles whose columns are missing.
+/// Returns which columns are missing then.
 fn mark_new(word: u64, y: u16, first: usize, missing: u64, entries: &mut [u16]) -> u64
     requires row { y < FRAMED_SIDE }
     requires first { first ≤ length entries.old }

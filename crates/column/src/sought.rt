@@ -1,5 +1,5 @@
-//! The nearest obstacles of all columns before a row, or from a row on, sought from that row. Where
-//! the border is a wall, rows are counted with the frame.
+//! The nearest obstacles of all columns before a row, or from a row on, searched from that row.
+//! With a wall, rows count the frame.
 
 ghost use Rattle.std.specs.Prelude.{◌≡◌, ◌+◌, ◌*◌, ◌≤◌, length};
 ghost use Rattle.metric.specs.Edge.{shift};
@@ -12,9 +12,9 @@ use crate::seek::{MOST_WORDS, look_at};
 use bits::Bitmap;
 use metric::Edge;
 
-/// Fills the line with the nearest obstacles before row `y`. No memory is taken.
+/// Fills the line with the nearest obstacles before row `y`. It allocates no memory.
 ///
-/// The rows are looked at from row `y` upwards, mostly until each column has an entry.
+/// Searches the rows from `y` upwards, usually until each column has an entry.
 pub fn seek_before(bitmap: &Bitmap, edge: Edge, y: u16, line: &mut [u16])
     requires bitmap { IsBitmap bitmap.now }
     requires row { y ≤ bitmap.now.height + 2 * shift edge }
@@ -31,9 +31,9 @@ pub fn seek_before(bitmap: &Bitmap, edge: Edge, y: u16, line: &mut [u16])
     }
 }
 
-/// Fills the line with the nearest obstacles from row `y` on. No memory is taken.
+/// Fills the line with the nearest obstacles from row `y` on. It allocates no memory.
 ///
-/// The rows are looked at from row `y` downwards, mostly until each column has an entry.
+/// Searches the rows from `y` downwards, usually until each column has an entry.
 pub fn seek_from(bitmap: &Bitmap, edge: Edge, y: u16, line: &mut [u16])
     requires bitmap { IsBitmap bitmap.now }
     requires row { y ≤ bitmap.now.height + 2 * shift edge }

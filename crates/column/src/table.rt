@@ -22,12 +22,12 @@ use std::marker::Model;
 /// The entry of a column without an obstacle.
 pub const NONE: u16 = u16::MAX;
 
-/// For each cell of a bitmap the nearest obstacle of its column. Contracts see it as the bitmap
-/// that it was made of, and what its border is.
+/// The nearest obstacle in the column of each cell of a bitmap. Contracts see the bitmap that it
+/// was made from, and its edge.
 ///
-/// Where the border is a wall, the frame's cells are obstacles, and its columns have entries too.
-/// The entry of a cell is the row of its column's nearest obstacle, counted with the frame, or
-/// `NONE`. The rows of entries lie one after another.
+/// With a wall, the frame's cells are obstacles, and its columns have entries too. The entry of a
+/// cell is the row of its column's nearest obstacle, counted with the frame, or `NONE`. The rows of
+/// entries lie one after another.
 #[derive(Debug, Drop)]
 pub struct ColumnTable {
     width: u16,
@@ -47,7 +47,7 @@ impl Model for ColumnTable {
 }
 
 impl ColumnTable {
-    /// The table of this bitmap, whose border is as the edge says. Fails only when out of memory.
+    /// The table of a bitmap with this edge. Fails only when out of memory.
     pub fn of(alloc: Global, bitmap: &Bitmap, edge: Edge) -> Result<Self, Refusal>
         ensures table { IfOk result (λ table. table ≡ record { cells = bitmap.now; edge = edge }) }
         ensures memory { IfErr result (λ refusal. refusal ≡ Memory) }
@@ -71,7 +71,7 @@ impl ColumnTable {
         })
     }
 
-    /// How many columns the bitmap has.
+    /// The number of columns of the bitmap.
     pub fn width(&self) -> u16
         ensures width { result ≡ self.now.cells.width }
         ensures bitmap { IsBitmap self.now.cells }
@@ -79,7 +79,7 @@ impl ColumnTable {
         self.width
     }
 
-    /// How many rows the bitmap has.
+    /// The number of rows of the bitmap.
     pub fn height(&self) -> u16
         ensures height { result ≡ self.now.cells.height }
         ensures bitmap { IsBitmap self.now.cells }
@@ -87,19 +87,18 @@ impl ColumnTable {
         self.height
     }
 
-    /// What the border of the bitmap is.
+    /// The edge of the bitmap.
     pub fn edge(&self) -> Edge
         ensures { result ≡ self.now.edge }
     {
         self.edge
     }
 
-    /// The row of the obstacle of column `x` that is nearest to row `y` of the bitmap; `None` where
+    /// The row of the obstacle in column `x` that is nearest to row `y` of the bitmap; `None` if
     /// the column has none.
     ///
-    /// Where the border is a wall, `x` may be -1 or the bitmap's width, and the row that is
-    /// answered -1 or the bitmap's height. Of two obstacles as far from row `y` it is the upper
-    /// one.
+    /// With a wall, `x` may be -1 or the bitmap's width, and the row returned -1 or the bitmap's
+    /// height. Of two obstacles equally far from row `y` it is the upper one.
     pub fn nearest_row(&self, x: i16, y: u16) -> Option<i16>
         requires left { pos 0 ≤ℤ (x +ℤ pos (shift self.now.edge)) }
         requires right { (x +ℤ pos (shift self.now.edge)) <ℤ pos (self.now.cells.width + 2 * shift self.now.edge) }
@@ -111,7 +110,7 @@ impl ColumnTable {
         spot_row(self.edge, column, entry)
     }
 
-    /// The entries of row `y` of the bitmap, from the left, those of the frame's columns with them:
+    /// The entries of row `y` of the bitmap, from the left, including those of the frame's columns:
     /// the nearest rows of all columns, counted with the frame, or `NONE`.
     pub fn row(&self, y: u16) -> &[u16]
         requires { y < self.now.cells.height }
@@ -123,7 +122,7 @@ impl ColumnTable {
     }
 }
 
-/// Fills the entries of all rows of a bitmap, from the first one on.
+/// Fills the entries of all rows of a bitmap, from the first on.
 fn fill_rows(batch: &Batch<'_>, columns: &mut Columns, entries: &mut [u16])
     requires first { batch.now.y0 ≡ 0 }
     requires columns { IsNextRow batch.now columns.old 0 }
@@ -140,7 +139,7 @@ fn fill_rows(batch: &Batch<'_>, columns: &mut Columns, entries: &mut [u16])
     }
 }
 
-/// One of several lines of entries that lie one after another.
+/// One of several consecutive lines of entries.
 fn line_of(entries: &[u16], line: usize, width: usize) -> &[u16]
     requires within { line * width + width ≤ length entries.now }
     requires small { line * width + width < 2 ^ 32 }
@@ -151,7 +150,7 @@ fn line_of(entries: &[u16], line: usize, width: usize) -> &[u16]
     &entries[start..start + width]
 }
 
-/// The column of a map with its border, counted with the frame.
+/// The column of a map with its frame, counted with the frame.
 fn column_of(edge: Edge, x: i16) -> u16
     requires left { pos 0 ≤ℤ (x +ℤ pos (shift edge)) }
     requires right { x ≤ℤ pos MOST_SIDE }
@@ -160,7 +159,7 @@ fn column_of(edge: Edge, x: i16) -> u16
     (x + edge.shift() as i16) as u16
 }
 
-/// The row of an entry in a column, both counted with the frame, as it is counted without it.
+/// The row of an entry in a column, converted from counting with the frame to counting without it.
 fn spot_row(edge: Edge, column: u16, entry: u16) -> Option<i16>
     requires column { column ≤ LAST_FRAMED }
     requires entry { entry ≢ 65535 → entry ≤ LAST_FRAMED }

@@ -1,4 +1,4 @@
-//! What is written for a cell of a row: all that is known of its nearest obstacle, or a part from which that follows.
+//! What is written for a cell of a row: its nearest obstacle, or a part from which that follows.
 
 ghost use Rattle.std.specs.Prelude.{◌≡◌, ℕ, negsuc, pos, ◌≤ℤ◌, Option, Some, None};
 ghost use Rattle.metric.specs.Nearest.{spot_distance};
@@ -6,19 +6,20 @@ ghost use Rattle.metric.specs.declared.near.Near.{Near};
 
 use metric::Near;
 
-/// What is kept of a cell's nearest obstacle, or that there is none.
+/// An answer for a cell: its nearest obstacle, or that there is none.
 pub trait CellAnswer: Copy {
-    /// The nearest obstacle that it tells, seen from the cell of this column and row, by a metric's distance.
+    /// The nearest obstacle that the answer means, seen from the cell of this column and row, by a
+    /// metric's distance.
     ghost told: { (ℕ → ℕ → ℕ) → ℕ → ℕ → Self → Option Near };
 
-    /// What tells that there is no obstacle.
+    /// The answer that means no obstacle.
     ghost nothing: { Self };
 
-    /// What is kept where there is no obstacle.
+    /// The answer where there is no obstacle.
     fn none() -> Self
         ensures { result ≡ nothing };
 
-    /// What is kept of an obstacle in a map.
+    /// The answer for an obstacle in a map.
     fn some(near: Near) -> Self
         requires left { negsuc 0 ≤ℤ near.cell.x }
         requires column { near.cell.x ≤ℤ pos 4097 }
@@ -27,7 +28,7 @@ pub trait CellAnswer: Copy {
         ensures { (distance : ℕ → ℕ → ℕ) (x y : ℕ) → near.dist ≡ spot_distance distance x y near.cell.x near.cell.y
             → told distance x y result ≡ Some near };
 
-    /// Where there is none, none is told.
+    /// `nothing` means no obstacle.
     ghost tells_nothing: { (distance : ℕ → ℕ → ℕ) (x y : ℕ) → told distance x y nothing ≡ None };
 }
 

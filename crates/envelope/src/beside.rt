@@ -1,12 +1,11 @@
-//! The row phase without branches: for sixteen cells side by side, in two times eight lanes, the
-//! columns are looked at from the nearest outwards. Cells whose nearest column isn't found near by
-//! go to the stack. With them go the columns between those that are the nearest to the cells next
-//! to them.
+//! The row phase without branches: for sixteen cells at a time, in two vectors of eight lanes, it
+//! searches the columns from the nearest outwards. Cells whose nearest column isn't close by go to
+//! the stack, with the columns between those that are the nearest to the cells next to them.
 //!
-//! Each column has a place, 128 after its number, and a part at this place: what its gap has in a
-//! distance of 16 bits. The places before the first column and after the last one, and those of
-//! columns without an obstacle, have the part that stands for no obstacle. A column is named by how
-//! far right it lies of 128 columns to the left of the cell.
+//! Each column has a place, 128 after its number, and at this place a part: the part of its gap in
+//! a 16-bit distance. The places before the first column and after the last one, and those of
+//! columns without an obstacle, have the part for no obstacle. A column is named by its offset to
+//! the right of the 128th column to the left of the cell.
 
 ghost use Rattle.std.specs.Prelude.{◌≡◌, ℕ, negsuc, pos, ◌+◌, ◌-◌, ◌*◌, ◌≤ℤ◌, ◌<◌, ◌≤◌, ◌⊎◌, length, slice_index, slice_index_or, Some, IfSome};
 ghost use Rattle.metric.specs.Edge.{shift, spot_of};
@@ -26,37 +25,37 @@ use std::simd::prelude::*;
 /// The place of the first column.
 const FIRST: usize = 128;
 
-/// How many places there are more than columns.
+/// How many more places there are than columns.
 pub const SPARE: usize = 272;
 
-/// The part that stands for no obstacle.
+/// The part for no obstacle.
 const NO_PART: u16 = 32400;
 
-/// So many columns to each side are looked at before a cell is given up.
+/// The most columns searched on each side before a cell is given up.
 const FARTHEST: u16 = 96;
 
-/// Of the steps outwards that a row may take in all so many are free.
+/// The steps outwards that a row may always take.
 const FREE_STEPS: u32 = 150;
 
-/// A column without an obstacle adds so many tenths of a step: about what it costs the stack.
+/// Tenths of a step that a column without an obstacle adds: about what it costs the stack.
 const TENTHS_WITHOUT: u32 = 1;
 
-/// A column with an obstacle adds so many tenths of a step.
+/// Tenths of a step that a column with an obstacle adds.
 const TENTHS_WITH: u32 = 31;
 
-/// No row may take more steps.
+/// The most steps of a row.
 const MOST_STEPS: u32 = 20_000;
 
-/// Of eight cells the distance of the nearest column so far, and which column it is.
+/// For each of eight cells the distance of the nearest column so far, and that column.
 #[derive(Clone, Copy)]
 struct Eight {
     best: u16x8,
     away: u16x8,
 }
 
-/// Fills the row with the obstacle of the column that is the nearest to each cell. Answers whether
-/// most cells were found near by. `parts` has room for a place for each column and 272 more, and
-/// `spans` for each column.
+/// Fills the row with the obstacle of the column nearest to each cell. Returns whether most cells
+/// were found close by. `parts` has room for one place per column and 272 more, and `spans` for one
+/// span per column.
 // Not inlined: the two phases would compete for registers.
 #[inline(never)]
 pub fn fill_beside<M: Metric, A: CellAnswer, B: Border>(
@@ -103,7 +102,7 @@ pub fn fill_beside<M: Metric, A: CellAnswer, B: Border>(
     left > 0
 }
 
-/// The nearest column to the cell before one, where it is found near by with its neighbours;
+/// The column nearest to the cell before `start`, if it is found close by with its neighbours;
 /// otherwise the first column.
 #[inline(never)]
 fn first_column<M: Metric>(entries: &[u16], y: u16, parts: &[u16], start: usize) -> usize
@@ -122,8 +121,8 @@ fn first_column<M: Metric>(entries: &[u16], y: u16, parts: &[u16], start: usize)
     }
 }
 
-/// The next cell whose nearest column is found near by, of those at growing distances from one; the
-/// column after that one, and how many steps were taken. The row's end and its last column where
+/// The next cell whose nearest column is found close by, of those at growing distances from
+/// `start`; the column after that one, and how many steps were taken. The row's end for both if
 /// there is none.
 #[inline(never)]
 fn next_found<M: Metric>(
@@ -156,8 +155,8 @@ fn next_found<M: Metric>(
     (entries.len(), entries.len(), steps)
 }
 
-/// The column so far right of 128 columns to the left of the cell in column `x`, at one of eight
-/// places.
+/// The column at offset `away` of the 128th column to the left of the cell in column `x`, in one of
+/// eight lanes.
 #[inline(always)]
 fn column_of(x: usize, away: u16x8, place: usize) -> usize
     requires cell { x ≤ 4113 }
@@ -167,7 +166,7 @@ fn column_of(x: usize, away: u16x8, place: usize) -> usize
     (x + usize::from(away.to_array()[place])).saturating_sub(128)
 }
 
-/// How many steps outwards a row may take: what goes beyond that costs more than the stack.
+/// The steps outwards that a row may take: more would cost more than the stack.
 #[inline(never)]
 fn steps_for(entries: &[u16]) -> u16 {
     let mut tenths = 10 * FREE_STEPS;
@@ -196,8 +195,8 @@ fn set_parts<M: Metric>(entries: &[u16], y: u16, parts: &mut [u16])
     }
 }
 
-/// The nearest columns of sixteen cells, from the one of a place on, and how many steps that took;
-/// `None` where one of them has none so few steps away, or near by.
+/// The nearest columns of sixteen cells, from the one at `at` on, and how many steps that took;
+/// `None` if one of them has none within this many steps, or close by.
 #[inline(always)]
 fn search<M: Metric>(parts: &[u16], at: usize, most: u16) -> Option<(Eight, Eight, u16)>
     requires laned { 0 < M.reach_of 1 }
@@ -237,7 +236,7 @@ fn look_here<M: Metric>(parts: &[u16], at: usize) -> Eight
     }
 }
 
-/// The columns `k` and `k + 1` columns to both sides of eight cells too.
+/// Also the columns `k` and `k + 1` columns to either side of eight cells.
 #[inline(always)]
 fn look_twice<M: Metric>(parts: &[u16], at: usize, k: u16, eight: Eight) -> Eight
     requires laned { 0 < M.reach_of 1 }
@@ -253,8 +252,8 @@ fn look_twice<M: Metric>(parts: &[u16], at: usize, k: u16, eight: Eight) -> Eigh
     look_aside::<M>(parts, at, k + 1, next.best, next.away)
 }
 
-/// The columns `k` columns to both sides of eight cells too. On the left a column wins that isn't
-/// worse, and on the right one that is better.
+/// Also the columns `k` columns to either side of eight cells. On the left a column wins if it
+/// isn't worse, on the right if it is better.
 #[inline(always)]
 fn look_aside<M: Metric>(parts: &[u16], at: usize, k: u16, best: u16x8, away: u16x8) -> Eight
     requires laned { 0 < M.reach_of 1 }
@@ -278,7 +277,7 @@ fn look_aside<M: Metric>(parts: &[u16], at: usize, k: u16, best: u16x8, away: u1
     }
 }
 
-/// Fills up to eight cells, as far as the row has them.
+/// Fills up to eight cells, as far as the row goes.
 #[inline(always)]
 fn fill_eight<M: Metric, A: CellAnswer, B: Border>(
     entries: &[u16],
@@ -309,7 +308,8 @@ fn fill_eight<M: Metric, A: CellAnswer, B: Border>(
     }
 }
 
-/// The obstacle of the column so far right of 128 columns to the left of the cell in column `x`.
+/// The obstacle of the column at this offset of the 128th column to the left of the cell in column
+/// `x`.
 #[inline(always)]
 fn near(entries: &[u16], edge: Edge, x: usize, best: u16, away: u16) -> Near
     requires few { length entries.now ≤ FRAMED_SIDE }

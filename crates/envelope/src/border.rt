@@ -1,18 +1,18 @@
-//! The border of a map as a type, so that no cell asks what it is.
+//! The edge of a map as a type, so that no cell tests it.
 
 ghost use Rattle.metric.specs.declared.edge.Edge.{Edge};
 
 use metric::Edge;
 
-/// What the border of a map is, known where the code is made.
+/// The edge of a map, known at compile time.
 pub trait Border {
     ghost EDGE: { Edge };
 
-    /// The border as a value.
+    /// The edge as a value.
     const EDGE: Edge;
 }
 
-/// A border that is open.
+/// An open edge.
 pub struct Open;
 
 impl Border for Open {
@@ -21,7 +21,7 @@ impl Border for Open {
     const EDGE: Edge = Edge::Open;
 }
 
-/// A border that is a wall.
+/// A wall.
 pub struct Walled;
 
 impl Border for Walled {

@@ -1,6 +1,7 @@
-//! The columns of a row of the table, as they are seen from the row's cells.
+//! The columns of a row of the table, seen from the row's cells.
 //!
-//! A column with an obstacle has an entry: the row of that obstacle which is nearest to the row in hand, `y`. Its gap is how many rows away that is.
+//! A column with an obstacle has an entry: the row of its obstacle nearest to the current row, `y`.
+//! Its gap is how many rows away that is.
 
 ghost use Rattle.std.specs.Prelude.{◌≡◌, ℕ, ◌<◌, ◌≤◌, length};
 ghost use Rattle.metric.specs.Crossing.{AreColumns, at_column};
@@ -8,7 +9,7 @@ ghost use Rattle.envelope.specs.Columns.{AreEntries, IsAmong, IsCrossing, gap_of
 
 use metric::{LAST_FRAMED, Metric};
 
-/// How many rows away the column's obstacle lies.
+/// The column's gap: how many rows away its obstacle lies.
 pub fn gap(entries: &[u16], y: u16, column: u16) -> u16
     requires entries { AreEntries entries.now y }
     requires column { IsAmong entries.now (length entries.now) column }

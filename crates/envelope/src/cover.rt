@@ -1,4 +1,5 @@
-//! The columns of a piece of a row put on a stack, from the left: each span of cells with the column that is the nearest to them.
+//! Stacks the columns of a piece of a row, from the left: each span of cells with the column
+//! nearest to them.
 
 ghost use Rattle.std.specs.Prelude.{ℕ, ◌+◌, ◌-◌, ◌<◌, ◌≤◌, length};
 ghost use Rattle.metric.specs.Crossing.{AreColumns};
@@ -11,7 +12,8 @@ use crate::piece::Piece;
 use column::NONE;
 use metric::Metric;
 
-/// The cells of a row from `start` on, up to where the next span begins, to which one column is the nearest.
+/// The cells of a row from `start` up to the start of the next span, to which one column is the
+/// nearest.
 #[derive(Clone, Copy, Debug)]
 pub struct Span {
     pub start: u16,
@@ -20,7 +22,8 @@ pub struct Span {
     pub gap: u16,
 }
 
-/// Stacks the spans of the cells before the piece's end, over the piece's columns. How many there are: none where no such column has an obstacle.
+/// Stacks the spans of the cells before the piece's end, over the piece's columns. Returns how many
+/// there are: none if no such column has an obstacle.
 // Not inlined: the two phases would compete for registers.
 #[inline(never)]
 pub fn cover<M: Metric>(entries: &[u16], y: u16, piece: Piece, spans: &mut [Span]) -> usize
@@ -40,7 +43,8 @@ pub fn cover<M: Metric>(entries: &[u16], y: u16, piece: Piece, spans: &mut [Span
     count
 }
 
-/// Puts one more column on the stack, unless it is nowhere the nearest, and takes off those that it hides. How many spans there are then.
+/// Pushes one more column on the stack, unless it is nowhere the nearest, and pops those that it
+/// hides. Returns how many spans there are then.
 fn put_on<M: Metric>(
     entries: &[u16],
     y: u16,
@@ -70,7 +74,8 @@ fn put_on<M: Metric>(
     }
 }
 
-/// Where the cells begin to which the column is strictly nearer than the last of the kept spans is: the row's first cell on an empty stack.
+/// The first cell to which the column is strictly nearer than the last of the kept spans: the row's
+/// first cell on an empty stack.
 fn start_of<M: Metric>(entries: &[u16], y: u16, column: u16, spans: &[Span], kept: usize) -> u16
     requires entries { AreEntries entries.now y }
     requires room { kept ≤ length spans.now }
@@ -85,7 +90,8 @@ fn start_of<M: Metric>(entries: &[u16], y: u16, column: u16, spans: &[Span], kep
     crossing::<M>(top.column, top.gap, column, gap(entries, y, column))
 }
 
-/// How many spans are left after those from the top on whose first cell the column is strictly nearer than their own.
+/// How many spans remain after popping those on whose first cell the column is strictly nearer than
+/// their own.
 fn kept_spans<M: Metric>(
     entries: &[u16],
     y: u16,

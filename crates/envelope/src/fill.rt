@@ -1,4 +1,4 @@
-//! The spans of a piece of a row read back: each cell with its nearest obstacle.
+//! Reads the spans of a piece of a row back: each cell with its nearest obstacle.
 
 ghost use Rattle.std.specs.Prelude.{◌≡◌, ℕ, negsuc, pos, ◌+◌, ◌-◌, ◌*◌, ◌<◌, ◌≤◌, ◌≤ℤ◌, ◌⊎◌, length, slice_index_or, Some};
 ghost use Rattle.metric.specs.Edge.{shift};
@@ -14,8 +14,8 @@ use crate::cover::Span;
 use crate::piece::Piece;
 use metric::{Edge, LAST_FRAMED, Metric, Near};
 
-/// Fills the cells of the piece with the obstacle of the column that is the nearest to each, or
-/// with none where there is no span. Cells of the frame have no place in the row.
+/// Fills the cells of the piece with the obstacle of the column nearest to each, or with none if
+/// there is no span. Cells of the frame have no place in the row.
 // Not inlined: the two phases would compete for registers.
 #[inline(never)]
 pub fn fill<M: Metric, A: CellAnswer, B: Border>(
@@ -65,7 +65,7 @@ fn fill_none<A: CellAnswer>(from: usize, end: usize, answers: &mut [A])
     }
 }
 
-/// Fills the cells of one span, from one of them on and up to the end.
+/// Fills the cells of one span, from one of them up to the end.
 #[inline(always)]
 fn fill_span<M: Metric, A: CellAnswer, B: Border>(
     entries: &[u16],
@@ -95,7 +95,7 @@ fn fill_span<M: Metric, A: CellAnswer, B: Border>(
     }
 }
 
-/// The column's obstacle, as the cell in column `x` sees it.
+/// The column's obstacle, seen from the cell in column `x`.
 #[inline(always)]
 fn near<M: Metric>(entries: &[u16], y: u16, edge: Edge, column: u16, x: u16) -> Near
     requires entries { AreEntries entries.now y }

@@ -1,10 +1,10 @@
-//! Eight numbers of 16 bits side by side, the lanes of the row phase without branches.
+//! Vectors of eight 16-bit numbers: the lanes of the row phase without branches.
 
 ghost use Rattle.std.specs.Prelude.{◌≡◌, ℕ, ◌+◌, ◌<◌, ◌≤◌, ◌==◌, min, length, slice_index, true, if◌then◌else◌};
 
 use std::simd::prelude::*;
 
-/// Eight numbers of a list, from a place on.
+/// Eight numbers of a list, from index `at` on.
 #[inline(always)]
 pub fn load(numbers: &[u16], at: usize) -> u16x8
     requires { at + 8 ≤ length numbers.now }
@@ -21,7 +21,7 @@ pub fn all_of(number: u16) -> u16x8
     u16x8::splat(number)
 }
 
-/// The lesser of two numbers, at each of eight places.
+/// In each of eight lanes, the lesser of two numbers.
 #[inline(always)]
 pub fn least(a: u16x8, b: u16x8) -> u16x8
     ensures { (i : ℕ) → i < 8 → slice_index result i ≡ min (slice_index a i) (slice_index b i) }
@@ -29,7 +29,7 @@ pub fn least(a: u16x8, b: u16x8) -> u16x8
     a.simd_min(b)
 }
 
-/// At each of eight places the first number where two are equal, and otherwise the second.
+/// In each of eight lanes, the first number if `a` and `b` are equal, otherwise the second.
 #[inline(always)]
 pub fn chosen(a: u16x8, b: u16x8, equal: u16x8, other: u16x8) -> u16x8
     ensures { (i : ℕ) → i < 8 → slice_index result i ≡ (if slice_index a i == slice_index b i then slice_index equal i

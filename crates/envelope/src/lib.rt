@@ -1,4 +1,5 @@
-//! The row phase: for each cell of a row the nearest obstacle, found from the nearest obstacle of each column.
+//! The row phase: finds the nearest obstacle of each cell of a row from the nearest obstacles of
+//! its columns.
 #![tactic(auto)]
 
 mod answer;

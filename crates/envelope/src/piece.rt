@@ -1,4 +1,4 @@
-//! A piece of a row that is worked by the stack, and the columns that are enough for it.
+//! A piece of a row that the stack computes, and the columns that suffice for it.
 
 ghost use Rattle.std.specs.Prelude.{ℕ, ◌+◌, ◌-◌, ◌*◌, ◌<◌, ◌≤◌, ◌≡◌, ◌⊎◌, length, slice_index_or};
 ghost use Rattle.metric.specs.Edge.{shift};
@@ -11,8 +11,8 @@ use crate::cover::{Span, cover};
 use crate::fill::fill;
 use metric::Metric;
 
-/// The cells from one to before another, and the columns from one to before another. Both are
-/// counted with the frame, where there is one.
+/// A range of cells and a range of columns, each up to but not including its end. Both count the
+/// frame, if there is one.
 #[derive(Clone, Copy, Debug)]
 pub struct Piece {
     pub from: usize,

@@ -1,10 +1,10 @@
-//! The row phase where a distance is columns and rows added: the nearest column on each side of a
-//! cell by one scan from each end.
+//! The row phase for distances that are the sum of columns and rows: one scan from each end finds
+//! the nearest column on each side of a cell.
 //!
-//! Then the columns to the left of a cell come in the same order whichever cell it is, and so do
-//! those to the right. Each column has a word for either side: how far its obstacle is in that
-//! order, and below it the column's number. The least word of the columns so far is the nearest
-//! one's, and of two as near the left one's.
+//! For such a distance, the columns to the left of a cell come in the same order for every cell,
+//! and so do those to the right. Each column has a word for either side: how far its obstacle is in
+//! that order, and in the bits below it the column's number. The least word so far is that of the
+//! nearest column, and of the left one of two equally near.
 
 ghost use Rattle.std.specs.Prelude.{◌≡◌, ◌≢◌, ℕ, negsuc, pos, ◌+◌, ◌-◌, ◌*◌, ◌/◌, ◌%◌, ◌<◌, ◌≤◌, ◌≤ℤ◌, length, min, slice_index, true};
 ghost use Rattle.metric.specs.Distance.{IsSum};
@@ -17,23 +17,24 @@ use crate::border::Border;
 use column::NONE;
 use metric::{Edge, Metric, Near};
 
-/// A word counts so many columns below how far an obstacle is.
+/// The multiplier of the distance in a word, above all column numbers.
 const COLUMNS: u32 = 8192;
 
-/// No row has more columns.
+/// The most columns of a row.
 const MOST: u32 = 4098;
 
 /// The word of a column without an obstacle.
 const NO_WORD: u32 = u32::MAX;
 
-/// An obstacle is counted as far away where it is more than so many rows away: nearer ones are
-/// found faster side by side.
+/// An obstacle counts as far away if it is more than this many rows away: nearer ones are found
+/// faster in vectors.
 const FEW_ROWS: u16 = 3;
 
-/// Where one column in so many has an obstacle that far away, two scans are the fastest.
+/// Where more than one column in this many has an obstacle that far away, two scans are the
+/// fastest.
 const SHARE: usize = 4;
 
-/// Whether so many of the row's columns have an obstacle far away that two scans are the fastest.
+/// Whether enough of the row's columns have an obstacle far away for two scans to be the fastest.
 #[inline(never)]
 pub fn are_many_far(entries: &[u16], y: u16) -> bool
     requires { length entries.now ≤ 4098 }
@@ -46,7 +47,7 @@ pub fn are_many_far(entries: &[u16], y: u16) -> bool
     usize::from(count) * SHARE > entries.len()
 }
 
-/// One for a column with an obstacle far away, nothing for another.
+/// 1 for a column with an obstacle far away, 0 for any other.
 #[inline(always)]
 fn one_if_far(entry: u16, y: u16) -> u16
     ensures few { result ≤ 1 }
@@ -55,8 +56,8 @@ fn one_if_far(entry: u16, y: u16) -> u16
     u16::from(entry != NONE && y.abs_diff(entry) > FEW_ROWS)
 }
 
-/// Fills the row with the obstacle of the column that is the nearest to each cell. `left` and
-/// `right` have room for a word for each column.
+/// Fills the row with the obstacle of the column nearest to each cell. `left` and `right` have room
+/// for one word per column.
 pub fn fill_by_scans<M: Metric, A: CellAnswer, B: Border>(
     entries: &[u16],
     y: u16,
@@ -96,7 +97,7 @@ fn set_words(entries: &[u16], y: u16, left: &mut [u32], right: &mut [u32])
     }
 }
 
-/// The word of a column whose obstacle is so far.
+/// The word of a column whose obstacle is this far.
 #[inline(always)]
 fn word(entry: u16, far: u32, column: u32) -> u32
     requires far { far ≤ 69633 }
@@ -110,8 +111,8 @@ fn word(entry: u16, far: u32, column: u32) -> u32
     }
 }
 
-/// Puts the least of the words so far in the place of each, from the left in one list and from the
-/// right in the other.
+/// Replaces each word by the least so far, from the left in one list and from the right in the
+/// other.
 #[inline(never)]
 fn scan(count: usize, left: &mut [u32], right: &mut [u32])
     requires left { count ≤ length left.old }
@@ -129,7 +130,7 @@ fn scan(count: usize, left: &mut [u32], right: &mut [u32])
     }
 }
 
-/// Puts a word of the nearest column in the place of each word of `left`.
+/// Replaces each word of `left` by a word of the nearest column.
 #[inline(never)]
 fn choose<M: Metric>(entries: &[u16], _y: u16, left: &mut [u32], right: &[u32])
     requires sum { IsSum M.distance }
@@ -146,8 +147,8 @@ fn choose<M: Metric>(entries: &[u16], _y: u16, left: &mut [u32], right: &[u32])
     }
 }
 
-/// The word of the nearer one of two columns to the cell in column `x`, with its distance: of that
-/// on the left where both are as near.
+/// Of two words with their distances, that of the column nearer to the cell in column `x`; the left
+/// one on a tie.
 #[inline(always)]
 fn nearer(left: u32, right: u32, x: u32) -> u32
     requires cell { x ≤ 4098 }
@@ -162,7 +163,7 @@ fn nearer(left: u32, right: u32, x: u32) -> u32
     (to_left.min(to_right) - MOST) * COLUMNS + word % COLUMNS
 }
 
-/// Fills the row with what the words tell.
+/// Fills the row with the obstacles that the words mean.
 // Not inlined: the two phases would compete for registers.
 #[inline(never)]
 fn tell<M: Metric, A: CellAnswer, B: Border>(
@@ -186,7 +187,7 @@ fn tell<M: Metric, A: CellAnswer, B: Border>(
     }
 }
 
-/// The obstacle that a word tells.
+/// The obstacle that a word means.
 #[inline(always)]
 fn near_of(entries: &[u16], edge: Edge, word: u32) -> Near
     requires inside { word % 8192 < length entries.now }

@@ -1,4 +1,4 @@
-//! The room in which a row's spans are stacked, and the row phase.
+//! The buffers in which a row's spans are stacked, and the row phase.
 
 ghost use Rattle.std.specs.Prelude.{◌≡◌, ℕ, ◌+◌, ◌*◌, ◌<◌, ◌≤◌, length, IfOk, IfErr};
 ghost use Rattle.bits.specs.Cells.{Cells, IsBitmap};
@@ -20,19 +20,19 @@ use metric::{Edge, Metric, Near, Refusal};
 use std::alloc::Global;
 use std::marker::Model;
 
-/// What stands in a place of the stack that no span has taken.
+/// The content of an unused place of the stack.
 const UNUSED: Span = Span {
     start: 0,
     column: 0,
     gap: 0,
 };
 
-/// So many rows go to the stack at once after one whose obstacles weren't found near by: neighbours
-/// are alike.
+/// How many rows after one whose obstacles weren't close by go straight to the stack: neighbouring
+/// rows are alike.
 const FAR_ROWS: u8 = 16;
 
-/// The room for the spans of one row, and for the parts and the words of its columns. Contracts see
-/// it as the width of the rows that it was made for.
+/// The buffers for the spans of one row, and for the parts and the words of its columns. Contracts
+/// see the width of the rows that it was made for.
 #[derive(Debug, Drop)]
 pub struct Stack {
     spans: Vec<Span>,
@@ -40,7 +40,7 @@ pub struct Stack {
     /// The words of the columns for the cells on their right, and for those on their left.
     left: Vec<u32>,
     right: Vec<u32>,
-    /// How many rows from here on aren't looked at side by side.
+    /// How many of the next rows skip the search in vectors.
     far_rows: u8,
 }
 
@@ -77,10 +77,9 @@ impl Stack {
 /// Fills a row with the nearest obstacle of each cell of row `y`, from the left, or `None` where
 /// there is no obstacle.
 ///
-/// Of the obstacles at the least distance it is the one of the least column; of those the one in
-/// the fewest rows away, and of two such the upper. The row in hand and the map have one width, and
-/// the stack is for rows of so many cells or more, two more where the border is a wall. No memory
-/// is taken.
+/// Ties go to the obstacle of the least column; among those to the one in the fewest rows away, and
+/// of two such to the upper one. The row to fill and the map have the same width, and the stack is
+/// for rows of at least as many cells, two more with a wall. It allocates no memory.
 pub fn row<M: Metric>(table: &ColumnTable, y: u16, stack: &mut Stack, nears: &mut [Option<Near>])
     requires row { y < table.now.cells.height }
     requires stack { table.now.cells.width + 2 * shift table.now.edge ≤ stack.old }
@@ -92,12 +91,12 @@ pub fn row<M: Metric>(table: &ColumnTable, y: u16, stack: &mut Stack, nears: &mu
     row_from::<M, Option<Near>>(table.row(y), y + edge.shift(), edge, stack, nears);
 }
 
-/// Fills a row with what is kept of the nearest obstacle of each cell of row `y`, from the left.
-/// `entries` are the row of a table of the map: the nearest obstacles of the columns. Where the
-/// border is a wall, `y` and the entries are counted with the frame.
+/// Fills a row with the answer for each cell of row `y`, from the left. `entries` is the row of a
+/// table of the map: the nearest obstacles of the columns. With a wall, `y` and the entries count
+/// the frame.
 ///
-/// The row in hand has as many cells as there are entries, but for those of the frame, and the
-/// stack is for so many entries or more. No memory is taken.
+/// The row to fill has as many cells as there are entries, without those of the frame, and the
+/// stack is for at least as many entries. It allocates no memory.
 pub fn row_from<M: Metric, A: CellAnswer>(
     entries: &[u16],
     y: u16,
@@ -120,10 +119,10 @@ pub fn row_from<M: Metric, A: CellAnswer>(
     }
 }
 
-/// Fills a row with the obstacle of the column that is the nearest to each cell: by two scans where
-/// the distance is columns and rows added and many columns have an obstacle some rows away; by
-/// looking around each cell where the nearest are near by; and otherwise by the stack, as for each
-/// metric without a reach.
+/// Fills a row with the obstacle of the column nearest to each cell: by two scans if the distance
+/// is the sum of columns and rows and many columns have an obstacle some rows away; by searching
+/// around each cell if the nearest are close by; and otherwise by the stack, as for each metric
+/// without a reach.
 fn fill_row<M: Metric, A: CellAnswer, B: Border>(
     entries: &[u16],
     y: u16,
@@ -153,7 +152,7 @@ fn fill_row<M: Metric, A: CellAnswer, B: Border>(
     }
 }
 
-/// Fills a row by the stack alone.
+/// Fills a row by the stack only.
 fn fill_far<M: Metric, A: CellAnswer, B: Border>(
     entries: &[u16],
     y: u16,

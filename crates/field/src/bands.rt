@@ -1,4 +1,4 @@
-//! The nearest obstacles of all cells of some rows, worked in bands by threads.
+//! The nearest obstacles of all cells of a range of rows, computed in bands by threads.
 
 ghost use Rattle.std.specs.Prelude.{◌≡◌, ◌≤◌, ◌-◌, IfErr, IfOk, OnOk};
 ghost use Rattle.std.specs.Thread.{IsSync};
@@ -22,18 +22,18 @@ struct Shared<'a, G: Gate> {
     gate: &'a G,
 }
 
-/// The bands after the first `above` ones, as far as `below`.
+/// The bands after the first `above` ones, up to band `below`.
 #[derive(Clone, Copy)]
 struct Bands {
     above: u8,
     below: u8,
 }
 
-/// The answer of `rows`, worked in bands: each worker has one.
+/// The answer of `rows`, computed in bands, one per worker.
 ///
-/// Each band is worked by a thread of its own, which enters the gate first, also where the band has
-/// no rows; where a thread can't be started, the calling thread works that band. Fails only when
-/// out of memory.
+/// A thread per band enters the gate first, even if the band has no rows, and then computes the
+/// band; where a thread can't be started, the calling thread does its work. Fails only when out of
+/// memory.
 pub fn rows_with<M: Metric + Sync, G: Gate + Sync, R: Threads + Sync>(
     rt: &R,
     alloc: Global,
@@ -61,7 +61,7 @@ pub fn rows_with<M: Metric + Sync, G: Gate + Sync, R: Threads + Sync>(
     Ok(nears)
 }
 
-/// Works these bands, each in a thread of its own.
+/// Computes these bands, each in a thread of its own.
 #[cycle(bands)]
 fn work_bands<M: Metric + Sync, G: Gate + Sync, R: Threads + Sync>(
     rt: &R,
@@ -90,7 +90,7 @@ fn work_bands<M: Metric + Sync, G: Gate + Sync, R: Threads + Sync>(
     work_beside::<M, G, R>(rt, shared, bands, middle, upper, lower)
 }
 
-/// Works the bands above the middle one's end and those below it at one time.
+/// Computes the bands above the end of the middle one and those below it in parallel.
 #[cycle(bands)]
 fn work_beside<M: Metric + Sync, G: Gate + Sync, R: Threads + Sync>(
     rt: &R,
@@ -154,7 +154,7 @@ fn work_beside<M: Metric + Sync, G: Gate + Sync, R: Threads + Sync>(
     below_worked
 }
 
-/// Enters the gate, and works the rows of one band, counted from 1.
+/// Enters the gate, and computes the rows of one band, counted from 1.
 fn work_band<M: Metric, G: Gate>(
     shared: &Shared<'_, G>,
     band: u8,

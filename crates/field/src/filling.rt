@@ -1,4 +1,4 @@
-//! The answers of all cells of some rows, written to the caller's own room.
+//! The answers of all cells of a range of rows, written to the caller's memory.
 
 ghost use Rattle.std.specs.Prelude.{◌≡◌, ◌+◌, IfErr, OnOk};
 ghost use Rattle.metric.specs.declared.refusal.Refusal.TheVariants.{Memory};
@@ -11,10 +11,9 @@ use envelope::CellAnswer;
 use metric::{Metric, Refusal};
 use std::alloc::Global;
 
-/// Fills this room with what is kept of the nearest obstacles of the cells of a batch, row by row,
-/// each row from the left.
+/// Fills `answers` with those of the cells of a batch, in row-major order.
 ///
-/// Fails only when out of memory, before anything is written.
+/// Fails only when out of memory, before it writes anything.
 pub fn fill<M: Metric, A: CellAnswer>(
     alloc: Global,
     batch: &Batch<'_>,
@@ -31,7 +30,7 @@ pub fn fill<M: Metric, A: CellAnswer>(
     Ok(())
 }
 
-/// Fills the rows of the batch one after another.
+/// Fills the rows of the batch in order.
 fn fill_rows<M: Metric, A: CellAnswer>(batch: &Batch<'_>, phases: &mut Phases, answers: &mut [A])
     requires room { HasRoom batch.now.bitmap.now batch.now.y0 batch.now.y1 answers.old }
     requires phases { IsNextLine batch.now phases.old batch.now.y0 }

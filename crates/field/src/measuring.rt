@@ -1,4 +1,4 @@
-//! The distances of all cells of some rows, written to the caller's own room.
+//! The distances of all cells of a range of rows, written to the caller's memory.
 
 ghost use Rattle.std.specs.Prelude.{◌≡◌, IfErr, OnOk, length};
 ghost use Rattle.metric.specs.declared.refusal.Refusal.TheVariants.{Memory};
@@ -14,10 +14,10 @@ use envelope::CellAnswer;
 use metric::{Metric, Refusal};
 use std::alloc::Global;
 
-/// Fills this room with how far away the nearest obstacles of the cells of a batch are, row by row,
-/// each row from the left; `u32::MAX` where there is no obstacle.
+/// Fills `distances` with those of the cells of a batch to their nearest obstacles, in
+/// row-major order; `u32::MAX` where there is no obstacle.
 ///
-/// Fails only when out of memory, before anything is written.
+/// Fails only when out of memory, before it writes anything.
 pub fn measure<M: Metric>(
     alloc: Global,
     batch: &Batch<'_>,
@@ -35,7 +35,7 @@ pub fn measure<M: Metric>(
     Ok(())
 }
 
-/// Measures the rows of the batch one after another. The line has room for a row.
+/// Measures the rows of the batch in order. `line` has room for a row.
 fn measure_rows<M: Metric>(
     batch: &Batch<'_>,
     phases: &mut Phases,

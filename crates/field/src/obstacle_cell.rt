@@ -1,4 +1,4 @@
-//! Where an obstacle is, in four bytes.
+//! The position of an obstacle, in four bytes.
 
 ghost use Rattle.std.specs.Prelude.{◌≡◌, ◌≤◌, ◌≤ℤ◌, pos, negsuc, IfSome, Option, None};
 ghost use Rattle.field.specs.Obstacles.{IsMeasured, seen_from};
@@ -11,7 +11,7 @@ use std::marker::Model;
 /// The column and the row that stand for no obstacle: no map with its frame has them.
 const NOWHERE: i16 = -2;
 
-/// The spot of an obstacle, or none. Contracts see it as that.
+/// The spot of an obstacle, or none, which is what contracts see.
 #[derive(Clone, Copy, Debug)]
 pub struct ObstacleCell {
     x: i16,
@@ -34,7 +34,7 @@ impl Model for ObstacleCell {
 }
 
 impl ObstacleCell {
-    /// The spot, or none. Both numbers of a spot are from -1 to 4097.
+    /// The spot, or none. Both coordinates of a spot are from -1 to 4097.
     pub fn cell(self) -> Option<Spot>
         ensures cell { result ≡ self }
         ensures left { IfSome result (λ spot. negsuc 0 ≤ℤ spot.x) }
@@ -52,7 +52,7 @@ impl ObstacleCell {
         }
     }
 
-    /// How far away the spot is from the cell in column `x` and row `y`; `u32::MAX` where there is none.
+    /// The distance of the spot from cell (`x`, `y`); `u32::MAX` where there is none.
     #[inline(always)]
     pub fn measure<M: Metric>(self, x: u16, y: u16) -> u32
         requires column { x ≤ 4095 }

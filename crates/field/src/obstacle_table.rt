@@ -1,4 +1,5 @@
-//! The nearest obstacles of all cells of some rows in a third of the room: only where each is, since how far away it is follows.
+//! The nearest obstacles of all cells of a range of rows in a third of the memory: only positions,
+//! from which the distances follow.
 
 ghost use Rattle.std.specs.Prelude.{◌≡◌, ◌↔◌, ℕ, ◌+◌, ◌-◌, ◌*◌, ◌<◌, ◌≤◌, true, IfErr, IfOk, None, length, slice_index_or, slice_range};
 ghost use Rattle.field.specs.Obstacles.{AreMeasured, IsMeasured, nears_told, seen_from};
@@ -14,14 +15,14 @@ use std::alloc::Global;
 use std::marker::{Model, PhantomData};
 use std::thread::Threads;
 
-/// The nearest obstacles of the cells of some rows by one metric, 4 bytes a cell. Contracts see it as these
-/// obstacles, row by row.
+/// The nearest obstacles of the cells of a range of rows by one metric, 4 bytes per cell. Contracts
+/// see these obstacles, in row-major order.
 #[derive(Debug, Drop)]
 pub struct ObstacleTable<M> {
     width: u16,
     y0: u16,
     y1: u16,
-    /// How many rows a strip has; the last one may have fewer.
+    /// The rows of a strip; the last strip may have fewer.
     height: u16,
     strips: Vec<Vec<ObstacleCell>>,
     by: PhantomData<M>,
@@ -39,10 +40,10 @@ impl<M> Model for ObstacleTable<M> {
 }
 
 impl<M: Metric + Sync> ObstacleTable<M> {
-    /// The nearest obstacles of the cells of a batch, the same as `rows` has them, each worker in a strip
-    /// of its own: all strips have equally many rows, but for the last ones, which may have fewer, or
-    /// none. Each strip is worked by a thread of its own, which enters the gate first with the strip's
-    /// number from 1; where a thread can't be started, the calling thread works that strip. Fails only
+    /// The nearest obstacles of the cells of a batch, as `rows` has them, one strip per worker: all
+    /// strips have the same number of rows, except the last ones, which may have fewer or none. A
+    /// thread per strip enters the gate first, with the strip's number from 1, and then computes
+    /// the strip; where a thread can't be started, the calling thread does its work. Fails only
     /// when out of memory.
     pub fn of<G: Gate + Sync, R: Threads + Sync>(
         rt: &R,
@@ -72,7 +73,7 @@ impl<M: Metric + Sync> ObstacleTable<M> {
         })
     }
 
-    /// How many cells a row has.
+    /// The number of cells of a row.
     pub fn width(&self) -> u16
         ensures { result ≡ self.now.width }
     {
@@ -86,7 +87,7 @@ impl<M: Metric + Sync> ObstacleTable<M> {
         self.y0 <= y && y < self.y1
     }
 
-    /// The nearest obstacle of the cell in column `x` and row `y`; `None` where there is no obstacle.
+    /// The nearest obstacle of cell (`x`, `y`); `None` where there is no obstacle.
     pub fn near(&self, x: u16, y: u16) -> Option<Near>
         requires column { x < self.now.width }
         requires from { self.now.y0 ≤ y }
@@ -106,8 +107,8 @@ impl<M: Metric + Sync> ObstacleTable<M> {
         fill_line::<M>(y, self.line(y - self.y0), nears);
     }
 
-    /// Fills a line with the distances of the cells of row `y` to their nearest obstacles, from the left;
-    /// `u32::MAX` where there is no obstacle.
+    /// Fills a line with the distances of the cells of row `y` to their nearest obstacles, from the
+    /// left; `u32::MAX` where there is no obstacle.
     pub fn fill_distances(&self, y: u16, distances: &mut [u32])
         requires from { self.now.y0 ≤ y }
         requires to { y < self.now.y1 }
@@ -117,7 +118,7 @@ impl<M: Metric + Sync> ObstacleTable<M> {
         measure_line::<M>(y, self.line(y - self.y0), distances);
     }
 
-    /// The cells of the row so many rows after the first one.
+    /// The cells of row number `row`, counted from the first one.
     fn line(&self, row: u16) -> &[ObstacleCell]
         requires row { row < self.now.y1 - self.now.y0 }
         ensures len { length result.now ≡ self.now.width }
@@ -130,7 +131,7 @@ impl<M: Metric + Sync> ObstacleTable<M> {
     }
 }
 
-/// Fills a line with these obstacles, as the cells of row `y` see them.
+/// Fills a line with these obstacles, seen from the cells of row `y`.
 fn fill_line<M: Metric>(y: u16, cells: &[ObstacleCell], nears: &mut [Option<Near>])
     requires row { y ≤ 4095 }
     requires few { length cells.now ≤ 4096 }
@@ -143,7 +144,7 @@ fn fill_line<M: Metric>(y: u16, cells: &[ObstacleCell], nears: &mut [Option<Near
     }
 }
 
-/// Fills a line with how far away these obstacles are from the cells of row `y`.
+/// Fills a line with the distances of these obstacles from the cells of row `y`.
 pub fn measure_line<M: Metric>(y: u16, cells: &[ObstacleCell], distances: &mut [u32])
     requires row { y ≤ 4095 }
     requires few { length cells.now ≤ 4096 }
@@ -156,7 +157,7 @@ pub fn measure_line<M: Metric>(y: u16, cells: &[ObstacleCell], distances: &mut [
     }
 }
 
-/// The obstacle of this cell, or none, as the cell in column `x` and row `y` sees it.
+/// The obstacle of this entry, or none, seen from cell (`x`, `y`).
 #[inline(always)]
 fn near_from<M: Metric>(x: u16, y: u16, kept: ObstacleCell) -> Option<Near>
     requires column { x ≤ 4095 }

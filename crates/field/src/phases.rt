@@ -1,4 +1,4 @@
-//! The column phase and the row phase over the rows of a batch, one row after another.
+//! The column phase and the row phase over the rows of a batch, in order.
 
 ghost use Rattle.std.specs.Prelude.{◌≡◌, ◌<◌, ◌+◌, IfErr, IfOk, length};
 ghost use Rattle.metric.specs.declared.refusal.Refusal.TheVariants.{Memory};
@@ -29,7 +29,7 @@ impl Phases {
         Ok(Phases { columns, stack })
     }
 
-    /// Fills a line with what is kept of the nearest obstacles of row `y`, which comes next.
+    /// Fills a line with the answers of row `y`, which is the next row.
     pub fn fill_line<M: Metric, A: CellAnswer>(&mut self, batch: &Batch<'_>, y: u16, line: &mut [A])
         requires ready { IsNextLine batch.now self.old y }
         requires row { y < batch.now.y1 }

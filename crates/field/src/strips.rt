@@ -1,5 +1,5 @@
-//! The nearest obstacles of some rows in strips of equal height, each of which a thread of its own
-//! works into room of its own.
+//! The nearest obstacles of a range of rows in strips of equal height, each computed by a thread of
+//! its own into memory of its own.
 
 ghost use Rattle.std.specs.Prelude.{◌≡◌, ◌+◌, ◌-◌, ◌<◌, ◌≤◌, All, IfErr, IfOk, None, Ok, map, vec_len};
 ghost use Rattle.field.specs.Bands.{IsWorkers};
@@ -13,7 +13,7 @@ use metric::{Gate, Metric, Refusal};
 use std::alloc::Global;
 use std::thread::{Threads, map_indices};
 
-/// The rows of a batch in strips of equal height, the last of which may have fewer rows, or none.
+/// The rows of a batch in strips of equal height; the last one may have fewer rows, or none.
 #[derive(Drop)]
 pub struct Strips<'a> {
     pub batch: &'a Batch<'a>,
@@ -21,8 +21,8 @@ pub struct Strips<'a> {
     ghost some: { 1 ≤ height },
 }
 
-/// Works the first `count` strips, each in a thread of its own where one can be started. Fails only
-/// when out of memory.
+/// Computes the first `count` strips, each in a thread of its own where one can be started. Fails
+/// only when out of memory.
 pub fn work_strips<M: Metric + Sync, G: Gate + Sync, R: Threads + Sync>(
     rt: &R,
     alloc: Global,
@@ -46,7 +46,7 @@ pub fn work_strips<M: Metric + Sync, G: Gate + Sync, R: Threads + Sync>(
     gather(alloc, found)
 }
 
-/// Enters the gate, and works the rows of one strip, counted from 0.
+/// Enters the gate, and computes the rows of one strip, counted from 0.
 fn work_strip<M: Metric, G: Gate>(
     alloc: Global,
     strips: &Strips<'_>,
@@ -69,8 +69,7 @@ fn work_strip<M: Metric, G: Gate>(
 }
 
 impl Strips<'_> {
-    /// The first row of a strip, counted from 0; the row after the last one where the strip has
-    /// none.
+    /// The first row of a strip, counted from 0; the row after the last one if the strip has none.
     fn first_row(&self, strip: u8) -> u16
         requires { strip ≤ 16 }
         ensures row { result ≡ strip_row self.now.batch.now self.now.height strip }
@@ -82,7 +81,7 @@ impl Strips<'_> {
     }
 }
 
-/// What was found of each strip. Refused where one of them was, or for want of memory.
+/// The results of all strips. Fails if one of them failed, or when out of memory.
 fn gather(
     alloc: Global,
     found: Vec<Result<Vec<ObstacleCell>, Refusal>>,

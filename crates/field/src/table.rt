@@ -1,4 +1,4 @@
-//! The nearest obstacles of all cells of some rows, one row after another.
+//! The nearest obstacles of all cells of a range of rows, in order.
 
 ghost use Rattle.std.specs.Prelude.{◌≡◌, [], IfErr, IfOk, OnOk};
 ghost use Rattle.metric.specs.declared.refusal.Refusal.TheVariants.{Memory};
@@ -12,12 +12,11 @@ use envelope::CellAnswer;
 use metric::{Metric, Near, Refusal};
 use std::alloc::Global;
 
-/// The nearest obstacles of the cells of a batch, row by row, each row from the left.
+/// The nearest obstacles of the cells of a batch, in row-major order.
 ///
-/// Of the obstacles at the least distance it is the one of the least column; of those the one in
-/// the fewest rows away, and of two such the upper. Where the edge is a wall, the cells of the
-/// frame round the map are obstacles too. A cell has `None` where there is no obstacle. Fails only
-/// when out of memory.
+/// Ties go to the obstacle of the least column; among those to the one in the fewest rows away, and
+/// of two such to the upper one. With a wall, the cells of the frame around the map are obstacles
+/// too. A cell has `None` where there is no obstacle. Fails only when out of memory.
 pub fn rows<M: Metric>(alloc: Global, batch: &Batch<'_>) -> Result<Vec<Option<Near>>, Refusal>
     ensures rows { IfOk result (λ nears. AreNears M.distance batch.now.bitmap.now batch.now.edge
         batch.now.y0 batch.now.y1 nears.items) }
@@ -26,7 +25,7 @@ pub fn rows<M: Metric>(alloc: Global, batch: &Batch<'_>) -> Result<Vec<Option<Ne
     answers::<M, Option<Near>>(alloc, batch)
 }
 
-/// What is kept of the nearest obstacles of the cells of a batch. Fails only when out of memory.
+/// The answers of the cells of a batch. Fails only when out of memory.
 pub fn answers<M: Metric, A: CellAnswer>(
     alloc: Global,
     batch: &Batch<'_>,
@@ -42,7 +41,7 @@ pub fn answers<M: Metric, A: CellAnswer>(
     Ok(answers)
 }
 
-/// Adds the rows of the batch one after another, so that no room is touched before its row comes.
+/// Appends the rows of the batch in order, so that no memory is touched before its row comes.
 fn push_rows<M: Metric, A: CellAnswer>(
     batch: &Batch<'_>,
     phases: &mut Phases,

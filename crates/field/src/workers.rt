@@ -1,9 +1,9 @@
-//! How many workers share the rows of a map, and which rows each of them has.
+//! The number of workers that share the rows of a map, and the rows of each.
 
 ghost use Rattle.std.specs.Prelude.{◌≡◌, ◌↔◌, ◌-◌, ◌≤◌, IfSome, IsSome};
 ghost use Rattle.field.specs.Bands.{IsWorkers, row_behind};
 
-/// So many workers, 1 to 16.
+/// A number of workers, 1 to 16.
 #[derive(Clone, Copy, Debug, PartialEq, Eq)]
 pub struct Workers {
     pub count: u8,
@@ -11,7 +11,7 @@ pub struct Workers {
 }
 
 impl Workers {
-    /// So many workers. `None` where there are none, or over 16.
+    /// This many workers; `None` for 0 or over 16.
     pub fn new(count: u8) -> Option<Self>
         ensures valid { IsSome result ↔ IsWorkers count }
         ensures count { IfSome result (λ workers. workers.count ≡ count) }
@@ -23,8 +23,8 @@ impl Workers {
         }
     }
 
-    /// The rows of a band, counted from 1, of those that share the rows `y0` to `y1 - 1`: its first row, and the row after
-    /// its last one. A band may have none.
+    /// The rows of band number `band`, from 1, of the bands that share rows `y0` to `y1 - 1`: its
+    /// first row, and the row after its last one. A band may have no rows.
     pub fn band_rows(self, y0: u16, y1: u16, band: u8) -> (u16, u16)
         requires order { y0 ≤ y1 }
         requires first { 1 ≤ band }
@@ -53,7 +53,7 @@ impl Workers {
     }
 }
 
-/// The first row after some bands from the top, of so many.
+/// The first row after `bands` bands from the top, of `count`.
 fn row_behind(y0: u16, y1: u16, count: u8, bands: u8) -> u16
     requires order { y0 ≤ y1 }
     requires count { IsWorkers count }
