@@ -1,4 +1,4 @@
-//! The first cell of a rectangle that has the least distance: its row first, then its column.
+//! The first cell of a rectangle with the least distance: least row first, then least column.
 
 ghost use Rattle.std.specs.Prelude.{◌≡◌};
 ghost use Rattle.bits.specs.Cells.{IsInside};
@@ -14,7 +14,8 @@ use crate::search::NO_LIMIT;
 use crate::strip::Strip;
 use metric::{Cell, Edge, Metric, Near, Rect};
 
-/// The first cell of the least distance in a rectangle of the bitmap, with its nearest obstacle; `None` where there is no obstacle.
+/// The first cell with the least distance in a rectangle of the bitmap, with its nearest obstacle;
+/// `None` where there is no obstacle.
 pub fn least_of_rect<M: Metric, R: Rows>(
     rows: &mut R,
     edge: Edge,
@@ -31,7 +32,8 @@ pub fn least_of_rect<M: Metric, R: Rows>(
     first_of_rect::<M, R>(rows, edge, rect, least + 1)
 }
 
-/// The first cell of the rectangle that has an obstacle at a distance below the limit. There is one.
+/// The first cell of the rectangle that has an obstacle at a distance below the limit. Requires
+/// that there is one.
 fn first_of_rect<M: Metric, R: Rows>(
     rows: &mut R,
     edge: Edge,
@@ -49,7 +51,8 @@ fn first_of_rect<M: Metric, R: Rows>(
     with_nearest::<M, R>(rows, edge, Cell { x, y })
 }
 
-/// The first row of the rectangle in which a cell has an obstacle at a distance below the limit. There is one.
+/// The first row of the rectangle in which a cell has an obstacle at a distance below the limit.
+/// Requires that there is one.
 fn first_row<M: Metric, R: Rows>(rows: &mut R, edge: Edge, rect: Rect, limit: u64) -> u16
     requires rect { IsRectIn (R.cells rows.old) rect }
     requires some { IsRectNear M.distance (IsBlocked (R.cells rows.old) edge) rect limit }
@@ -70,7 +73,8 @@ fn first_row<M: Metric, R: Rows>(rows: &mut R, edge: Edge, rect: Rect, limit: u6
     top + lines.first_near::<M, R>(rows, edge, bottom - top)
 }
 
-/// The first column of the rectangle in which the cell of the row `y` has an obstacle at a distance below the limit. There is one.
+/// The first column of the rectangle in which the cell of row `y` has an obstacle at a distance
+/// below the limit. Requires that there is one.
 fn first_column<M: Metric, R: Rows>(rows: &mut R, edge: Edge, rect: Rect, y: u16, limit: u64) -> u16
     requires rect { IsRectIn (R.cells rows.old) rect }
     requires some { IsFirstRow M.distance (IsBlocked (R.cells rows.old) edge) rect limit y }

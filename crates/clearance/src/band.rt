@@ -1,4 +1,4 @@
-//! The rows that a search passes over, by the bands of 64 rows that may have an obstacle.
+//! Skips rows of a search, by the bands of 64 rows that may have an obstacle.
 
 ghost use Rattle.std.specs.Prelude.{◌≡◌, ℕ, ◌<◌, ◌≤◌, ◌+◌, true, false};
 ghost use Rattle.std.specs.Int.{bit_at};
@@ -9,10 +9,10 @@ use crate::bit::{bits_from, bits_through, highest_bit, lowest_bit};
 use crate::rows::Rows;
 use metric::{BAND_ROWS, MOST_SIDE};
 
-/// More rows away than a row of a map is.
+/// More rows than any two rows of a map are apart.
 const NO_ROW: u16 = MOST_SIDE;
 
-/// How many rows are looked at one after another before the bands are asked for again.
+/// How many rows are searched in order before the bands are tested again.
 pub const STRETCH: u16 = 16;
 
 /// Whether the row's band is known to be blank.
@@ -45,7 +45,7 @@ pub fn are_blank_bands(bands: u64, top: u16, bottom: u16) -> bool
     !has_band(bands, top) && bits_between(bands, top / BAND_ROWS, bottom / BAND_ROWS) == 0
 }
 
-/// The word with its bits below one place and above another made 0.
+/// Clears the bits of the word below `first` and above `last`.
 fn bits_between(word: u64, first: u16, last: u16) -> u64
     requires first { first < 64 }
     requires last { last < 64 }
@@ -54,7 +54,8 @@ fn bits_between(word: u64, first: u16, last: u16) -> u64
     bits_through(bits_from(word, first), last)
 }
 
-/// The first gap to look at, `gap` or more: `gap` itself unless the rows from `top` to `bottom` are all known to be blank.
+/// The first gap to search, at least `gap`: `gap` itself unless the rows from `top` to `bottom` are
+/// all known to be blank.
 #[inline(always)]
 pub fn first_gap(bands: u64, top: u16, bottom: u16, gap: u16) -> u16
     requires order { top ≤ bottom }
@@ -69,7 +70,8 @@ pub fn first_gap(bands: u64, top: u16, bottom: u16, gap: u16) -> u16
     }
 }
 
-/// The next gap to look at, `gap` or more: the rows above the row `top` and below the row `bottom` that are passed over are known to be blank. The bands are asked for at each sixteenth gap.
+/// The next gap to search, at least `gap`: the rows above `top` and below `bottom` that it skips
+/// are known to be blank. It tests the bands at each sixteenth gap.
 #[inline(always)]
 pub fn next_gap(bands: u64, top: u16, bottom: u16, gap: u16) -> u16
     requires top { top < MOST_SIDE }
@@ -84,7 +86,8 @@ pub fn next_gap(bands: u64, top: u16, bottom: u16, gap: u16) -> u16
     }
 }
 
-/// How many rows above the row `top`, or below the row `bottom`, the next row is whose band may have an obstacle, `gap` or more: 4096 where there is none.
+/// How many rows above `top`, or below `bottom`, the next row is whose band may have an obstacle,
+/// at least `gap`: 4096 if there is none.
 fn marked_gap(bands: u64, top: u16, bottom: u16, gap: u16) -> u16
     requires top { top < MOST_SIDE }
     requires bottom { bottom < MOST_SIDE }
@@ -94,7 +97,7 @@ fn marked_gap(bands: u64, top: u16, bottom: u16, gap: u16) -> u16
     next_above(bands, top, gap).min(next_below(bands, bottom, gap))
 }
 
-/// The same above the row `top` alone.
+/// As `marked_gap`, only above `top`.
 fn next_above(bands: u64, top: u16, gap: u16) -> u16
     requires top { top < MOST_SIDE }
     requires gap { gap ≤ MOST_SIDE }
@@ -113,7 +116,7 @@ fn next_above(bands: u64, top: u16, gap: u16) -> u16
     gap.max(top.saturating_sub(last))
 }
 
-/// The same below the row `bottom` alone.
+/// As `marked_gap`, only below `bottom`.
 fn next_below(bands: u64, bottom: u16, gap: u16) -> u16
     requires bottom { bottom < MOST_SIDE }
     requires gap { gap ≤ MOST_SIDE }

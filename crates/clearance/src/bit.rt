@@ -3,7 +3,7 @@
 ghost use Rattle.std.specs.Prelude.{◌≡◌, ◌≢◌, ℕ, ◌<◌, ◌≤◌};
 ghost use Rattle.std.specs.Int.{bit_at};
 
-/// The place of the lowest bit that is 1.
+/// The index of the lowest bit that is 1.
 pub fn lowest_bit(word: u64) -> u16
     requires { 0 < word }
     ensures within { result < 64 }
@@ -13,7 +13,7 @@ pub fn lowest_bit(word: u64) -> u16
     word.trailing_zeros() as u16
 }
 
-/// The place of the highest bit that is 1.
+/// The index of the highest bit that is 1.
 pub fn highest_bit(word: u64) -> u16
     requires { 0 < word }
     ensures within { result < 64 }
@@ -23,7 +23,7 @@ pub fn highest_bit(word: u64) -> u16
     63 - word.leading_zeros() as u16
 }
 
-/// The word with its bits below a place made 0.
+/// Clears the bits of the word below `place`.
 pub fn bits_from(word: u64, place: u16) -> u64
     requires { place < 64 }
     ensures kept { (i : ℕ) → place ≤ i → i < 64 → bit_at result i ≡ bit_at word i }
@@ -32,7 +32,7 @@ pub fn bits_from(word: u64, place: u16) -> u64
     word & (u64::MAX << place)
 }
 
-/// The word with its bits from a place on made 0.
+/// Clears the bits of the word from `place` on.
 pub fn bits_below(word: u64, place: u16) -> u64
     requires { place < 64 }
     ensures kept { (i : ℕ) → i < place → bit_at result i ≡ bit_at word i }
@@ -41,7 +41,7 @@ pub fn bits_below(word: u64, place: u16) -> u64
     word & ((1 << place) - 1)
 }
 
-/// The word with its bits above a place made 0.
+/// Clears the bits of the word above `place`.
 pub fn bits_through(word: u64, place: u16) -> u64
     requires { place < 64 }
     ensures kept { (i : ℕ) → i ≤ place → bit_at result i ≡ bit_at word i }
@@ -54,7 +54,7 @@ pub fn bits_through(word: u64, place: u16) -> u64
     }
 }
 
-/// The word with the bit at this place made 0.
+/// Clears the bit `place` of the word.
 pub fn without_bit(word: u64, place: u16) -> u64
     requires { place < 64 }
     ensures { (i : ℕ) → i < 64 → i ≢ place → bit_at result i ≡ bit_at word i }

@@ -1,4 +1,4 @@
-//! The searches in a map with its border: in the bits, and where the border is a wall in its frame too, by arithmetic.
+//! Searches in a map with its frame: in the bits, and with a wall in the frame too, by arithmetic.
 
 ghost use Rattle.std.specs.Prelude.{◌≡◌, ◌≤◌, Some};
 ghost use Rattle.metric.specs.Nearest.{IsNear};
@@ -27,7 +27,7 @@ pub fn nearest_spot<M: Metric, R: Rows>(rows: &mut R, edge: Edge, cell: Cell) ->
     }
 }
 
-/// The nearest obstacle of the cell, where the border is open.
+/// The nearest obstacle of the cell, with an open edge.
 fn nearest_open<M: Metric, R: Rows>(rows: &mut R, cell: Cell) -> Option<Near>
     requires { IsInside (R.cells rows.old) cell.x cell.y }
     ensures near { IsNear M.distance (IsBlocked (R.cells rows.old) Open) cell.x cell.y result }
@@ -41,7 +41,7 @@ fn nearest_open<M: Metric, R: Rows>(rows: &mut R, cell: Cell) -> Option<Near>
     }
 }
 
-/// The nearest obstacle of the cell, where the border is a wall: the bits are looked at no further than the frame.
+/// The nearest obstacle of the cell, with a wall: it searches the bits no further than the frame.
 fn nearest_walled<M: Metric, R: Rows>(rows: &mut R, cell: Cell) -> Near
     requires { IsInside (R.cells rows.old) cell.x cell.y }
     ensures near { IsNear M.distance (IsBlocked (R.cells rows.old) Wall) cell.x cell.y (Some result) }
@@ -59,7 +59,7 @@ fn nearest_walled<M: Metric, R: Rows>(rows: &mut R, cell: Cell) -> Near
     better(framed.y, frame, own).as_near(Edge::Wall)
 }
 
-/// The nearest obstacle of the bitmap, or none where none is below the limit.
+/// The nearest obstacle in the bitmap, or none if none is below the limit.
 fn own_below<M: Metric, R: Rows>(rows: &mut R, cell: Cell, limit: u64) -> Option<Found>
     requires bitmap { IsBitmap (R.cells rows.old) }
     requires inside { IsInside (R.cells rows.old) cell.x cell.y }
@@ -84,7 +84,7 @@ pub fn least_below<M: Metric, R: Rows>(rows: &mut R, edge: Edge, rect: Rect, lim
     }
 }
 
-/// The same where the border is a wall.
+/// As `least_below`, with a wall.
 fn least_walled<M: Metric, R: Rows>(rows: &mut R, rect: Rect, limit: u64) -> u64
     requires { IsRectIn (R.cells rows.old) rect }
     ensures least { IsLeastBelow M.distance (IsBlocked (R.cells rows.old) Wall) rect limit result }

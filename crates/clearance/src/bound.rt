@@ -1,4 +1,4 @@
-//! How near a stretch of a path can be to an obstacle: a bound by the rectangle round it.
+//! A bound for the distance of a stretch of a path to the obstacles, from the rectangle around it.
 
 ghost use Rattle.std.specs.Prelude.{◌≡◌, ℕ, ◌<◌, length};
 ghost use Rattle.bits.specs.Cells.{IsBitmap};
@@ -12,10 +12,11 @@ use crate::border::least_below;
 use crate::rows::Rows;
 use metric::{Cell, Edge, Metric, Rect};
 
-/// The most points of a stretch that has no bound: its pieces are soon looked at one by one.
+/// The most points of a stretch without a bound: its pieces are quickly searched one by one.
 const FEW: usize = 16;
 
-/// A distance that no cell after a point, along all points that follow it, is below; at most the limit. It is 0 for a few points.
+/// A lower bound, at most the limit, of the distances of the cells after a point, along all points
+/// that follow it. It is 0 for a few points.
 pub fn bound_along<M: Metric, R: Rows>(
     rows: &mut R,
     edge: Edge,
@@ -35,7 +36,7 @@ pub fn bound_along<M: Metric, R: Rows>(
     least_below::<M, R>(rows, edge, rect, limit)
 }
 
-/// The least rectangle that has a point and those that follow it.
+/// The least rectangle that contains a point and those that follow it.
 fn rect_round<R: Rows>(_rows: &R, from: Cell, points: &[Cell]) -> Rect
     requires walk { IsWalk (R.cells _rows.now) from points.now }
     requires bitmap { IsBitmap (R.cells _rows.now) }

@@ -1,4 +1,4 @@
-//! What a search has found: an obstacle's cell, counted by natural numbers from 0, and how far away it is.
+//! The result of a search: an obstacle's cell, in natural numbers from 0, and its distance.
 
 use metric::{Cell, Edge, LAST_FRAMED, Near};
 
@@ -13,7 +13,7 @@ impl Found {
     ghost use Rattle.std.specs.Prelude.{◌≡◌, ◌≤◌};
     ghost use Rattle.metric.specs.Edge.{spot_of};
 
-    /// The same as callers get it: where the edge is a wall, its cell is counted with the frame.
+    /// The same as callers get it: with a wall, the cell counts the frame.
     pub fn as_near(self, edge: Edge) -> Near
         requires column { self.cell.x ≤ LAST_FRAMED }
         requires row { self.cell.y ≤ LAST_FRAMED }

@@ -1,4 +1,4 @@
-//! The frame round a map, looked at by arithmetic.
+//! The frame around a map, searched by arithmetic.
 
 ghost use Rattle.std.specs.Prelude.{◌≡◌, ◌≤◌, ◌<◌, true, false, IfSome};
 ghost use Rattle.metric.specs.Cellwise.{IsAtMost};
@@ -9,7 +9,8 @@ ghost use Rattle.clearance.specs.Nearest.{IsFound};
 use crate::found::Found;
 use metric::{Cell, LAST_FRAMED, MOST_SIDE, Metric};
 
-/// Of the columns from 1 to `x` the first from which an obstacle `gap` rows away is as near to the column `x` as from there.
+/// The first of the columns 1 to `x` from which an obstacle `gap` rows away is as near to column
+/// `x` as one in column `x` itself.
 fn first_as_near<M: Metric>(x: u16, gap: u16) -> u16
     requires some { 1 ≤ x }
     requires column { x ≤ LAST_FRAMED }
@@ -29,7 +30,7 @@ fn first_as_near<M: Metric>(x: u16, gap: u16) -> u16
     low
 }
 
-/// Of two obstacles, of which the first lies in the column further left, that with the lesser key.
+/// Of two obstacles, the first in a column further left, the one with the lesser key.
 fn nearer(left: Found, right: Found) -> Found
     ensures left { left.dist ≤ right.dist → result ≡ left }
     ensures right { right.dist < left.dist → result ≡ right }
@@ -37,7 +38,7 @@ fn nearer(left: Found, right: Found) -> Found
     if left.dist <= right.dist { left } else { right }
 }
 
-/// The nearest obstacle of the frame's first and last row, but for the corners.
+/// The nearest obstacle of the frame's first and last row, without the corners.
 fn along_rows<M: Metric>(right: u16, bottom: u16, cell: Cell) -> Found
     requires { IsFramedIn right bottom cell.x cell.y }
     ensures { IsFound M.distance (IsAlong right bottom) cell.x cell.y result }
@@ -75,7 +76,7 @@ pub fn frame_nearest<M: Metric>(right: u16, bottom: u16, cell: Cell) -> Found
     nearer(nearer(first, along), last)
 }
 
-/// Whether the one obstacle has no greater key than the other, seen from the row `y`.
+/// Whether the key of one obstacle is at most that of the other, seen from row `y`.
 fn is_at_most(y: u16, one: Found, other: Found) -> bool
     ensures yes { result ≡ true → IsAtMost (key_found y one) (key_found y other) }
     ensures no { result ≡ false → IsAtMost (key_found y other) (key_found y one) }
@@ -93,7 +94,7 @@ fn is_at_most(y: u16, one: Found, other: Found) -> bool
     one.cell.y <= other.cell.y
 }
 
-/// The better of the frame's and, if there is one, the bitmap's own, which is moved by one.
+/// The better one of the frame's obstacle and the bitmap's own, if there is one, moved by one.
 pub fn better(y: u16, frame: Found, own: Option<Found>) -> Found
     requires { IfSome own (λ found. (found.cell.x < MOST_SIDE) × (found.cell.y < MOST_SIDE)) }
     ensures { IsBetterOfBoth y frame own result }
@@ -104,7 +105,7 @@ pub fn better(y: u16, frame: Found, own: Option<Found>) -> Found
     }
 }
 
-/// The better of the frame's and one of the map's own.
+/// The better one of the frame's obstacle and the map's own.
 fn better_of(y: u16, frame: Found, own: Found) -> Found
     ensures { IsLesser y frame own result }
 {
@@ -115,7 +116,7 @@ fn better_of(y: u16, frame: Found, own: Found) -> Found
     }
 }
 
-/// What was found in a map, as it is counted with the map's frame.
+/// What was found in a map, counted with the map's frame.
 fn moved(own: Found) -> Found
     requires column { own.cell.x < MOST_SIDE }
     requires row { own.cell.y < MOST_SIDE }

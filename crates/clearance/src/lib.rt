@@ -1,6 +1,8 @@
-//! Queries over the cells of a bitmap: the nearest obstacle of one cell, and the least distance over a rectangle or a path.
+//! Queries over the cells of a bitmap: the nearest obstacle of one cell, and the least distance in
+//! a rectangle or along a path.
 //!
-//! Each is a search in the bitmap's words, outwards from the cells that are asked for; the frame round a map, which counts where its border is a wall, is looked at by arithmetic. None takes memory.
+//! Each searches the bitmap's words, outwards from the cells of the query; the frame around a map,
+//! which counts with a wall, is searched by arithmetic. None allocates memory.
 #![tactic(auto)]
 
 mod area;

@@ -1,4 +1,4 @@
-//! The first line of a strip that has an obstacle near, found in one search of a map's words.
+//! The first line of a strip that has an obstacle close by, found in one search of a map's words.
 
 ghost use Rattle.clearance.specs.Strips.{IsStripIn};
 
@@ -11,7 +11,8 @@ use crate::strip::Strip;
 use crate::tiles::near_bands;
 use metric::{Edge, LAST_FRAMED, Metric, Rect};
 
-/// The lines of a strip from one on, and the limit below which an obstacle is near to a line.
+/// The lines of a strip from one on, and the limit: an obstacle is near a line if its distance is
+/// below it.
 #[derive(Clone, Copy, Debug, PartialEq, Eq)]
 pub struct Lines {
     pub strip: Strip,
@@ -29,7 +30,7 @@ impl Lines {
     ghost use Rattle.clearance.specs.declared.part.Part.TheVariants.{Frame};
     ghost use Rattle.clearance.specs.Strips.{IsFirstNear, IsSomeNear};
 
-    /// The first of the lines before `end` that has an obstacle near; `end` where none has.
+    /// The first of the lines before `end` that has an obstacle near; `end` if none has.
     pub fn first_near<M: Metric, R: Rows>(self, rows: &mut R, edge: Edge, end: u16) -> u16
         requires strip { IsStripIn (R.cells rows.old) self.strip }
         requires order { self.first ≤ end }
@@ -46,7 +47,7 @@ impl Lines {
         }
     }
 
-    /// The same where the border is a wall: the frame is looked at by arithmetic.
+    /// As `first_near`, with a wall: the frame is searched by arithmetic.
     fn first_walled<M: Metric, R: Rows>(self, rows: &mut R, rect: Rect, end: u16) -> u16
         requires strip { IsStripIn (R.cells rows.old) self.strip }
         requires lines { IsRectOf self end rect }
@@ -61,9 +62,10 @@ impl Lines {
         self.first_in_bits::<M, R>(rows, left, framed)
     }
 
-    /// The same where the border is open.
+    /// As `first_near`, with an open edge.
     ///
-    /// The rows that may have an obstacle are looked at from the lines outwards. Each that has one near leaves fewer lines to those after it.
+    /// Searches the rows that may have an obstacle from the lines outwards. Each row with one near
+    /// leaves fewer lines for the rows after it.
     fn first_in_bits<M: Metric, R: Rows>(self, rows: &mut R, rect: Rect, end: u16) -> u16
         requires strip { IsStripIn (R.cells rows.old) self.strip }
         requires lines { IsRectOf self end rect }
@@ -93,7 +95,8 @@ impl Lines {
         line
     }
 
-    /// The first of the lines before `end` that has an obstacle near in one of their own rows; `end` where none has.
+    /// The first of the lines before `end` that has an obstacle near in one of their own rows;
+    /// `end` if none has.
     fn first_inside<M: Metric, R: Rows>(self, rows: &mut R, rect: Rect, end: u16) -> u16
         requires strip { IsStripIn (R.cells rows.old) self.strip }
         requires lines { IsRectOf self end rect }
@@ -120,7 +123,7 @@ impl Lines {
         line
     }
 
-    /// The rectangle of the lines before `end`, from that of those before `before`.
+    /// The rectangle of the lines before `end`, from that of the lines before `before`.
     #[inline(always)]
     fn rect_left(self, rect: Rect, before: u16, end: u16) -> Rect
         requires some { self.first < end }
@@ -135,7 +138,7 @@ impl Lines {
         }
     }
 
-    /// The end of those lines before `end` which have each row that the lines before `end` have.
+    /// The end of those lines before `end` that cover every row of the lines before `end`.
     fn after_rows(self, end: u16) -> u16
         requires { self.first < end }
         ensures within { result ≤ end }
@@ -149,7 +152,8 @@ impl Lines {
         }
     }
 
-    /// The first of the lines before `end` that has an obstacle near in one of the two rows `gap` rows above and below their rectangle; `end` where none has.
+    /// The first of the lines before `end` that has an obstacle near in one of the two rows `gap`
+    /// rows above and below their rectangle; `end` if none has.
     fn first_beside<M: Metric, R: Rows>(self, rows: &mut R, rect: Rect, gap: u16, end: u16) -> u16
         requires strip { IsStripIn (R.cells rows.old) self.strip }
         requires lines { IsRectOf self end rect }
@@ -166,7 +170,7 @@ impl Lines {
         self.first_below::<M, R>(rows, rect.y1 - 1 + gap, left, above)
     }
 
-    /// The same of the row above the rectangle alone.
+    /// As `first_beside`, only for the row above the rectangle.
     #[inline(always)]
     fn first_above<M: Metric, R: Rows>(self, rows: &mut R, rect: Rect, gap: u16, end: u16) -> u16
         requires strip { IsStripIn (R.cells rows.old) self.strip }
@@ -181,7 +185,7 @@ impl Lines {
         }
     }
 
-    /// The same of the row `y` below the rectangle alone.
+    /// As `first_beside`, only for row `y` below the rectangle.
     #[inline(always)]
     fn first_below<M: Metric, R: Rows>(self, rows: &mut R, y: u16, rect: Rect, end: u16) -> u16
         requires strip { IsStripIn (R.cells rows.old) self.strip }
@@ -197,7 +201,8 @@ impl Lines {
         }
     }
 
-    /// The first of the lines before `end` that has an obstacle of the row `y` near; `end` where none has. The row lies so many rows outside of the lines' rectangle.
+    /// The first of the lines before `end` that has an obstacle of row `y` near; `end` if none has.
+    /// The row is `gap` rows outside the lines' rectangle.
     #[inline(always)]
     fn first_in_row<M: Metric, R: Rows>(
         self,
@@ -221,7 +226,8 @@ impl Lines {
         }
     }
 
-    /// The first of the lines before `end` that has the frame near; `end` where none has. The rectangle is that of the lines.
+    /// The first of the lines before `end` that has the frame near; `end` if none has. `rect` is
+    /// the rectangle of the lines.
     fn first_framed<M: Metric, R: Rows>(self, rows: &mut R, rect: Rect, end: u16) -> u16
         requires strip { IsStripIn (R.cells rows.old) self.strip }
         requires lines { IsRectOf self end rect }
@@ -235,7 +241,8 @@ impl Lines {
         }
     }
 
-    /// The first of the lines up to `last` that has one of these obstacles near. One of them has, and mostly one of the first.
+    /// The first of the lines up to `last` that has one of these obstacles near. Requires that one
+    /// of them has; usually it is one of the first.
     fn first_by_quarters<M: Metric, R: Rows>(self, rows: &mut R, part: Part, last: u16) -> u16
         requires strip { IsStripIn (R.cells rows.old) self.strip }
         requires part { IsPartIn (R.cells rows.old) part }

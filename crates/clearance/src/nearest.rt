@@ -13,9 +13,10 @@ use crate::tiles::{SearchedRow, has_few_tiles, near_bands};
 use crate::words::{last_nearer, next_nearer};
 use metric::{Cell, MOST_SIDE, Metric, Rect};
 
-/// The nearest obstacle of the cell; `None` where the map has no obstacle.
+/// The nearest obstacle of the cell; `None` if the map has no obstacle.
 ///
-/// The rows that may have an obstacle are looked at from the cell outwards, the upper one of two first, and in each row the words, as long as an obstacle there can be as near as the best so far.
+/// Searches the rows that may have an obstacle from the cell outwards, the upper one of two first,
+/// and the words of each row as long as an obstacle there can be as near as the best so far.
 pub fn nearest<M: Metric, R: Rows>(rows: &mut R, cell: Cell) -> Option<Found>
     requires { IsInside (R.cells rows.old) cell.x cell.y }
     ensures near { IsNearCell M.distance (IsObstacle (R.cells rows.old)) cell.x cell.y result }
@@ -52,7 +53,7 @@ pub fn cell_rect(cell: Cell) -> Rect
     }
 }
 
-/// A limit above the distance of the best so far: an obstacle as near as that may be better.
+/// A limit above the distance of the best so far: an obstacle equally near may be better.
 fn limit_of(best: Option<Found>) -> u64
     ensures is { result ≡ limit_of best }
     ensures few { result ≤ NO_LIMIT }
@@ -63,7 +64,7 @@ fn limit_of(best: Option<Found>) -> u64
     }
 }
 
-/// The best once the row so many rows above the cell has been looked at, if there is one.
+/// The best after a search of the row this many rows above the cell, if there is one.
 fn with_row_above<M: Metric, R: Rows>(
     rows: &mut R,
     cell: Cell,
@@ -82,7 +83,7 @@ fn with_row_above<M: Metric, R: Rows>(
     }
 }
 
-/// The same below the cell.
+/// As `with_row_above`, below the cell.
 fn with_row_below<M: Metric, R: Rows>(
     rows: &mut R,
     cell: Cell,
@@ -101,7 +102,7 @@ fn with_row_below<M: Metric, R: Rows>(
     }
 }
 
-/// The best once a row has been looked at that lies so many rows away.
+/// The best after a search of a row this many rows away.
 fn with_row<M: Metric, R: Rows>(
     rows: &mut R,
     cell: Cell,
@@ -133,7 +134,7 @@ fn with_row<M: Metric, R: Rows>(
     with_searched::<M, R>(rows, cell, searched, gap, best)
 }
 
-/// The same of a row that isn't passed over.
+/// As `with_row`, for a row that isn't skipped.
 #[inline(always)]
 fn with_searched<M: Metric, R: Rows>(
     rows: &mut R,
@@ -152,7 +153,8 @@ fn with_searched<M: Metric, R: Rows>(
     with_left::<M, R>(rows, cell, row, gap, right)
 }
 
-/// The best once the row's obstacles from the cell's column on have been looked at: the first of them is the nearest.
+/// The best after a search of the row's obstacles from the cell's column on: the first of them is
+/// the nearest.
 #[inline(always)]
 fn with_right<M: Metric, R: Rows>(
     rows: &mut R,
@@ -180,7 +182,8 @@ fn with_right<M: Metric, R: Rows>(
     }
 }
 
-/// The best once the row's obstacles on the left have been looked at, the nearest first: one as near and further left is better.
+/// The best after a search of the row's obstacles on the left, the nearest first: one equally near
+/// and further left is better.
 #[inline(always)]
 fn with_left<M: Metric, R: Rows>(
     rows: &mut R,
@@ -208,7 +211,8 @@ fn with_left<M: Metric, R: Rows>(
     best
 }
 
-/// The better of the best so far, if there is one, and an obstacle of a row that isn't before its own.
+/// The better one of the best so far, if there is one, and an obstacle of a row that isn't before
+/// its own.
 fn better(best: Option<Found>, next: Found) -> Found
     ensures { IsBetter best next result }
 {
@@ -218,7 +222,7 @@ fn better(best: Option<Found>, next: Found) -> Found
     }
 }
 
-/// Whether the one obstacle is ahead of the other.
+/// Whether one obstacle comes before the other.
 fn is_ahead(one: Found, other: Found) -> bool
     ensures { IsTrue result ↔ IsAhead one other }
 {

@@ -1,4 +1,4 @@
-//! Parts of the obstacles of a map with its border: one row of the bitmap, or the frame.
+//! Parts of the obstacles of a map with its frame: one row of the bitmap, or the frame.
 
 ghost use Rattle.std.specs.Prelude.{◌≡◌};
 ghost use Rattle.clearance.specs.Search.{row_gap};
@@ -8,7 +8,7 @@ use crate::rows::Rows;
 use crate::search::lowered;
 use metric::{Metric, Rect};
 
-/// Some of the obstacles: those of one row of the bitmap, or the cells of the frame round it.
+/// Some of the obstacles: those of one row of the bitmap, or the cells of the frame around it.
 #[derive(Clone, Copy, Debug, PartialEq, Eq)]
 pub enum Part {
     Row(u16),
@@ -43,7 +43,7 @@ impl Part {
     }
 }
 
-/// How many rows the row `y` lies outside of the rectangle.
+/// How many rows row `y` lies outside the rectangle.
 fn rows_apart(rect: Rect, y: u16) -> u16
     ensures { result ≡ row_gap rect y }
 {

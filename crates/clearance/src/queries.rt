@@ -1,4 +1,5 @@
-//! The queries: what a caller asks of a bitmap. Where the edge is a wall, the cells of the frame round the map are obstacles too, and no answer is `None` but that of `clear_of`.
+//! The queries of a bitmap. With a wall, the cells of the frame around the map are obstacles too,
+//! and only `clear_of` can answer `None`.
 
 ghost use Rattle.std.specs.Prelude.{◌≡◌, None, IfOk, IfErr};
 ghost use Rattle.metric.specs.Nearest.{IsNear};
@@ -18,7 +19,7 @@ use std::alloc::Global;
 
 /// The nearest obstacle of the cell, or `None` where there is no obstacle.
 ///
-/// A cell that doesn't lie in the bitmap is out of range. No memory is asked for.
+/// Refuses a cell outside the bitmap. It allocates no memory.
 pub fn at<M: Metric>(
     alloc: Global,
     bitmap: &Bitmap,
@@ -33,9 +34,10 @@ pub fn at<M: Metric>(
     at_rows::<M, &Bitmap>(alloc, &mut rows, edge, cell)
 }
 
-/// The least distance over the cells of the rectangle, at the first such cell, row by row from the top and each row from the left, with its nearest obstacle; `None` where there is no obstacle.
+/// The least distance of the cells of the rectangle, at the first such cell in row-major order,
+/// with its nearest obstacle; `None` where there is no obstacle.
 ///
-/// A rectangle that doesn't lie wholly in the bitmap is out of range. No memory is asked for.
+/// Refuses a rectangle that isn't wholly within the bitmap. It allocates no memory.
 pub fn least_in<M: Metric>(
     alloc: Global,
     bitmap: &Bitmap,
@@ -50,11 +52,14 @@ pub fn least_in<M: Metric>(
     least_in_rows::<M, &Bitmap>(alloc, &mut rows, edge, rect)
 }
 
-/// The least distance over the cells of a path, at the first such cell along it, with its nearest obstacle; `None` where there is no obstacle.
+/// The least distance of the cells of a path, at the first such cell along it, with its nearest
+/// obstacle; `None` where there is no obstacle.
 ///
-/// The cells of a path are its first point, then for each next point the cells after the point before it, up to it. A repeated point adds that cell once more. No memory is asked for.
+/// The cells of a path are its first point, then for each next point the cells after the point
+/// before it, up to it. A repeated point adds its cell once more. It allocates no memory.
 ///
-/// Refused, in this order: a path of no point or of over 1000, a point outside the bitmap, the first point that is neither in the row nor in the column of the point before it.
+/// Refuses, in this order: a path of no points or over 1000, a point outside the bitmap, the first
+/// point that is in neither the row nor the column of the point before it.
 pub fn along<M: Metric>(
     alloc: Global,
     bitmap: &Bitmap,
@@ -69,7 +74,9 @@ pub fn along<M: Metric>(
     along_rows::<M, &Bitmap>(alloc, &mut rows, edge, points)
 }
 
-/// `None` where each cell of a path has no distance, since there is no obstacle, or one of at least `d`; otherwise the first cell along the path whose distance is below `d`, in the unit of the metric, with its nearest obstacle.
+/// `None` if each cell of a path has a distance of at least `d`, or none since there is no
+/// obstacle; otherwise the first cell along the path whose distance is below `d`, in the unit of
+/// the metric, with its nearest obstacle.
 ///
 /// The cells of a path and the refusals are those of `along`.
 pub fn clear_of<M: Metric>(
@@ -87,7 +94,7 @@ pub fn clear_of<M: Metric>(
     clear_of_rows::<M, &Bitmap>(alloc, &mut rows, edge, points, d)
 }
 
-/// As `at`, of a map whose words are asked for one by one.
+/// As `at`, of a map that is read word by word.
 pub fn at_rows<M: Metric, R: Rows>(
     _alloc: Global,
     rows: &mut R,
@@ -105,7 +112,7 @@ pub fn at_rows<M: Metric, R: Rows>(
     Ok(nearest_spot::<M, R>(rows, edge, cell))
 }
 
-/// As `least_in`, of a map whose words are asked for one by one.
+/// As `least_in`, of a map that is read word by word.
 pub fn least_in_rows<M: Metric, R: Rows>(
     _alloc: Global,
     rows: &mut R,
@@ -123,7 +130,7 @@ pub fn least_in_rows<M: Metric, R: Rows>(
     Ok(least_of_rect::<M, R>(rows, edge, rect))
 }
 
-/// As `along`, of a map whose words are asked for one by one.
+/// As `along`, of a map that is read word by word.
 pub fn along_rows<M: Metric, R: Rows>(
     _alloc: Global,
     rows: &mut R,
@@ -139,7 +146,7 @@ pub fn along_rows<M: Metric, R: Rows>(
     Ok(least_of_path::<M, R>(rows, edge, points))
 }
 
-/// As `clear_of`, of a map whose words are asked for one by one.
+/// As `clear_of`, of a map that is read word by word.
 pub fn clear_of_rows<M: Metric, R: Rows>(
     _alloc: Global,
     rows: &mut R,

@@ -1,4 +1,4 @@
-//! Where the words of a map's rows come from: a bitmap, or whoever reads a map word by word.
+//! The words of a map's rows: from a bitmap, or from a reader of single words.
 
 ghost use Rattle.std.specs.Prelude.{◌≡◌, ◌<◌, ◌≤◌, ◌↔◌, IsTrue, true, slice_index};
 ghost use Rattle.bits.specs.Cells.{Cells, IsBitmap, IsInside};
@@ -10,44 +10,46 @@ use crate::row::is_blank;
 use bits::Bitmap;
 use metric::{Cell, Rect};
 
-/// A map whose words are asked for one by one. To ask changes nothing that contracts see.
+/// A map that is read word by word. A read changes nothing that contracts see.
 pub trait Rows {
     /// The map.
     ghost cells: { Self → Cells };
 
-    /// How many columns there are.
+    /// The number of columns.
     fn width(&self) -> u16
         ensures width { result ≡ (cells self.now).width }
         ensures bitmap { IsBitmap (cells self.now) };
 
-    /// How many rows there are.
+    /// The number of rows.
     fn height(&self) -> u16
         ensures height { result ≡ (cells self.now).height }
         ensures bitmap { IsBitmap (cells self.now) };
 
-    /// How many words a row has.
+    /// The number of words of a row.
     fn across(&self) -> usize
         ensures across { result ≡ words_across (cells self.now).width }
         ensures few { result ≤ 64 };
 
-    /// A word of the row `y`: bit i is the cell of column 64 `index` + i, and 0 past the edge.
+    /// A word of row `y`: bit i is the cell of column 64 `index` + i, and 0 past the edge.
     fn word(&mut self, y: u16, index: usize) -> u64
         requires row { y < (cells self.old).height }
         requires index { index < words_across (cells self.old).width }
         ensures word { result ≡ slice_index (words_of_row (cells self.old) y) index }
         ensures rows { self.new ≡ self.old };
 
-    /// Whether no cell of the row `y` is an obstacle.
+    /// Whether no cell of row `y` is an obstacle.
     fn is_blank(&mut self, y: u16) -> bool
         requires { y < (cells self.old).height }
         ensures blank { result ≡ true → IsBlankRow (cells self.old) y }
         ensures rows { self.new ≡ self.old };
 
-    /// Which bands of 64 rows may have an obstacle: where bit k is 0, the rows 64 k to 64 k + 63 are blank. To know of none, answer `u64::MAX`.
+    /// Which bands of 64 rows may have an obstacle: where bit k is 0, rows 64 k to 64 k + 63 are
+    /// blank. `u64::MAX` where nothing is known.
     fn bands(&self) -> u64
         ensures { IsBanded (cells self.now) result };
 
-    /// Which tiles of a band may have an obstacle: where bit k is 0, the columns 64 k to 64 k + 63 of the rows 64 `band` to 64 `band` + 63 are blank. Of a map that knows of none, `u64::MAX`.
+    /// Which tiles of a band may have an obstacle: where bit k is 0, columns 64 k to 64 k + 63 of
+    /// rows 64 `band` to 64 `band` + 63 are blank. `u64::MAX` where nothing is known.
     fn tiles(&self, band: u16) -> u64
         requires { band < 64 }
         ensures { IsTiled (cells self.now) band result }
@@ -99,7 +101,7 @@ impl<'a> Rows for &'a Bitmap {
     }
 }
 
-/// Whether the cell lies in the map.
+/// Whether the cell is in the map.
 pub fn holds<R: Rows>(rows: &R, cell: Cell) -> bool
     ensures holds { IsTrue result ↔ IsInside (R.cells rows.now) cell.x cell.y }
     ensures bitmap { IsBitmap (R.cells rows.now) }
@@ -108,7 +110,7 @@ pub fn holds<R: Rows>(rows: &R, cell: Cell) -> bool
     cell.x < width && cell.y < height
 }
 
-/// Whether the rectangle lies wholly in the map.
+/// Whether the rectangle is wholly within the map.
 pub fn holds_rect<R: Rows>(rows: &R, rect: Rect) -> bool
     ensures holds { IsTrue result ↔ ((rect.x1 ≤ (R.cells rows.now).width) × (rect.y1 ≤ (R.cells rows.now).height)) }
     ensures bitmap { IsBitmap (R.cells rows.now) }

@@ -11,18 +11,20 @@ use crate::tiles::{SearchedRow, has_few_tiles, near_bands};
 use crate::words::{last_nearer, next_nearer};
 use metric::{LAST_FRAMED, Metric, Rect};
 
-/// Above each distance.
+/// A limit above every distance.
 pub const NO_LIMIT: u64 = 1 << 32;
 
-/// From so many rows away on, a row is looked at as a whole first: obstacles are rare there.
+/// From this many rows away on, a row is first searched as a whole: obstacles are rare there.
 const SPARSE_GAP: u16 = 128;
 
-/// Where obstacles may be so many rows away or more, a row in a band that is known to be blank isn't looked at: where obstacles are many there is one nearer.
+/// If obstacles may be at least this many rows away, rows in bands known to be blank are skipped:
+/// with many obstacles, one is nearer.
 pub const FAR_GAP: u16 = 32;
 
 /// The least of `limit` and of the distances of the rectangle's cells to the bitmap's obstacles.
 ///
-/// The rows that may have an obstacle are looked at from the rectangle outwards, and in each row the words, no further than a distance below the least so far can be.
+/// Searches the rows that may have an obstacle from the rectangle outwards, and the words of each
+/// row no further than a distance below the least so far can be.
 pub fn least_in_bits<M: Metric, R: Rows>(rows: &mut R, rect: Rect, limit: u64) -> u64
     requires { IsRectIn (R.cells rows.old) rect }
     ensures least { IsLeastInBits M.distance (IsObstacle (R.cells rows.old)) rect limit result }
@@ -63,7 +65,8 @@ fn least_inside<M: Metric, R: Rows>(rows: &mut R, rect: Rect, limit: u64) -> u64
     least
 }
 
-/// The least so far, or a lesser distance to an obstacle so many rows above the rectangle, if there is such a row.
+/// The least so far, or a lesser distance to an obstacle this many rows above the rectangle, if
+/// there is such a row.
 fn lowered_above<M: Metric, R: Rows>(rows: &mut R, rect: Rect, gap: u16, least: u64) -> u64
     requires rect { IsRectIn (R.cells rows.old) rect }
     requires gap { gap ≤ LAST_FRAMED }
@@ -78,7 +81,7 @@ fn lowered_above<M: Metric, R: Rows>(rows: &mut R, rect: Rect, gap: u16, least: 
     }
 }
 
-/// The same below the rectangle.
+/// As `lowered_above`, below the rectangle.
 fn lowered_below<M: Metric, R: Rows>(rows: &mut R, rect: Rect, gap: u16, least: u64) -> u64
     requires rect { IsRectIn (R.cells rows.old) rect }
     requires gap { gap ≤ LAST_FRAMED }
@@ -95,9 +98,9 @@ fn lowered_below<M: Metric, R: Rows>(rows: &mut R, rect: Rect, gap: u16, least: 
     }
 }
 
-/// The least so far, or a lesser distance to an obstacle in the row `y`, so many rows away.
+/// The least so far, or a lesser distance to an obstacle in row `y`, this many rows away.
 ///
-/// The row is looked at word by word once an obstacle is near. Until then blank tiles are passed over.
+/// Skips blank tiles until an obstacle is close by, and from then on searches the row word by word.
 pub fn lowered<M: Metric, R: Rows>(rows: &mut R, rect: Rect, y: u16, gap: u16, least: u64) -> u64
     requires rect { IsRectIn (R.cells rows.old) rect }
     requires row { y < (R.cells rows.old).height }
@@ -117,13 +120,14 @@ pub fn lowered<M: Metric, R: Rows>(rows: &mut R, rect: Rect, y: u16, gap: u16, l
     lowered_by::<M, R>(rows, rect, row, gap, least)
 }
 
-/// Whether an obstacle below the limit may be so far away that blank tiles are passed over, and words aren't looked at one by one.
+/// Whether an obstacle below the limit may be so far away that blank tiles are skipped, and words
+/// aren't searched one by one.
 #[inline(always)]
 fn is_far<M: Metric>(limit: u64) -> bool {
     u64::from(M::of(0, FAR_GAP)) < limit
 }
 
-/// The least so far, or a lesser distance to an obstacle in the row, so many rows away.
+/// The least so far, or a lesser distance to an obstacle in the row, this many rows away.
 #[inline(always)]
 fn lowered_by<M: Metric, R: Rows>(
     rows: &mut R,
@@ -142,7 +146,8 @@ fn lowered_by<M: Metric, R: Rows>(
     lowered_left::<M, R>(rows, rect, row, gap, right)
 }
 
-/// Whether the row `y`, so many rows away, is known to be free, or looked at as a whole and found to be free. It's only asked where an obstacle may be far away.
+/// Whether row `y`, this many rows away, is known to be free, or found to be free by a search of
+/// the whole row. Asked only if an obstacle may be far away.
 #[inline(always)]
 pub fn is_passed<R: Rows>(rows: &mut R, y: u16, gap: u16, far: bool) -> bool
     requires { y < (R.cells rows.old).height }
@@ -152,7 +157,8 @@ pub fn is_passed<R: Rows>(rows: &mut R, y: u16, gap: u16, far: bool) -> bool
     far && (is_in_blank_band(rows, y) || gap >= SPARSE_GAP && rows.is_blank(y))
 }
 
-/// The least so far, or a lesser distance to an obstacle of the row in the rectangle's columns or to the right of them.
+/// The least so far, or a lesser distance to an obstacle of the row in the rectangle's columns or
+/// to the right of them.
 #[inline(always)]
 fn lowered_right<M: Metric, R: Rows>(
     rows: &mut R,

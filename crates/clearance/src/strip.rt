@@ -1,11 +1,12 @@
-//! Lines of cells side by side.
+//! Adjacent lines of cells.
 
 ghost use Rattle.clearance.specs.Segments.{IsStrip};
 
 use crate::segment::step_towards;
 use metric::{Cell, Rect};
 
-/// Lines of `across` cells each, counted from 0: line 0 begins at `from`, and each further one is a step on towards `to`, which none passes.
+/// Lines of `across` cells each, counted from 0: line 0 starts at `from`, and each further one is a
+/// step towards `to`, never past it.
 #[derive(Clone, Copy, Debug, PartialEq, Eq)]
 pub struct Strip {
     pub from: Cell,

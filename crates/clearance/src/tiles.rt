@@ -1,4 +1,4 @@
-//! The tiles of 64 columns that a search passes over, by those of a band that may have an obstacle.
+//! Skips tiles of 64 columns in a search, by those of a band that may have an obstacle.
 
 ghost use Rattle.std.specs.Prelude.{◌≡◌, ℕ, ◌<◌, ◌≤◌, true};
 ghost use Rattle.std.specs.Int.{bit_at};
@@ -9,17 +9,17 @@ use crate::bit::{bits_below, bits_from, highest_bit, lowest_bit, without_bit};
 use crate::rows::Rows;
 use metric::{BAND_ROWS, LAST_FRAMED, Metric, Rect, WORD_CELLS};
 
-/// One more than the last tile of a row, and so none.
+/// One more than the last tile of a row: no tile.
 const NO_TILE: u16 = WORD_CELLS;
 
-/// A row, and whether its blank tiles are passed over, or each word is looked at.
+/// A row, and whether its blank tiles are skipped, or each word is searched.
 #[derive(Clone, Copy, Debug, PartialEq, Eq)]
 pub struct SearchedRow {
     pub y: u16,
     pub by_tiles: bool,
 }
 
-/// Which tiles of the row may have an obstacle: all of them, where each word is looked at.
+/// Which tiles of the row may have an obstacle: all of them, if each word is searched.
 #[inline(always)]
 pub fn tiles_of<R: Rows>(rows: &R, row: SearchedRow) -> u64
     requires { row.y < (R.cells rows.now).height }
@@ -34,7 +34,7 @@ pub fn tiles_of<R: Rows>(rows: &R, row: SearchedRow) -> u64
     }
 }
 
-/// Whether so few tiles of the row's band may have an obstacle that it's worth while to pass over the others.
+/// Whether few enough tiles of the row's band may have an obstacle that skipping the others pays.
 #[inline(always)]
 pub fn has_few_tiles<R: Rows>(rows: &R, y: u16) -> bool
     requires { y < (R.cells rows.now).height }
@@ -44,7 +44,7 @@ pub fn has_few_tiles<R: Rows>(rows: &R, y: u16) -> bool
     3 * rows.tiles(y / BAND_ROWS).count_ones() as usize <= rows.across()
 }
 
-/// The first tile from `from` on that may have an obstacle; 64 where there is none.
+/// The first tile from `from` on that may have an obstacle; 64 if there is none.
 #[inline(always)]
 pub fn next_tile(tiles: u64, from: u16) -> u16
     requires { from ≤ 64 }
@@ -63,7 +63,7 @@ pub fn next_tile(tiles: u64, from: u16) -> u16
     }
 }
 
-/// One more than the last tile before `end` that may have an obstacle; 0 where there is none.
+/// One more than the last tile before `end` that may have an obstacle; 0 if there is none.
 #[inline(always)]
 pub fn after_last_tile(tiles: u64, end: u16) -> u16
     requires { end < 64 }
@@ -81,7 +81,8 @@ pub fn after_last_tile(tiles: u64, end: u16) -> u16
     }
 }
 
-/// Whether the tiles that may have an obstacle are all as far from the rectangle as `least`, in rows that lie `gap` or more rows away.
+/// Whether all tiles that may have an obstacle are at least `least` from the rectangle, in rows at
+/// least `gap` rows away.
 pub fn are_tiles_far<M: Metric>(tiles: u64, rect: Rect, gap: u16, least: u64) -> bool
     requires { gap ≤ LAST_FRAMED }
     ensures { result ≡ true → AreTilesFar M.distance rect gap least tiles }
@@ -95,7 +96,8 @@ pub fn are_tiles_far<M: Metric>(tiles: u64, rect: Rect, gap: u16, least: u64) ->
     after == 0 || u64::from(M::of(rect.x0 + 1 - after * WORD_CELLS, gap)) >= least
 }
 
-/// The bands without those of the rows `gap` rows above and below the rectangle, where their tiles are all as far from it as `least`. They are asked for at each sixteenth gap.
+/// The bands without those of the rows `gap` rows above and below the rectangle, if their tiles are
+/// all at least `least` from it. They are tested at each sixteenth gap.
 #[inline(always)]
 pub fn near_bands<M: Metric, R: Rows>(rows: &R, bands: u64, rect: Rect, gap: u16, least: u64) -> u64
     requires gap { gap ≤ LAST_FRAMED }
@@ -109,7 +111,8 @@ pub fn near_bands<M: Metric, R: Rows>(rows: &R, bands: u64, rect: Rect, gap: u16
     without_far_band::<M, R>(rows, left, rect.y1 - 1 + gap, rect, gap, least)
 }
 
-/// The bands without that of the row `y`, where its tiles are all as far from the rectangle as `least`, in rows that lie `gap` or more rows away.
+/// The bands without that of row `y`, if its tiles are all at least `least` from the rectangle, in
+/// rows at least `gap` rows away.
 fn without_far_band<M: Metric, R: Rows>(
     rows: &R,
     bands: u64,

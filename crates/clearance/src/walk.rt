@@ -1,4 +1,5 @@
-//! The first cell of a path that has the least distance, or one that is asked for, found by halves of its points.
+//! The first cell of a path with the least distance, or with a distance below a limit, found by
+//! halving its points.
 
 ghost use Rattle.std.specs.Prelude.{◌≡◌, None};
 ghost use Rattle.bits.specs.Cells.{IsBitmap, IsInside};
@@ -18,7 +19,8 @@ use crate::segment::count_cells;
 use crate::strip::Strip;
 use metric::{Cell, Edge, Metric, Near};
 
-/// The first cell of the least distance along a path that isn't refused, with its nearest obstacle; `None` where there is no obstacle.
+/// The first cell with the least distance along a valid path, with its nearest obstacle; `None`
+/// where there is no obstacle.
 pub fn least_of_path<M: Metric, R: Rows>(
     rows: &mut R,
     edge: Edge,
@@ -38,7 +40,8 @@ pub fn least_of_path<M: Metric, R: Rows>(
     first_along::<M, R>(rows, edge, start, points, least + 1)
 }
 
-/// The first cell along a path that has an obstacle at a distance below the limit, with its nearest obstacle; `None` where no cell has.
+/// The first cell along a path that has an obstacle at a distance below the limit, with its nearest
+/// obstacle; `None` if no cell has.
 pub fn first_of_path<M: Metric, R: Rows>(
     rows: &mut R,
     edge: Edge,
@@ -55,9 +58,12 @@ pub fn first_of_path<M: Metric, R: Rows>(
     first_along::<M, R>(rows, edge, start, points, limit)
 }
 
-/// The least of the limit and of the distances of the cells after a point, along all points that follow it.
+/// The least of the limit and of the distances of the cells after a point, along all points that
+/// follow it.
 ///
-/// A stretch whose cells are all too far is passed over as a whole. The half that lies nearer to an obstacle comes first, so that it lowers the limit for the other; of two pieces the second, which is longer at the start of a path.
+/// Skips a stretch whose cells are all too far as a whole. Searches first the half that lies nearer
+/// to an obstacle, so that it lowers the limit for the other; of two pieces the second, which is
+/// longer at the start of a path.
 fn least_along<M: Metric, R: Rows>(
     rows: &mut R,
     edge: Edge,
@@ -91,7 +97,8 @@ fn least_along<M: Metric, R: Rows>(
     least_along::<M, R>(rows, edge, middle, back, least)
 }
 
-/// The first of the cells after a point, along all points that follow it, that has an obstacle at a distance below the limit, with its nearest obstacle; `None` where no cell has.
+/// The first of the cells after a point, along all points that follow it, that has an obstacle at a
+/// distance below the limit, with its nearest obstacle; `None` if no cell has.
 fn first_along<M: Metric, R: Rows>(
     rows: &mut R,
     edge: Edge,
@@ -145,7 +152,8 @@ fn least_of_piece<M: Metric, R: Rows>(
     least_below::<M, R>(rows, edge, cells.rect(1, count_cells(from, to)), limit)
 }
 
-/// The first of the cells after a point, up to the next, that has an obstacle at a distance below the limit, with its nearest obstacle; `None` where no cell has.
+/// The first of the cells after a point, up to the next, that has an obstacle at a distance below
+/// the limit, with its nearest obstacle; `None` if no cell has.
 fn first_of_piece<M: Metric, R: Rows>(
     rows: &mut R,
     edge: Edge,

@@ -1,4 +1,4 @@
-//! The obstacles of one row, found in its words, which are asked for one by one.
+//! The obstacles of one row, found in its words, which are read one by one.
 
 ghost use Rattle.std.specs.Prelude.{◌≡◌, ◌-◌, ◌<◌, ◌≤◌};
 ghost use Rattle.bits.specs.Cells.{IsBitmap};
@@ -9,9 +9,10 @@ use crate::rows::Rows;
 use crate::tiles::{SearchedRow, after_last_tile, next_tile, tiles_of};
 use metric::{LAST_FRAMED, MOST_SIDE, Metric, WORD_CELLS};
 
-/// The first obstacle of the row from the column `start` on, where its distance is below `limit`.
+/// The first obstacle of the row from column `start` on, if its distance is below `limit`.
 ///
-/// Distances are measured from the column `edge`, so many rows away; a column before `edge` is no columns away.
+/// Distances count from column `edge`, this many rows away; a column before `edge` is no columns
+/// away.
 #[inline(always)]
 pub fn next_nearer<M: Metric, R: Rows>(
     rows: &mut R,
@@ -49,7 +50,7 @@ pub fn next_nearer<M: Metric, R: Rows>(
     None
 }
 
-/// The column, where its distance from a column on its left is below the limit.
+/// The column, if its distance from a column on its left is below the limit.
 #[inline(always)]
 fn right_nearer<M: Metric>(column: u16, edge: u16, gap: u16, limit: u64) -> Option<u16>
     requires column { column < MOST_SIDE }
@@ -63,9 +64,9 @@ fn right_nearer<M: Metric>(column: u16, edge: u16, gap: u16, limit: u64) -> Opti
     }
 }
 
-/// The last obstacle of the row before the column `end`, where its distance is below `limit`.
+/// The last obstacle of the row before column `end`, if its distance is below `limit`.
 ///
-/// Distances are measured from the column `edge`, so many rows away.
+/// Distances count from column `edge`, this many rows away.
 #[inline(always)]
 pub fn last_nearer<M: Metric, R: Rows>(
     rows: &mut R,
@@ -105,7 +106,7 @@ pub fn last_nearer<M: Metric, R: Rows>(
     None
 }
 
-/// The column, where its distance from a column on its right is below the limit.
+/// The column, if its distance from a column on its right is below the limit.
 #[inline(always)]
 fn left_nearer<M: Metric>(column: u16, edge: u16, gap: u16, limit: u64) -> Option<u16>
     requires column { column ≤ edge }
