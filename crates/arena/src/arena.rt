@@ -1,6 +1,7 @@
-//! The arena, from which tiles are taken: a region of memory in equal blocks, and the list of the free ones.
+//! The arena of tiles: a region of memory in equal blocks, and the list of the free ones.
 //!
-//! The list is kept in the free blocks themselves: the first word of a free block is the number of the next.
+//! The free blocks hold the list themselves: the first word of a free block is the number of the
+//! next.
 
 ghost use Rattle.std.specs.Prelude.{◌≡◌, ℕ, ◌<◌, ◌≤◌, List, [], ◌∷◌, length, MatchOption, IfOk, IfErr};
 ghost use Rattle.metric.specs.declared.refusal.Refusal.TheVariants.{Memory};
@@ -13,9 +14,10 @@ use metric::Refusal;
 use std::alloc::Global;
 use std::marker::Model;
 
-/// Equal blocks of 64 words in one piece of memory. Contracts see where they lie and the list of the free ones, by number.
+/// Equal blocks of 64 words in one piece of memory. Contracts see where they lie and the list of
+/// the free ones, by number.
 ///
-/// It can't be let go: it is ended, once all blocks are free.
+/// It can't be dropped: end it once all blocks are free.
 pub struct Arena {
     region: Region,
     /// The front of the free list, if it has one.
@@ -38,7 +40,7 @@ impl Model for Arena {
 impl Arena {
     /// An arena of `count` blocks, at most 16,384, all of them free, in the order of their numbers.
     ///
-    /// Refused for want of memory alone.
+    /// Fails only when out of memory.
     pub fn new(alloc: Global, count: u32) -> Result<Arena, Refusal>
         requires { count ≤ 16384 }
         ensures count { IfOk result (λ a. a.home.count ≡ count) }
@@ -66,7 +68,7 @@ impl Arena {
         })
     }
 
-    /// Gives the memory back. Condition: all blocks are free.
+    /// Frees the memory. Requires that all blocks are free.
     pub fn end(self)
         requires { length self.free ≡ self.home.count }
     {
@@ -81,7 +83,8 @@ impl Arena {
         region.free(lease, &alloc, count);
     }
 
-    /// The front of the free list, which leaves it; `None` where no block is free. Its words hold any values. It takes no memory.
+    /// Takes the front of the free list; `None` if no block is free. Its words have any values. It
+    /// allocates no memory.
     pub fn take(&mut self) -> Option<Tile>
         ensures { MatchOption result ((self.old.free ≡ []) × (self.new ≡ self.old))
             (λ t. (t.home ≡ self.old.home) × (self.new.home ≡ self.old.home) × (self.old.free ≡ t.number ∷ self.new.free)) }
@@ -95,7 +98,8 @@ impl Arena {
         Some(tile)
     }
 
-    /// Makes the block the front of the free list. Condition: it came from this arena. It takes no memory.
+    /// Makes the block the front of the free list. Requires that it came from this arena. It
+    /// allocates no memory.
     pub fn give(&mut self, tile: Tile)
         requires { tile.home ≡ self.old.home }
         ensures { (self.new.home ≡ self.old.home) × (self.new.free ≡ tile.number ∷ self.old.free) }

@@ -1,6 +1,7 @@
-//! The raw memory: a region of blocks, and one block out of it. Nothing else touches it.
+//! The raw memory: a region of blocks, and one block taken out of it. Nothing else touches it.
 //!
-//! A region knows nothing of a free list: it owns the blocks that are in, and a tile owns the one that is out.
+//! A region knows nothing of a free list: it owns the blocks that are in, and a tile owns the one
+//! that is out.
 
 ghost use Rattle.std.specs.Prelude.{◌≡◌, ℕ, ◌<◌, List, length, slice_index_or, slice_set, replicate, IfSome, ◌≤◌};
 ghost use Rattle.std.specs.Borrow.{full_share, lent_at, sem};
@@ -16,7 +17,8 @@ use std::marker::{Model, PhantomData};
 /// The words of a block.
 pub type Block = [u64; 64];
 
-/// A block that is out of its arena. It can't be let go: it is given back. Contracts see its number, its arena's home and its words.
+/// A block that is out of its arena. It can't be dropped: give it back. Contracts see its number,
+/// its arena's home and its words.
 pub struct Tile {
     at: *mut Block,
     number: u32,
@@ -50,7 +52,7 @@ impl Tile {
         unsafe { &*self.at }
     }
 
-    /// The words of the block, to be written.
+    /// The words of the block, mutable.
     pub fn words_mut(&mut self) -> &mut Block
         ensures* writes_back { sem 𝓛 (LendsWords self.entry result) }
         ensures value { (result.now ≡ self.old.words) × (length result.now ≡ 64) }
@@ -59,7 +61,7 @@ impl Tile {
     }
 }
 
-/// The right to give the region back to its allocator.
+/// The right to return the region to its allocator.
 pub struct Lease<A: Allocator> {
     marker: PhantomData<A>,
     ghost alloc: { A },
@@ -100,7 +102,7 @@ impl Region {
         (Region { base }, Tile { at, number })
     }
 
-    /// Puts a block back, with the words that it has.
+    /// Puts a block back, with its words.
     pub fn join(self, tile: Tile) -> Region
         requires { tile.home ≡ self.home }
         ensures region { (result.home ≡ self.home) × (result.blocks ≡ slice_set self.blocks tile.number (held tile.words)) }
@@ -111,7 +113,7 @@ impl Region {
         Region { base }
     }
 
-    /// Puts a block back, as a replacement that answers nothing besides.
+    /// Puts a block back, for a call that replaces the region and returns nothing else.
     pub fn put(self, tile: Tile) -> (Region, ())
         requires { tile.home ≡ self.home }
         ensures region { (result.0.home ≡ self.home) × (result.0.blocks ≡ slice_set self.blocks tile.number (held tile.words)) }
@@ -120,7 +122,7 @@ impl Region {
         (self.join(tile), ())
     }
 
-    /// Writes the words of a block that holds none yet.
+    /// Writes the words of a block that has none yet.
     pub fn fill(self, number: u32, words: Block) -> Region
         requires { slice_index_or self.blocks number out ≡ bare }
         ensures region { (result.home ≡ self.home) × (result.blocks ≡ slice_set self.blocks number (held words)) }
@@ -132,7 +134,7 @@ impl Region {
         Region { base }
     }
 
-    /// A region of so many blocks that hold nothing yet; `None` where there is no memory.
+    /// A region of this many blocks without words yet; `None` when out of memory.
     pub fn new<A: Allocator>(alloc: &A, count: u32) -> Option<(Region, Lease<A>)>
         requires { count ≤ 16384 }
         ensures { IfSome result (λ m. (m.0.blocks ≡ replicate count bare) × (m.0.home.count ≡ count) × (m.1.alloc ≡ alloc.now)
@@ -148,7 +150,7 @@ impl Region {
         }
     }
 
-    /// Gives the memory of a region back, all of whose blocks are in.
+    /// Frees the memory of a region whose blocks are all in.
     pub fn free<A: Allocator>(self, lease: Lease<A>, alloc: &A, count: u32)
         requires same { (lease.alloc ≡ alloc.now) × (lease.home ≡ self.home) × (count ≡ self.home.count) }
         requires all { All IsHeld self.blocks }

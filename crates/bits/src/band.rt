@@ -1,4 +1,4 @@
-//! Which bands of 64 rows may have an obstacle, and which of their tiles, as the bits of words.
+//! Which bands of 64 rows may have an obstacle, and which of their tiles, as bits of words.
 
 ghost use Rattle.std.specs.Prelude.{◌≡◌, ℕ, ◌<◌, ◌≤◌, ◌/◌, true, length, slice_index};
 ghost use Rattle.std.specs.Int.{bit_at};
@@ -6,7 +6,8 @@ ghost use Rattle.std.specs.Int.{bit_at};
 use crate::word::{has_bit, low_bits, with_bit};
 use metric::{BAND_ROWS, MOST_SIDE};
 
-/// The bands once this word has been written to the row `y`: each keeps its bit, and the row's own has one where an obstacle has come.
+/// The bands after this word is written to row `y`: each keeps its bit, and the row's own band has
+/// one if an obstacle has come.
 #[inline(always)]
 pub fn marked(bands: u64, y: u16, word: u64) -> u64
     requires { y < MOST_SIDE }
@@ -16,7 +17,8 @@ pub fn marked(bands: u64, y: u16, word: u64) -> u64
     with_mark(bands, y / BAND_ROWS, word)
 }
 
-/// The bits once this word has been written to the place `index`: each keeps its mark, and the place has one where an obstacle has come.
+/// The bits after this word is written at `index`: each keeps its mark, and `index` has one if an
+/// obstacle has come.
 #[inline(always)]
 pub fn with_mark(bits: u64, index: u16, word: u64) -> u64
     requires { index < 64 }
@@ -30,7 +32,7 @@ pub fn with_mark(bits: u64, index: u16, word: u64) -> u64
     }
 }
 
-/// The bands once these words have been written to the row `y`, or to the rows of its band.
+/// The bands after these words are written to row `y`, or to the rows of its band.
 pub fn marked_by(bands: u64, y: u16, words: &[u64]) -> u64
     requires { y < MOST_SIDE }
     ensures here { (k i : ℕ) → k < length words.now → bit_at (slice_index words.now k) i ≡ 1 → bit_at result (y / BAND_ROWS) ≡ 1 }
@@ -42,7 +44,8 @@ pub fn marked_by(bands: u64, y: u16, words: &[u64]) -> u64
     marked(bands, y, all_bits(words))
 }
 
-/// The marks of a band's tiles, with those in which one of the first `across` words has an obstacle.
+/// The marks of a band's tiles, with those in which one of the first `across` words has an
+/// obstacle.
 pub fn with_marks(tiles: u64, row: &[u64; 64], across: u16) -> u64
     requires { across ≤ 64 }
     ensures here { (k i : ℕ) → k < across → bit_at (slice_index row.now k) i ≡ 1 → bit_at result k ≡ 1 }

@@ -15,10 +15,11 @@ use metric::{Cell, Rect, Refusal, WORD_BITS, WORD_CELLS};
 use std::alloc::Global;
 use std::marker::Model;
 
-/// A bitmap. Contracts see it as its size and its set of obstacles.
+/// A bitmap. Contracts see its size and its set of obstacles.
 ///
-/// Its rows lie one after another, each in as many words as it needs; bit i of a row's word k is the cell of column 64 k + i.
-/// Bit k of the bands is 1 where the rows 64 k to 64 k + 63 may have an obstacle, and bit k of a band's marks where its tile in the columns 64 k to 64 k + 63 may have one.
+/// Its rows lie one after another, each in as many words as it needs; bit i of a row's word k is
+/// the cell of column 64 k + i. Bit k of the bands is 1 if rows 64 k to 64 k + 63 may have an
+/// obstacle, and bit k of a band's marks if its tile in columns 64 k to 64 k + 63 may have one.
 #[derive(Debug, Drop)]
 pub struct Bitmap {
     pub(crate) width: u16,
@@ -42,7 +43,7 @@ impl Model for Bitmap {
 }
 
 impl Bitmap {
-    /// The bitmap of this size without an obstacle. Refused for want of memory alone.
+    /// A bitmap of this size without obstacles. Fails only when out of memory.
     pub fn blank(alloc: Global, width: u16, height: u16) -> Result<Self, Refusal>
         requires width { IsSide width }
         requires height { IsSide height }
@@ -61,7 +62,7 @@ impl Bitmap {
         })
     }
 
-    /// How many columns there are.
+    /// The number of columns.
     pub fn width(&self) -> u16
         ensures width { result ≡ self.now.width }
         ensures bitmap { IsBitmap self.now }
@@ -69,7 +70,7 @@ impl Bitmap {
         self.width
     }
 
-    /// How many rows there are.
+    /// The number of rows.
     pub fn height(&self) -> u16
         ensures height { result ≡ self.now.height }
         ensures bitmap { IsBitmap self.now }
@@ -77,7 +78,7 @@ impl Bitmap {
         self.height
     }
 
-    /// Whether the cell lies in the bitmap.
+    /// Whether the cell is in the bitmap.
     pub fn holds(&self, cell: Cell) -> bool
         ensures holds { IsTrue result ↔ IsInside self.now cell.x cell.y }
         ensures bitmap { IsBitmap self.now }
@@ -85,7 +86,7 @@ impl Bitmap {
         cell.x < self.width && cell.y < self.height
     }
 
-    /// Whether the rectangle lies wholly in the bitmap.
+    /// Whether the rectangle is wholly within the bitmap.
     pub fn holds_rect(&self, rect: Rect) -> bool
         ensures holds { IsTrue result ↔ ((rect.x1 ≤ self.now.width) × (rect.y1 ≤ self.now.height)) }
         ensures bitmap { IsBitmap self.now }
@@ -93,7 +94,7 @@ impl Bitmap {
         rect.x1 <= self.width && rect.y1 <= self.height
     }
 
-    /// Which word has the cell, and in which of its bits.
+    /// The word that has the cell, and its bit there.
     fn place_of(&self, cell: Cell) -> (usize, u32)
         requires { IsInside self.now cell.x cell.y }
         ensures index { result.0 ≡ cell.y * words_across self.now.width + cell.x / 64 }
@@ -103,7 +104,7 @@ impl Bitmap {
         (index, u32::from(cell.x) % 64)
     }
 
-    /// How many words a row takes.
+    /// The number of words of a row.
     fn words_across(&self) -> usize
         ensures words { result ≡ words_across self.now.width }
         ensures few { result ≤ 64 }
@@ -133,7 +134,8 @@ impl Bitmap {
             .mark(cell.y, cell.x / WORD_CELLS, u64::from(black));
     }
 
-    /// Writes the cells of row `y` that word `index` of it holds: bit i is the cell of column 64 `index` + i. Bits past the edge are left out.
+    /// Writes the cells of row `y` in word `index`: bit i is the cell of column 64 `index` + i.
+    /// Ignores bits past the edge.
     pub fn set_word(&mut self, y: u16, index: u16, word: u64)
         requires row { y < self.old.height }
         requires index { index < words_across self.old.width }
@@ -146,7 +148,7 @@ impl Bitmap {
         self.marks.mark(y, index, word);
     }
 
-    /// Writes the row `y`, as `set_word` does each word of it: as many of these as it needs.
+    /// Writes row `y`, each word of it as `set_word` does, as many as it needs.
     pub fn set_row(&mut self, y: u16, row: &[u64; 64])
         requires { y < self.old.height }
         ensures written { self.new ≡ with_row self.old y row.now }
@@ -169,9 +171,11 @@ impl Bitmap {
         &self.words[start..start + across]
     }
 
-    /// Which bands of 64 rows may have an obstacle: where bit k is 0, the rows 64 k to 64 k + 63 are blank.
+    /// Which bands of 64 rows may have an obstacle: where bit k is 0, rows 64 k to 64 k + 63 are
+    /// blank.
     ///
-    /// A band in which an obstacle was written keeps its bit until the bitmap is cleared, or becomes a copy of another.
+    /// A band in which an obstacle was written keeps its bit until the bitmap is cleared, or
+    /// becomes a copy of another.
     #[inline(always)]
     pub fn bands(&self) -> u64
         ensures { IsBanded self.now result }
@@ -179,7 +183,8 @@ impl Bitmap {
         self.bands
     }
 
-    /// Which tiles of the band may have an obstacle: where bit k is 0, the columns 64 k to 64 k + 63 of the rows 64 `band` to 64 `band` + 63 are blank.
+    /// Which tiles of the band may have an obstacle: where bit k is 0, columns 64 k to 64 k + 63 of
+    /// rows 64 `band` to 64 `band` + 63 are blank.
     ///
     /// A tile in which an obstacle was written keeps its bit as its band does.
     #[inline(always)]
@@ -190,7 +195,7 @@ impl Bitmap {
         self.marks.of(band)
     }
 
-    /// A copy. Refused for want of memory alone.
+    /// Copies the bitmap. Fails only when out of memory.
     pub fn try_copy(&self, alloc: Global) -> Result<Self, Refusal>
         ensures copy { IfOk result (λ copy. copy ≡ self.now) }
         ensures memory { IfErr result (λ refusal. refusal ≡ Memory) }
@@ -206,7 +211,7 @@ impl Bitmap {
         })
     }
 
-    /// Makes this bitmap the same as another one of its size. It takes no memory.
+    /// Makes this bitmap equal to another of the same size. It allocates no memory.
     pub fn copy_from(&mut self, other: &Bitmap)
         requires width { self.old.width ≡ other.now.width }
         requires height { self.old.height ≡ other.now.height }
@@ -219,7 +224,7 @@ impl Bitmap {
         self.marks.copy_from(&other.marks);
     }
 
-    /// Frees each cell, and with them all bands. It takes no memory.
+    /// Frees every cell, and clears the bands' bits. It allocates no memory.
     pub fn clear(&mut self)
         ensures { self.new ≡ cells_where self.old.width self.old.height (λ x y. false) }
     {

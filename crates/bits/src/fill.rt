@@ -8,7 +8,7 @@ use crate::bitmap::Bitmap;
 use metric::{Cell, Rect};
 
 impl Bitmap {
-    /// Gives each cell of the rectangle this value, and answers how many cells became another.
+    /// Sets each cell of the rectangle to this value, and returns how many cells changed.
     pub fn fill(&mut self, rect: Rect, black: bool) -> u32
         requires columns { rect.x1 ≤ self.old.width }
         requires rows { rect.y1 ≤ self.old.height }

@@ -1,4 +1,4 @@
-//! Laying a part of a bitmap on a tile, row by row as words.
+//! Lays a part of a bitmap on a tile, row by row as words.
 
 ghost use Rattle.std.specs.Prelude.{◌≡◌, ℕ, ◌≤◌, ◌<◌, ◌+◌, ◌-◌, ◌/◌, ◌%◌, nat_lt, length, slice_index, cond, if◌then◌else◌};
 ghost use Rattle.std.specs.Int.{bit_at};
@@ -10,7 +10,8 @@ use crate::tile_bits::{TileBits, changes, columns};
 use metric::{Cell, MOST_SIDE, Rect, TILE_SIDE};
 
 impl TileBits {
-    /// Lays a bitmap on the rectangle, so that its cell `from` comes upon the rectangle's first cell, and answers how many cells became another. What lies past the bitmap's edge is free.
+    /// Lays a bitmap on the rectangle, with its cell `from` on the rectangle's first cell, and
+    /// returns how many cells changed. What lies past the bitmap's edge is free.
     pub fn lay(words: &mut [u64; 64], rect: Rect, stamp: &Bitmap, from: Cell) -> u32
         requires columns { rect.x1 ≤ TILE_SIDE }
         requires rows { rect.y1 ≤ TILE_SIDE }
@@ -48,7 +49,7 @@ impl TileBits {
     }
 }
 
-/// The row `y` of a tile once the bitmap is laid on the rectangle.
+/// Row `y` of a tile after the bitmap is laid on the rectangle.
 fn laid_row(old: u64, y: u16, rect: Rect, stamp: &Bitmap, from: Cell) -> u64
     requires columns { rect.x1 ≤ TILE_SIDE }
     requires above { rect.y0 ≤ y }
@@ -78,14 +79,14 @@ fn row_from(bitmap: &Bitmap, x: u16, y: u16) -> u64
     )
 }
 
-/// The word at this place of a row; 0 past its end.
+/// The word at this index of a row; 0 past its end.
 fn word_at(row: &[u64], place: usize) -> u64
     ensures { result ≡ slice_index row.now place }
 {
     if place < row.len() { row[place] } else { 0 }
 }
 
-/// The 64 columns from `shift` on of two words that lie next to one another.
+/// The 64 columns from `shift` on of two adjacent words.
 fn joined(left: u64, right: u64, shift: u32) -> u64
     requires { shift < 64 }
     ensures { (j : ℕ) → j < 64 → bit_at result j ≡ (if nat_lt (shift + j) 64 then bit_at left (shift + j)
@@ -98,7 +99,7 @@ fn joined(left: u64, right: u64, shift: u32) -> u64
     }
 }
 
-/// The word with its columns moved by so many.
+/// The word with its columns moved by `by`.
 fn moved(word: u64, by: u32) -> u64
     requires { by < 64 }
     ensures { (j : ℕ) → by ≤ j → j < 64 → bit_at result j ≡ bit_at word (j - by) }

@@ -1,4 +1,4 @@
-//! Laying one bitmap on another.
+//! Lays one bitmap on another.
 
 ghost use Rattle.std.specs.Prelude.{◌≡◌, ◌+◌, ◌≤◌};
 ghost use Rattle.bits.specs.Cells.{with_stamp, IsBitmap};
@@ -8,7 +8,8 @@ use crate::bitmap::Bitmap;
 use metric::Cell;
 
 impl Bitmap {
-    /// Gives each cell of the rectangle at `(x, y)` of the stamp's size the stamp's value, obstacle or not, and answers how many cells became another.
+    /// Sets each cell of the rectangle at `(x, y)`, of the stamp's size, to the stamp's value,
+    /// obstacle or not, and returns how many cells changed.
     pub fn stamp(&mut self, x: u16, y: u16, stamp: &Bitmap) -> u32
         requires columns { x + stamp.now.width ≤ self.old.width }
         requires rows { y + stamp.now.height ≤ self.old.height }

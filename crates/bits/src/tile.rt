@@ -12,7 +12,7 @@ use crate::write::write_tile;
 use metric::{MOST_TILES, TILE_SIDE};
 
 impl Bitmap {
-    /// How many tiles of 64 by 64 cells the bitmap has, the tiles at its edge with them: 1 to 4096.
+    /// The number of tiles of 64 by 64 cells of the bitmap, including those at its edge: 1 to 4096.
     pub fn tiles(&self) -> u16
         ensures tiles { result ≡ tile_count self.now }
         ensures few { result ≤ MOST_TILES }
@@ -21,7 +21,7 @@ impl Bitmap {
         self.tiles_across() * self.height().div_ceil(TILE_SIDE)
     }
 
-    /// How many tiles lie next to one another.
+    /// The number of tiles in a row of tiles.
     fn tiles_across(&self) -> u16
         ensures across { result ≡ words_across self.now.width }
         ensures some { 1 ≤ result }
@@ -30,7 +30,8 @@ impl Bitmap {
         self.width().div_ceil(TILE_SIDE)
     }
 
-    /// The row of the tile at this position, from 0 to 63, as a word: bit j is column j, and 0 past the bitmap's edge.
+    /// The row of the tile at this position, from 0 to 63, as a word: bit j is column j, and 0 past
+    /// the bitmap's edge.
     pub fn tile_row(&self, position: u16, row: u16) -> u64
         requires position { position < tile_count self.now }
         requires row { row < TILE_SIDE }
@@ -46,7 +47,8 @@ impl Bitmap {
         }
     }
 
-    /// Writes the cells of the tile at this position: word i is its row i, bit j of it is column j. Bits past the edge are left out.
+    /// Writes the cells of the tile at this position: word i is its row i, and bit j of it is
+    /// column j. Ignores bits past the edge.
     pub fn put_tile(&mut self, position: u16, words: &[u64; 64])
         requires { position < tile_count self.old }
         ensures written { self.new ≡ with_tile self.old position words.now }

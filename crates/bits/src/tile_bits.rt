@@ -1,4 +1,4 @@
-//! Tiles as 64 words, one a row, filled in place.
+//! Tiles as 64 words, one per row, filled in place.
 
 ghost use Rattle.std.specs.Prelude.{◌≡◌, ℕ, ◌≤◌, ◌<◌, ◌==◌, ◌&&◌, nat_le, nat_lt, Bool, cond, length};
 ghost use Rattle.std.specs.Int.{bit_at};
@@ -6,11 +6,11 @@ ghost use Rattle.bits.specs.TileWords.{filled_word, filled_words, bits_changed, 
 
 use metric::Rect;
 
-/// The words of a tile: word i is row i, bit j of it is column j.
+/// The words of a tile: word i is row i, and bit j of it is column j.
 pub struct TileBits {}
 
 impl TileBits {
-    /// Gives each cell of the rectangle this value, and answers how many cells became another.
+    /// Sets each cell of the rectangle to this value, and returns how many cells changed.
     pub fn fill(words: &mut [u64; 64], rect: Rect, black: bool) -> u32
         requires columns { rect.x1 ≤ 64 }
         requires rows { rect.y1 ≤ 64 }
@@ -46,7 +46,7 @@ impl TileBits {
     }
 }
 
-/// The word with 1 in the columns from `from` up to `to`.
+/// A word with 1 in columns `from` to `to - 1`.
 pub fn columns(from: u32, to: u32) -> u64
     requires some { from < to }
     requires within { to ≤ 64 }
@@ -55,7 +55,7 @@ pub fn columns(from: u32, to: u32) -> u64
     (u64::MAX << from) & (u64::MAX >> (64 - to))
 }
 
-/// The word with these columns given one value.
+/// Sets these columns of the word to one value.
 fn filled(word: u64, from: u32, to: u32, black: bool) -> u64
     requires some { from < to }
     requires within { to ≤ 64 }
@@ -65,7 +65,7 @@ fn filled(word: u64, from: u32, to: u32, black: bool) -> u64
     if black { word | mask } else { word & !mask }
 }
 
-/// How many columns differ.
+/// The number of columns that differ.
 pub fn changes(old: u64, new: u64) -> u32
     ensures changes { result ≡ bits_changed old new }
     ensures few { result ≤ 64 }

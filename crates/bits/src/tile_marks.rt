@@ -1,4 +1,5 @@
-//! Which tiles of a bitmap may have an obstacle: a word for each band of 64 rows, and in it a bit for each 64 columns.
+//! Which tiles of a bitmap may have an obstacle: one word per band of 64 rows, with one bit per 64
+//! columns.
 
 ghost use Rattle.std.specs.Prelude.{◌≡◌, ℕ, ◌<◌, ◌≤◌, ◌/◌, slice_index, IfOk};
 ghost use Rattle.std.specs.Int.{bit_at};
@@ -8,7 +9,7 @@ use metric::{BAND_ROWS, MOST_SIDE};
 use std::alloc::{AllocError, Global};
 use std::marker::Model;
 
-/// How many bands a bitmap has at most.
+/// The most bands of a bitmap.
 const MOST_BANDS: usize = 64;
 
 /// The marks of the tiles of 64 bands. Contracts see the words.
@@ -28,13 +29,13 @@ impl Model for TileMarks {
 }
 
 impl TileMarks {
-    /// Marks of no tile.
+    /// Marks without any tile.
     pub fn blank(alloc: Global) -> Result<Self, AllocError> {
         let bands = vec![in alloc; 0u64; MOST_BANDS]?;
         Ok(TileMarks { bands })
     }
 
-    /// A copy.
+    /// Copies the marks.
     pub fn try_copy(&self, alloc: Global) -> Result<Self, AllocError>
         ensures { IfOk result (λ copy. copy ≡ self.now) }
     {
@@ -42,7 +43,7 @@ impl TileMarks {
         Ok(TileMarks { bands })
     }
 
-    /// Makes these marks the same as others.
+    /// Makes these marks equal to others.
     pub fn copy_from(&mut self, other: &TileMarks)
         ensures { self.new ≡ other.now }
     {
@@ -51,7 +52,7 @@ impl TileMarks {
             .copy_from_slice(other.bands.as_slice());
     }
 
-    /// Takes all marks away.
+    /// Clears all marks.
     pub fn clear(&mut self) {
         self.bands.fill(0);
     }
@@ -65,7 +66,8 @@ impl TileMarks {
         self.bands[usize::from(band)]
     }
 
-    /// Marks the tile of the row `y` in the columns of word `index`, where this word has an obstacle. Each tile keeps its mark.
+    /// Marks the tile of row `y` in the columns of word `index`, if this word has an obstacle. Each
+    /// tile keeps its mark.
     #[inline(always)]
     pub fn mark(&mut self, y: u16, index: u16, word: u64)
         requires row { y < MOST_SIDE }
@@ -77,7 +79,8 @@ impl TileMarks {
         self.bands[band] = with_mark(self.bands[band], index, word);
     }
 
-    /// Marks the tiles of the row `y` in which one of the first `across` words has an obstacle. Each tile keeps its mark.
+    /// Marks the tiles of row `y` in which one of the first `across` words has an obstacle. Each
+    /// tile keeps its mark.
     pub fn mark_row(&mut self, y: u16, row: &[u64; 64], across: u16)
         requires row { y < MOST_SIDE }
         requires across { across ≤ 64 }

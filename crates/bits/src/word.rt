@@ -5,7 +5,7 @@ ghost use Rattle.std.specs.Int.{bit_at};
 
 use metric::WORD_BITS;
 
-/// Whether the bit at this place is 1.
+/// Whether bit `place` is 1.
 pub fn has_bit(word: u64, place: u32) -> bool
     requires { place < WORD_BITS }
     ensures { IsTrue result ↔ (bit_at word place ≡ 1) }
@@ -13,7 +13,7 @@ pub fn has_bit(word: u64, place: u32) -> bool
     (word >> place) & 1 == 1
 }
 
-/// The word with the bit at this place written anew.
+/// Sets bit `place` of the word to this value.
 pub fn with_bit(word: u64, place: u32, bit: bool) -> u64
     requires { place < WORD_BITS }
     ensures here { bit_at result place ≡ cond bit 1 0 }
@@ -26,7 +26,7 @@ pub fn with_bit(word: u64, place: u32, bit: bool) -> u64
     }
 }
 
-/// The word with its bits from the place `count` on made 0.
+/// Clears the bits of the word from bit `count` on.
 pub fn low_bits(word: u64, count: u16) -> u64
     ensures kept { (i : ℕ) → i < count → i < WORD_BITS → bit_at result i ≡ bit_at word i }
     ensures cleared { (i : ℕ) → count ≤ i → i < WORD_BITS → bit_at result i ≡ 0 }

@@ -1,4 +1,4 @@
-//! Writing to the words of a bitmap: a word of a row, a whole row, and the rows of a tile.
+//! Writes the words of a bitmap: a word of a row, a whole row, and the rows of a tile.
 
 ghost use Rattle.std.specs.Prelude.{◌≡◌, ◌<◌, ◌/◌, ◌*◌};
 ghost use Rattle.bits.specs.Cells.{IsSide};
@@ -10,7 +10,7 @@ ghost use Rattle.bits.specs.Writes.{with_row, with_tile, with_word};
 use crate::word::low_bits;
 use metric::WORD_BITS;
 
-/// Writes a word of the row `y` of a bitmap of this size. Bits past the edge are left out.
+/// Writes a word of row `y` of a bitmap of this size. Ignores bits past the edge.
 #[inline(always)]
 pub fn write_word(words: &mut [u64], width: u16, height: u16, y: u16, index: u16, word: u64)
     requires stored { IsStored width height words.old }
@@ -23,7 +23,7 @@ pub fn write_word(words: &mut [u64], width: u16, height: u16, y: u16, index: u16
     words[place] = low_bits(word, width - 64 * index);
 }
 
-/// Writes the row `y`, the last word as `write_word` does.
+/// Writes row `y`, the last word as `write_word` does.
 pub fn write_row(words: &mut [u64], width: u16, height: u16, y: u16, row: &[u64; 64])
     requires stored { IsStored width height words.old }
     requires row { y < height }

@@ -1,10 +1,11 @@
-//! A paint or a stamp that is judged.
+//! A paint or a stamp that has been judged.
 
 use crate::ink::Ink;
 use metric::Rect;
 
-/// A paint or a stamp that is judged: what it draws, which lies in the map, and finds the blocks that it takes. It is drawn by `Grid::draw`, before the grid and
-/// its arena change otherwise.
+/// A paint or a stamp that has been judged: what it draws, which is within the map, and has the
+/// free blocks that it takes. `Grid::draw` draws it, before the grid and its arena change
+/// otherwise.
 #[derive(Clone, Copy)]
 pub struct Stroke<'a> {
     pub(crate) rect: Rect,

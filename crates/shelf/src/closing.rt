@@ -1,4 +1,4 @@
-//! A store that is closed, reader by reader.
+//! Closes a store, reader by reader.
 
 ghost use Rattle.std.specs.Prelude.{◌≡◌, ◌+◌, [], length, None};
 ghost use mathlib.Core.List.{IsPrefix};
@@ -20,10 +20,10 @@ use std::alloc::Global;
 use std::marker::{Model, PhantomData};
 use std::sync::Arc;
 
-/// The keeper's seat of a store that is closed. Contracts see it as the log, how many readers were given up, and how many entries these
-/// made.
+/// The keeper's seat of a store that is closed. Contracts see the log, how many readers were given
+/// up, and how many entries these made.
 ///
-/// It can't be let go: it is ended.
+/// It can't be dropped: end it.
 pub struct Closing<Id: StoreName> {
     seat: TableSeat,
     words: Arc<Words, Global>,
@@ -44,7 +44,8 @@ impl<Id: StoreName> Model for Closing<Id> {
     ghost invariant = { λ s. IsClosingSeat Id.store (arc_value s.words).shared.table_id (arc_value s.words).shared.key s.seat.table_id s.plan s.seat.me };
 }
 
-/// The steps by which a reader is given up: its view is laid in the keeper's seat, and NOW is loaded.
+/// The steps of giving up a reader: its view is joined to that of the keeper's seat, and NOW is
+/// loaded.
 fn give_up_on<Id: StoreName>(words: &Words, keeper: &mut TableSeat, reader: Badge<View>)
     requires table { AreAt words.now.shared.table_id keeper.old.table_id reader.table_id }
     requires base { base_of words.now.shared.key ≡ Id.store.base }
@@ -59,7 +60,7 @@ fn give_up_on<Id: StoreName>(words: &Words, keeper: &mut TableSeat, reader: Badg
 }
 
 impl<Id: StoreName> KeeperSeat<Id> {
-    /// Closes the store, whose keeper is at rest.
+    /// Closes the store. Requires that its keeper is idle.
     pub fn close(self) -> Closing<Id>
         requires { self ≡ resting (readers_of Id.store) self.log }
         ensures { result ≡ record { log = self.log; readers = 0; made = 0 } }
@@ -85,9 +86,10 @@ impl<Id: StoreName> KeeperSeat<Id> {
 }
 
 impl<Id: StoreName> Closing<Id> {
-    /// Takes a reader's seat back. What it has seen begins the log, and the log has as many entries by it as it counts.
+    /// Takes a reader's seat back. What it has seen is a prefix of the log, and the log has as many
+    /// entries by it as it counts.
     ///
-    /// Condition: it has announced nothing.
+    /// Requires that it has announced nothing.
     pub fn give_up(&mut self, reader: ReaderSeat<Id>)
         requires { reader.announced ≡ None }
         ensures counts { self.new ≡ record self.old { readers = self.old.readers + 1; made = self.old.made + reader.made } }
@@ -106,7 +108,8 @@ impl<Id: StoreName> Closing<Id> {
         give_up_on::<Id>(&self.words, &mut self.seat, seat);
     }
 
-    /// Ends the keeper's seat. The log is legal; where all readers were given up, what they count adds up to its length.
+    /// Ends the keeper's seat. The log is legal; if all readers were given up, their counts add up
+    /// to its length.
     pub fn end(self)
         ensures legal { IsLegal Id.store.base.setting Id.store.base.opening (entries self.log) }
         ensures made { self.readers ≡ readers_of Id.store → self.made ≡ length self.log }

@@ -15,7 +15,7 @@ use std::alloc::Global;
 use std::marker::{Model, PhantomData};
 use std::sync::Arc;
 
-/// The keeper's seat of a store that has no name yet. Contracts see it as the store.
+/// The keeper's seat of a store that has no name yet. Contracts see the store.
 #[derive(Drop)]
 pub struct FreshKeeper {
     pub(crate) seat: TableSeat,
@@ -36,7 +36,7 @@ impl Model for FreshKeeper {
 }
 
 impl FreshKeeper {
-    /// The keeper's seat of the store with this name. Condition: the name is its store's.
+    /// The keeper's seat of the store with this name. Requires the name to be its store's.
     pub fn named<Id: StoreName>(self) -> KeeperSeat<Id>
         requires { self ≡ Id.store }
         ensures { result ≡ resting (readers_of Id.store) [] }
@@ -56,7 +56,8 @@ impl FreshKeeper {
     }
 }
 
-/// A reader's seat of a store that has no name yet. Contracts see it as the reader's number and the store.
+/// A reader's seat of a store that has no name yet. Contracts see the reader's number and the
+/// store.
 #[derive(Drop)]
 pub struct FreshReader {
     pub(crate) seat: Badge<View>,
@@ -78,7 +79,8 @@ impl Model for FreshReader {
 }
 
 impl FreshReader {
-    /// The reader's seat of the store with this name, whose setting is within its limits for the map. Condition: the name is its store's.
+    /// The reader's seat of the store with this name, whose setting is within its limits for the
+    /// map. Requires the name to be its store's.
     pub fn named<Id: StoreName>(self) -> ReaderSeat<Id>
         requires { self.store ≡ Id.store }
         ensures reader { result ≡ reader_at_opening self.number }

@@ -18,19 +18,20 @@ use std::alloc::Global;
 use std::marker::{Model, PhantomData};
 use std::sync::Arc;
 
-/// The seat of a store's keeper: it alone stores NOW, blocks and directories. Contracts see it as the log, the command in hand with what is done
-/// of it, and which readers there are.
+/// The seat of a store's keeper, the only one that stores NOW, blocks and directories. Contracts
+/// see the log, the current command with its steps done, and which readers there are.
 ///
-/// It can't be let go: it is closed.
+/// It can't be dropped: close it.
 pub struct KeeperSeat<Id: StoreName> {
     pub(crate) seat: TableSeat,
     pub(crate) words: Arc<Words, Global>,
     pub(crate) plan: Plan,
-    // What NOW says: the place of the last entry, the newest version, and its slot.
+    // The fields of NOW: the place of the last entry, the newest version, and its slot.
     pub(crate) place: u32,
     pub(crate) version: u32,
     pub(crate) slot: u32,
-    // Whether the command in hand is a publish, and whether the reader of the last commit hasn't met the keeper since.
+    // Whether the current command is a publish, and whether the reader of the last commit hasn't
+    // met the keeper since.
     pub(crate) publishes: bool,
     pub(crate) unmet: bool,
     pub(crate) of: PhantomData<Id>,
@@ -56,9 +57,10 @@ impl<Id: StoreName> KeeperSeat<Id> {
         self.plan
     }
 
-    /// Takes a command in hand, with its caller: exchanges NOW for itself. That this stores what stands there is
-    /// the rule's (`Order` of `seats_do_events`); the clause says what the keeper knows then. Conditions: none
-    /// is in hand, and the command is accepted after the log.
+    /// Takes a command, with its caller: exchanges NOW for its own value. That this stores what is
+    /// already there is the rule's (`Order` of `seats_do_events`); the clause says what the keeper
+    /// knows then. Requires that there is no current command, and that the command is accepted
+    /// after the log.
     pub fn order(&mut self, asked: &Request)
         requires none { self.old.task ≡ None }
         requires accepted { refused Id.store.base.setting (story Id.store.base (entries self.old.log)) asked.now.command ≡ None }
@@ -76,8 +78,9 @@ impl<Id: StoreName> KeeperSeat<Id> {
         self.publishes = is_publish(&asked.command);
     }
 
-    /// Stores the next word of the publish in hand: a row of one of the draft's own blocks, by position and then by row, or after these a block
-    /// of the next version's directory, by position. Condition: it is the next one, at its place.
+    /// Stores the next word of the current publish: a row of one of the draft's own blocks, by
+    /// position and then by row, or after these a block of the next version's directory, by
+    /// position. Requires that it is the next one, at its index.
     pub fn write_word(&mut self, place: usize, word: u64)
         requires { IsNextWrite Id.store.base self.old place word }
         ensures { (t : Task) → self.old.task ≡ Some t → self.new ≡ wrote self.old t }
@@ -87,9 +90,10 @@ impl<Id: StoreName> KeeperSeat<Id> {
             .store::<Write>(&mut self.seat, place, word);
     }
 
-    /// Loads the next reader's word for the collect in hand: what the reader has announced: nothing, a version and those after it, or a version alone.
+    /// Loads the next reader's word for the current collect: nothing, a version and those after it,
+    /// or one version exactly.
     ///
-    /// Condition: it is the next reader, from 0 on.
+    /// Requires that it is the next reader, from 0 on.
     pub fn scan(&mut self, reader: u32) -> u64
         requires { IsNextScan Id.store.base self.old reader }
         ensures scanned { (t : Task) → self.old.task ≡ Some t → self.new ≡ scanned self.old t result }
@@ -99,10 +103,12 @@ impl<Id: StoreName> KeeperSeat<Id> {
         self.words.shared.load::<Scan<Id>>(&mut self.seat, place)
     }
 
-    /// Stores NOW. The log is then longer by the command in hand with its reply: a collect's has the versions that its scan keeps.
+    /// Stores NOW. The log then has one more entry: the current command with its reply; that of a
+    /// collect has the versions that its scan keeps.
     ///
-    /// Conditions: a command is in hand, all its steps but this are done, its caller is one of the store's readers, and the reader of the last
-    /// commit has met the keeper. The slot is that of the version that is newest then.
+    /// Requires that there is a current command, that all its steps but this are done, that its
+    /// caller is one of the store's readers, and that the reader of the last commit has met the
+    /// keeper. The slot is that of the version that is newest then.
     pub fn commit(&mut self, slot: u32)
         requires may { MayCommit Id.store.base self.old }
         requires slot { (t : Task) → self.old.task ≡ Some t → slot ≡ newest_slot Id.store.base (committed Id.store.base self.old t).log }

@@ -1,19 +1,25 @@
-//! A store's shared words, and the seats that load and store them: one keeper's, one for each reader, and tickets.
+//! A store's shared words, and the seats that load and store them: the keeper's, one per reader,
+//! and tickets.
 //!
-//! The words are those of the core: NOW, which is the place of the log's last entry times 2^35, plus the newest version times 2^6, plus
-//! that version's slot; a word for each reader, 0, or 2a + 1 where it has announced version a and those after it, or 2v + 2 where it has announced version v alone; for each slot the blocks of a version, by position; and the rows of the
-//! blocks. The log itself stands in no word: the keeper's seat knows it, and since that seat alone stores NOW, what it knows is the log.
+//! The words are those of the core: NOW, which is the place of the log's last entry times 2^35,
+//! plus the newest version times 2^6, plus that version's slot; a word per reader, 0, or 2a + 1 if
+//! it has announced version a and those after it, or 2v + 2 if it has announced exactly version v;
+//! for each slot the blocks of a version, by position; and the rows of the blocks. No word holds
+//! the log itself: the keeper's seat knows it, and since only that seat stores NOW, what it knows
+//! is the log.
 //!
-//! The rule of the table is that between any two steps there is a state of the core: its words are the table's, its keeper is what the
-//! keeper's seat knows, and its readers are what the readers' seats know. Each step below is one load or one store of one word, or
-//! the order of a command, the core's event of its kind in that state. Views that seats give one another are no event. A reader's seat has
-//! seen a beginning of the log, which grows to the whole at each load of NOW.
+//! The rule of the table is that between any two steps there is a state of the core: its words are
+//! the table's, its keeper is what the keeper's seat knows, and its readers are what the readers'
+//! seats know. Each step below is one load or one store of one word, or the order of a command: the
+//! core's event of its kind in that state. Exchanging views is no event. A reader's seat has seen a
+//! prefix of the log, which grows to the whole at each load of NOW.
 //!
-//! Two seats in hand know nothing of each other. So `meet` lays the reader's view in the keeper's seat, loads NOW, and gives it back:
-//! the reader has then seen all, and counts the entry that was committed for it. A ticket is cut from the keeper's seat, and a reader
-//! that learns it has seen what the keeper knew.
+//! Two seats know nothing of each other. So `meet` joins the reader's view to that of the keeper's
+//! seat, loads NOW, and returns it: the reader has then seen everything, and counts the entry that
+//! was committed for it. A ticket is cut from the keeper's seat, and a reader that learns it has
+//! seen what the keeper knew.
 //!
-//! No call waits for anybody, and an opening alone takes memory.
+//! No call waits for anybody, and only opening a store allocates memory.
 #![tactic(auto)]
 
 mod closing;

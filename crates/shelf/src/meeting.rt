@@ -1,4 +1,4 @@
-//! A meeting of the keeper and a reader.
+//! Meetings of the keeper and a reader.
 
 ghost use Rattle.std.specs.Prelude.{◌≡◌, ◌⊎◌, [], ◌∷◌, None, Some};
 ghost use mathlib.Core.List.{IsPrefix};
@@ -15,7 +15,7 @@ use crate::table::{TableSeat, View, Words};
 use atomic_table::Badge;
 use std::mem::replace;
 
-/// Lays a reader's view in the keeper's seat.
+/// Joins a reader's view to that of the keeper's seat.
 pub(crate) fn lay_together(words: &Words, keeper: &mut TableSeat, reader: Badge<View>)
     requires table { AreAt words.now.shared.table_id keeper.old.table_id reader.table_id }
     requires roles { AreKeeperAndReader keeper.old.me reader.views }
@@ -27,7 +27,8 @@ pub(crate) fn lay_together(words: &Words, keeper: &mut TableSeat, reader: Badge<
         .join_seat::<Together>(keeper, reader.into_seat::<Request>());
 }
 
-/// The steps of a meeting: the reader's view is laid in the keeper's seat, NOW is loaded, and the reader gets its view back.
+/// The steps of a meeting: the reader's view joins the keeper's seat, NOW is loaded, and the reader
+/// gets its view back.
 fn meet_on<Id: StoreName>(words: &Words, keeper: &mut TableSeat, reader: Badge<View>) -> Badge<View>
     requires table { AreAt words.now.shared.table_id keeper.old.table_id reader.table_id }
     requires base { base_of words.now.shared.key ≡ Id.store.base }
@@ -43,12 +44,14 @@ fn meet_on<Id: StoreName>(words: &Words, keeper: &mut TableSeat, reader: Badge<V
     words.shared.split_seat::<Apart>(keeper).into_badge()
 }
 
-/// The reader sees the keeper's whole log. After a commit of an entry by this reader it counts that entry.
+/// The reader sees the keeper's whole log. After a commit of an entry by this reader it counts that
+/// entry.
 ///
-/// Condition: no entry by another reader was committed since that reader met the keeper.
+/// Requires that no entry by another reader was committed since that reader met the keeper.
 ///
-/// It loads NOW three times, since two seats in hand know nothing of each other: a join and a cut of views tell nothing. As a load it
-/// gives a hold to a reader that has announced and holds nothing.
+/// It loads NOW three times, since two seats know nothing of each other: joining and cutting views
+/// proves nothing. As a load, it makes a reader that has announced and holds nothing hold a
+/// version.
 pub fn meet<Id: StoreName>(keeper: &mut KeeperSeat<Id>, reader: &mut ReaderSeat<Id>)
     requires { (keeper.old.unmet ≡ None) ⊎ (keeper.old.unmet ≡ Some reader.old.number) }
     ensures keeper { keeper.new ≡ met keeper.old }

@@ -5,7 +5,8 @@ ghost use Rattle.shelf.specs.Open.{all_newcomers};
 
 use crate::fresh::{FreshKeeper, FreshReader};
 
-/// The keeper's seat and the readers' seats of a store that has no name yet: a reader for each session, by number.
+/// The keeper's seat and the readers' seats of a store that has no name yet: one reader per
+/// session, by number.
 #[derive(Drop)]
 pub struct Opening {
     pub keeper: FreshKeeper,

@@ -1,4 +1,4 @@
-//! Opening a store: its table, the keeper's seat and the readers' seats, before the store has a name.
+//! Opens a store: its table, the keeper's seat and the readers' seats, before the store has a name.
 
 ghost use Rattle.std.specs.Prelude.{◌≡◌, ◌+◌, ◌<◌, [], None, OnOk, IfOk, IfErr};
 ghost use Rattle.std.specs.Arc.{arc_value};
@@ -75,10 +75,10 @@ fn deal_all(
 }
 
 impl Opening {
-    /// Makes the table of a store that is opened on a bitmap, the keeper's seat, and a seat for each session, numbered from 0, that has
-    /// seen the empty log.
+    /// Makes the table of a store opened with a bitmap, the keeper's seat, and one seat per
+    /// session, numbered from 0, that has seen the empty log.
     ///
-    /// Refused for want of memory alone.
+    /// Fails only when out of memory.
     pub fn of(alloc: Global, setting: Setting, map: &Bitmap) -> Result<Opening, Refusal>
         requires { bad_field (tile_count map.now) setting ≡ None }
         ensures base { IfOk result (λ opening. opening.keeper.base ≡ record { setting = setting; opening = map.now }) }

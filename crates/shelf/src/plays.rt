@@ -1,4 +1,4 @@
-//! The kinds of steps on the shared words, a type for each, and what each step tells its seat.
+//! The kinds of steps on the shared words, one type each, and what each step proves to its seat.
 
 use crate::name::StoreName;
 use crate::request::Request;
@@ -28,7 +28,7 @@ impl<Id: StoreName> Play<Request, View> for Announce<Id> {
     ghost then = { announces Id.store.base };
 }
 
-/// A reader announces the version that it holds, and no other.
+/// A reader announces exactly the version that it holds.
 pub struct Confirm;
 
 impl Play<Request, View> for Confirm {
@@ -57,7 +57,7 @@ impl<Id: StoreName> Play<Request, View> for Look<Id> {
     ghost then = { looks Id.store.base };
 }
 
-/// The keeper takes a command in hand.
+/// The keeper takes a command.
 pub struct Order;
 
 impl Play<Request, View> for Order {
@@ -108,7 +108,7 @@ impl Split<View> for CutTicket {
     ghost right = { cut_off };
 }
 
-/// A ticket's view is laid in a reader's seat.
+/// A ticket's view joins a reader's seat.
 pub struct LayTicket;
 
 impl Join<View> for LayTicket {
@@ -120,7 +120,7 @@ impl Join<View> for LayTicket {
     ghost spent = { idle };
 }
 
-/// The load after which a reader has seen what a ticket had.
+/// The load after which a reader has seen what a ticket had seen.
 pub struct Learn<Id> {
     of: PhantomData<Id>,
 }
@@ -142,7 +142,7 @@ impl<Id: StoreName> Play<Request, View> for Meet<Id> {
     ghost then = { meets Id.store.base };
 }
 
-/// A reader's view is laid in the keeper's seat.
+/// A reader's view joins the keeper's seat.
 pub struct Together;
 
 impl Join<View> for Together {

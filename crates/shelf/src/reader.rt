@@ -25,10 +25,10 @@ use std::marker::{Model, PhantomData};
 use std::mem::replace;
 use std::sync::Arc;
 
-/// A reader's seat. Contracts see it as its number, what it has seen of the log, how many entries of it are by this reader, and which
-/// version it holds, with what it has announced.
+/// A reader's seat. Contracts see its number, what it has seen of the log, how many entries of it
+/// are by this reader, and which version it holds, with what it has announced.
 ///
-/// It can't be let go: a store that is closed takes it back.
+/// It can't be dropped: closing its store takes it back.
 pub struct ReaderSeat<Id: StoreName> {
     pub(crate) seat: Badge<View>,
     pub(crate) words: Arc<Words, Global>,
@@ -61,7 +61,7 @@ impl<Id: StoreName> ReaderSeat<Id> {
         self.number
     }
 
-    /// What the border of the store's map is.
+    /// The edge of the store's map.
     pub fn edge(&self) -> Edge
         ensures { result ≡ Id.store.base.setting.edge }
     {
@@ -75,8 +75,8 @@ impl<Id: StoreName> ReaderSeat<Id> {
         self.made
     }
 
-    /// Announces the newest version that this seat has seen, and those after it: stores twice that version plus 1 in its word. Condition: it has
-    /// announced nothing.
+    /// Announces the newest version that this seat has seen, and those after it: stores twice that
+    /// version plus 1 in its word. Requires that it has announced nothing.
     pub fn announce(&mut self)
         requires { self.old.announced ≡ None }
         ensures { self.new ≡ announcing Id.store.base self.old }
@@ -89,8 +89,8 @@ impl<Id: StoreName> ReaderSeat<Id> {
         self.seat = seat.into_badge();
     }
 
-    /// Announces the version that it holds, and no other: stores twice that version plus 2 in its word. Condition: it holds that version, and hasn't
-    /// announced it so yet.
+    /// Announces exactly the version that it holds: stores twice that version plus 2 in its word.
+    /// Requires that it holds that version, and hasn't announced it exactly yet.
     pub fn confirm(&mut self, version: u32)
         requires { to_confirm self.old.announced self.old.holds ≡ Some version }
         ensures { self.new ≡ confirming version self.old }
@@ -103,7 +103,8 @@ impl<Id: StoreName> ReaderSeat<Id> {
         self.seat = seat.into_badge();
     }
 
-    /// Takes the announcement back: stores 0 in its word. It then holds nothing, and has seen what it had. Condition: it has announced.
+    /// Withdraws the announcement: stores 0 in its word. It then holds nothing, and has seen what
+    /// it had seen. Requires that it has announced.
     pub fn leave(&mut self)
         requires { is_some self.old.announced ≡ true }
         ensures { self.new ≡ leaving self.old }
@@ -114,8 +115,8 @@ impl<Id: StoreName> ReaderSeat<Id> {
         self.seat = seat.into_badge();
     }
 
-    /// Loads NOW, and answers what it says. The seat has then seen the whole log as it is at the load, and where it has announced and held
-    /// nothing it holds the newest version.
+    /// Loads NOW, and returns its fields. The seat has then seen the whole log as it is at the
+    /// load, and if it had announced and held nothing, it holds the newest version.
     pub fn take(&mut self) -> Now
         ensures seat { self.new ≡ loaded Id.store.base self.new.seen self.old }
         ensures began { IsPrefix self.old.seen self.new.seen }
@@ -133,9 +134,11 @@ impl<Id: StoreName> ReaderSeat<Id> {
         now
     }
 
-    /// Loads the block of a position in the version that it holds: a number below the setting's blocks.
+    /// Loads the block of a position in the version that it holds: a number below the setting's
+    /// blocks.
     ///
-    /// Conditions: it holds that version, which has that slot, and the map has that position.
+    /// Requires that it holds that version, which has that slot, and that the map has that
+    /// position.
     pub fn look_map(&mut self, version: u32, slot: u32, position: u16) -> u32
         requires held { self.old.holds ≡ Some version }
         requires slot { slot ≡ slot_of Id.store.base (story Id.store.base (entries self.old.seen)) version }
@@ -152,10 +155,11 @@ impl<Id: StoreName> ReaderSeat<Id> {
         word as u32
     }
 
-    /// Loads a row of a block: bit j is column j. It is that of the position at which the version that it holds has the block, whatever others
-    /// publish and collect.
+    /// Loads a row of a block: bit j is column j. The row is that of the position at which its held
+    /// version has the block, whatever others publish and collect.
     ///
-    /// Conditions: the store has that block, the version that it holds has it at a position, and the row is one of 64.
+    /// Requires that the store has that block, that its held version has it at a position, and that
+    /// the row is one of 64.
     pub fn look_tile(&mut self, block: u32, row: u16) -> u64
         requires block { block < Id.store.base.setting.blocks }
         requires mapped { HasBlock Id.store.base self.old block }

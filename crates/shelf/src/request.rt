@@ -1,8 +1,8 @@
-//! A command that is given to the keeper, with its caller.
+//! A command for the keeper, with its caller.
 
 use map_core::Command;
 
-/// A command that is given to the keeper, and the number of the session whose seat was lent.
+/// A command for the keeper, and the number of the session whose seat was lent.
 #[derive(Debug, Drop)]
 pub struct Request {
     pub by: u32,

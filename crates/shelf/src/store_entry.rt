@@ -2,7 +2,8 @@
 
 use map_core::Entry;
 
-/// An entry of a store's log: a command that was accepted, its reply, and the number of the session whose seat was lent.
+/// An entry of a store's log: an accepted command, its reply, and the number of the session whose
+/// seat was lent.
 #[derive(Debug, Drop)]
 pub struct StoreEntry {
     pub by: u32,

@@ -8,7 +8,7 @@ use std::alloc::Global;
 use std::marker::Model;
 use std::snapshot::Snapshot;
 
-/// What a seat knows. Contracts see it as the seat's role, and no value of it is made.
+/// What a seat knows. Contracts see the seat's role; no value of the type is made.
 pub struct View {
     _none: u8,
 }
@@ -21,14 +21,15 @@ impl Model for View {
     ghost view = { λ _. idle };
 }
 
-/// What a table is told as it is made: the setting, and the opening bitmap as contracts see it.
+/// What a table is made from: the setting, and the opening bitmap as contracts see it.
 #[derive(Drop)]
 pub struct Basis {
     pub setting: Setting,
     pub opening: Snapshot<Bitmap>,
 }
 
-/// The rule of the table: there is a state of the core whose words are the table's, and whose keeper and readers are what the seats know.
+/// The rule of the table: there is a state of the core whose words are the table's, and whose
+/// keeper and readers are what the seats know.
 pub struct Law;
 
 impl TableRule<Request, View, Basis> for Law {

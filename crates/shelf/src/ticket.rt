@@ -21,9 +21,9 @@ use map_core::Now;
 use std::marker::{Model, PhantomData};
 use std::mem::replace;
 
-/// A token of the log as it was. Contracts see it as that log.
+/// A token of the log as it was, which is what contracts see.
 ///
-/// It can't be let go: a reader learns it, or it is discarded.
+/// It can't be dropped: a reader learns it, or it is discarded.
 pub struct Ticket<Id: StoreName> {
     seat: Badge<View>,
     of: PhantomData<Id>,
@@ -43,14 +43,14 @@ impl<Id: StoreName> Model for Ticket<Id> {
 }
 
 impl<Id: StoreName> Ticket<Id> {
-    /// Lets it go: nobody learns it.
+    /// Drops a ticket that nobody learns.
     pub fn discard(self) {
         let Ticket { seat: _, of: _ } = self;
     }
 }
 
 impl<Id: StoreName> KeeperSeat<Id> {
-    /// A ticket of the log as it is. It is cut off by a load of NOW.
+    /// A ticket of the log as it is now. A load of NOW cuts it off.
     pub fn ticket(&mut self) -> Ticket<Id>
         ensures log { result ≡ self.old.log }
         ensures seat { self.new ≡ self.old }
@@ -67,7 +67,7 @@ impl<Id: StoreName> KeeperSeat<Id> {
     }
 }
 
-/// Lays the ticket's view in the reader's seat, and loads NOW.
+/// Joins the ticket's view to that of the reader's seat, and loads NOW.
 fn learn_on<Id: StoreName>(words: &Words, reader: &mut Badge<View>, token: Badge<View>) -> u64
     requires table { (reader.old.table_id ≡ words.now.shared.table_id) × (token.table_id ≡ words.now.shared.table_id)
         × (0 < words.now.shared.table_id.words) }
@@ -87,7 +87,8 @@ fn learn_on<Id: StoreName>(words: &Words, reader: &mut Badge<View>, token: Badge
 }
 
 impl<Id: StoreName> ReaderSeat<Id> {
-    /// Loads NOW. The seat has then seen all that it and the ticket had. As a load it gives a hold to a seat that has announced and holds nothing; else what it holds stays.
+    /// Loads NOW. The seat has then seen all that it and the ticket had seen. As a load, it makes a
+    /// seat that has announced and holds nothing hold a version; a version held stays.
     pub fn learn(&mut self, ticket: Ticket<Id>)
         ensures seat { self.new ≡ loaded Id.store.base self.new.seen self.old }
         ensures began { IsPrefix self.old.seen self.new.seen }
