@@ -1,17 +1,16 @@
--- What C sees of a cell's nearest obstacle, or of its distance alone: this project's own rule.
--- Where there is no obstacle, the distance is the largest number of 32 bits.
+-- A cell's nearest obstacle, or only its distance, as C sees it: this project's own rule. Where
+-- there is no obstacle, the distance is the largest 32-bit number.
 use Rattle.std.specs.Prelude.{ℕ, ◌==◌, ◌&&◌, negsuc, int_lt, Option, Some, None, option_map, if◌then◌else◌}
 use Rattle.metric.specs.declared.cell.Cell.{Cell}
 use Rattle.metric.specs.declared.near.Near.{Near}
 use Rattle.libclearmap.specs.declared.near.ClearmapNear.{ClearmapNear}
 use Rattle.libclearmap.specs.declared.near.ClearmapFound.{ClearmapFound}
 
--- what tells that there is no obstacle
+-- the value that means no obstacle
 abbrev pub kept_nothing : ClearmapNear
 kept_nothing = record { dist = 4294967295; x = negsuc 1; y = negsuc 1 }
 
--- the nearest obstacle that is kept, or none: then the distance says so, and the column is no
--- spot's
+-- the nearest obstacle that a value means; none if its distance says so and no spot has its column
 abbrev pub near_kept : ClearmapNear → Option Near
 near_kept kept = if int_lt kept.x (negsuc 0) && kept.dist == 4294967295 then None else Some
     (record { dist = kept.dist; cell = record { x = kept.x; y = kept.y } })
@@ -20,6 +19,6 @@ near_kept kept = if int_lt kept.x (negsuc 0) && kept.dist == 4294967295 then Non
 abbrev pub found_kept : ClearmapFound → Option (Cell × Near)
 found_kept kept = option_map (λ near. (kept.cell, near)) (near_kept kept.near)
 
--- the distance that is kept, or none
+-- the distance that a number means, or none
 abbrev pub distance_kept : ℕ → Option ℕ
 distance_kept number = if number == 4294967295 then None else Some number

@@ -1,5 +1,5 @@
--- How a map lies in the caller's memory: this project's own rule. Its rows stand one after another
--- from the top, from one to the next so many bytes or words.
+-- The layout of a map in the caller's memory: this project's own rule. Its rows lie one after
+-- another from the top, a fixed number of bytes or words apart.
 use Rattle.std.specs.Prelude.{ℕ, ◌+◌, ◌-◌, ◌*◌, ◌/◌, ◌^◌, ◌≤◌, ◌<◌, ◌==◌, ◌&&◌, nat_le, Bool, List, slice_index}
 use Rattle.std.specs.Int.{bit_at}
 use Rattle.bits.specs.Cells.{Cells, IsSide, cells_where}
@@ -7,33 +7,31 @@ use Rattle.bits.specs.Stored.{is_stored}
 use Rattle.libclearmap.specs.declared.layout.ClearmapBytes.{ClearmapBytes}
 use Rattle.libclearmap.specs.declared.layout.ClearmapBits.{ClearmapBits}
 
--- whether a byte is that of an obstacle: it lies between two bounds
+-- whether a byte marks an obstacle: it lies between two bounds
 abbrev pub is_obstacle_byte : ℕ → ℕ → ℕ → Bool
 is_obstacle_byte low high byte = nat_le low byte && nat_le byte high
 
--- whether the cell (x, y) of a map in bytes is an obstacle
+-- whether cell (x, y) of a map in bytes is an obstacle
 abbrev pub is_dark : ClearmapBytes → List ℕ → ℕ → ℕ → Bool
 is_dark map bytes x y = is_obstacle_byte map.low map.high (slice_index bytes (y * map.stride + x))
 
--- the map that lies in the bytes
+-- the map in the bytes
 abbrev pub cells_of_bytes : ClearmapBytes → List ℕ → Cells
 cells_of_bytes map bytes = cells_where map.width map.height (is_dark map bytes)
 
--- whether the row y lies in a band that may have an obstacle
+-- whether row y is in a band that may have an obstacle
 abbrev pub is_in_band : ℕ → ℕ → Bool
 is_in_band bands y = bit_at bands (y / 64) == 1
 
--- whether the cell (x, y) of a map in bits is an obstacle: its bit is 1, and its row's band may
--- have one
+-- whether cell (x, y) of a map in bits is an obstacle: its bit is 1, and so is its band's
 abbrev pub is_marked : ClearmapBits → List ℕ → ℕ → ℕ → Bool
 is_marked map words x y = is_in_band map.bands y && is_stored map.stride words x y
 
--- the map that lies in the words
+-- the map in the words
 abbrev pub cells_of_bits : ClearmapBits → List ℕ → Cells
 cells_of_bits map words = cells_where map.width map.height (is_marked map words)
 
--- a map of this size, whose rows have so many items each and stand so many apart, lies in so many
--- items
+-- a map of this size fits this many items, with `across` items in a row and rows `stride` apart
 pub record IsShape (width height across stride count : ℕ) : Type 0 where
   pub width_is : IsSide width
   pub height_is : IsSide height

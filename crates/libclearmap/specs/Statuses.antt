@@ -1,5 +1,5 @@
--- What is wrong with a call, as a number: this project's own rule. Where several things are, it is
--- the first of them, in the order of their numbers.
+-- What is wrong with a call, as a number: this project's own rule. Of several faults it is the
+-- first, in the order of their numbers.
 use Rattle.std.specs.Prelude.{◌≡◌, ℕ, zero, suc, ◌+◌, ◌-◌, ◌*◌, ◌^◌, ◌&&◌, ◌||◌, ◌⊎◌, nat_le, nat_lt, not, Bool, List, length, Option, Some, None, if◌then◌else◌}
 use Rattle.metric.specs.declared.cell.Cell.{Cell}
 use Rattle.metric.specs.declared.refusal.Refusal.{Refusal}
@@ -10,7 +10,7 @@ use Rattle.clearance.specs.Paths.{path_refusal}
 use Rattle.libclearmap.specs.declared.layout.ClearmapBytes.{ClearmapBytes}
 use Rattle.libclearmap.specs.declared.layout.ClearmapBits.{ClearmapBits}
 
--- the first of two that isn't 0: 0 says that nothing is wrong
+-- the first of two statuses that isn't 0; 0 means that nothing is wrong
 abbrev pub first_wrong : ℕ → ℕ → ℕ
 first_wrong zero next = next
 first_wrong (suc n) next = suc n
@@ -19,7 +19,7 @@ first_wrong (suc n) next = suc n
 abbrev pub is_side : ℕ → Bool
 is_side count = nat_le 1 count && nat_le count 4096
 
--- 1, a side is out of its limits; 2, the stride is; 3, the memory ends before the map does
+-- 1: a side is out of its limits; 2: the stride is; 3: the memory ends before the map does
 abbrev pub shape_status : ℕ → ℕ → ℕ → ℕ → ℕ → ℕ
 shape_status width height across stride count =
     if not (is_side width && is_side height) then 1
@@ -36,26 +36,26 @@ abbrev pub bits_status : ClearmapBits → List ℕ → ℕ
 bits_status map words = shape_status map.width map.height (words_across map.width) map.stride
     (length words)
 
--- 4, there is no such metric; 5, there is no such edge
+-- 4: no metric has this number; 5: no edge has this number
 abbrev pub setting_status : ℕ → ℕ → ℕ
 setting_status metric edge = if nat_lt 2 metric then 4 else if nat_lt 1 edge then 5 else 0
 
--- 7, the cell isn't in the map
+-- 7: the cell isn't in the map
 abbrev pub cell_status : Cells → ℕ → ℕ → ℕ
 cell_status cells x y = if nat_lt x cells.width && nat_lt y cells.height then 0 else 7
 
--- 7, the rectangle has no cell, or isn't wholly in the map
+-- 7: the rectangle has no cell, or isn't wholly within the map
 abbrev pub rect_status : Cells → ℕ → ℕ → ℕ → ℕ → ℕ
 rect_status cells x0 y0 x1 y1 = if (nat_lt x0 x1 && nat_le x1 cells.width)
     && (nat_lt y0 y1 && nat_le y1 cells.height) then 0 else 7
 
--- 6, a path has too few or too many points; 7, a point isn't in the map; 8, a point is crooked
+-- 6: a path has too few or too many points; 7: a point isn't in the map; 8: a point is crooked
 abbrev pub refusal_status : Refusal → ℕ
 refusal_status BadPath = 6
 refusal_status OutOfRange = 7
 refusal_status _ = 8
 
--- what is wrong where this is why it is refused, if it is
+-- the status of a refusal, if there is one
 abbrev pub refused_status : Option Refusal → ℕ
 refused_status None = 0
 refused_status (Some refusal) = refusal_status refusal
@@ -64,20 +64,19 @@ refused_status (Some refusal) = refusal_status refusal
 abbrev pub path_status : Cells → List Cell → ℕ
 path_status cells points = refused_status (path_refusal cells points)
 
--- 7, the rows end before they begin, or aren't all in the map
+-- 7: the range of rows ends before it starts, or isn't wholly within the map
 abbrev pub rows_status : Cells → ℕ → ℕ → ℕ
 rows_status cells y0 y1 = if nat_le y0 y1 && nat_le y1 cells.height then 0 else 7
 
--- 9, there is room for fewer answers than there are
+-- 9: the output has capacity for fewer answers than there are
 abbrev pub room_status : ℕ → ℕ → ℕ
 room_status needed count = if nat_le needed count then 0 else 9
 
--- a call that takes memory has the status that it should have; or it is one that should be done,
--- and 10 says that there was no memory
+-- a call that allocates memory has the expected status, or 10 (out of memory) in place of 0
 abbrev pub IsStatus : ℕ → ℕ → Type 0
 IsStatus expected status = (status ≡ expected) ⊎ ((expected ≡ 0) × (status ≡ 10))
 
--- what is wrong with a call for all cells of some rows, with room for so many answers
+-- what is wrong with a call for all cells of a range of rows, with capacity for this many answers
 abbrev pub table_status : Cells → ℕ → ℕ → ℕ → ℕ → ℕ → ℕ
 table_status cells metric edge y0 y1 count = first_wrong (setting_status metric edge)
     (first_wrong (rows_status cells y0 y1) (room_status ((y1 - y0) * cells.width) count))

@@ -1,5 +1,6 @@
 -- Which of two columns is nearer, cell by cell along a row.
--- Source: A. Meijster, J. Roerdink, W. Hesselink, "A General Algorithm for Computing Distance Transforms in Linear Time" (2000): the second phase and its separators.
+-- Source: A. Meijster, J. Roerdink, W. Hesselink, "A General Algorithm for Computing Distance
+-- Transforms in Linear Time" (2000): the second phase and its separators.
 use Rattle.std.specs.Prelude.{◌≡◌, ℕ, ◌+◌, ◌-◌, ◌*◌, ◌<◌, ◌≤◌, ◌↔◌, ℤ, pos, negsuc}
 use Rattle.std.specs.Int.{abs_diff}
 use Rattle.std.proofs.Common.{arith, subst, inl, inr}
@@ -7,11 +8,11 @@ use Rattle.std.proofs.Math.Nat.{mul-le-mul_left}
 use Rattle.std.proofs.lemmas.Bool.{cases_lt}
 use Rattle.metric.specs.Distance.{euclid2, city, chess}
 
--- the cell in column x has this distance to the obstacle of column i that lies g rows away
+-- the distance of the cell in column x to the obstacle of column i that lies g rows away
 abbrev pub at_column : (ℕ → ℕ → ℕ) → ℕ → ℕ → ℕ → ℕ
 at_column distance i g x = distance (abs_diff x i) g
 
--- the column i is on the left and u on the right, and their obstacles lie so many rows away
+-- column i is on the left and u on the right, and their obstacles lie gi and gu rows away
 pub record AreColumns (i gi u gu : ℕ) : Type 0 where
   pub order : i < u
   pub within : u ≤ 4097
@@ -22,11 +23,11 @@ pub record AreColumns (i gi u gu : ℕ) : Type 0 where
 pub record IsRightNearer (distance : ℕ → ℕ → ℕ) (i gi u gu x : ℕ) : Type 0 where
   pub less : at_column distance u gu x < at_column distance i gi x
 
--- where the right one of two columns is strictly nearer, it is so at each cell further right, up to the largest map's edge
+-- the right of two columns, where strictly nearer, stays so further right, up to cell 4097
 abbrev pub StaysNearer : (ℕ → ℕ → ℕ) → Type 0
 StaysNearer distance = (i gi u gu x z : ℕ) → AreColumns i gi u gu → x ≤ z → z ≤ 4097 → IsRightNearer distance i gi u gu x → IsRightNearer distance i gi u gu z
 
--- this is the last cell from 0 to 4097 at which the left one of two columns isn't worse than the right one, or -1 where there is none
+-- the last cell from 0 to 4097 at which the left of two columns isn't worse; -1 where there is none
 abbrev pub IsLastNotWorse : (ℕ → ℕ → ℕ) → ℕ → ℕ → ℕ → ℕ → ℤ → Type 0
 IsLastNotWorse distance i gi u gu (pos last) = (last ≤ 4097) × (at_column distance i gi last ≤ at_column distance u gu last) × ((x : ℕ) → last < x → x ≤ 4097 → IsRightNearer distance i gi u gu x)
 IsLastNotWorse distance i gi u gu (negsuc before) = (before ≡ 0) × ((x : ℕ) → x ≤ 4097 → IsRightNearer distance i gi u gu x)
@@ -52,14 +53,14 @@ square_apart x i = elim (cases_lt x i) [
       subst (λ (d : ℕ). d * d + 2 * (x * i) ≡ x * x + i * i) apart (subst (λ (n : ℕ). (x - i) * (x - i) + 2 * (n * i) ≡ n * n + i * i) sum (square_above i (x - i)))
 ]
 
--- by the square of the straight distance, the column k to the right of i is strictly nearer where twice k times x is large enough
+-- by the square, the column k to the right of i is strictly nearer where 2 k x is large enough
 pub euclid2_right_nearer : (i gi k gu x : ℕ) → IsRightNearer euclid2 i gi (i + k) gu x ↔ ((i + k) * (i + k) + gu * gu < i * i + gi * gi + 2 * (x * k))
 euclid2_right_nearer i gi k gu x =
     let left = square_apart x i in
     let right = square_apart x (i + k) in
     (λ nearer. let less = nearer.less in omega (arith, left, right), λ less. record { less = omega (arith, left, right) })
 
--- by the square of the straight distance, the right one of two columns stays nearer
+-- by the square of the Euclidean distance, the right one of two columns stays nearer
 pub euclid2_stays_nearer : StaysNearer euclid2
 euclid2_stays_nearer i gi u gu x z columns before within nearer =
     let order = columns.order in

@@ -5,7 +5,7 @@ use Rattle.std.specs.Prelude.{ℕ, ◌+◌, ◌-◌, ◌*◌, ◌/◌, ◌%◌, 
 abbrev pub is_digit : ℕ → Bool
 is_digit byte = nat_le 48 byte && nat_le byte 57
 
--- these digits make a number of the one whose digits so far have this value
+-- the value of these digits after digits with the value so far
 unfoldable pub value_from : ℕ → List ℕ → ℕ
 value_from so_far [] = so_far
 value_from so_far (digit ∷ digits) = value_from (10 * so_far + (digit - 48)) digits

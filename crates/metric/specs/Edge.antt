@@ -1,4 +1,4 @@
--- What the border of a map can be, by name: this project's own rule.
+-- The edges of a map, by name: this project's own rule.
 use Rattle.std.specs.Prelude.{ℕ, zero, suc, ℤ, pos, negsuc, List, Option, Some, None, bytes_eq, codes, if◌then◌else◌}
 use Rattle.metric.specs.declared.edge.Edge.{Edge}
 use Rattle.metric.specs.declared.edge.Edge.TheVariants.{Open, Wall}
@@ -11,17 +11,17 @@ edge_named name =
     else if bytes_eq name (codes "wall") then Some Wall
     else None
 
--- a cell is moved by so many columns and rows where the frame is counted too
+-- by how many columns and rows a cell shifts when the frame counts too
 abbrev pub shift : Edge → ℕ
 shift Open = 0
 shift Wall = 1
 
--- the whole number is one less than the natural one
+-- the integer that is one less than the natural number
 abbrev pub less_one : ℕ → ℤ
 less_one zero = negsuc 0
 less_one (suc n) = pos n
 
--- a cell that is counted with the frame is this spot
+-- the spot of a cell that is counted with the frame
 abbrev pub spot_of : Edge → ℕ → ℕ → Spot
 spot_of Open a b = record { x = pos a; y = pos b }
 spot_of Wall a b = record { x = less_one a; y = less_one b }

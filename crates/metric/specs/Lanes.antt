@@ -1,11 +1,11 @@
--- Small distances in 16 bits, as they are looked at side by side: this project's own rule.
+-- Small distances in 16 bits, as vectors hold them: this project's own rule.
 use Rattle.std.specs.Prelude.{◌≡◌, ℕ, ◌+◌, ◌*◌, ◌<◌, ◌≤◌, min, max, List, slice_index}
 use Rattle.std.proofs.Common.{arith, inl, inr}
 use Rattle.std.proofs.Math.Nat.{mul-le-mul}
 use Rattle.std.proofs.lemmas.Bool.{cases_lt}
 use Rattle.metric.specs.Distance.{euclid2, city, chess}
 
--- a distance in 16 bits is put together of the part of its row difference and its reach, which is the distance of the columns alone; it is exact below 32400, and no less where the distance is no less
+-- a 16-bit distance joins a row difference's part and a reach, exactly below 32400, else not less
 pub record IsSmall (distance : ℕ → ℕ → ℕ) (part : ℕ → ℕ) (joined : ℕ → ℕ → ℕ) : Type 0 where
   pub few : (g : ℕ) → part g ≤ 32400
   pub far : (g : ℕ) → 61438 ≤ g → part g ≡ 32400
@@ -14,19 +14,19 @@ pub record IsSmall (distance : ℕ → ℕ → ℕ) (part : ℕ → ℕ) (joined
   pub fits : (p r : ℕ) → p ≤ 32400 → r ≤ 9409 → joined p r < 65536
   pub reach : (dx : ℕ) → dx ≤ 97 → distance dx 0 ≤ 9409
 
--- a reach is the distance of the columns alone
+-- a reach is the distance of the columns only
 abbrev pub Reaches : (ℕ → ℕ → ℕ) → (ℕ → ℕ) → Type 0
 Reaches distance reach = (dx : ℕ) → dx ≤ 97 → reach dx ≡ distance dx 0
 
--- each of eight numbers is at most so large
+-- each of eight numbers is at most this large
 abbrev pub AreUpTo : ℕ → List ℕ → Type 0
 AreUpTo most lanes = (i : ℕ) → i < 8 → slice_index lanes i ≤ most
 
--- a row difference has this part in the square of the straight distance
+-- the part of a row difference in the square of the Euclidean distance
 abbrev pub square_part : ℕ → ℕ
 square_part g = min g 180 * min g 180
 
--- a row difference has this part where it is added, or where the larger difference counts
+-- the part of a row difference that is added, or of which the larger counts
 abbrev pub plain_part : ℕ → ℕ
 plain_part g = min g 32400
 
@@ -38,7 +38,7 @@ added p r = p + r
 abbrev pub larger : ℕ → ℕ → ℕ
 larger p r = max p r
 
--- in 16 bits the square of the straight distance is the sum of its row difference's part and its reach
+-- in 16 bits the square of the Euclidean distance is the sum of the part and the reach
 pub euclid2_small : IsSmall euclid2 square_part added
 euclid2_small = record {
   few = λ g. let cut : min g 180 ≤ 180 = omega arith in let squares : min g 180 * min g 180 ≤ 180 * 180 = mul-le-mul cut cut in omega arith;
@@ -55,7 +55,7 @@ euclid2_small = record {
   reach = λ dx near. let squares : dx * dx ≤ 97 * 97 = mul-le-mul near near in omega arith;
 }
 
--- in 16 bits the distance by steps to four neighbours is the sum of its row difference's part and its reach
+-- in 16 bits the distance by steps to four neighbours is the sum of the part and the reach
 pub city_small : IsSmall city plain_part added
 city_small = record {
   few = λ g. omega arith;
@@ -66,7 +66,7 @@ city_small = record {
   reach = λ dx near. omega arith;
 }
 
--- in 16 bits the distance by steps to eight neighbours is the larger of its row difference's part and its reach
+-- in 16 bits the distance by steps to eight neighbours is the larger of the part and the reach
 pub chess_small : IsSmall chess plain_part larger
 chess_small = record {
   few = λ g. omega arith;

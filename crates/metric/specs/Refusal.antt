@@ -1,4 +1,5 @@
--- The lines of refusals: this project's own rule. `ERR`, the refusal's number, its name, and what belongs to it, with one blank between two words.
+-- The lines of refusals: this project's own rule. `ERR`, the refusal's number, its name and its
+-- details, separated by single blanks.
 use Rattle.std.specs.Prelude.{ℕ, List, [], ◌∷◌, ◌++◌, codes}
 use Rattle.std.specs.Fmt.{decimal}
 use Rattle.metric.specs.Fault.{fault_name, field_name}
@@ -7,7 +8,7 @@ use Rattle.metric.specs.declared.fault.PbmFault.TheVariants as faults
 use Rattle.metric.specs.declared.refusal.Refusal.{Refusal}
 use Rattle.metric.specs.declared.refusal.Refusal.TheVariants as refusals
 
--- a refusal starts with `ERR`, its number and its name; an image for which there was no memory is told as want of memory
+-- a refusal starts with `ERR`, its number and its name; a refused image without memory is refusal 5
 abbrev pub refusal_title : Refusal → List ℕ
 refusal_title refusals.OutOfRange = codes "ERR 1 OutOfRange"
 refusal_title (refusals.BlocksFull needed free) = codes "ERR 2 BlocksFull"
@@ -27,7 +28,7 @@ refusal_title (refusals.BadImage fault) = codes "ERR 15 BadImage"
 refusal_title (refusals.BadSetting field) = codes "ERR 16 BadSetting"
 refusal_title refusals.PlacesUsed = codes "ERR 17 PlacesUsed"
 
--- what belongs to a refusal comes word by word, each after a blank
+-- the details of a refusal follow word by word, each after a blank
 abbrev pub refusal_details : Refusal → List ℕ
 refusal_details (refusals.BlocksFull needed free) = (32 ∷ decimal needed) ++ (32 ∷ decimal free)
 refusal_details (refusals.Crooked index) = 32 ∷ decimal index
@@ -36,10 +37,10 @@ refusal_details (refusals.BadImage fault) = 32 ∷ fault_name fault
 refusal_details (refusals.BadSetting field) = 32 ∷ field_name field
 refusal_details other = []
 
--- the line of a refusal is this, without its LF
+-- the line of a refusal, without its LF
 abbrev pub refusal_text : Refusal → List ℕ
 refusal_text refusal = refusal_title refusal ++ refusal_details refusal
 
--- a refused image is told in this line; where there was no memory for it, want of memory is
+-- the line of a refused image; that of out of memory if there was no memory for it
 abbrev pub image_text : PbmFault → List ℕ
 image_text fault = refusal_text (refusals.BadImage fault)

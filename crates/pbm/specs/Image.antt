@@ -1,5 +1,8 @@
--- The image grammar: which text of bytes spells which bitmap.
--- Source: pbm(5), the Netpbm manual's page of the PBM format, its plain and its raw form; in this project's profile: whitespace is the blank, TAB, LF and CR alone, sides are from 1 to 4096, a comment stands only within a gap that has started with whitespace, and none after the height of a raw image.
+-- The image grammar: which byte text spells which bitmap.
+-- Source: pbm(5), the Netpbm manual's page of the PBM format, its plain and its raw form; in this
+-- project's profile: only the blank, TAB, LF and CR are whitespace, sides are from 1 to 4096, a
+-- comment stands only within a gap that has started with whitespace, and none after the height of a
+-- raw image.
 use Rattle.std.specs.Prelude.{◌≡◌, ℕ, ◌+◌, ◌-◌, ◌*◌, ◌/◌, ◌%◌, ◌<◌, ◌==◌, ◌&&◌, ◌||◌, Bool, true, false, not, List, [], ◌∷◌, ◌++◌, length, map, slice_index, ◌⊎◌, if◌then◌else◌}
 use Rattle.std.specs.Int.{bit_at}
 use Rattle.std.specs.List.{range_with_len, list_all}
@@ -14,7 +17,8 @@ is_whitespace byte = (byte == 9 || byte == 10) || (byte == 13 || byte == 32)
 abbrev pub is_line_end : ℕ → Bool
 is_line_end byte = byte == 10 || byte == 13
 
--- whether the text fills the rest of a gap, which stands in a comment or not: any mix of whitespace and comments, the last comment with its line end; a comment is `#`, the byte 35, any bytes but line ends, and one line end
+-- whether the text fills the rest of a gap, in a comment or not: whitespace and comments, each `#`,
+-- the byte 35, any bytes but line ends, and one line end; the last comment has its line end too
 unfoldable pub fills : Bool → List ℕ → Bool
 fills in_comment [] = not in_comment
 fills true (byte ∷ rest) = fills (not (is_line_end byte)) rest
@@ -28,7 +32,7 @@ pub record IsGap (text : List ℕ) : Type 0 where
   pub first_is : is_whitespace first ≡ true
   pub others_are : fills false others ≡ true
 
--- a number: one digit or more; leading zeros are accepted
+-- a number: one or more digits; leading zeros are accepted
 pub record IsNumber (text : List ℕ) (value : ℕ) : Type 0 where
   pub first : ℕ
   pub others : List ℕ
@@ -46,14 +50,14 @@ pixel_byte false = 48
 abbrev pub IsBetween : List ℕ → Type 0
 IsBetween text = (text ≡ []) ⊎ IsGap text
 
--- a plain raster: the pixels in order, with nothing or a gap between two of them
+-- a plain raster: the pixels in order, with or without a gap between two of them
 unfoldable pub IsRaster : List ℕ → List Bool → Type 0
 IsRaster text [] = text ≡ []
 IsRaster text (pixel ∷ []) = text ≡ pixel_byte pixel ∷ []
 IsRaster text (pixel ∷ next ∷ pixels) =
     (between : List ℕ) × (rest : List ℕ) × IsBetween between × IsRaster rest (next ∷ pixels) × (text ≡ pixel_byte pixel ∷ (between ++ rest))
 
--- the pixels of a bitmap, row by row from the top, each from the left
+-- the pixels of a bitmap, in row-major order
 abbrev pub pixels_of : Cells → List Bool
 pixels_of cells = map (λ k. has cells (k % cells.width) (k / cells.width)) (range_with_len 0 (cells.width * cells.height))
 
@@ -74,15 +78,15 @@ pub record IsPlain (text : List ℕ) (cells : Cells) : Type 0 where
   pub raster_is : IsRaster raster (pixels_of cells)
   pub is_text : text ≡ 80 ∷ 49 ∷ (gap_before_width ++ (width ++ (gap_before_height ++ (height ++ (gap_before_raster ++ raster)))))
 
--- how many bytes a row of this width takes in a raw raster
+-- the number of bytes of a row of this width in a raw raster
 abbrev pub bytes_across : ℕ → ℕ
 bytes_across width = (width + 7) / 8
 
--- whether the pixel (x, y) of a raw raster is black, where a row takes this many bytes: the leftmost pixel of a byte is its most significant bit
+-- whether pixel (x, y) of a raw raster with rows of this many bytes is black, highest bit first
 abbrev pub raw_pixel : ℕ → List ℕ → ℕ → ℕ → Bool
 raw_pixel across raster x y = bit_at (slice_index raster (y * across + x / 8)) (7 - x % 8) == 1
 
--- a raw raster: the rows from the top, each in as many bytes as it needs; the fill bits at the end of a row have any value
+-- a raw raster: rows from the top, each in as many bytes as it needs, with any fill bits at its end
 pub record IsRawRaster (raster : List ℕ) (cells : Cells) : Type 0 where
   pub as_many : length raster ≡ cells.height * bytes_across cells.width
   pub pixels : (x y : ℕ) → x < cells.width → y < cells.height → raw_pixel (bytes_across cells.width) raster x y ≡ has cells x y
@@ -104,16 +108,16 @@ pub record IsRaw (text : List ℕ) (cells : Cells) : Type 0 where
   pub raster_is : IsRawRaster raster cells
   pub is_text : text ≡ 80 ∷ 52 ∷ (gap_before_width ++ (width ++ (gap_before_height ++ (height ++ (space ∷ raster)))))
 
--- the text as a whole is one image, of this bitmap
+-- the whole text is one image, of this bitmap
 abbrev pub IsImage : List ℕ → Cells → Type 0
 IsImage text cells = IsPlain text cells ⊎ IsRaw text cells
 
--- after a plain image the input ends, or a whitespace byte stands
+-- after a plain image the input ends, or a whitespace byte follows
 abbrev pub IsEnd : List ℕ → Type 0
 IsEnd [] = Unit {0}
 IsEnd (byte ∷ rest) = is_whitespace byte ≡ true
 
--- the first n bytes are an image of this bitmap; after a plain one the input ends, or whitespace stands, and after a raw one anything may stand
+-- the first n bytes are an image of this bitmap; only the end or whitespace may follow a plain one
 pub record Reads (bytes : List ℕ) (n : ℕ) (cells : Cells) : Type 0 where
   pub text : List ℕ
   pub rest : List ℕ

@@ -3,19 +3,19 @@ use Rattle.std.specs.Prelude.{◌≡◌, ℕ, ◌+◌, ◌^◌, ◌<◌, ◌≤�
 use Rattle.std.specs.Int.{bit_at}
 use Rattle.pbm.specs.Faults.{pixels}
 
--- so many pixels were read as the bits of a number, the first the lowest, and this is left
+-- this many pixels were read as bits of a number, the first the lowest, and this is left
 pub record AreBitsRead (count : ℕ) (bytes : List ℕ) (number : ℕ) (rest : List ℕ) : Type 0 where
   pub all : List Bool
   pub size : length all ≡ count
   pub read : pixels count bytes ≡ Ok (all, rest)
   pub bits : (i : ℕ) → i < count → (bit_at number i == 1) ≡ slice_index_or all i false
 
--- so many digits of pixels stand at the front, which are the first bits of a number
+-- this many pixel digits are at the front, and are the first bits of a number
 pub record AreDigits (count : ℕ) (bytes : List ℕ) (number : ℕ) : Type 0 where
   pub enough : count ≤ length bytes
   pub digits : (k : ℕ) → k < count → slice_index bytes k ≡ 48 + bit_at number k
 
--- one pixel at least was read and so many at most, as the bits of a number that has no others
+-- one to `most` pixels were read as the bits of a number that has no others
 pub record AreSomeRead (most : ℕ) (bytes : List ℕ) (count : ℕ) (number : ℕ) (rest : List ℕ) : Type 0 where
   pub some : 0 < count
   pub few : count ≤ most

@@ -1,5 +1,6 @@
--- What a window on a source has read and what is taken of it: this project's own rule.
--- A source may tell its bytes or not. So a clause says of what comes that some bytes were taken from the source, and what is read whatever bytes come after them.
+-- What a window on a source has read and what has been taken from it: this project's own rule. A
+-- source may or may not show its bytes. So a clause about later bytes says that some were taken
+-- from the source, and what is read whatever bytes follow them.
 use Rattle.std.specs.Prelude.{◌≡◌, ◌≢◌, ℕ, ◌+◌, ◌≤◌, true, List, [], ◌++◌, length, drop, vec_len, Option, Result, Ok, Err, IsOk}
 use Rattle.metric.specs.Stream.{Takes, AreAll}
 use Rattle.metric.specs.declared.fault.PbmFault.{PbmFault}
@@ -11,33 +12,33 @@ use Rattle.pbm.specs.declared.window.ImageStop.{ImageStop}
 use Rattle.pbm.specs.declared.window.ImageStop.TheVariants.{Failed, Memory, Fault}
 use Rattle.pbm.specs.declared.window.Window.{Window}
 
--- the bytes that a window has read and that aren't taken yet
+-- the bytes that a window has read and that haven't been taken
 abbrev pub unread : Window → List ℕ
 unread window = drop window.start window.bytes.items
 
--- no more bytes are taken than the window has read, and where it has met the end the source has none left
+-- no more bytes are taken than were read, and a source whose end was met has none left
 pub record IsOpen (window : Window) (rest : Option (List ℕ)) : Type 0 where
   pub inside : window.start ≤ vec_len window.bytes
   pub ended : window.ended ≡ true → AreAll rest []
 
--- some bytes were taken from the source, and with any bytes after them this holds of what was left before and of what is left after
+-- bytes were taken from the source, and whatever follows, this holds of what was left and is left
 pub record Follows (rest : Option (List ℕ)) (before : List ℕ) (left : Option (List ℕ)) (after : List ℕ) (P : List ℕ → List ℕ → Type 0) : Type 0 where
   pub block : List ℕ
   pub taken : Takes rest block left
   pub holds : (more : List ℕ) → P (before ++ (block ++ more)) (after ++ more)
 
--- this holds of the bytes before and of all bytes that may still come
+-- this holds of the bytes before followed by all bytes that may still come
 pub record Meets (rest : Option (List ℕ)) (before : List ℕ) (P : List ℕ → Type 0) : Type 0 where
   pub bytes : List ℕ
   pub all : AreAll rest bytes
   pub holds : P (before ++ bytes)
 
--- the first bytes are taken, and with any bytes after them this holds of all and of those that are left
+-- the first bytes are taken, and whatever follows, this holds of all bytes and of those left
 pub record Stands (taken : ℕ) (bytes : List ℕ) (P : List ℕ → List ℕ → Type 0) : Type 0 where
   pub inside : taken ≤ length bytes
   pub holds : (more : List ℕ) → P (bytes ++ more) (drop taken bytes ++ more)
 
--- this holds of the fault; nothing is said where a read failed, or where there was no memory for what was read
+-- this holds of the fault; nothing is said if a read failed, or without memory for the bytes read
 abbrev pub IsFaultOf : ImageStop → (PbmFault → Type 0) → Type 0
 IsFaultOf Failed P = Unit {0}
 IsFaultOf Memory P = Unit {0}
@@ -50,14 +51,14 @@ CountsReads before (Err Failed) after = after ≡ before + 1
 CountsReads before (Err Memory) after = after ≡ before
 CountsReads before (Err (Fault fault)) after = after ≡ before
 
--- nothing is left of the source where an image or a fault was found
+-- nothing of the source is left if an image or a fault was found
 abbrev pub IsPassed : {T : Type 0} → Result T ImageStop → Option (List ℕ) → Type 0
 IsPassed (Ok value) left = AreAll left []
 IsPassed (Err Failed) left = Unit {0}
 IsPassed (Err Memory) left = Unit {0}
 IsPassed (Err (Fault fault)) left = AreAll left []
 
--- this is the first fault of the bytes; or all before the raster is good, and there was no memory for the bitmap
+-- this is the bytes' first fault; or the header is valid, and there was no memory for the bitmap
 pub record IsStopped (bytes : List ℕ) (fault : PbmFault) : Type 0 where
   pub first : fault ≢ faults.Memory → image bytes ≡ Err fault
   pub memory : fault ≡ faults.Memory → IsOk (header bytes)
@@ -69,7 +70,8 @@ pub record HasImage (rest : Option (List ℕ)) (cells : Cells) : Type 0 where
   pub taken : ℕ
   pub reads : Reads bytes taken cells
 
--- all bytes that the source may have had left don't read as an image, and this is their first fault; or there was no memory for the bitmap of an image of which all before the raster is good
+-- all bytes that the source may have had left don't read as an image, and this is their first
+-- fault; or their header is valid, and there was no memory for the bitmap
 pub record HasFault (rest : Option (List ℕ)) (fault : PbmFault) : Type 0 where
   pub bytes : List ℕ
   pub all : AreAll rest bytes
