@@ -12,21 +12,22 @@ use Rattle.proto.specs.declared.verb.QueryKind.TheVariants as kinds
 use Rattle.proto.specs.Numbers.{number, points, only, pair}
 use Rattle.proto.specs.Corners.{corners_of}
 
--- a query asks for the distance of a cell, the least over a rectangle or a path, or whether a path is clear of d
+-- a query asks for a cell's distance, the least in a rectangle or along a path, or if a path is
+-- clear
 pub data QueryView : Type 0 where
   at : MetricKind → Cell → QueryView
   rect : MetricKind → (x0 y0 x1 y1 : ℕ) → QueryView
   path : MetricKind → List Cell → QueryView
   clear_of : MetricKind → ℕ → List Cell → QueryView
 
--- a query of the program asks this
+-- what a query of the program asks
 abbrev pub asked_by : Query → QueryView
 asked_by (queries.At metric cell) = at metric cell
 asked_by (queries.Rect metric r) = rect metric r.x0 r.y0 r.x1 r.y1
 asked_by (queries.Path metric points) = path metric points.items
 asked_by (queries.ClearOf metric d points) = clear_of metric d points.items
 
--- a query has points, for which memory is needed
+-- a query has points, which need memory
 abbrev pub HasPoints : QueryView → Type 0
 HasPoints (at metric cell) = ⊥
 HasPoints (rect metric x0 y0 x1 y1) = ⊥
@@ -47,7 +48,7 @@ abbrev pub or_bad : {A : Type 0} → Option A → Result A Refusal
 or_bad None = Err BadArguments
 or_bad (Some x) = Ok x
 
--- two corners that are good ask this of a rectangle
+-- what the query of a rectangle with two valid corners asks
 abbrev pub rect_of : MetricKind → Cell × Cell → Option QueryView
 rect_of metric corners = option_map (λ c. rect metric c.x0 c.y0 c.x1 c.y1) (corners_of corners)
 
@@ -56,17 +57,17 @@ abbrev pub path_of : Option (List Cell) → Result (List Cell) Refusal
 path_of None = Err BadArguments
 path_of (Some points) = if length points == 0 || nat_lt 1000 (length points) then Err BadPath else Ok points
 
--- good points ask this
+-- what a query with valid points asks
 abbrev pub about : (List Cell → QueryView) → Result (List Cell) Refusal → Result QueryView Refusal
 about ask (Ok points) = Ok (ask points)
 about ask (Err refusal) = Err refusal
 
--- the first word tells this, and these words are left after it
+-- what the first word says, with the words left after it
 abbrev pub first_of : {A : Type 0} → (List ℕ → Option A) → List (List ℕ) → Option (A × List (List ℕ))
 first_of told [] = None
 first_of told (word ∷ others) = option_map (λ value. (value, others)) (told word)
 
--- the words after the metric ask this of a query
+-- what the words after the metric ask of a query
 abbrev pub query_asked : QueryKind → MetricKind → List (List ℕ) → Result QueryView Refusal
 query_asked kinds.At metric words = or_bad (option_map (λ cell. at metric cell) (only (points words)))
 query_asked kinds.Rect metric words = or_bad (option_and_then (λ corners. rect_of metric corners) (pair (points words)))

@@ -16,27 +16,27 @@ use Rattle.desk.specs.Desks.{story_told}
 use Rattle.proto.specs.declared.answer.Answer.{Answer}
 use Rattle.proto.specs.declared.answer.Answer.TheVariants as answers
 
--- a caller has its session's seat, as it is once a pin is left, and the version that it has pinned, if it has
+-- a caller has its session's seat, as it is after unpinning, and the version that it has pinned
 pub record CallerValue : Type 0 where
   pub seat : ReaderView
   pub pin : Option ℕ
 
--- a caller that is free has no pin
+-- a free caller has no pin
 abbrev pub free : ReaderView → CallerValue
 free seat = record { seat = seat; pin = None }
 
--- a caller that has a pin sees the bitmap of the version, by what it has seen; without a pin nothing stands for it
+-- the bitmap of a caller's pinned version, by what it has seen; meaningless without a pin
 abbrev pub bitmap_held : StoreId → CallerValue → Cells
 bitmap_held store c = elim c.pin as (λ _. Cells) [ None ↦ no_bitmap | Some version ↦ bitmap_of (story_told store c.seat.seen) version ]
 
--- a caller has seen a legal log, which starts with all that it had seen, and nothing else of it has changed
+-- a caller has seen a legal log, which extends what it had seen; nothing else of it has changed
 pub record HasSeenMore (store : StoreId) (old new : ReaderView) : Type 0 where
   pub began : IsPrefix old.seen new.seen
   pub legal : IsLegal store.base.setting store.base.opening (entries new.seen)
   pub seat_is : new ≡ record old { seen = new.seen }
 
--- a command is accepted: the caller has seen a legal log, which starts with all that it had seen, goes on with what others put between,
--- and ends with the command and its reply; the reply is an answer there
+-- a command is accepted: the caller has seen a legal log, which extends all that it had seen by
+-- what others did in between, and ends with the command and its reply, a valid answer there
 pub record IsCommandDone (store : StoreId) (old : ReaderView) (c : Command) (reply : Reply) (new : ReaderView) : Type 0 where
   pub before : List StoreEntry
   pub began : IsPrefix old.seen before
@@ -44,18 +44,18 @@ pub record IsCommandDone (store : StoreId) (old : ReaderView) (c : Command) (rep
   pub legal : IsLegal store.base.setting store.base.opening (entries new.seen)
   pub seat_is : new ≡ record old { seen = before ++ record { by = old.number; entry = record { command = c; reply = reply } } ∷ []; made = old.made + 1 }
 
--- a command is refused: the caller has seen a legal log, and the refusal is the log's answer,
--- or want of memory, where the log doesn't refuse the command and the command takes room in it
+-- a command is refused: the caller has seen a legal log, and the refusal is the log's answer, or
+-- out of memory, if the log doesn't refuse the command and its entry takes capacity
 pub record IsNotDone (store : StoreId) (old : ReaderView) (c : Command) (refusal : Refusal) (new : ReaderView) : Type 0 where
   pub seen : HasSeenMore store old new
   pub why : (refused store.base.setting (story_told store new.seen) c ≡ Some refusal) ⊎ ((refused store.base.setting (story_told store new.seen) c ≡ None) × (refusal ≡ Memory) × (takes_room c ≡ true))
 
--- the answer that tells whether a command was accepted
+-- the answer that reports whether a command was accepted
 abbrev pub told_as : Result Reply Refusal → Answer
 told_as (Ok reply) = answers.Done reply
 told_as (Err refusal) = answers.Refused refusal
 
--- a command is answered so, and its caller has then seen this
+-- a command has this answer, and its caller has then seen this
 abbrev pub IsCommandAnswer : StoreId → Command → ReaderView → Answer → ReaderView → Type 0
 IsCommandAnswer store c old (answers.Done reply) new = IsCommandDone store old c reply new
 IsCommandAnswer store c old (answers.Refused refusal) new = IsNotDone store old c refusal new
@@ -77,16 +77,16 @@ pub record IsRefusedAs (refusal : Refusal) (old : CallerValue) (answer : Answer)
   pub answer_is : answer ≡ answers.Refused refusal
   pub same : new ≡ old
 
--- PIN is answered so
+-- PIN has this answer
 abbrev pub IsPinAnswer : StoreId → CallerValue → Answer → CallerValue → Type 0
 IsPinAnswer store old answer new =
     elim old.pin as (λ _. Type 0) [ None ↦ HasPinned store old answer new ⊎ IsRefusedAs Memory old answer new | Some version ↦ IsRefusedAs AlreadyPinned old answer new ]
 
--- a caller lets its pin go, and is told which version it was
+-- a caller unpins, and is told which version it had pinned
 pub record HasUnpinned (version : ℕ) (old : CallerValue) (answer : Answer) (new : CallerValue) : Type 0 where
   pub answer_is : answer ≡ answers.Version version
   pub new_is : new ≡ free old.seat
 
--- UNPIN is answered so
+-- UNPIN has this answer
 abbrev pub IsUnpinAnswer : CallerValue → Answer → CallerValue → Type 0
 IsUnpinAnswer old answer new = elim old.pin as (λ _. Type 0) [ None ↦ IsRefusedAs NotPinned old answer new | Some version ↦ HasUnpinned version old answer new ]

@@ -1,4 +1,4 @@
--- What a line and the bytes that it counts are answered: this project's own rule.
+-- The answers to a line with the bytes that it counts: this project's own rule.
 use Rattle.std.specs.Prelude.{◌≡◌, ◌≢◌, ℕ, ◌≤◌, ◌⊎◌, List, [], length, All, Bool, false, is_some, Some, None, Result, Ok, Err}
 use Rattle.std.specs.Str.Lines.{strip_carriage_return}
 use Rattle.metric.specs.Kind.{distance_of}
@@ -22,58 +22,58 @@ use Rattle.proto.specs.Said.{LineView, said, said_by}
 use Rattle.proto.specs.Said as saids
 use Rattle.proto.specs.Callers.{CallerValue, bitmap_held, IsCommanded, IsPinAnswer, IsRefusedAs, IsUnpinAnswer}
 
--- a line of a stream says what it says without the CR at its end, if it has one
+-- what a line of a stream says, without the CR at its end
 abbrev pub line_said : List ℕ → Result LineView Refusal
 line_said line = said (strip_carriage_return line)
 
--- a line counts so many bytes after its LF: those of a stamp's image
+-- how many bytes a line counts after its LF: those of a stamp's image
 abbrev pub counts : Result LineView Refusal → ℕ
 counts (Ok (saids.stamp x y n)) = n
 counts other = 0
 
--- a line without a pin is refused for that before it is refused for its points, or for want of memory for them
+-- without a pin, `NotPinned` comes before a fault in a line's points, or out of memory for them
 abbrev pub with_pin : Bool → Refusal → Refusal
 with_pin false BadPath = NotPinned
 with_pin false Memory = NotPinned
 with_pin pinned refusal = refusal
 
--- a line of the program says this, or was refused for this
+-- what a line of the program says, or why it was refused
 abbrev pub line_seen_in : Result Line Refusal → Result LineView Refusal
 line_seen_in (Ok line) = Ok (said_by line)
 line_seen_in (Err refusal) = Err refusal
 
--- a line that needs a pin is answered so for the version that the caller has pinned, and is refused where it has none
+-- a line that needs a pin has this answer for the caller's pinned version, or is refused
 abbrev pub WithPin : (ℕ → Type 0) → CallerValue → Answer → CallerValue → Type 0
 WithPin answered old answer new = elim old.pin as (λ _. Type 0) [ None ↦ IsRefusedAs NotPinned old answer new | Some version ↦ answered version ]
 
--- a stamp of these bytes is answered as the command where an image stands at their front, else by the first fault, or by want of memory
+-- a stamp is answered as the command if an image is in front, else by the first fault, or no memory
 abbrev pub IsStampAnswer : StoreId → ℕ → ℕ → List ℕ → CallerValue → Answer → CallerValue → Type 0
 IsStampAnswer store x y bytes old answer new =
     ((n : ℕ) × (cells : Cells) × Reads bytes n cells × IsCommanded store (commands.Stamp x y cells) old answer new)
     ⊎ ((fault : PbmFault) × (image bytes ≡ Err fault) × IsRefusedAs (BadImage fault) old answer new)
     ⊎ IsRefusedAs Memory old answer new
 
--- a query with a pin is answered by its metric, of the pinned version's bitmap with the store's edge, or by want of memory for points
+-- a query is answered for the pinned bitmap with the store's edge, or lacks memory for its points
 pub record IsQueryAnswer (store : StoreId) (query : QueryView) (old : CallerValue) (answer : Answer) (new : CallerValue) : Type 0 where
   pub answered : IsAnswerBy (distance_of (metric_asked query)) (bitmap_held store old) store.base.setting.edge query answer ⊎ (HasPoints query × (answer ≡ answers.Refused Memory))
   pub same : new ≡ old
 
--- a reply line is followed by the plain image of the pinned version's bitmap, where its bytes were counted
+-- the plain image of the pinned version's bitmap follows a reply line that counts its bytes
 abbrev pub body_of : StoreId → CallerValue → Answer → List ℕ
 body_of store old (answers.Dumped n) = plain_text (bitmap_held store old)
 body_of store old answer = []
 
--- a bitmap's dump is its plain image after the number of its bytes, or want of memory
+-- a bitmap's dump is the number of bytes of its plain image and then the image, or out of memory
 abbrev pub IsDump : Cells → Answer → List ℕ → Type 0
 IsDump cells (answers.Dumped n) body = (body ≡ plain_text cells) × (n ≡ length body)
 IsDump cells answer body = (answer ≡ answers.Refused Memory) × (body ≡ [])
 
--- DUMP with a pin is answered by how many bytes the plain image of the pinned version's bitmap has, or by want of memory
+-- DUMP with a pin is answered with the dump of the pinned version's bitmap; the caller stays
 pub record IsDumpAnswer (store : StoreId) (old : CallerValue) (answer : Answer) (new : CallerValue) : Type 0 where
   pub answered : IsDump (bitmap_held store old) answer (body_of store old answer)
   pub same : new ≡ old
 
--- a line, with the bytes that it counts, is answered so; QUIT is the end of the stream
+-- a line, with the bytes that it counts, has this answer; QUIT, which ends the stream, has none
 abbrev pub IsLineAnswer : StoreId → Result LineView Refusal → List ℕ → CallerValue → Answer → CallerValue → Type 0
 IsLineAnswer store (Err refusal) bytes old answer new = IsRefusedAs (with_pin (is_some old.pin) refusal) old answer new
 IsLineAnswer store (Ok (saids.told t)) bytes old answer new = (c : Command) × (told_by c ≡ t) × IsCommanded store c old answer new
@@ -89,7 +89,7 @@ pub record IsLine (line : List ℕ) : Type 0 where
   pub plain : All (λ byte. byte ≢ 10) line
   pub few : length line ≤ 16384
 
--- an exchange is a line with the bytes that it counts, what it was answered, and what followed the reply line
+-- an exchange is a line with the bytes that it counts, its answer, and what followed the reply line
 pub record Exchange : Type 0 where
   pub line : List ℕ
   pub counted : List ℕ

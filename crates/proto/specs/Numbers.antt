@@ -9,66 +9,66 @@ unfoldable pub number : List ℕ → Option ℕ
 number word =
     if (nat_le 1 (length word) && nat_le (length word) 10) && (list_all is_digit word && nat_lt (value_from 0 word) 4294967296) then Some (value_from 0 word) else None
 
--- a number joins others, where all are numbers
+-- a number in front of others, if all are numbers
 abbrev pub join_number : Option ℕ → Option (List ℕ) → Option (List ℕ)
 join_number first others = option_and_then (λ n. option_map (λ ns. n ∷ ns) others) first
 
--- the words are these numbers; none where one of them is no number
+-- the numbers that the words spell; none if one of them isn't a number
 unfoldable pub numbers : List (List ℕ) → Option (List ℕ)
 numbers [] = Some []
 numbers (word ∷ others) = join_number (number word) (numbers others)
 
--- no number stands first in these words
+-- the first of these words isn't a number
 abbrev pub HasNoNumber : List (List ℕ) → Type 0
 HasNoNumber words = (words ≡ []) ⊎ (numbers words ≡ None)
 
--- the number is given where there is just one
+-- the number, if there is exactly one
 abbrev pub only_number : Option (List ℕ) → Option ℕ
 only_number (Some (n ∷ [])) = Some n
 only_number other = None
 
--- the two numbers are given where there are just two
+-- the two numbers, if there are exactly two
 abbrev pub number_pair : Option (List ℕ) → Option (ℕ × ℕ)
 number_pair (Some (first ∷ second ∷ [])) = Some (first, second)
 number_pair other = None
 
--- the three numbers are given where there are just three
+-- the three numbers, if there are exactly three
 abbrev pub number_triple : Option (List ℕ) → Option (ℕ × ℕ × ℕ)
 number_triple (Some (first ∷ second ∷ third ∷ [])) = Some (first, second, third)
 number_triple other = None
 
--- a number is a coordinate, and one over 65535 stands as 65535, which is outside of every map and every rectangle as well
+-- a coordinate; one over 65535 reads as 65535, which is outside every map and rectangle too
 abbrev pub coordinate : ℕ → ℕ
 coordinate n = min n 65535
 
--- two numbers are the column and the row of a cell
+-- the cell whose column and row are two numbers
 abbrev pub cell_of : ℕ → ℕ → Cell
 cell_of x y = record { x = coordinate x; y = coordinate y }
 
--- two words are a point where both are numbers
+-- the point that two words spell, if both are numbers
 abbrev pub point : List ℕ → List ℕ → Option Cell
 point x y = option_and_then (λ column. option_map (λ row. cell_of column row) (number y)) (number x)
 
--- a point joins others, where all are points
+-- a point in front of others, if all are points
 abbrev pub join_point : Option Cell → Option (List Cell) → Option (List Cell)
 join_point first others = option_and_then (λ cell. option_map (λ cells. cell ∷ cells) others) first
 
--- the words are these points where there is an even number of them and all are numbers
+-- the points that the words spell, if their number is even and all are numbers
 unfoldable pub points : List (List ℕ) → Option (List Cell)
 points [] = Some []
 points (x ∷ []) = None
 points (x ∷ y ∷ others) = join_point (point x y) (points others)
 
--- no point stands first in these words
+-- the first of these words isn't a point's
 abbrev pub HasNoFirst : List (List ℕ) → Type 0
 HasNoFirst words = (words ≡ []) ⊎ (points words ≡ None)
 
--- the point is given where there is just one
+-- the point, if there is exactly one
 abbrev pub only : Option (List Cell) → Option Cell
 only (Some (cell ∷ [])) = Some cell
 only other = None
 
--- the two points are given where there are just two
+-- the two points, if there are exactly two
 abbrev pub pair : Option (List Cell) → Option (Cell × Cell)
 pair (Some (first ∷ second ∷ [])) = Some (first, second)
 pair other = None

@@ -14,18 +14,18 @@ pub record IsStreamServed {S : Type 0} (fresh : S → Type 0) (wire : S → Wire
   pub wire_after : Wire
   pub served : IsServed store (Some end) (wire stream) (free old) wire_after (free new)
 
--- fresh streams were served with a session, one after another
+-- fresh streams were served with a session, in order
 abbrev pub AreStreamsServed : {S : Type 0} → (S → Type 0) → (S → Wire) → StoreId → List S → ReaderView → ReaderView → Type 0
 AreStreamsServed fresh wire store [] old new = new ≡ old
 AreStreamsServed fresh wire store (stream ∷ streams) old new =
     (between : ReaderView) × IsStreamServed fresh wire store stream old between × AreStreamsServed fresh wire store streams between new
 
--- a worker has done nothing with its session but serve fresh streams, each once
+-- a worker has only served fresh streams with its session, each once
 pub record HasWorked {S : Type 0} (fresh : S → Type 0) (wire : S → Wire) (store : StoreId) (old new : ReaderView) : Type 0 where
   pub streams : List S
   pub served : AreStreamsServed fresh wire store streams old new
 
--- two lists are as long as one another, and the elements of each place are related
+-- two lists have the same length, and the elements at each index are related
 abbrev pub AreRelated : {A B : Type 0} → (A → B → Type 0) → List A → List B → Type 0
 AreRelated Relation [] [] = Unit {0}
 AreRelated Relation (x ∷ xs) (y ∷ ys) = Relation x y × AreRelated Relation xs ys
@@ -36,6 +36,6 @@ abbrev pub AreBoth : {A B : Type 0} → (A → B → Type 0) → Option A → Op
 AreBoth Relation (Some x) (Some y) = Relation x y
 AreBoth Relation x y = ⊥
 
--- the elements of each place of the first list are related
+-- the elements at each index of the first list are related to those of the second
 abbrev pub AreEach : {A : Type 0} → (A → A → Type 0) → List A → List A → Type 0
 AreEach {A = A} Relation xs ys = (i : ℕ) (d : A) → i < length xs → Relation (slice_index_or xs i d) (slice_index_or ys i d)

@@ -11,18 +11,18 @@ use Rattle.proto.specs.Asked.{QueryView, at, rect, path, clear_of}
 use Rattle.proto.specs.declared.answer.Answer.{Answer}
 use Rattle.proto.specs.declared.answer.Answer.TheVariants.{Near, Found, Clear, Refused}
 
--- each query asks by a metric
+-- the metric that a query asks for
 abbrev pub metric_asked : QueryView → MetricKind
 metric_asked (at metric cell) = metric
 metric_asked (rect metric x0 y0 x1 y1) = metric
 metric_asked (path metric points) = metric
 metric_asked (clear_of metric d points) = metric
 
--- the rectangle with these corners lies in the bitmap
+-- the rectangle with these corners is within the bitmap
 abbrev pub HasCorners : Cells → ℕ → ℕ → Type 0
 HasCorners cells x1 y1 = (x1 ≤ cells.width) × (y1 ≤ cells.height)
 
--- an answer to a query on the bitmap with this edge, by this distance: its value, or why it is refused
+-- the answer to a query on the bitmap with this edge, by this distance: its value, or its refusal
 abbrev pub IsAnswerBy : (ℕ → ℕ → ℕ) → Cells → Edge → QueryView → Answer → Type 0
 IsAnswerBy distance cells edge (at metric cell) (Near near) = IsInside cells cell.x cell.y × IsNear distance (IsBlocked cells edge) cell.x cell.y near
 IsAnswerBy distance cells edge (at metric cell) (Refused refusal) = IsRefusalFor (IsInside cells cell.x cell.y) refusal

@@ -1,5 +1,6 @@
--- The reply lines: this project's own rule. Numbers are plain decimal, those of an obstacle's place with a `-` where they are negative.
--- There is one blank between two words, and each line ends in LF.
+-- The reply lines: this project's own rule. Numbers are plain decimal; those of an obstacle's
+-- position have a `-` if they are negative. Single blanks separate the words, and each line ends in
+-- LF.
 use Rattle.std.specs.Prelude.{ℕ, List, [], ◌∷◌, ◌++◌, codes, Some, None}
 use Rattle.std.specs.Fmt.{decimal, signed_decimal}
 use Rattle.metric.specs.Refusal.{refusal_text}
@@ -11,28 +12,28 @@ use Rattle.map_core.specs.declared.command.Reply.TheVariants.{Painted, Published
 use Rattle.proto.specs.declared.answer.Answer.{Answer}
 use Rattle.proto.specs.declared.answer.Answer.TheVariants as answers
 
--- a cell is told by its column and its row
+-- a cell is written as its column and its row
 abbrev pub cell_text : Cell → List ℕ
 cell_text cell = decimal cell.x ++ (32 ∷ decimal cell.y)
 
--- an obstacle's place is told by its column and its row, each with a `-` before it where it is negative
+-- an obstacle's position is written as its column and its row, each with a `-` if it is negative
 abbrev pub spot_text : Spot → List ℕ
 spot_text spot = signed_decimal spot.x ++ (32 ∷ signed_decimal spot.y)
 
--- a near obstacle is told by its distance and its place
+-- a near obstacle is written as its distance and its position
 abbrev pub near_text : Near → List ℕ
 near_text near = codes "OK " ++ (decimal near.dist ++ (32 ∷ spot_text near.cell))
 
--- a least distance is told with the cell that has it and its obstacle
+-- a least distance is written with the cell that has it and its obstacle
 abbrev pub found_text : Cell × Near → List ℕ
 found_text found = codes "OK " ++ (decimal found.1.dist ++ (32 ∷ (cell_text found.0 ++ (32 ∷ spot_text found.1.cell))))
 
--- the numbers after `OK` are each put after a blank
+-- the numbers after `OK`, each after a blank
 abbrev pub numbers_text : List ℕ → List ℕ
 numbers_text [] = []
 numbers_text (number ∷ numbers) = (32 ∷ decimal number) ++ numbers_text numbers
 
--- the reply to a command has its place, and what belongs to it
+-- the numbers in the reply to a command: its place, and its details
 abbrev pub numbers_of : Reply → List ℕ
 numbers_of (Painted place changed) = place ∷ changed ∷ []
 numbers_of (Published place version) = place ∷ version ∷ []
@@ -40,11 +41,11 @@ numbers_of (Reverted place) = place ∷ []
 numbers_of (Collected place floor freed kept) = place ∷ floor ∷ freed ∷ []
 numbers_of (Checkpointed place) = place ∷ []
 
--- a reply of one number has it after `OK`
+-- the text of a reply with one number
 abbrev pub one_text : ℕ → List ℕ
 one_text number = codes "OK" ++ numbers_text (number ∷ [])
 
--- a line is answered so, without the LF; the bytes of a dump are no part of it
+-- the text of an answer, without the LF; the bytes of a dump aren't part of it
 abbrev pub answer_text : Answer → List ℕ
 answer_text (answers.Near None) = codes "NONE"
 answer_text (answers.Near (Some near)) = near_text near

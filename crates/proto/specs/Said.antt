@@ -1,6 +1,7 @@
--- What a line of the protocol says: this project's own rule. Words are separated by exactly one blank, and the first one is the command,
--- in capital letters. A line of no known command is refused as such, whatever else is in it; then come arguments of the wrong number
--- or form, and then a path of no point or over 1000.
+-- What a line of the protocol says: this project's own rule. Words are separated by exactly one
+-- blank, and the first one is the command, in capital letters. A line without a known command is
+-- refused as such, whatever else it contains; then arguments of the wrong number or form; then a
+-- path of no points or over 1000.
 use Rattle.std.specs.Prelude.{ℕ, List, [], ◌∷◌, Option, Some, None, Result, Ok, Err, bytes_eq, codes, option_map, if◌then◌else◌}
 use Rattle.metric.specs.declared.refusal.Refusal.{Refusal}
 use Rattle.metric.specs.declared.refusal.Refusal.TheVariants.{UnknownCommand}
@@ -14,8 +15,8 @@ use Rattle.proto.specs.Numbers.{coordinate, number_triple, numbers}
 use Rattle.proto.specs.Told.{CommandView, alone, order_named, order_told, told_by}
 use Rattle.proto.specs.Words.{words}
 
--- a line says a command to the keeper of the map, a stamp with its place and its number of bytes, a pin or its end, a query, a dump, or
--- the end of the stream
+-- what a line says: a command to the keeper of the map, a stamp with its position and number of
+-- bytes, a pin or its end, a query, a dump, or the end of the stream
 pub data LineView : Type 0 where
   told : CommandView → LineView
   stamp : (x y n : ℕ) → LineView
@@ -25,7 +26,7 @@ pub data LineView : Type 0 where
   dump : LineView
   quit : LineView
 
--- a line of the program says this
+-- what a line of the program says
 abbrev pub said_by : Line → LineView
 said_by (lines.Command command) = told (told_by command)
 said_by (lines.Stamp x y n) = stamp x y n
@@ -35,7 +36,7 @@ said_by (lines.Query query) = asked (asked_by query)
 said_by lines.Dump = dump
 said_by lines.Quit = quit
 
--- a line has a query with points, for which memory is needed
+-- a line has a query with points, which need memory
 abbrev pub SaysPoints : LineView → Type 0
 SaysPoints (asked query) = queries.HasPoints query
 SaysPoints other = ⊥
@@ -50,7 +51,7 @@ bare_named word =
     else if bytes_eq word (codes "QUIT") then Some verbs.Quit
     else None
 
--- each command has a name in capital letters, whether it is an order, a query, or one of the others
+-- each command has a name in capital letters: orders, queries and the others
 abbrev pub verb_named : List ℕ → Option Verb
 verb_named word =
     elim (order_named word) as (λ _. Option Verb) [
@@ -63,11 +64,11 @@ abbrev pub first_verb : List (List ℕ) → Option Verb
 first_verb [] = None
 first_verb (word ∷ others) = verb_named word
 
--- a line names this command, whatever follows it
+-- the command that a line names, whatever follows it
 unfoldable pub verb_in : List ℕ → Option Verb
 verb_in bytes = first_verb (words bytes)
 
--- three numbers give a stamp's place and how many bytes it has
+-- three numbers give a stamp's position and its number of bytes
 abbrev pub stamp_of : ℕ × ℕ × ℕ → LineView
 stamp_of (x, y, n) = stamp (coordinate x) (coordinate y) n
 
@@ -76,7 +77,7 @@ abbrev pub said_by_query : Result QueryView Refusal → Result LineView Refusal
 said_by_query (Ok query) = Ok (asked query)
 said_by_query (Err refusal) = Err refusal
 
--- a command with the words after its name says this
+-- what a command with the words after its name says
 abbrev pub verb_said : Verb → List (List ℕ) → Result LineView Refusal
 verb_said (verbs.Order order) words = or_bad (option_map (λ command. told command) (order_told order words))
 verb_said (verbs.Ask kind) words = said_by_query (arguments_asked kind words)
@@ -86,11 +87,11 @@ verb_said verbs.Unpin words = or_bad (alone unpin words)
 verb_said verbs.Dump words = or_bad (alone dump words)
 verb_said verbs.Quit words = or_bad (alone quit words)
 
--- the words of a line say this
+-- what the words of a line say
 abbrev pub said_of : List (List ℕ) → Result LineView Refusal
 said_of [] = Err UnknownCommand
 said_of (word ∷ arguments) = elim (verb_named word) as (λ _. Result LineView Refusal) [ None ↦ Err UnknownCommand | Some verb ↦ verb_said verb arguments ]
 
--- a line says this, without its LF and the CR before it
+-- what a line says, without its LF and the CR before it
 unfoldable pub said : List ℕ → Result LineView Refusal
 said bytes = said_of (words bytes)

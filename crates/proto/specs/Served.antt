@@ -19,20 +19,20 @@ use Rattle.proto.specs.Exchanges.{Exchange, IsDump, IsExchange, IsLine, line_sai
 use Rattle.metric.specs.Wire.{Wire}
 use Rattle.proto.specs.Wire.{HasNotWritten, HasPut, HasRead, HasWritten, IsReadOut}
 
--- the bytes of an exchange are its line, LF, and the bytes that it counts
+-- the bytes of an exchange: its line, LF, and the bytes that it counts
 abbrev pub bytes_of : Exchange → List ℕ
 bytes_of x = x.line ++ (10 ∷ x.counted)
 
--- the text of an exchange is its reply line, and what follows it
+-- the text of an exchange: its reply line, and what follows it
 abbrev pub text_of : Exchange → List ℕ
 text_of x = reply_line x.answer ++ x.body
 
--- the caller has had these exchanges, one after another
+-- the caller has had these exchanges, in order
 abbrev pub AreExchanges : StoreId → List Exchange → CallerValue → CallerValue → Type 0
 AreExchanges store [] old new = new ≡ old
 AreExchanges store (x ∷ xs) old new = (between : CallerValue) × IsExchange store x old between × AreExchanges store xs between new
 
--- these bytes are a line with its LF, and fewer bytes than it counts, which aren't more than a stamp may have
+-- these bytes are a line with its LF, and fewer bytes than it counts, no more than a stamp may have
 pub record IsShort (bytes : List ℕ) : Type 0 where
   pub line : List ℕ
   pub line_is : IsLine line
@@ -41,7 +41,7 @@ pub record IsShort (bytes : List ℕ) : Type 0 where
   pub few : length counted < counts (line_said line)
   pub bytes_are : bytes ≡ line ++ (10 ∷ counted)
 
--- a part of an exchange is a beginning of a line, or a line with fewer bytes than it counts
+-- part of an exchange: a prefix of a line, or a line with fewer bytes than it counts
 abbrev pub IsPartOfExchange : List ℕ → Type 0
 IsPartOfExchange bytes = IsLine bytes ⊎ IsShort bytes
 
@@ -52,7 +52,7 @@ pub record IsQuit (bytes : List ℕ) : Type 0 where
   pub bytes_are : bytes ≡ line ++ (10 ∷ [])
   pub quits : line_said line ≡ Ok saids.quit
 
--- these are more bytes than a line may have, and no LF is among them
+-- these are more bytes than a line may have, with no LF among them
 pub record IsTooLong (bytes : List ℕ) : Type 0 where
   pub plain : All (λ byte. byte ≢ 10) bytes
   pub many : length bytes ≡ 16385
@@ -64,14 +64,14 @@ pub record IsTooMuch (bytes : List ℕ) : Type 0 where
   pub bytes_are : bytes ≡ line ++ (10 ∷ [])
   pub many : 17100000 < counts (line_said line)
 
--- the bytes after the exchanges are answered by a last text: that of QUIT, of a line too long, of too many bytes
+-- the bytes after the exchanges get a last text: for QUIT, a line too long, or too many bytes
 abbrev pub IsFarewell : List ℕ → List ℕ → Type 0
 IsFarewell tail last =
     (IsQuit tail × (last ≡ reply_line answers.Bye))
     ⊎ (IsTooLong tail × (last ≡ reply_line (answers.Refused refusals.LineTooLong)))
     ⊎ (IsTooMuch tail × (last ≡ reply_line (answers.Refused refusals.TooMuchData)))
 
--- after the exchanges a stream that ends so, or goes on, has read these bytes and has this last text
+-- after the exchanges a stream with this end, or none, has read these bytes and has this last text
 abbrev pub IsTail : Option End → List ℕ → List ℕ → Type 0
 IsTail None tail last = (tail ≡ []) × (last ≡ [])
 IsTail (Some ends.Quit) tail last = IsQuit tail × (last ≡ reply_line answers.Bye)
@@ -82,19 +82,19 @@ IsTail (Some ends.ReadFailed) tail last = IsPartOfExchange tail × (last ≡ [])
 IsTail (Some ends.WriteFailed) tail last = ((tail ≡ []) × (last ≡ [])) ⊎ IsFarewell tail last
 IsTail (Some ends.Memory) tail last = ⊥
 
--- after the last exchange the caller is as it was, and at an end its pin is left
+-- after the last exchange the caller is as it was, and unpinned at an end
 abbrev pub IsLeft : Option End → CallerValue → CallerValue → Type 0
 IsLeft None last new = new ≡ last
 IsLeft (Some end) last new = new.seat ≡ last.seat
 
--- the write of this text failed: that of the last exchange, or a last text after it; at another end none failed
+-- the write of this text failed: the last exchange's, or a last text; at other ends none failed
 abbrev pub IsUnsaid : Option End → List Exchange → List ℕ → List ℕ → List ℕ → Type 0
 IsUnsaid (Some ends.WriteFailed) exchanges tail last unsaid =
     ((before : List Exchange) × (x : Exchange) × (exchanges ≡ before ++ x ∷ []) × (last ≡ []) × (unsaid ≡ text_of x)) ⊎ (IsFarewell tail last × (unsaid ≡ last))
 IsUnsaid end exchanges tail last unsaid = unsaid ≡ []
 
--- a stream that has ended so, or goes on, has read whole exchanges and a tail, and has written their texts and a last text, up to the one
--- whose write failed
+-- a stream with this end, or none, has read whole exchanges and a tail, and has written their texts
+-- and a last text, up to the text whose write failed
 pub record Served (store : StoreId) (end : Option End) (bytes : List ℕ) (old new : CallerValue) (said unsaid : List ℕ) : Type 0 where
   pub exchanges : List Exchange
   pub tail : List ℕ
@@ -112,22 +112,22 @@ abbrev pub IsEndReached : Option End → Option (List ℕ) → Type 0
 IsEndReached (Some ends.EndOfInput) rest = IsReadOut rest
 IsEndReached end rest = Unit {0}
 
--- what was said stands after what was written before, and then, where a write failed, a beginning of the text that it was to write
+-- what was said follows what was written, then a prefix of the text whose write failed, if any
 abbrev pub IsWritten : Option End → Option (List ℕ) → List ℕ → List ℕ → Option (List ℕ) → Type 0
 IsWritten (Some ends.WriteFailed) before said unsaid after = (between : Option (List ℕ)) × Appends before said between × AppendsFront between unsaid after
 IsWritten end before said unsaid after = Appends before said after
 
--- so many reads fail before such an end
+-- how many reads fail before this end
 abbrev pub read_faults : Option End → ℕ
 read_faults (Some ends.ReadFailed) = 1
 read_faults end = 0
 
--- so many writes fail before such an end
+-- how many writes fail before this end
 abbrev pub write_faults : Option End → ℕ
 write_faults (Some ends.WriteFailed) = 1
 write_faults end = 0
 
--- these bytes were read and this was said, up to such an end
+-- these bytes were read and this was said, up to this end
 pub record HasMoved (end : Option End) (old : Wire) (bytes said unsaid : List ℕ) (new : Wire) : Type 0 where
   pub taken : Takes old.rest bytes new.rest
   pub reached : IsEndReached end new.rest
@@ -143,18 +143,18 @@ IsCutOff end old bytes new = ((end ≡ ends.EndOfInput) × HasRead 0 old bytes n
 abbrev pub IsLineStop : End → Wire → List ℕ → Wire → Type 0
 IsLineStop end old bytes new = ((end ≡ ends.LineTooLong) × IsTooLong bytes × HasRead 0 old bytes new) ⊎ (IsLine bytes × IsCutOff end old bytes new)
 
--- what a line ends with, where it does
+-- what a line ends with, if it ends
 abbrev pub line_end : Bool → List ℕ
 line_end ends = if ends then 10 ∷ [] else []
 
--- these bytes were kept after those before, but for an LF at their end
+-- these bytes were appended to those before, except an LF at their end
 pub record IsKept (ends : Bool) (before bytes after : List ℕ) : Type 0 where
   pub part : List ℕ
   pub after_is : after ≡ before ++ part
   pub plain : All (λ byte. byte ≢ 10) part
   pub bytes_are : bytes ≡ part ++ line_end ends
 
--- a part of a line was read after these bytes, and kept but for an LF, with which the line ends
+-- a part of a line was read after these bytes and appended to them, except an LF that ends the line
 pub record IsLinePart (ends : Bool) (before : List ℕ) (old : Wire) (after : List ℕ) (new : Wire) : Type 0 where
   pub part : List ℕ
   pub after_is : after ≡ before ++ part
@@ -163,32 +163,32 @@ pub record IsLinePart (ends : Bool) (before : List ℕ) (old : Wire) (after : Li
   pub more : ends ≡ false → 0 < length part
   pub read : HasRead 0 old (part ++ line_end ends) new
 
--- the bytes that were counted are kept, where there was memory for them
+-- the counted bytes are kept, if there was memory for them
 abbrev pub AreKept : {A E : Type 0} → Result (Vec ℕ A) E → List ℕ → Type 0
 AreKept (Err refused) bytes = Unit {0}
 AreKept (Ok kept) bytes = kept.items ≡ bytes
 
--- as many bytes were read as are counted, and kept where there was memory for them
+-- as many bytes were read as are counted, and kept if there was memory for them
 pub record HasCounted {A E : Type 0} (count : ℕ) (kept : Result (Vec ℕ A) E) (old new : Wire) : Type 0 where
   pub bytes : List ℕ
   pub as_many : length bytes ≡ count
   pub kept_are : AreKept kept bytes
   pub read : HasRead 0 old bytes new
 
--- so many bytes were read, one at least
+-- this many bytes were read, at least one
 pub record HasPassed (count : ℕ) (old new : Wire) : Type 0 where
   pub some : 0 < count
   pub bytes : List ℕ
   pub as_many : length bytes ≡ count
   pub read : HasRead 0 old bytes new
 
--- the input was cut off before so many bytes were read
+-- the input was cut off before this many bytes were read
 pub record IsCutShort (count : ℕ) (end : End) (old new : Wire) : Type 0 where
   pub bytes : List ℕ
   pub few : length bytes < count
   pub cut : IsCutOff end old bytes new
 
--- a last text was written, and the stream ends after it as it was to, or a write failed
+-- a last text was written, and the stream ends as planned, or a write failed
 abbrev pub HasSaid : End → End → Wire → List ℕ → Wire → Type 0
 HasSaid planned end old text new = ((end ≡ planned) × HasWritten old text new) ⊎ ((end ≡ ends.WriteFailed) × HasNotWritten old text new)
 
@@ -196,37 +196,37 @@ HasSaid planned end old text new = ((end ≡ planned) × HasWritten old text new
 abbrev pub IsHeard : Result LineView Refusal → Result LineView Refusal → Type 0
 IsHeard said heard = (heard ≡ said) ⊎ ((heard ≡ Err refusals.Memory) × IsOkAnd said SaysPoints)
 
--- a line was read to its LF, and was heard so
+-- a line was read to its LF, and parsed with this result
 pub record HasHeard (old : Wire) (heard : Result LineView Refusal) (new : Wire) : Type 0 where
   pub line : List ℕ
   pub line_is : IsLine line
   pub read : HasRead 0 old (line ++ 10 ∷ []) new
   pub heard_is : IsHeard (line_said line) heard
 
--- what was said is written whole, and the stream goes on; or a write failed
+-- what was said is wholly written, and the stream goes on; or a write failed
 abbrev pub IsSaid : Option End → Wire → List ℕ → Wire → Type 0
 IsSaid None old text new = HasWritten old text new
 IsSaid (Some end) old text new = (end ≡ ends.WriteFailed) × HasNotWritten old text new
 
--- a stream ends so after a write of this outcome, if it does
+-- the end of a stream after a write with this outcome, if it ends
 abbrev pub end_after : Result (Unit {0}) WriteFault → Option End
 end_after (Ok done) = None
 end_after (Err fault) = Some ends.WriteFailed
 
--- the dump of a bitmap was put: its plain image after the number of its bytes, or want of memory
+-- a bitmap's dump was written: its plain image after its number of bytes, or out of memory
 pub record IsDumped (cells : Cells) (written : Result (Unit {0}) WriteFault) (wire wire_after : Wire) : Type 0 where
   pub answer : Answer
   pub body : List ℕ
   pub is_dump : IsDump cells answer body
   pub put : HasPut written wire (reply_line answer ++ body) wire_after
 
--- what a caller is answered to DUMP was put: the dump of the version that it has pinned, or that it has none
+-- the answer to DUMP was written: the dump of the caller's pinned version, or that it has none
 abbrev pub IsDumpSaid : StoreId → Result (Unit {0}) WriteFault → Wire → CallerValue → Wire → Type 0
 IsDumpSaid store written wire old wire_after =
     elim old.pin as (λ _. Type 0) [ None ↦ HasPut written wire (reply_line (answers.Refused refusals.NotPinned)) wire_after | Some version ↦ IsDumped (bitmap_held store old) written wire wire_after ]
 
--- a caller was served over a wire up to such an end: some bytes were read, and texts were said, but for one whose write failed,
--- and these are a stream that is served so
+-- a caller was served over a wire up to this end: some bytes were read, and texts were said, but
+-- for one whose write failed, and these are a stream served with this end
 pub record IsServed (store : StoreId) (end : Option End) (wire : Wire) (old : CallerValue) (wire_after : Wire) (new : CallerValue) : Type 0 where
   pub bytes : List ℕ
   pub said : List ℕ

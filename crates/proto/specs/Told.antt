@@ -7,8 +7,8 @@ use Rattle.proto.specs.declared.verb.CommandName.TheVariants as orders
 use Rattle.proto.specs.Corners.{Corners, corners_of, seen_corners}
 use Rattle.proto.specs.Numbers.{points, pair}
 
--- the keeper is told to give the cells of a rectangle one value, to stamp, which no line tells by itself, to publish, to revert,
--- to collect, or to drop the entries that are kept
+-- what the keeper is asked to do: set the cells of a rectangle to one value, stamp, which no line
+-- asks for by itself, publish, revert, collect, or drop the entries it keeps
 pub data CommandView : Type 0 where
   draw : Bool → Corners → CommandView
   stamp : CommandView
@@ -17,7 +17,7 @@ pub data CommandView : Type 0 where
   collect : CommandView
   checkpoint : CommandView
 
--- a command of the program tells this
+-- what a command of the program asks
 abbrev pub told_by : Command → CommandView
 told_by (commands.Paint rect black) = draw black (seen_corners rect)
 told_by (commands.Stamp x y bitmap) = stamp
@@ -37,16 +37,16 @@ order_named word =
     else if bytes_eq word (codes "CHECKPOINT") then Some orders.Checkpoint
     else None
 
--- a command without arguments is told only where no words are left after its name
+-- a command without arguments, if no words follow its name
 abbrev pub alone : {A : Type 0} → A → List (List ℕ) → Option A
 alone value [] = Some value
 alone value (word ∷ words) = None
 
--- the words after a name give a rectangle if they are its two corners
+-- the rectangle of which the words after a name are the two corners
 abbrev pub rect_told : List (List ℕ) → Option Corners
 rect_told words = option_and_then corners_of (pair (points words))
 
--- a command with the words after its name tells this
+-- what a command with the words after its name asks
 abbrev pub order_told : CommandName → List (List ℕ) → Option CommandView
 order_told orders.Paint words = option_map (draw true) (rect_told words)
 order_told orders.Clear words = option_map (draw false) (rect_told words)
