@@ -23,36 +23,36 @@ pub record DeskView : Type 0 where
   pub log : List StoreEntry
   pub scanned : List (Option Seen)
 
--- the log of a desk tells this story of the map
+-- the story of the map that a desk's log tells
 abbrev pub story_told : StoreId → List StoreEntry → Story
 story_told store log = story store.base (entries log)
 
--- a log's last checkpoint has this place; 0 where it has none
+-- the place of a log's last checkpoint; 0 where it has none
 abbrev pub base_place : StoreId → List StoreEntry → ℕ
 base_place store log = (story_told store log).base
 
--- the entries of a log after its last checkpoint are kept
+-- the part of a log that is kept: the entries after its last checkpoint
 abbrev pub kept_part : StoreId → List StoreEntry → List StoreEntry
 kept_part store log = drop (base_place store log) log
 
--- another entry is kept with the others, and a checkpoint leaves none
+-- the entries kept after another one: all of them, or none after a checkpoint
 abbrev pub entries_kept_after : List StoreEntry → StoreEntry → List StoreEntry
 entries_kept_after kept e = if takes_room e.entry.command then kept ++ e ∷ [] else []
 
--- the keeper's seat rests at the desk's log, what is held is what the log tells, and the log's last part is kept,
--- with a place for what each reader announces
+-- the keeper's seat is idle at the desk's log, the log gives what is held, and its end is kept,
+-- with an element for what each reader announces
 pub record IsDesk (store : StoreId) (d : DeskView) (keeper : KeeperView) (h : Holding) (kept : List StoreEntry) : Type 0 where
   pub keeper_is : keeper ≡ resting (readers_of store) d.log
   pub told : IsToldByLog store.base (entries d.log) h
   pub kept_is : kept ≡ kept_part store d.log
   pub place_each : length d.scanned ≡ readers_of store
 
--- no load moves the hold of a reader that has announced nothing, or holds a version
+-- no load changes the hold of a reader that has announced nothing, or holds a version
 abbrev pub IsSteady : ReaderView → Type 0
 IsSteady x = (x.announced ≡ None) ⊎ ((version : ℕ) × (x.holds ≡ Some version))
 
--- a collect's reply keeps the versions that its scan saw asked for; where all of these announcements
--- are exact, it keeps at most one version more than there are of them
+-- a collect's reply keeps the versions that its scan saw asked for; if all of these announcements
+-- are exact, it keeps at most one version more than there are announcements
 pub record IsByScan (store : StoreId) (old : DeskView) (reply : Reply) (scanned : List (Option Seen)) : Type 0 where
   pub each : length scanned ≡ readers_of store
   pub kept_is : kept_told (story_told store old.log) reply
@@ -60,17 +60,19 @@ pub record IsByScan (store : StoreId) (old : DeskView) (reply : Reply) (scanned 
   pub few : AreExact scanned
       → length (members (kept_told (story_told store old.log) reply).slots) ≤ 1 + announcements scanned
 
--- a command is accepted: the log has one more entry, by the seat's session, and the seat has seen the whole log and counts the entry
+-- a command is accepted: its entry ends the log, and its seat has seen all of it and counts the
+-- entry
 pub record IsAccepted (store : StoreId) (old : DeskView) (seat : ReaderView) (c : Command) (reply : Reply) (new : DeskView) (seat_after : ReaderView) : Type 0 where
   pub answer : IsAnswer store.base.setting (story_told store old.log) c reply
   pub log : new.log ≡ old.log ++ record { by = seat.number; entry = record { command = c; reply = reply } } ∷ []
   pub seat_is : seat_after ≡ record seat { seen = new.log; made = seat.made + 1 }
-  -- the entry is kept after the others; a checkpoint leaves none, and its place is the base place then
+  -- the entry is kept after the others; a checkpoint leaves none, and sets the base place to its
+  -- own
   pub kept : kept_part store new.log ≡ entries_kept_after (kept_part store old.log) record { by = seat.number; entry = record { command = c; reply = reply } }
   pub base : base_place store new.log ≡ (if takes_room c then base_place store old.log else length new.log)
   pub collects : c ≡ Collect → IsByScan store old reply new.scanned
 
--- why a command is refused: by the log, or, where the log doesn't refuse it, for want of memory, which a checkpoint never is
+-- why a command is refused: by the log, or else, unless it is a checkpoint, because memory ran out
 abbrev pub IsWhy : StoreId → DeskView → Command → Refusal → Type 0
 IsWhy store d c refusal =
     (refused store.base.setting (story_told store d.log) c ≡ Some refusal) ⊎ ((refused store.base.setting (story_told store d.log) c ≡ None) × (refusal ≡ Memory) × (takes_room c ≡ true))
@@ -81,18 +83,18 @@ pub record IsCommandRefused (store : StoreId) (old : DeskView) (seat : ReaderVie
   pub same : new ≡ old
   pub seat_is : seat_after ≡ record seat { seen = old.log }
 
--- a command is answered so, whatever is returned with it where it is refused
+-- the outcome of a command, whatever a refusal returns with it
 abbrev pub outcome_of : {Back : Type 0} → Result Reply (Back × Refusal) → Result Reply Refusal
 outcome_of (Ok reply) = Ok reply
 outcome_of (Err back) = Err back.1
 
--- a command is answered: it is accepted or refused, and then the seat has seen the whole log, which is legal
+-- a command is accepted or refused, and then the seat has seen the whole log, which is legal
 pub record IsApplied (store : StoreId) (old : DeskView) (seat : ReaderView) (c : Command) (answer : Result Reply Refusal) (new : DeskView) (seat_after : ReaderView) : Type 0 where
   pub accepted : IfOk answer (λ reply. IsAccepted store old seat c reply new seat_after)
   pub refused : IfErr answer (λ refusal. IsCommandRefused store old seat c refusal new seat_after)
-  -- a checkpoint is refused for want of a place alone
+  -- a checkpoint is refused only if no place is left
   pub places : takes_room c ≡ false → IfErr answer (λ refusal. refusal ≡ PlacesUsed)
-  -- of the seat nothing changes but what it has seen and what it counts
+  -- nothing of the seat changes but what it has seen and what it counts
   pub stays : seat_after ≡ record seat { seen = seat_after.seen; made = seat_after.made }
   pub seen : seat_after.seen ≡ new.log
   pub began : IsPrefix seat.seen old.log

@@ -1,4 +1,4 @@
--- What a desk holds of a map, and what that says of its log: this project's own rule.
+-- What a desk holds of a map, and how that relates to its log: this project's own rule.
 use Rattle.std.specs.Prelude.{◌≡◌, ℕ, ◌+◌, ◌≤◌, ◌⊎◌, true, List, [], ◌∷◌, ◌++◌, length, Option, Some, None}
 use Rattle.metric.specs.declared.refusal.Refusal.{Refusal}
 use Rattle.metric.specs.declared.refusal.Refusal.TheVariants.{Memory}
@@ -17,12 +17,12 @@ use Rattle.map_core.specs.Summary.{Summary, IsSummary}
 use Rattle.grid.specs.Grids.{draft, bitmap_at, own_blocks, newest_blocks, retired_blocks}
 use Rattle.desk.specs.declared.holding.Holding.{Holding}
 
--- this is kept of the log
+-- the summary of a log that a desk holds
 abbrev pub summary_of : Holding → Summary
 summary_of h =
     record { ledger = h.ledger; draft = draft h.grid; published = bitmap_at h.grid h.grid.newest; came = h.grid.came; own = own_blocks h.grid; free = h.arena.free; retired = retired_blocks h.grid }
 
--- ledger, tiles and free blocks are what a story and its blocks say
+-- ledger, tiles and free blocks agree with a story and its blocks
 pub record Holds (k : Base) (s : Story) (m : Blocks) (h : Holding) : Type 0 where
   pub summary : IsSummary k s m (summary_of h)
   pub newest_is : h.grid.newest ≡ newest s
@@ -33,24 +33,24 @@ pub record Holds (k : Base) (s : Story) (m : Blocks) (h : Holding) : Type 0 wher
   pub count_is : h.arena.home.count ≡ k.setting.blocks
   pub room_is : h.grid.room ≡ k.setting.blocks
 
--- what is held is what a legal log of the map tells
+-- a legal log of the map gives what is held
 pub record IsToldByLog (k : Base) (log : List Entry) (h : Holding) : Type 0 where
   pub ready : IsReady k
   pub legal : IsLegal k.setting k.opening log
   pub holds : Holds k (story k log) (blocks k log) h
 
--- a command can be answered: the ledger has room, and the tiles are the arena's
+-- a command can be answered: the ledger is balanced, and the tiles are the arena's
 pub record CanAnswer (h : Holding) : Type 0 where
   pub balanced : IsBalanced h.ledger
   pub newest_is : h.grid.newest ≡ h.ledger.newest
   pub home_is : h.grid.home ≡ h.arena.home
   pub room : length h.grid.retired + length (own_list (own_blocks h.grid)) ≤ h.grid.room
 
--- a command is refused for this reason, or for none, after whatever log tells what is held
+-- after any log that gives what is held, this is the refusal of a command, or none
 abbrev pub Judges : Holding → Command → Option Refusal → Type 0
 Judges h c refusal = (k : Base) (log : List Entry) → IsToldByLog k log h → refusal ≡ refused k.setting (story k log) c
 
--- a command is refused: for this reason by the log, or for want of memory for its entry, where the log has no reason
+-- a command is refused: by the log for this reason, or for no memory if the log has no reason
 abbrev pub Refuses : Holding → Command → Refusal → Type 0
 Refuses h c refusal = Judges h c (Some refusal) ⊎ (Judges h c None × (refusal ≡ Memory) × (takes_room c ≡ true))
 
@@ -60,7 +60,7 @@ IsOneStep Publish = ⊥
 IsOneStep Collect = ⊥
 IsOneStep c = Unit {0}
 
--- a command is answered after whatever log tells what is held, and then the log with that entry tells it
+-- after any log that gives what is held a command is answered, and its entry gives the new holding
 abbrev pub Does : Holding → Command → Reply → Holding → Type 0
 Does old c reply new =
     (k : Base) (log : List Entry) → IsToldByLog k log old → IsAnswer k.setting (story k log) c reply × IsToldByLog k (log ++ record { command = c; reply = reply } ∷ []) new

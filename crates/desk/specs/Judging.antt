@@ -1,4 +1,4 @@
--- A command that is judged by what a desk holds: this project's own rule.
+-- Commands judged by what a desk holds: this project's own rule.
 use Rattle.std.specs.Prelude.{◌≡◌, None}
 use Rattle.map_core.specs.declared.command.Command.{Command}
 use Rattle.map_core.specs.declared.command.Command.TheVariants.{Publish, Revert, Collect, Checkpoint}
@@ -9,7 +9,7 @@ use Rattle.desk.specs.declared.holding.Holding.{Holding}
 use Rattle.desk.specs.declared.holding.judged.Judged.{Judged}
 use Rattle.desk.specs.declared.holding.judged.Judged.TheVariants as kinds
 
--- a command does this; a paint or a stamp finds its blocks
+-- what a command does; a paint or a stamp has enough free blocks
 abbrev pub IsKind : Holding → Command → Judged → Type 0
 IsKind h c (kinds.Draw stroke) = IsDraw c × IsStroke h.grid h.arena.free c stroke
 IsKind h c kinds.Publish = c ≡ Publish

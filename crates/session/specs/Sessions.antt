@@ -24,15 +24,15 @@ pub record PinView : Type 0 where
   pub seat : ReaderView
   pub version : ℕ
 
--- a session has seen this newest version
+-- the newest version that a session has seen
 abbrev pub newest_of_session : StoreId → ReaderView → ℕ
 newest_of_session store seat = newest (story store.base (entries seat.seen))
 
--- this bitmap was published as the version, by what a session has seen
+-- the bitmap published as a version, by what a session has seen
 abbrev pub bitmap_seen : StoreId → ReaderView → ℕ → Cells
 bitmap_seen store seat version = bitmap_of (story store.base (entries seat.seen)) version
 
--- this bitmap was published as the version that a pin holds, by what it has seen
+-- the bitmap published as a pin's version, by what the pin has seen
 abbrev pub bitmap_pinned : StoreId → PinView → Cells
 bitmap_pinned store p = bitmap_seen store p.seat p.version
 
@@ -40,17 +40,17 @@ bitmap_pinned store p = bitmap_seen store p.seat p.version
 abbrev pub all_fresh : StoreId → List ReaderView
 all_fresh store = map reader_at_opening (range_with_len 0 (readers_of store))
 
--- a log starts with what a session has seen, and has as many entries by it as it counts
+-- a log extends what a session has seen, and has as many entries by it as it counts
 abbrev pub IsInLog : List StoreEntry → ReaderView → Type 0
 IsInLog log s = IsPrefix s.seen log × (made_by s.number log ≡ s.made)
 
--- what closing a store returns is the last part of one log: the place of its last checkpoint, and the entries after it
+-- closing a store returns the end of one log: its last checkpoint's place, and the entries after it
 pub record IsHandedOut (store : StoreId) (handed : List ReaderView) (base : ℕ) (kept : List StoreEntry) : Type 0 where
   pub log : List StoreEntry
   pub legal : IsLegal store.base.setting store.base.opening (entries log)
-  -- it starts with what each session has seen, and has as many entries by it as it counts
+  -- it extends what each session has seen, and has as many entries by it as it counts
   pub sessions : All (IsInLog log) handed
-  -- where all sessions were given to the close, what they count adds up to its length
+  -- if the close took all sessions, their counts add up to its length
   pub made : length handed ≡ readers_of store → sum_by (λ s. s.made) handed ≡ length log
   pub base_is : base ≡ base_place store log
   pub kept_is : kept ≡ drop base log
@@ -61,12 +61,12 @@ pub record Size : Type 0 where
   pub width : ℕ
   pub height : ℕ
 
--- a version has this slot, by what a session has seen, which is one of the store's
+-- a version has this slot, by what one of the store's sessions has seen
 pub record HasSlot (store : StoreId) (x : ReaderView) (version slot : ℕ) : Type 0 where
   pub slot_is : slot ≡ slot_of store.base (story store.base (entries x.seen)) version
   pub below : slot < store.base.setting.versions
 
--- a session has announced nothing and holds nothing, and has the size of its store's map, which fits the store's setting
+-- a session announces and holds nothing, and knows the size of its map, which fits the setting
 pub record IsSession (store : StoreId) (x : ReaderView) (size : Size) : Type 0 where
   pub quiet : x.announced ≡ None
   pub free : x.holds ≡ None
@@ -79,8 +79,8 @@ abbrev pub is_whole : Looks → Bool
 is_whole (looks.Words left) = false
 is_whole looks.Whole = true
 
--- a pin holds a version that was published in what it has seen, has announced that one alone, and knows its slot;
--- it has the version's bitmap once it is read, and until then a bitmap of the same size
+-- a pin holds a version published in what it has seen, has announced exactly that one, and knows
+-- its slot; it has the version's bitmap once it is read, and until then a bitmap of the same size
 pub record IsPin (store : StoreId) (p : PinView) (slot : ℕ) (bitmap : Cells) (is_read : Bool) : Type 0 where
   pub announced : p.seat.announced ≡ Some (Exact p.version)
   pub held : p.seat.holds ≡ Some p.version
@@ -92,7 +92,7 @@ pub record IsPin (store : StoreId) (p : PinView) (slot : ℕ) (bitmap : Cells) (
   pub height_is : bitmap.height ≡ store.base.opening.height
   pub bitmap_is : is_read ≡ true → bitmap ≡ bitmap_pinned store p
 
--- a pin's command is answered as its session's, and the version that the pin holds stays, and so does its bitmap
+-- a pin's command is answered as its session's, and the pin keeps its version and its bitmap
 pub record IsPinApplied (store : StoreId) (old : DeskView) (p : PinView) (c : Command) (answer : Result Reply Refusal) (new : DeskView) (after : PinView) : Type 0 where
   pub applied : IsApplied store old p.seat c answer new after.seat
   pub version : after.version ≡ p.version
