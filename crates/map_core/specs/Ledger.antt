@@ -12,7 +12,7 @@ use Rattle.map_core.specs.Legal.{refused_blocks}
 use Rattle.map_core.specs.Story.{Story, most_places, newest}
 use Rattle.map_core.specs.Words.{Base}
 
--- a ledger counts what a story of this map has
+-- a ledger has the counts of a story of this map
 pub record IsLedger (k : Base) (s : Story) (l : Ledger) : Type 0 where
   pub setting_is : l.setting ≡ k.setting
   pub width_is : l.width ≡ k.opening.width
@@ -23,7 +23,7 @@ pub record IsLedger (k : Base) (s : Story) (l : Ledger) : Type 0 where
   pub slot_is : l.slot ≡ slice_index s.slots (newest s)
   pub kept_is : l.kept ≡ s.kept
 
--- the numbers of a ledger fit together: each version has a place, and so has the last checkpoint; there are at most 64 slots, and newest stands in one
+-- each version and the last checkpoint have a place; at most 64 slots, and the newest is in one
 pub record IsBalanced (l : Ledger) : Type 0 where
   pub newest_in : l.newest ≤ l.places
   pub base_in : l.base ≤ l.places
@@ -34,13 +34,13 @@ pub record IsBalanced (l : Ledger) : Type 0 where
 abbrev pub HasPlace : Ledger → Type 0
 HasPlace l = l.places < most_places
 
--- what NOW says of a ledger has room in its word
+-- a ledger's fields of NOW fit the word
 pub record HasNowRoom (l : Ledger) : Type 0 where
   pub place : l.places < 2 ^ 29
   pub version : l.newest < 2 ^ 29
   pub slot : l.slot < 64
 
--- the test says whether a command's entry takes room in the log; a checkpoint alone takes none
+-- whether a command's entry takes capacity in the log; only a checkpoint's takes none
 abbrev pub takes_room : Command → Bool
 takes_room (Paint r black) = true
 takes_room (Stamp x y b) = true
@@ -49,19 +49,19 @@ takes_room Revert = true
 takes_room Collect = true
 takes_room Checkpoint = false
 
--- the test says whether the log has as many entries after its last checkpoint as it may have
+-- whether the log has as many entries after its last checkpoint as its limit allows
 abbrev pub has_no_room : Ledger → Bool
 has_no_room l = nat_le l.setting.log (l.places - l.base)
 
--- the test says whether no place is left
+-- whether no place is left
 abbrev pub has_no_place : Ledger → Bool
 has_no_place l = nat_le most_places l.places
 
--- the test says whether as many versions are kept as there are slots
+-- whether as many versions are kept as there are slots
 abbrev pub has_no_slot : Ledger → Bool
 has_no_slot l = nat_le l.setting.versions (length (members l.kept.slots))
 
--- why a command is refused for want of a slot; a publish alone takes one
+-- the refusal of a command if no slot is free; only a publish takes one
 abbrev pub refused_slots : Ledger → Command → Option Refusal
 refused_slots l (Paint r black) = None
 refused_slots l (Stamp x y b) = None
@@ -70,11 +70,11 @@ refused_slots l Revert = None
 refused_slots l Collect = None
 refused_slots l Checkpoint = None
 
--- a ledger refuses a command for this reason, blocks aside
+-- the reason why a ledger refuses a command, blocks aside
 unfoldable pub refused_by_ledger : Ledger → Command → Option Refusal
 refused_by_ledger l c = if lies_within l.width l.height c then (if takes_room c && has_no_room l then Some LogFull else (if has_no_place l then Some PlacesUsed else refused_slots l c)) else Some OutOfRange
 
--- why a command is refused for want of blocks; a paint or a stamp alone takes some
+-- the refusal of a command if too few blocks are free; only a paint or a stamp takes some
 abbrev pub refused_draw_blocks : Setting → Story → Command → Option Refusal
 refused_draw_blocks g s (Paint r black) = refused_blocks g s (Paint r black)
 refused_draw_blocks g s (Stamp x y b) = refused_blocks g s (Stamp x y b)
@@ -83,7 +83,7 @@ refused_draw_blocks g s Revert = None
 refused_draw_blocks g s Collect = None
 refused_draw_blocks g s Checkpoint = None
 
--- of two refusals the first is told, where there is one
+-- the first of two refusals, if there is one
 abbrev pub first_refusal : Option Refusal → Option Refusal → Option Refusal
 first_refusal (Some refusal) next = Some refusal
 first_refusal None next = next

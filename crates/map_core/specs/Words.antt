@@ -1,6 +1,6 @@
--- The words of a world and what stands in them: this project's own rule.
--- First comes NOW, then a word for each reader, each with seven unused words after it.
--- The slots' directories come next, and then the blocks, 64 words each.
+-- The layout of a world's words: this project's own rule. First comes NOW, then a word per reader,
+-- each followed by seven unused words. The slots' directories come next, and then the blocks, 64
+-- words each.
 use Rattle.std.specs.Prelude.{◌≡◌, ℕ, ◌+◌, ◌-◌, ◌*◌, ◌/◌, ◌%◌, ◌^◌, ◌==◌, List, slice_index, Option, Some, None, if◌then◌else◌}
 use Rattle.std.specs.Int.{bit_at}
 use Rattle.bits.specs.Cells.{Cells, cells_where}
@@ -12,12 +12,12 @@ use Rattle.map_core.specs.declared.kept.Seen.TheVariants.{From, Exact}
 use Rattle.map_core.specs.Kept.{first_free}
 use Rattle.map_core.specs.Story.{Story, newest}
 
--- a world was opened with this
+-- what a world was opened with
 pub record Base : Type 0 where
   pub setting : Setting
   pub opening : Cells
 
--- the map has so many positions
+-- the number of positions of the map
 abbrev pub tiles : Base → ℕ
 tiles k = tile_count k.opening
 
@@ -26,66 +26,66 @@ pub record IsPlan (k : Base) (plan : Plan) : Type 0 where
   pub setting_is : plan.setting ≡ k.setting
   pub tiles_is : plan.tiles ≡ tiles k
 
--- there are so many words
+-- the number of words
 unfoldable pub word_count : Base → ℕ
 word_count k = 8 + 8 * k.setting.sessions + k.setting.versions * tiles k + 64 * k.setting.blocks
 
--- the word NOW stands at this place
+-- the index of the word NOW
 abbrev pub now_at : ℕ
 now_at = 0
 
--- a reader's word stands at this place
+-- the index of a reader's word
 unfoldable pub pin_at : ℕ → ℕ
 pin_at reader = 8 + 8 * reader
 
--- the word that has the block of position p in a slot stands at this place
+-- the index of the word that has the block of position p in a slot
 unfoldable pub map_at : Base → ℕ → ℕ → ℕ
 map_at k slot p = 8 + 8 * k.setting.sessions + (slot * tiles k + p)
 
--- the word that has row i of a block stands at this place
+-- the index of the word that has row i of a block
 unfoldable pub tile_at : Base → ℕ → ℕ → ℕ
 tile_at k block i = 8 + 8 * k.setting.sessions + k.setting.versions * tiles k + (block * 64 + i)
 
--- NOW says the place of the last entry, the newest version, and its slot
+-- NOW has the place of the last entry, the newest version, and its slot
 abbrev pub now_word : ℕ → ℕ → ℕ → ℕ
 now_word place version slot = place * 2 ^ 35 + version * 2 ^ 6 + slot
 
--- NOW tells this place
+-- the place in NOW
 abbrev pub place_told : ℕ → ℕ
 place_told word = word / 2 ^ 35
 
--- NOW tells this version
+-- the version in NOW
 abbrev pub version_told : ℕ → ℕ
 version_told word = word % 2 ^ 35 / 2 ^ 6
 
--- NOW tells this slot
+-- the slot in NOW
 abbrev pub slot_told : ℕ → ℕ
 slot_told word = word % 2 ^ 6
 
--- NOW is this word after a log
+-- the word NOW after a log
 unfoldable pub now_of : Story → ℕ
 now_of s = now_word s.places (newest s) (slice_index s.slots (newest s))
 
--- a reader's word is 0 where nothing is announced, an odd number for a version and those after it, and an even one for a version alone
+-- a reader's word: 0 for nothing, 2 v + 1 for version v and those after it, 2 v + 2 for v exactly
 unfoldable pub pin_word : Option Seen → ℕ
 pin_word None = 0
 pin_word (Some (From version)) = 2 * version + 1
 pin_word (Some (Exact version)) = 2 * version + 2
 
--- a word announces this
+-- what a word announces
 unfoldable pub seen_in : ℕ → Option Seen
 seen_in word = if word == 0 then None else (if word % 2 == 1 then Some (From (word / 2)) else Some (Exact (word / 2 - 1)))
 
--- a version is in this slot
+-- the slot of a version
 unfoldable pub slot_of : Base → Story → ℕ → ℕ
 slot_of k s version = slice_index s.slots version
 
--- a publish writes into this slot
+-- the slot that a publish writes
 unfoldable pub next_slot : Base → Story → ℕ
 next_slot k s = first_free s.kept.slots
 
--- the words show this bitmap in a slot: a cell's bit is that of its column, in the row of the block that the slot has for the
--- cell's position
+-- the bitmap that the words show in a slot: a cell's bit is that of its column, in the row of the
+-- block that the slot has for the cell's position
 unfoldable pub shown : Base → List ℕ → ℕ → Cells
 shown k words slot =
     cells_where k.opening.width k.opening.height
