@@ -1,3 +1,3 @@
--- What the command `ask` asks and tells.
+-- What the command `ask` asks and prints.
 pub mod Asking
 pub mod Talking

@@ -6,7 +6,7 @@ use Rattle.proto.specs.Said.{LineView, said, stamp, verb_in}
 use Rattle.proto.specs.declared.verb.Verb.{Verb}
 use Rattle.proto.specs.declared.verb.Verb.TheVariants as verbs
 
--- a server reads so many bytes after a line: those of a good stamp, where they aren't too many
+-- how many bytes a server reads after a line: those of a valid stamp, if they aren't too many
 abbrev pub bytes_behind : Option Verb → Result LineView Refusal → ℕ
 bytes_behind (Some verbs.Stamp) (Ok (stamp x y n)) = if nat_le n 17100000 then n else 0
 bytes_behind other line = 0
@@ -15,11 +15,11 @@ bytes_behind other line = 0
 abbrev pub IsUnended : List ℕ → Type 0
 IsUnended bytes = All (λ byte. byte ≢ 10) bytes
 
--- a server reads so many bytes after a line
+-- how many bytes a server reads after a line
 abbrev pub counted_by : List ℕ → ℕ
 counted_by line = bytes_behind (verb_in line) (said line)
 
--- these bytes are a line with its LF, and as many bytes as the line counts without the CR at its end
+-- these bytes are a line with its LF, and as many bytes as the line counts without its CR
 pub record IsCounted (counts : List ℕ → ℕ) (bytes : List ℕ) : Type 0 where
   pub line : List ℕ
   pub counted : List ℕ

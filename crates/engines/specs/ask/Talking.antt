@@ -1,4 +1,5 @@
--- A conversation of `ask`: each request is sent once the reply to the one before it was received and printed. This project's own rule.
+-- A conversation of `ask`: each request is sent after the reply to the one before it was received
+-- and printed. This project's own rule.
 use Rattle.std.specs.Prelude.{◌≡◌, ℕ, ◌⊎◌, All, Bool, false, true, List, [], ◌∷◌, map, Option, Some, bytes_eq, codes, unwrap_or, if◌then◌else◌}
 use Rattle.std.specs.List.{concat}
 use Rattle.metric.specs.Stream.{Appends, AppendsFront, Takes}
@@ -21,17 +22,17 @@ abbrev pub asks_for_bytes : List (List ℕ) → Bool
 asks_for_bytes [] = false
 asks_for_bytes (line ∷ others) = is_dump (verb_in line)
 
--- `OK` and one number count so many bytes; other words count none
+-- how many bytes `OK` and one number count; other words count none
 abbrev pub count_told : List (List ℕ) → ℕ
 count_told [] = 0
 count_told (word ∷ others) = if bytes_eq word (codes "OK") then unwrap_or (only_number (numbers others)) 0 else 0
 
--- so many bytes follow a line of a reply, where bytes were asked for or not
+-- how many bytes follow a line of a reply, whether bytes were asked for or not
 abbrev pub bytes_promised : Bool → List ℕ → ℕ
 bytes_promised false line = 0
 bytes_promised true line = count_told (words line)
 
--- this is a whole reply to a request: a line with its LF, and the bytes that it counts where they were asked for
+-- a whole reply to a request: a line with its LF, and the bytes that it counts if asked for bytes
 abbrev pub IsReplyTo : List ℕ → List ℕ → Type 0
 IsReplyTo request = IsCounted (bytes_promised (asks_for_bytes (lines_of request)))
 
@@ -45,22 +46,22 @@ pub record IsExchange (e : Exchange) : Type 0 where
   pub request_is : IsRequest e.request
   pub reply_is : IsReplyTo e.request e.reply
 
--- these are the bytes of some exchanges' requests
+-- the bytes of some exchanges' requests
 abbrev pub requests_of : List Exchange → List ℕ
 requests_of exchanges = concat (map (λ e. e.request) exchanges)
 
--- these are the bytes of some exchanges' replies
+-- the bytes of some exchanges' replies
 abbrev pub replies_of : List Exchange → List ℕ
 replies_of exchanges = concat (map (λ e. e.reply) exchanges)
 
--- what is left to read of the requests, what was sent, what is left to receive of the replies, and what was printed
+-- the requests left to read, those sent, the replies left to receive, and those printed
 pub record Talk : Type 0 where
   pub unread : Option (List ℕ)
   pub sent : Option (List ℕ)
   pub unheard : Option (List ℕ)
   pub printed : Option (List ℕ)
 
--- a conversation stands so at its four ends
+-- the state of a conversation at its four ends
 abbrev pub talk_at : Option (List ℕ) → Option (List ℕ) → Option (List ℕ) → Option (List ℕ) → Talk
 talk_at unread sent unheard printed =
     record { unread = unread; sent = sent; unheard = unheard; printed = printed }
@@ -74,7 +75,7 @@ pub record Exchanges (before after : Talk) : Type 0 where
   pub heard : Takes before.unheard (replies_of exchanges) after.unheard
   pub printed : Appends before.printed (replies_of exchanges) after.printed
 
--- no more than a part of a request was read
+-- at most a part of a request was read
 pub record IsCutReading (before after : Talk) : Type 0 where
   pub part : List ℕ
   pub read : Takes before.unread part after.unread
@@ -82,7 +83,7 @@ pub record IsCutReading (before after : Talk) : Type 0 where
   pub heard : after.unheard ≡ before.unheard
   pub printed : after.printed ≡ before.printed
 
--- a request was read, and no more than a beginning of it was sent
+-- a request was read, and at most a prefix of it was sent
 pub record IsCutSending (before after : Talk) : Type 0 where
   pub request : List ℕ
   pub request_is : IsRequest request
@@ -101,7 +102,7 @@ pub record IsCutHearing (before after : Talk) : Type 0 where
   pub heard : Takes before.unheard part after.unheard
   pub printed : after.printed ≡ before.printed
 
--- a request was read and sent and its reply received, and no more than a beginning of the reply was printed
+-- a request was read and sent, its reply received, and at most a prefix of the reply printed
 pub record IsCutPrinting (before after : Talk) : Type 0 where
   pub exchange : Exchange
   pub whole : IsExchange exchange
@@ -110,7 +111,7 @@ pub record IsCutPrinting (before after : Talk) : Type 0 where
   pub heard : Takes before.unheard exchange.reply after.unheard
   pub printed : AppendsFront before.printed exchange.reply after.printed
 
--- an exchange was cut off at one of its four steps, of which the later ones weren't begun
+-- an exchange was cut off at one of its four steps, and the later ones weren't started
 abbrev pub IsCutOff : Talk → Talk → Type 0
 IsCutOff before after =
     IsCutReading before after ⊎ (IsCutSending before after ⊎ (IsCutHearing before after ⊎ IsCutPrinting before after))
@@ -121,11 +122,11 @@ pub record Breaks (before after : Talk) : Type 0 where
   pub exchanges : Exchanges before between
   pub cut : IsCutOff between after
 
--- a run of `ask` tells nothing at its end, or why it ended
+-- a run of `ask` prints nothing at its end, or why it ended
 abbrev pub IsLastLine : List ℕ → Type 0
 IsLastLine line = (line ≡ []) ⊎ ((line ≡ net_text) ⊎ (line ≡ memory_text))
 
--- exchanges, then one that was cut off, and then no more than a beginning of the line that tells why
+-- exchanges, then one that was cut off, and then at most a prefix of the line that says why
 pub record Converses (before after : Talk) : Type 0 where
   pub cut : Talk
   pub line : List ℕ

@@ -1,4 +1,4 @@
--- What `dist` answers to an image: this project's own rule.
+-- The answers of `dist` to an image: this project's own rule.
 use Rattle.std.specs.Prelude.{◌≡◌, ◌≢◌, ℕ, List, [], ◌∷◌, ◌++◌, ◌⊎◌, Option, Err, IsOk, MatchOption}
 use Rattle.metric.specs.declared.fault.PbmFault.{PbmFault}
 use Rattle.metric.specs.declared.fault.PbmFault.TheVariants as faults
@@ -17,8 +17,7 @@ use Rattle.engines.specs.dist.Query.{IsReplyTo, asked_in, status_of}
 use Rattle.engines.specs.declared.command_line.arguments.DistOptions.{DistOptions}
 use Rattle.engines.specs.dist.Table.{table_text}
 
--- the bytes read as an image, and the text is the lines of its rows: of each cell the nearest obstacle,
--- by the metric and with the border that were asked for
+-- the bytes read as an image, and the text is its table, by the metric and with the edge asked for
 pub record IsTable (options : DistOptions) (bytes text : List ℕ) (status : ℕ) : Type 0 where
   pub taken : ℕ
   pub cells : Cells
@@ -38,7 +37,7 @@ pub record IsReplyToLine (edge : Edge) (line bytes text : List ℕ) (status : �
   pub text_is : text ≡ reply_line answer
   pub status_is : status ≡ status_of answer
 
--- the bytes read as an image, and the text is what the options ask of it: the table, or the reply to a line
+-- the bytes read as an image, and the text is what the options ask: the table, or a line's reply
 abbrev pub IsAsked : DistOptions → List ℕ → List ℕ → ℕ → Type 0
 IsAsked options bytes text status = MatchOption options.query (IsTable options bytes text status) (λ line. IsReplyToLine options.edge line.now bytes text status)
 
@@ -47,7 +46,7 @@ pub record IsBadImage (bytes : List ℕ) (fault : PbmFault) : Type 0 where
   pub first : image bytes ≡ Err fault
   pub none : (n : ℕ) (cells : Cells) → Reads bytes n cells → ⊥
 
--- the text is the line of a fault that the bytes have, or of want of memory, which is met after a good header alone
+-- the text is the line of a fault of the bytes, or of out of memory, met only after a good header
 pub record IsFault (bytes text : List ℕ) (status : ℕ) : Type 0 where
   pub fault : PbmFault
   pub true_of : fault ≢ faults.Memory → IsBadImage bytes fault
@@ -63,26 +62,26 @@ IsImageAnswer options bytes text status = IsAsked options bytes text status ⊎ 
 abbrev pub IsMapAnswer : DistOptions → Cells → List ℕ → ℕ → Type 0
 IsMapAnswer options cells text status = (bytes : List ℕ) (taken : ℕ) → Reads bytes taken cells → IsImageAnswer options bytes text status
 
--- such an answer was written whole, with its status
+-- such an answer was wholly written, with its status
 abbrev pub AnswersMap : DistOptions → Cells → Option (List ℕ) → Option (List ℕ) → ℕ → Type 0
 AnswersMap options cells held_before held_after status =
     (text : List ℕ) × IsMapAnswer options cells text status × Appends held_before text held_after
 
--- a beginning of such an answer was written
+-- a prefix of such an answer was written
 abbrev pub BeginsToAnswerMap : DistOptions → Cells → Option (List ℕ) → Option (List ℕ) → Type 0
 BeginsToAnswerMap options cells held_before held_after =
     (text : List ℕ) × (status : ℕ) × IsMapAnswer options cells text status
     × AppendsFront held_before text held_after
 
--- this text is the line of want of memory, with its status
+-- this text is the line for out of memory, with its status
 abbrev pub IsMemoryLine : List ℕ → ℕ → Type 0
 IsMemoryLine text status = (text ≡ image_text faults.Memory ++ 10 ∷ []) × (status ≡ 1)
 
--- this text is an answer to these bytes under these options, or tells want of memory for reading them
+-- this text is an answer to these bytes under these options, or that memory ran out reading them
 abbrev pub IsDistAnswer : DistOptions → List ℕ → List ℕ → ℕ → Type 0
 IsDistAnswer options bytes text status = IsImageAnswer options bytes text status ⊎ IsMemoryLine text status
 
--- an answer to all bytes that the reader had was written whole
+-- an answer to all bytes that the reader had was wholly written
 pub record AnswersImage (options : DistOptions) (unread held_before held_after : Option (List ℕ)) (status : ℕ) : Type 0 where
   pub bytes : List ℕ
   pub text : List ℕ
@@ -90,7 +89,7 @@ pub record AnswersImage (options : DistOptions) (unread held_before held_after :
   pub answer : IsDistAnswer options bytes text status
   pub written : Appends held_before text held_after
 
--- a beginning of an answer to all bytes that the reader had was written
+-- a prefix of an answer to all bytes that the reader had was written
 pub record BeginsToAnswerImage (options : DistOptions) (unread held_before held_after : Option (List ℕ)) : Type 0 where
   pub bytes : List ℕ
   pub text : List ℕ

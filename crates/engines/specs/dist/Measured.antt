@@ -1,18 +1,19 @@
--- The text of distances alone: this project's own rule.
+-- The text of a table with only distances: this project's own rule.
 use Rattle.std.specs.Prelude.{◌≡◌, ℕ, ◌<◌, ◌==◌, List, [], ◌∷◌, ◌++◌, map, length, slice_index_or, Option, Some, None, if◌then◌else◌}
 use Rattle.std.specs.Fmt.{decimal}
 use Rattle.std.specs.List.{join_with_byte}
 use Rattle.metric.specs.declared.near.Near.{Near}
 
--- a distance is printed as its number, and as `-` where it is the largest number of 32 bits, which stands for none
+-- a distance is printed as its number, or as `-` for the largest 32-bit number, which means none
 abbrev pub distance_text : ℕ → List ℕ
 distance_text distance = if distance == 4294967295 then 45 ∷ [] else decimal distance
 
--- the line of a row's distances has one blank between two, and LF at its end
+-- the line of a row's distances has single blanks between them, and LF at its end
 abbrev pub distances_line : List ℕ → List ℕ
 distances_line distances = join_with_byte 32 (map distance_text distances) ++ 10 ∷ []
 
--- the number is the distance of this nearest obstacle, and is not what stands for none; or there is none, and it is that
+-- the number is this nearest obstacle's distance and doesn't mean none; or there is none, as it
+-- says
 abbrev pub IsDistanceOf : Option Near → ℕ → Type 0
 IsDistanceOf None number = number ≡ 4294967295
 IsDistanceOf (Some near) number = (number ≡ near.dist) × (number < 4294967295)

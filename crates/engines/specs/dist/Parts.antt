@@ -1,4 +1,4 @@
--- The rows that workers put side by side: this project's own rule.
+-- The rows that workers print in parallel: this project's own rule.
 use Rattle.std.specs.Prelude.{◌≡◌, ℕ, ◌+◌, ◌-◌, ◌*◌, ◌<◌, ◌≤◌, All, List, Bool, true, false, length, min, slice_index_or, vec_capacity, vec_len}
 use Rattle.engines.specs.declared.dist.parts.RowCells.{RowCells}
 use Rattle.engines.specs.declared.dist.parts.RowCells.TheVariants.{Nears, Distances}
@@ -6,20 +6,20 @@ use Rattle.engines.specs.declared.dist.parts.WorkerLines.{WorkerLines}
 use Rattle.engines.specs.dist.Table.{rows_text}
 use Rattle.engines.specs.dist.Tabled.{TableView}
 
--- there is room for the cells of a row of this width: for obstacles where they are told too, and else for distances
+-- a row's cells of this width have room: for obstacles if they are printed, else for distances
 abbrev pub IsRowRoom : Bool → ℕ → RowCells → Type 0
 IsRowRoom true width (Nears nears) = vec_len nears ≡ width
 IsRowRoom true width (Distances distances) = ⊥
 IsRowRoom false width (Nears nears) = ⊥
 IsRowRoom false width (Distances distances) = vec_len distances ≡ width
 
--- where a worker puts so many rows of this width: there is room for a row and its line, and for the lines of all of them
+-- a worker's buffers for this many rows of this width have room for a row, its line, and all lines
 pub record IsShare (nearest : Bool) (width rows : ℕ) (part : WorkerLines) : Type 0 where
   pub row : IsRowRoom nearest width part.row
   pub line : 25 * width + 4 ≤ vec_len part.line
   pub room : rows * (25 * width + 1) ≤ vec_capacity part.text
 
--- a set of places has one for each of 1 to 16 workers, each of which has so many rows
+-- a set has buffers for each of 1 to 16 workers, each for this many rows
 pub record AreShares (nearest : Bool) (width rows : ℕ) (parts : List WorkerLines) : Type 0 where
   pub some : 1 ≤ length parts
   pub few : length parts ≤ 16
@@ -27,15 +27,15 @@ pub record AreShares (nearest : Bool) (width rows : ℕ) (parts : List WorkerLin
   pub few_rows : rows ≤ 4096
   pub places : All (IsShare nearest width rows) parts
 
--- what a worker has put are the lines of so many rows from this one on, or of those of them that there are
+-- a worker has the lines of this many rows from this one on, or of as many as there are
 pub record HasRows (nearest : Bool) (table : TableView) (rows from : ℕ) (part : WorkerLines) : Type 0 where
   pub kept : IsShare nearest table.width rows part
   pub text : part.text.items ≡ rows_text nearest table.width (min table.height from) (min table.height (from + rows) - min table.height from) table.nears
 
--- each part has so many rows, one part's after another's
+-- each part has this many rows, one part's after another's
 abbrev pub ShareRows : Bool → TableView → ℕ → ℕ → List WorkerLines → Type 0
 ShareRows nearest table rows from parts = (k : ℕ) (other : WorkerLines) → k < length parts → HasRows nearest table rows (from + rows * k) (slice_index_or parts k other)
 
--- so many parts of so many rows each have these lines of a table's rows, from this row on
+-- the lines of a table's rows in this many parts of this many rows each, from this row on
 abbrev pub parts_text : Bool → TableView → ℕ → ℕ → ℕ → List ℕ
 parts_text nearest table rows from count = rows_text nearest table.width (min table.height from) (min table.height (from + rows * count) - min table.height from) table.nears

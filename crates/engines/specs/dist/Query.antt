@@ -13,7 +13,7 @@ use Rattle.proto.specs.declared.answer.Answer.TheVariants.{Refused}
 use Rattle.proto.specs.declared.verb.Verb.{Verb}
 use Rattle.proto.specs.declared.verb.Verb.TheVariants as verbs
 
--- a line of the protocol asks this: one that names no query is unknown here, whatever its arguments
+-- what a line of the protocol asks; a name that isn't a query's is unknown, whatever its arguments
 abbrev pub query_said : Option Verb → Result LineView Refusal → Result QueryView Refusal
 query_said (Some (verbs.Ask kind)) (Ok (asked query)) = Ok query
 query_said (Some (verbs.Ask kind)) (Err refusal) = Err refusal
@@ -23,7 +23,7 @@ query_said other line = Err UnknownCommand
 abbrev pub asked_in : List ℕ → Result QueryView Refusal
 asked_in line = query_said (verb_in line) (said line)
 
--- an answer to a line that asks this, or is refused: by its own metric; or want of memory, for its points where it has some
+-- the answer to what a line asks, or to its refusal, by its metric; or out of memory for its points
 abbrev pub IsReplyTo : Cells → Edge → Result QueryView Refusal → Answer → Type 0
 IsReplyTo cells edge (Ok query) answer = IsAnswerBy (distance_of (metric_asked query)) cells edge query answer ⊎ (HasPoints query × (answer ≡ Refused Memory))
 IsReplyTo cells edge (Err refusal) answer = answer ≡ Refused refusal

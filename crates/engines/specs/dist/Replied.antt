@@ -1,4 +1,4 @@
--- What a reply in memory is of a map and a line: this project's own rule.
+-- A reply in memory to a line on a map: this project's own rule.
 use Rattle.std.specs.Prelude.{◌≡◌, ℕ, List}
 use Rattle.metric.specs.declared.edge.Edge.{Edge}
 use Rattle.bits.specs.Cells.{Cells}

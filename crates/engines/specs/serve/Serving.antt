@@ -6,38 +6,38 @@ use Rattle.map_core.specs.declared.setting.Setting.{Setting}
 use Rattle.engines.specs.words.Refusals.{memory_text}
 use Rattle.engines.specs.declared.command_line.arguments.ServeOptions.{ServeOptions}
 
--- the setting of the store is what the options ask for, with a session for each worker
+-- the setting of the store is what the options ask for, with a session per worker
 abbrev pub setting_served : ServeOptions → Setting
 setting_served options = record { blocks = options.blocks; versions = options.versions; sessions = options.workers; log = options.log; edge = options.edge }
 
--- the port is told in this line
+-- the line that has the port
 abbrev pub listening_text : ℕ → List ℕ
 listening_text port = codes "LISTENING " ++ (decimal port ++ 10 ∷ [])
 
--- this line tells how many connections were served, and how long the log is
+-- the line that has how many connections were served, and the log's length
 abbrev pub served_text : ℕ → ℕ → List ℕ
 served_text connections log = codes "SERVED " ++ (decimal connections ++ (32 ∷ (decimal log ++ 10 ∷ [])))
 
--- this line alone was written, or a beginning of it where a write failed
+-- only this line was written, or a prefix of it if a write failed
 pub record WritesOnly (line : List ℕ) (failed_before failed_after : ℕ) (held_before held_after : Option (List ℕ)) : Type 0 where
   pub whole : failed_after ≡ failed_before → Appends held_before line held_after
   pub front : AppendsFront held_before line held_after
 
--- why nothing is served, though the setting is good: want of memory, before which the port may have been told
+-- why nothing is served with a valid setting: out of memory, perhaps after the port was printed
 abbrev pub IsUnserved : ℕ → List ℕ → Type 0
 IsUnserved port text = (text ≡ memory_text) ⊎ (text ≡ listening_text port ++ memory_text)
 
--- where the setting is good `serve` writes the port and then how many connections were served, or why nothing is, with its status
+-- with a valid setting `serve` writes its port and how many it served, or why not, with its status
 abbrev pub IsServeText : ℕ → ℕ → List ℕ → ℕ → Type 0
 IsServeText port connections text status = ((log : ℕ) × (text ≡ listening_text port ++ served_text connections log) × (status ≡ 0)) ⊎ (IsUnserved port text × (status ≡ 1))
 
--- all that `serve` tells was written, with this status
+-- everything that `serve` prints was written, with this status
 pub record WritesServed (port connections : ℕ) (held_before held_after : Option (List ℕ)) (status : ℕ) : Type 0 where
   pub text : List ℕ
   pub text_is : IsServeText port connections text status
   pub written : Appends held_before text held_after
 
--- a beginning of what `serve` tells was written
+-- a prefix of what `serve` prints was written
 pub record BeginsServed (port connections : ℕ) (held_before held_after : Option (List ℕ)) : Type 0 where
   pub text : List ℕ
   pub status : ℕ

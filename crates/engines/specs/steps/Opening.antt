@@ -1,5 +1,5 @@
--- What the first line of steps opens: this project's own rule. It is `OPEN`, the map's width and height, and its setting: blocks, versions,
--- sessions, log. The map is blank.
+-- What the first line of steps opens: this project's own rule. It is `OPEN`, the map's width and
+-- height, and its setting: blocks, versions, sessions, log. The map is blank.
 use Rattle.std.specs.Prelude.{ℕ, Bool, ◌&&◌, nat_le, false, List, [], ◌∷◌, Option, Some, None, Result, Ok, Err, bytes_eq, codes, option_map, if◌then◌else◌}
 use Rattle.bits.specs.Cells.{cells_where}
 use Rattle.bits.specs.Tiles.{tile_count}
@@ -13,7 +13,7 @@ use Rattle.proto.specs.Numbers.{numbers}
 use Rattle.proto.specs.Words.{words}
 use Rattle.engines.specs.declared.steps.opening.OpenLine.{OpenLine}
 
--- four numbers are the setting of a map whose border is open
+-- the setting that four numbers give a map with an open edge
 abbrev pub setting_of : List ℕ → Option Setting
 setting_of (blocks ∷ versions ∷ sessions ∷ log ∷ []) = Some record { blocks = blocks; versions = versions; sessions = sessions; log = log; edge = Open }
 setting_of other = None
@@ -28,26 +28,26 @@ opening_of (Some (width ∷ height ∷ others)) =
     if is_map_side width && is_map_side height then option_map (λ setting. record { width = width; height = height; setting = setting }) (setting_of others) else None
 opening_of other = None
 
--- these words tell an opening
+-- the opening that these words say
 abbrev pub opening_words : List (List ℕ) → Option OpenLine
 opening_words [] = None
 opening_words (word ∷ others) = if bytes_eq word (codes "OPEN") then opening_of (numbers others) else None
 
--- a line tells this opening, or none where it has another form, or a side that no map has
+-- the opening that a line says; none if it has another form, or a side that no map has
 unfoldable pub opening_told : List ℕ → Option OpenLine
 opening_told line = opening_words (words line)
 
--- a world is opened with this
+-- what a world is opened with
 abbrev pub base_opened : OpenLine → Base
 base_opened opening = record { setting = opening.setting; opening = cells_where opening.width opening.height (λ x y. false) }
 
--- an opening, or why it is refused: a line that tells none, or a setting that is out of its limits
+-- an opening, or why it is refused: a line that says none, or a setting that is out of its limits
 abbrev pub judged : Option OpenLine → Result OpenLine Refusal
 judged None = Err refusals.BadArguments
 judged (Some opening) =
     elim (bad_field (tile_count (base_opened opening).opening) opening.setting) as (λ _. Result OpenLine Refusal) [ None ↦ Ok opening | Some field ↦ Err (refusals.BadSetting field) ]
 
--- the first of some lines opens the world; where there is none it is refused as one of another form
+-- the first of some lines opens the world; if there is none it is refused as one of another form
 abbrev pub opened_by : List (List ℕ) → Result OpenLine Refusal
 opened_by [] = Err refusals.BadArguments
 opened_by (first ∷ later) = judged (opening_told first)

@@ -1,5 +1,5 @@
--- The answer line of an event: this project's own rule.
--- Numbers are plain decimal but for the word of a tile's row, which is 16 hexadecimal digits.
+-- The answer line of an event: this project's own rule. Numbers are plain decimal, except the word
+-- of a tile's row, which is 16 hexadecimal digits.
 use Rattle.std.specs.Prelude.{ℕ, List, ◌∷◌, ◌++◌, codes, Result, Ok, Err}
 use Rattle.std.specs.Fmt.{decimal}
 use Rattle.metric.specs.Refusal.{refusal_text}
@@ -9,7 +9,7 @@ use Rattle.map_core.specs.declared.event.StepReply.TheVariants as says
 use Rattle.proto.specs.Hex.{hex_digits}
 use Rattle.proto.specs.Replies.{numbers_of, numbers_text}
 
--- an event is answered so, or told not to be enabled, without the LF
+-- the text of an event's answer, or of that it isn't enabled, without the LF
 abbrev pub step_text : Result StepReply NotEnabled → List ℕ
 step_text (Ok (says.Announced version)) = codes "PIN " ++ decimal version
 step_text (Ok (says.Now place version)) = codes "NOW " ++ (decimal place ++ (32 ∷ decimal version))

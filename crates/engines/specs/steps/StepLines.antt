@@ -1,5 +1,5 @@
--- What a line of steps says: this project's own rule.
--- The first word is a letter, and what follows it are numbers; after `C` a command line follows.
+-- What a line of steps says: this project's own rule. The first word is a letter, and numbers
+-- follow it; after `C` a command line follows.
 use Rattle.std.specs.Prelude.{ℕ, List, [], ◌∷◌, Option, Some, None, Result, Ok, Err, bytes_eq, codes, option_map, unwrap_or, if◌then◌else◌}
 use Rattle.metric.specs.declared.refusal.Refusal.{Refusal}
 use Rattle.map_core.specs.declared.event.Event.{Event}
@@ -16,7 +16,7 @@ use Rattle.engines.specs.declared.steps.line.Letter.TheVariants as letters
 use Rattle.engines.specs.declared.steps.line.StepLine.{StepLine}
 use Rattle.engines.specs.declared.steps.line.StepLine.TheVariants as lines
 
--- a line tells one of these events
+-- a line says one of these events
 pub data EventView : Type 0 where
   announce : (reader : ℕ) → EventView
   load : (reader : ℕ) → EventView
@@ -27,7 +27,7 @@ pub data EventView : Type 0 where
   order : CommandView → EventView
   keep : EventView
 
--- an event of the program is told so
+-- what a line says for an event of the program
 abbrev pub told_event : Event → EventView
 told_event (events.Announce reader) = announce reader
 told_event (events.Load reader) = load reader
@@ -38,14 +38,14 @@ told_event (events.Confirm reader) = confirm reader
 told_event (events.Order command) = order (told_by command)
 told_event events.Keep = keep
 
--- a line says an event, so many steps of the keeper, a command that is refused, or nothing that is known
+-- a line says an event, several steps of the keeper, a refused command, or nothing known
 pub data StepSaid : Type 0 where
   event : EventView → StepSaid
   keeps : (count : ℕ) → StepSaid
   refused : Refusal → StepSaid
   bad : StepSaid
 
--- a line of the program says this
+-- what a line of the program says
 abbrev pub step_said_by : StepLine → StepSaid
 step_said_by (lines.Event e) = event (told_event e)
 step_said_by (lines.Keep count) = keeps count
@@ -65,13 +65,13 @@ letter_named word =
     else if bytes_eq word (codes "K") then Some letters.Keep
     else None
 
--- a line of the protocol says a command to the keeper, and one that names none says nothing that is known
+-- what a line of the protocol says if it is a command to the keeper; any other says nothing known
 abbrev pub order_said : Option Verb → Result protocol.LineView Refusal → StepSaid
 order_said (Some (verbs.Order named)) (Ok (protocol.told command)) = event (order command)
 order_said (Some (verbs.Order named)) (Err refusal) = refused refusal
 order_said other line = bad
 
--- a letter with the words after it says this, and another number or form of them says nothing that is known
+-- what a letter with the words after it says; a wrong number or form of them says nothing known
 abbrev pub letter_said : Letter → List (List ℕ) → StepSaid
 letter_said letters.Announce words = unwrap_or (option_map (λ reader. event (announce reader)) (only_number (numbers words))) bad
 letter_said letters.Load words = unwrap_or (option_map (λ reader. event (load reader)) (only_number (numbers words))) bad
@@ -82,7 +82,7 @@ letter_said letters.Confirm words = unwrap_or (option_map (λ reader. event (con
 letter_said letters.Order words = order_said (first_verb words) (said_of words)
 letter_said letters.Keep words = unwrap_or (option_map (λ count. keeps count) (only_number (numbers words))) bad
 
--- the words of a line say a step by its letter and what stands after that
+-- what the words of a line say, by the letter and the words after it
 abbrev pub step_of : List (List ℕ) → StepSaid
 step_of [] = bad
 step_of (word ∷ others) = elim (letter_named word) as (λ _. StepSaid) [ None ↦ bad | Some letter ↦ letter_said letter others ]

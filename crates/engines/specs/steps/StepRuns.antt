@@ -1,4 +1,4 @@
--- Lines that were done in a world, and what was written for them: this project's own rule.
+-- Lines done in a world, and what was written for them: this project's own rule.
 use Rattle.std.specs.Prelude.{◌≡◌, ℕ, List, [], ◌∷◌, ◌++◌, Option}
 use Rattle.metric.specs.Stream.{Appends, AppendsFront}
 use Rattle.map_core.specs.Views.{State}
@@ -17,7 +17,7 @@ pub record AreLinesDone (old : State) (lines : List (List ℕ)) (held_before hel
   pub answered : AreAnswered old lines answers new
   pub written : Appends held_before (written_lines answers) held_after
 
--- a beginning of these lines was done, and a beginning of their answer lines written
+-- a prefix of these lines was done, and a prefix of their answer lines written
 pub record IsDoneInPart (old : State) (lines : List (List ℕ)) (held_before held_after : Option (List ℕ)) : Type 0 where
   pub heard : List (List ℕ)
   pub unheard : List (List ℕ)
@@ -33,7 +33,7 @@ pub record IsWorldTold (start : State) (positions : ℕ) (lines : List (List ℕ
   pub text_is : IsWorldText start positions lines text
   pub written : Appends held_before text held_after
 
--- a beginning of the text of a world that does a beginning of these lines was written
+-- a prefix of the text of a world that does a prefix of these lines was written
 pub record IsToldInPart (start : State) (positions : ℕ) (lines : List (List ℕ)) (held_before held_after : Option (List ℕ)) : Type 0 where
   pub heard : List (List ℕ)
   pub unheard : List (List ℕ)

@@ -21,27 +21,27 @@ use Rattle.engines.specs.steps.StepAnswers.{step_text}
 use Rattle.engines.specs.steps.StepLines.{StepSaid, EventView, bad, event, keeps, refused, step_said, told_event}
 use Rattle.engines.specs.streams.TextLines.{lines_of}
 
--- the command in hand has so many steps to be done, one at least
+-- the current command has at least this many steps left, and this is at least one
 pub record CanKeep (count : ℕ) (w : State) : Type 0 where
   pub some : 1 ≤ count
   pub left : count ≤ steps_left w w.keeper.hand
 
--- the keeper does so many steps, one after another, and the last has this answer
+-- the keeper does this many steps in order, and the last has this answer
 pub record Keeps (count : ℕ) (old : State) (answer : Result StepReply NotEnabled) (new : State) : Type 0 where
   pub before : List (Result StepReply NotEnabled)
   pub run : IsRun old (replicate count events.Keep) (before ++ answer ∷ []) new
 
--- not all of so many steps are enabled, and none is done
+-- not all of this many steps are enabled, and none is done
 pub record KeepsNone (count : ℕ) (old : State) (answer : Result StepReply NotEnabled) (new : State) : Type 0 where
   pub cannot : CanKeep count old → ⊥
   pub answer_is : IsErr answer
   pub same : new ≡ old
 
--- the keeper does so many steps where all of them are enabled, and none otherwise
+-- the keeper does this many steps if all of them are enabled, and none otherwise
 abbrev pub KeepsAll : ℕ → State → Result StepReply NotEnabled → State → Type 0
 KeepsAll count old answer new = (CanKeep count old × Keeps count old answer new) ⊎ KeepsNone count old answer new
 
--- the event is done as it is told, and this is the text of its answer
+-- the event is done, and this is the text of its answer
 pub record IsStepText (told : EventView) (old : State) (text : List ℕ) (new : State) : Type 0 where
   pub done : Event
   pub answer : Result StepReply NotEnabled
@@ -49,20 +49,20 @@ pub record IsStepText (told : EventView) (old : State) (text : List ℕ) (new : 
   pub step : SafeStep old done answer new
   pub text_is : text ≡ step_text answer
 
--- the keeper does so many steps, and this is the text of the last one's answer
+-- the keeper does this many steps, and this is the text of the last one's answer
 pub record IsKeepsText (count : ℕ) (old : State) (text : List ℕ) (new : State) : Type 0 where
   pub answer : Result StepReply NotEnabled
   pub steps : KeepsAll count old answer new
   pub text_is : text ≡ step_text answer
 
--- a line that says this is answered so, and leaves this state
+-- a line that says this has this answer, and leaves this state
 abbrev pub IsAnswered : StepSaid → State → List ℕ → State → Type 0
 IsAnswered (event told) old text new = IsStepText told old text new
 IsAnswered (keeps count) old text new = IsKeepsText count old text new
 IsAnswered (refused refusal) old text new = (text ≡ refusal_text refusal) × (new ≡ old)
 IsAnswered bad old text new = (text ≡ codes "BAD LINE") × (new ≡ old)
 
--- the lines are done one after another, and these are the texts of their answers
+-- the lines are done in order, and these are the texts of their answers
 abbrev pub AreAnswered : State → List (List ℕ) → List (List ℕ) → State → Type 0
 AreAnswered old [] [] new = new ≡ old
 AreAnswered old [] (text ∷ texts) new = ⊥
@@ -73,7 +73,7 @@ AreAnswered old (line ∷ lines) (text ∷ texts) new = (mid : State) × IsAnswe
 unfoldable pub written_lines : List (List ℕ) → List ℕ
 written_lines lines = flat_map (λ line. line ++ 10 ∷ []) lines
 
--- the text of a world tells how many positions it has, and then has an answer line for each line in turn
+-- the text of a world has its number of positions, and then an answer line for each line in turn
 pub record IsWorldText (start : State) (positions : ℕ) (lines : List (List ℕ)) (text : List ℕ) : Type 0 where
   pub last : State
   pub answers : List (List ℕ)
@@ -87,7 +87,7 @@ pub record AreSteps (opening : OpenLine) (lines : List (List ℕ)) (text : List 
   pub text_is : IsWorldText start (tiles (base_opened opening)) lines text
   pub status_is : status ≡ 0
 
--- the text is the line of this refusal alone, with status 1
+-- the text is only the line of this refusal, with status 1
 pub record IsOneRefusal (refusal : Refusal) (text : List ℕ) (status : ℕ) : Type 0 where
   pub text_is : text ≡ refusal_text refusal ++ 10 ∷ []
   pub status_is : status ≡ 1
@@ -97,17 +97,17 @@ abbrev pub IsAnswerOf : Result OpenLine Refusal → List (List ℕ) → List ℕ
 IsAnswerOf (Ok opening) lines text status = AreSteps opening lines text status
 IsAnswerOf (Err refusal) lines text status = IsOneRefusal refusal text status
 
--- an answer to a text, of which these lines after the first are heard; or want of memory for opening a world that its first line tells
+-- an answer to a text, with these lines after the first; or out of memory to open its world
 abbrev pub IsStepsAnswer : List ℕ → List (List ℕ) → List ℕ → ℕ → Type 0
 IsStepsAnswer bytes heard text status = IsAnswerOf (opened_by (lines_of bytes)) heard text status ⊎ (IsOk (opened_by (lines_of bytes)) × IsOneRefusal refusals.Memory text status)
 
--- an answer to these bytes was written whole
+-- an answer to these bytes was wholly written
 pub record IsAnsweredWhole (bytes : List ℕ) (held_before held_after : Option (List ℕ)) (status : ℕ) : Type 0 where
   pub text : List ℕ
   pub answer : IsStepsAnswer bytes (later_lines (lines_of bytes)) text status
   pub written : Appends held_before text held_after
 
--- a beginning of an answer to these bytes was written; the lines for which it was made are a beginning of those after the first
+-- a prefix of an answer to these bytes was written; its lines are a prefix of those after the first
 pub record IsBegun (bytes : List ℕ) (held_before held_after : Option (List ℕ)) : Type 0 where
   pub heard : List (List ℕ)
   pub unheard : List (List ℕ)
@@ -117,17 +117,17 @@ pub record IsBegun (bytes : List ℕ) (held_before held_after : Option (List ℕ
   pub answer : IsStepsAnswer bytes heard text status
   pub written : AppendsFront held_before text held_after
 
--- want of memory is told in this line
+-- the line for out of memory
 abbrev pub memory_line : List ℕ
 memory_line = refusal_text refusals.Memory ++ 10 ∷ []
 
--- an answer to all bytes that the reader had was written whole, or that there is no memory for reading them
+-- an answer to all the reader's bytes was wholly written, or that memory ran out reading them
 pub record AnswersText (unread held_before held_after : Option (List ℕ)) (status : ℕ) : Type 0 where
   pub bytes : List ℕ
   pub all : AreAll unread bytes
   pub whole : IsAnsweredWhole bytes held_before held_after status ⊎ (Appends held_before memory_line held_after × (status ≡ 1))
 
--- a beginning of an answer to all bytes that the reader had was written, or of the line of want of memory for reading them
+-- a prefix was written: of an answer to all of the reader's bytes, or of the line for out of memory
 pub record BeginsToAnswerText (unread held_before held_after : Option (List ℕ)) : Type 0 where
   pub bytes : List ℕ
   pub all : AreAll unread bytes

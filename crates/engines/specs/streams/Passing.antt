@@ -1,4 +1,4 @@
--- Bytes that are read from one stream and written to another: this project's own rule.
+-- Bytes read from one stream and written to another: this project's own rule.
 use Rattle.std.specs.Prelude.{◌≡◌, ◌<◌, ℕ, ◌⊎◌, All, List, [], ◌∷◌, ◌++◌, codes, length, Option}
 use Rattle.std.specs.List.{concat}
 use Rattle.metric.specs.Stream.{AreAll, Takes, Appends, AppendsFront}
@@ -7,36 +7,36 @@ use Rattle.engines.specs.words.Refusals.{memory_text, net_text}
 use Rattle.engines.specs.declared.ask.Stop.{Stop}
 use Rattle.engines.specs.declared.ask.Stop.TheVariants as stops
 
--- what was read stands in a buffer, after what it held
+-- what was read is in a buffer, after its earlier bytes
 pub record Gathers (unread : Option (List ℕ)) (before after : List ℕ) (left : Option (List ℕ)) : Type 0 where
   pub bytes : List ℕ
   pub taken : Takes unread bytes left
   pub after_is : after ≡ before ++ bytes
 
--- all that the stream had left stands in a buffer, after what it held
+-- all that the stream had left is in a buffer, after its earlier bytes
 pub record GathersAll (unread : Option (List ℕ)) (before after : List ℕ) (left : Option (List ℕ)) : Type 0 where
   pub gathered : Gathers unread before after left
   pub ended : AreAll left []
 
--- a line with its LF stands in a buffer, after what it held
+-- a line with its LF is in a buffer, after its earlier bytes
 pub record PutsLine (before after : List ℕ) : Type 0 where
   pub line : List ℕ
   pub unended : IsUnended line
   pub after_is : after ≡ before ++ (line ++ 10 ∷ [])
 
--- bytes in which no line ends stand in a buffer, after what it held
+-- bytes in which no line ends are in a buffer, after its earlier bytes
 pub record PutsUnended (before after : List ℕ) : Type 0 where
   pub part : List ℕ
   pub unended : IsUnended part
   pub after_is : after ≡ before ++ part
 
--- a buffer has so many bytes more, after what it held
+-- a buffer has this many more bytes, after its earlier ones
 pub record PutsCount (count : ℕ) (before after : List ℕ) : Type 0 where
   pub part : List ℕ
   pub many : length part ≡ count
   pub after_is : after ≡ before ++ part
 
--- fewer bytes stand in a buffer, after what it held
+-- fewer bytes than this are in a buffer, after its earlier ones
 pub record PutsFewer (count : ℕ) (before after : List ℕ) : Type 0 where
   pub part : List ℕ
   pub few : length part < count
@@ -48,23 +48,23 @@ pub record PassesOn (unread left held_before held_after : Option (List ℕ)) : T
   pub taken : Takes unread bytes left
   pub written : Appends held_before bytes held_after
 
--- a beginning of what was read was written
+-- a prefix of what was read was written
 pub record PassesFront (unread left held_before held_after : Option (List ℕ)) : Type 0 where
   pub bytes : List ℕ
   pub taken : Takes unread bytes left
   pub written : AppendsFront held_before bytes held_after
 
--- a run of `ask` that stops tells why in this line, and tells nothing where a standard stream failed
+-- the line that says why a run of `ask` stops; nothing if a standard stream failed
 abbrev pub stop_text : Stop → List ℕ
 stop_text stops.Standard = []
 stop_text stops.Net = net_text
 stop_text stops.Memory = memory_text
 
--- a run of `ask` that ended early tells why in this line: the network's fault, or want of memory where the connection is sound
+-- the line that says why a run of `ask` ended early: a network fault, or, if sound, out of memory
 abbrev pub IsEndLine : Type 0 → List ℕ → Type 0
 IsEndLine sound line = (line ≡ net_text) ⊎ ((line ≡ memory_text) × sound)
 
--- a beginning of what was read was written, and after it the line that tells why it ended
+-- a prefix of what was read was written, and after it the line that says why it ended
 pub record EndsEarly (sound : Type 0) (unread left held_before held_after : Option (List ℕ)) : Type 0 where
   pub bytes : List ℕ
   pub front : List ℕ
@@ -75,7 +75,7 @@ pub record EndsEarly (sound : Type 0) (unread left held_before held_after : Opti
   pub line_is : IsEndLine sound line
   pub written : Appends held_before (front ++ line) held_after
 
--- a beginning of what was read was written, and after it a beginning of the line that tells why it ended
+-- a prefix of what was read was written, and after it a prefix of the line that says why it ended
 pub record BreaksOff (sound : Type 0) (unread left held_before held_after : Option (List ℕ)) : Type 0 where
   pub bytes : List ℕ
   pub front : List ℕ

@@ -43,12 +43,12 @@ dist_app = with_rule (with_rule (with_rule (with_rule (with_rule (new_app (codes
 abbrev pub steps_app : App
 steps_app = new_app (codes "steps")
 
--- the program has a version, and wants a subcommand
+-- the program has a version, and requires a subcommand
 abbrev pub program_app : App
 program_app =
     with_subcommand (with_subcommand (with_subcommand (with_subcommand (on_top (λ s. record s { has_version = true; subcommand_required = true }) (new_app (codes "clearmap"))) dist_app.top) steps_app.top) serve_app.top) ask_app.top
 
--- the flags of `dist` are as the words give them, each with its default where it isn't given
+-- the flags of `dist` are as the words give them, each with its default if it isn't given
 pub record AreDistOptions (rows : List Row) (options : DistOptions) : Type 0 where
   pub metric : option_and_then metric_named (first_of (codes "metric") rows) ≡ Some options.metric
   pub set : one_of (codes "nearest") rows ≡ Some (codes "true") → options.nearest ≡ true
@@ -57,13 +57,13 @@ pub record AreDistOptions (rows : List Row) (options : DistOptions) : Type 0 whe
   pub workers : in_range 1 16 (first_of (codes "workers") rows) ≡ Some options.workers
   pub edge : option_and_then edge_named (first_of (codes "edge") rows) ≡ Some options.edge
 
--- the flags of `dist` name no metric that there is, no border that there is, or no number of workers
+-- the flags of `dist` name an unknown metric, an unknown edge, or no number of workers
 abbrev pub AreNoDistOptions : List Row → Type 0
 AreNoDistOptions rows =
     (option_and_then metric_named (first_of (codes "metric") rows) ≡ None)
     ⊎ ((option_and_then edge_named (first_of (codes "edge") rows) ≡ None) ⊎ (in_range 1 16 (first_of (codes "workers") rows) ≡ None))
 
--- `dist` does this where no flag is given
+-- the options of `dist` without flags
 abbrev pub default_options : DistOptions
 default_options = record { metric = Euclid2; edge = Open; nearest = false; query = None; workers = 1 }
 
@@ -74,7 +74,7 @@ AreOptions words Steps = (rows : List Row) × (subcommand_of program_app words �
 AreOptions words (Serve options) = (rows : List Row) × (subcommand_of program_app words ≡ Some (codes "serve", rows)) × AreServeOptions rows options
 AreOptions words (Ask options) = (rows : List Row) × (subcommand_of program_app words ≡ Some (codes "ask", rows)) × AreAskOptions rows options
 
--- the words name `dist`, a metric and a border that there are, and a number of workers
+-- the words name `dist`, a metric and an edge that exist, and a number of workers
 pub record NameDist (words : List (List ℕ)) : Type 0 where
   pub rows : List Row
   pub named : subcommand_of program_app words ≡ Some (codes "dist", rows)
@@ -95,10 +95,10 @@ NameServe words = (options : ServeOptions) × AreOptions words (Serve options)
 abbrev pub NameAsk : List (List ℕ) → Type 0
 NameAsk words = (options : AskOptions) × AreOptions words (Ask options)
 
--- the program is to take these words, which have the form of its commands and flags as `clap` takes them
+-- the program accepts these words, which have the form of its commands and flags for `clap`
 abbrev pub AreTaken : List (List ℕ) → Type 0
 AreTaken words = (takes program_app words ≡ true) × (NameDist words ⊎ (NameSteps words ⊎ (NameServe words ⊎ NameAsk words)))
 
--- an error of `clap` becomes this fault, and want of memory is told apart
+-- an error of `clap` becomes this fault, and out of memory is a fault of its own
 abbrev pub IsFaultOf : Error → Fault → Type 0
 IsFaultOf error fault = kind_of error ≡ OutOfMemory → fault ≡ Memory

@@ -9,11 +9,11 @@ use Rattle.engines.specs.declared.command_line.arguments.ServeOptions.{ServeOpti
 use Rattle.engines.specs.declared.command_line.arguments.Options.{Options}
 use Rattle.engines.specs.declared.command_line.arguments.Options.TheVariants.{Ask, Serve}
 
--- a flag that has to be given takes one value
+-- a required flag with one value
 abbrev pub required_rule : List ℕ → Rule
 required_rule name = record (new_rule name) { long = Some name; value_names = 1; required = true }
 
--- a flag of this name takes one value, and has this default
+-- a flag of this name with one value and this default
 abbrev pub default_rule : List ℕ → List ℕ → Rule
 default_rule name value = record (new_rule name) { long = Some name; value_names = 1; defaults = value ∷ [] }
 
@@ -27,15 +27,15 @@ serve_app =
 abbrev pub ask_app : App
 ask_app = with_rule (new_app (codes "ask")) (required_rule (codes "port"))
 
--- a number is given only where it is in its range
+-- a number, if it is in its range
 abbrev pub within : ℕ → ℕ → ℕ → Option ℕ
 within least most n = if nat_le least n && nat_le n most then Some n else None
 
--- a flag's value gives its number where it is a number of the protocol in this range
+-- the number that a flag's value gives, if it is a number of the protocol in this range
 abbrev pub in_range : ℕ → ℕ → Option (List ℕ) → Option ℕ
 in_range least most value = option_and_then (within least most) (option_and_then number value)
 
--- the flags of `serve` are as the words give them, each with its default where it isn't given
+-- the flags of `serve` are as the words give them, each with its default if it isn't given
 pub record AreServeOptions (rows : List Row) (options : ServeOptions) : Type 0 where
   pub connections : in_range 1 1000000 (first_of (codes "connections") rows) ≡ Some options.connections
   pub port : in_range 0 65535 (first_of (codes "port") rows) ≡ Some options.port
@@ -55,6 +55,6 @@ AreMatched matches (Serve options) = (rows : List Row) × (subcommand_rows_of ma
 AreMatched matches (Ask options) = (rows : List Row) × (subcommand_rows_of matches ≡ Some (codes "ask", rows)) × AreAskOptions rows options
 AreMatched matches other = ⊥
 
--- no options are those of the subcommand that was matched, of `serve` or of `ask`
+-- no options are those of the subcommand that was matched, `serve` or `ask`
 abbrev pub AreNoMatch : ArgMatches → Type 0
 AreNoMatch matches = (options : Options) → AreMatched matches options → ⊥
