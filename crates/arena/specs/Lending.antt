@@ -5,10 +5,10 @@ use Rattle.arena.specs.Ownership.{block_row}
 use Rattle.arena.specs.declared.region.Tile.{Tile}
 use Rattle.arena.specs.contracts.region.Tile.{the_row}
 
--- t has the words ws in place of its own
+-- tile t with the words ws in place of its own
 abbrev pub with_words : Tile → List ℕ → Tile
 with_words t ws = record t { words = ws }
 
--- once the borrow r ends, the tile that t refers to has the last words that r refers to
+-- when the borrow r ends, the tile that t refers to has the last words that r refers to
 abbrev pub LendsWords : MutBor Tile → MutBor (List ℕ) → Fml
 LendsWords t r = Lends the_row block_row t r (with_words t.now)

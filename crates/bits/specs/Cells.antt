@@ -1,19 +1,20 @@
 -- What a contract sees of a bitmap: a size, and a set of cells, its obstacles.
--- Source: pbm(5), the Netpbm manual's page of the PBM format. An obstacle is a black pixel; x counts columns from the left and y counts rows from the top, both from 0.
+-- Source: pbm(5), the Netpbm manual's page of the PBM format. An obstacle is a black pixel; x
+-- counts columns from the left and y counts rows from the top, both from 0.
 use Rattle.std.specs.Prelude.{◌≡◌, ℕ, ◌+◌, ◌-◌, ◌<◌, ◌≤◌, ◌&&◌, ◌==◌, nat_lt, nat_le, Bool, true, false, List, [], slice_index_or, map, if◌then◌else◌}
 use Rattle.std.specs.List.{range_with_len}
 
--- a size, and for each row the answers of its columns: is this cell an obstacle?
+-- a size, and for each row whether the cell of each column is an obstacle
 pub record Cells : Type 0 where
   pub width : ℕ
   pub height : ℕ
   pub rows : List (List Bool)
 
--- whether the cell (x, y) is an obstacle; in a bitmap no cell outside is one
+-- whether cell (x, y) is an obstacle; in a bitmap no cell outside is one
 unfoldable pub has : Cells → ℕ → ℕ → Bool
 has cells x y = slice_index_or (slice_index_or cells.rows y []) x false
 
--- the answers of a test, row by row from the top
+-- the results of a test, row by row from the top
 unfoldable pub rows_where : ℕ → ℕ → (ℕ → ℕ → Bool) → List (List Bool)
 rows_where width height test = map (λ y. map (λ x. test x y) (range_with_len 0 width)) (range_with_len 0 height)
 
@@ -26,38 +27,38 @@ pub record IsSide (count : ℕ) : Type 0 where
   pub some : 1 ≤ count
   pub few : count ≤ 4096
 
--- a bitmap: both sides are as long as they may be, and there is an answer for each cell and no other
+-- a bitmap: both sides are within their limits, and each cell has a value, and no other has
 pub record IsBitmap (cells : Cells) : Type 0 where
   pub width_is : IsSide cells.width
   pub height_is : IsSide cells.height
   pub whole : cells.rows ≡ rows_where cells.width cells.height (has cells)
 
--- the cell (x, y) lies in the bitmap
+-- cell (x, y) is within the bitmap
 pub record IsInside (cells : Cells) (x y : ℕ) : Type 0 where
   pub column : x < cells.width
   pub row : y < cells.height
 
--- the cell (x, y) is an obstacle
+-- cell (x, y) is an obstacle
 abbrev pub IsObstacle : Cells → ℕ → ℕ → Type 0
 IsObstacle cells x y = has cells x y ≡ true
 
--- the bitmap with the value of one cell written anew
+-- the bitmap with one cell set to a value
 abbrev pub with_cell : Cells → ℕ → ℕ → Bool → Cells
 with_cell cells x y value = cells_where cells.width cells.height (λ a b. if a == x && b == y then value else has cells a b)
 
--- whether the cell (x, y) lies in the columns x0 to x1 - 1 and the rows y0 to y1 - 1
+-- whether cell (x, y) is in columns x0 to x1 - 1 and rows y0 to y1 - 1
 abbrev pub is_within : ℕ → ℕ → ℕ → ℕ → ℕ → ℕ → Bool
 is_within x0 y0 x1 y1 x y = (nat_le x0 x && nat_lt x x1) && (nat_le y0 y && nat_lt y y1)
 
--- the bitmap with the value of each cell of a rectangle written anew
+-- the bitmap with each cell of a rectangle set to one value
 abbrev pub with_rect : Cells → ℕ → ℕ → ℕ → ℕ → Bool → Cells
 with_rect cells x0 y0 x1 y1 value = cells_where cells.width cells.height (λ a b. if is_within x0 y0 x1 y1 a b then value else has cells a b)
 
--- the bitmap with each cell of a stamp, laid with its first cell at (x, y), written anew
+-- the bitmap with a stamp laid on it, its first cell at (x, y)
 abbrev pub with_stamp : Cells → ℕ → ℕ → Cells → Cells
 with_stamp cells x y stamp =
     cells_where cells.width cells.height (λ a b. if is_within x y (x + stamp.width) (y + stamp.height) a b then has stamp (a - x) (b - y) else has cells a b)
 
--- the bitmap with each cell of a rectangle given its value in a picture, whose first cell comes upon (x0, y0)
+-- the bitmap with each cell of a rectangle set to its value in a picture that starts at (x0, y0)
 abbrev pub with_values : Cells → ℕ → ℕ → ℕ → ℕ → (ℕ → ℕ → Bool) → Cells
 with_values cells x0 y0 x1 y1 value = cells_where cells.width cells.height (λ a b. if is_within x0 y0 x1 y1 a b then value (a - x0) (b - y0) else has cells a b)

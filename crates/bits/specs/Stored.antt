@@ -1,14 +1,15 @@
--- How a bitmap lies in words: this project's own rule. The rows lie one after another, each in as many words as it needs.
+-- A bitmap in words: this project's own rule. The rows lie one after another, each in as many words
+-- as it needs.
 use Rattle.std.specs.Prelude.{◌≡◌, ℕ, ◌+◌, ◌*◌, ◌/◌, ◌%◌, ◌<◌, ◌≤◌, ◌==◌, Bool, false, List, length, slice_index}
 use Rattle.std.specs.Int.{bit_at}
 use Rattle.bits.specs.Cells.{Cells, cells_where, IsSide}
 use Rattle.bits.specs.Words.{words_across}
 
--- what the words say of the cell (x, y), where a row takes this many of them
+-- what the words say of cell (x, y), if a row takes this many of them
 abbrev pub is_stored : ℕ → List ℕ → ℕ → ℕ → Bool
 is_stored across words x y = bit_at (slice_index words (y * across + x / 64)) (x % 64) == 1
 
--- the bitmap that lies in the words
+-- the bitmap in the words
 abbrev pub cells_stored : ℕ → ℕ → List ℕ → Cells
 cells_stored width height words = cells_where width height (is_stored (words_across width) words)
 

@@ -1,17 +1,18 @@
--- The tiles of a bitmap, 64 by 64 cells each, counted row by row from the top left, and their rows as numbers: this project's own rule.
+-- The tiles of a bitmap, 64 by 64 cells each, counted in row-major order, and their rows as
+-- numbers: this project's own rule.
 use Rattle.std.specs.Prelude.{ℕ, zero, suc, ◌+◌, ◌*◌, ◌/◌, ◌%◌, ◌^◌, Bool, cond}
 use Rattle.bits.specs.Cells.{Cells, has}
 use Rattle.bits.specs.Words.{words_across}
 
--- how many tiles lie below one another; as many lie next to one another as a row takes words
+-- the number of tiles in a column of tiles; a row of tiles has as many as a row has words
 abbrev pub tiles_down : ℕ → ℕ
 tiles_down height = (height + 63) / 64
 
--- how many tiles there are
+-- the number of tiles
 abbrev pub tile_count : Cells → ℕ
 tile_count cells = words_across cells.width * tiles_down cells.height
 
--- the position of the tile in which the cell (x, y) lies
+-- the position of the tile that contains cell (x, y)
 abbrev pub tile_of : Cells → ℕ → ℕ → ℕ
 tile_of cells x y = y / 64 * words_across cells.width + x / 64
 
@@ -19,7 +20,7 @@ tile_of cells x y = y / 64 * words_across cells.width + x / 64
 abbrev pub tile_has : Cells → ℕ → ℕ → ℕ → Bool
 tile_has cells k i j = has cells (64 * (k % words_across cells.width) + j) (64 * (k / words_across cells.width) + i)
 
--- the number whose bits are the first answers of a test, as many as are asked for
+-- the number whose bits are the first results of a test, as many as asked for
 unfoldable pub word_where : (ℕ → Bool) → ℕ → ℕ
 word_where test zero = 0
 word_where test (suc n) = cond (test n) 1 0 * 2 ^ n + word_where test n

@@ -16,23 +16,23 @@ pub record IsFramedIn (right bottom x y : ℕ) : Type 0 where
   pub above : y < bottom
   pub few_rows : bottom ≤ 4097
 
--- of the columns from 1 to x the first from which an obstacle so many rows away is as near to the column x as from there
+-- the first of columns 1 to x whose obstacle `gap` rows away is as near to column x as x's own
 pub record IsFirstAsNear (distance : ℕ → ℕ → ℕ) (x gap column : ℕ) : Type 0 where
   pub some : 1 ≤ column
   pub within : column ≤ x
   pub as_near : distance (x - column) gap ≤ distance 0 gap
   pub before : (c : ℕ) → 1 ≤ c → c < column → distance 0 gap < distance (x - c) gap
 
--- the nearest of a set, or none, where none is nearer than the limit
+-- the nearest of a set; none if none is nearer than the limit
 abbrev pub IsFoundBelow : (ℕ → ℕ → ℕ) → (ℕ → ℕ → Type 0) → ℕ → ℕ → ℕ → Option Found → Type 0
 IsFoundBelow distance Obstacle x y limit None = (a b : ℕ) → Obstacle a b → limit ≤ distance_between distance x y a b
 IsFoundBelow distance Obstacle x y limit (Some found) = IsFound distance Obstacle x y found
 
--- the key of what is found, seen from the row y
+-- the key of what is found, seen from row y
 abbrev pub key_found : ℕ → Found → Key
 key_found y found = record { distance = found.dist; column = found.cell.x; row_difference = abs_diff y found.cell.y; row = found.cell.y }
 
--- what is found in the frame's rows: of each column between the first and the last the nearer of the two, and of these the nearest
+-- a cell of the frame's first or last row, without the corners
 abbrev pub IsAlong : ℕ → ℕ → ℕ → ℕ → Type 0
 IsAlong right bottom a b = (0 < a) × (a < right) × ((b ≡ 0) ⊎ (b ≡ bottom))
 
@@ -40,7 +40,7 @@ IsAlong right bottom a b = (0 < a) × (a < right) × ((b ≡ 0) ⊎ (b ≡ botto
 abbrev pub counted_with_frame : Found → Found
 counted_with_frame own = record { dist = own.dist; cell = record { x = own.cell.x + 1; y = own.cell.y + 1 } }
 
--- the one of two that has no greater key
+-- the one of two whose key is at most the other's
 abbrev pub IsLesser : ℕ → Found → Found → Found → Type 0
 IsLesser y frame own best = ((best ≡ own) × IsAtMost (key_found y own) (key_found y frame)) ⊎ ((best ≡ frame) × IsAtMost (key_found y frame) (key_found y own))
 
@@ -49,7 +49,7 @@ abbrev pub IsBetterOfBoth : ℕ → Found → Option Found → Found → Type 0
 IsBetterOfBoth y frame None best = best ≡ frame
 IsBetterOfBoth y frame (Some own) best = IsLesser y frame (counted_with_frame own) best
 
--- the nearer of the frame's first and last row, the first where both are as near, and how far away it is
+-- the nearer of the frame's first and last row, the first on a tie, and how far away it is
 pub record IsNearerRow (y bottom gap row : ℕ) : Type 0 where
   pub gap_is : gap ≡ abs_diff y row
   pub above : gap ≤ y

@@ -1,4 +1,5 @@
--- The first of a strip's lines that has an obstacle near, as more obstacles are looked at: this project's own rule.
+-- The first of a strip's lines that has an obstacle near, as more obstacles are searched: this
+-- project's own rule.
 use Rattle.std.specs.Prelude.{◌≡◌, ℕ, ℤ, ◌+◌, ◌<◌, ◌≤◌, max}
 use Rattle.metric.specs.Distance.{distance_between}
 use Rattle.metric.specs.declared.edge.Edge.TheVariants.{Open}
@@ -10,21 +11,21 @@ use Rattle.clearance.specs.Search.{IsInRect}
 use Rattle.clearance.specs.Strips.{IsLineFar, IsLineNear, IsOnLine}
 use Rattle.clearance.specs.declared.lines.Lines.{Lines}
 
--- of the lines before the end this is the first that has an obstacle near; it's the end where none has
+-- the first of the lines before the end that has an obstacle near; the end if none has
 pub record IsFirstBefore (distance : ℕ → ℕ → ℕ) (Obstacle : ℤ → ℤ → Type 0) (lines : Lines) (end line : ℕ) : Type 0 where
   pub from : lines.first ≤ line
   pub within : line ≤ end
   pub near : line < end → IsLineNear distance Obstacle lines.strip lines.limit line
   pub before : (k : ℕ) → lines.first ≤ k → k < line → IsLineFar distance Obstacle lines.strip lines.limit k
 
--- the same as far as the rows that pass a test have been looked at: no line before this one has an obstacle of theirs near
+-- the same for the rows searched so far: no line before this one has an obstacle of theirs near
 pub record IsFirstAmong (distance : ℕ → ℕ → ℕ) (cells : Cells) (lines : Lines) (IsRow : ℕ → Type 0) (end line : ℕ) : Type 0 where
   pub from : lines.first ≤ line
   pub within : line ≤ end
   pub near : line < end → IsLineNear distance (IsBlocked cells Open) lines.strip lines.limit line
   pub far : (k x y a b : ℕ) → lines.first ≤ k → k < line → IsOnLine lines.strip k x y → IsObstacle cells a b → IsRow b → lines.limit ≤ distance_between distance x y a b
 
--- the row b is that of a line before this one
+-- row b is that of a line before this one
 abbrev pub IsLineRow : Lines → ℕ → ℕ → Type 0
 IsLineRow lines line b = (k : ℕ) × (lines.first ≤ k) × (k < line) × (b ≡ towards lines.strip.from.y lines.strip.to.y k)
 

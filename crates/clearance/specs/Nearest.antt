@@ -1,4 +1,4 @@
--- The nearest of the obstacles that have been looked at, row by row outwards: this project's own rule.
+-- The nearest of the obstacles found so far, row by row outwards: this project's own rule.
 use Rattle.std.specs.Prelude.{◌≡◌, ℕ, ◌+◌, ◌^◌, ◌<◌, ◌≤◌, ◌⊎◌, Option, Some, None}
 use Rattle.std.specs.Int.{abs_diff}
 use Rattle.metric.specs.declared.cell.Cell.{Cell}
@@ -7,43 +7,43 @@ use Rattle.metric.specs.Cellwise.{IsNearestCell}
 use Rattle.bits.specs.Cells.{Cells, IsBitmap, IsInside, IsObstacle}
 use Rattle.clearance.specs.declared.found.Found.{Found}
 
--- what is found has the least key of a set of cells, seen from the cell (x, y)
+-- what is found has the least key of a set of cells, seen from cell (x, y)
 abbrev pub IsFound : (ℕ → ℕ → ℕ) → (ℕ → ℕ → Type 0) → ℕ → ℕ → Found → Type 0
 IsFound distance Obstacle x y found = IsNearestCell distance Obstacle x y found.dist found.cell.x found.cell.y
 
--- the nearest of a set of cells, or none where there is none
+-- the nearest of a set of cells; none if the set is empty
 abbrev pub IsNearCell : (ℕ → ℕ → ℕ) → (ℕ → ℕ → Type 0) → ℕ → ℕ → Option Found → Type 0
 IsNearCell distance Obstacle x y None = (a b : ℕ) → Obstacle a b → ⊥
 IsNearCell distance Obstacle x y (Some found) = IsFound distance Obstacle x y found
 
--- the nearest of the obstacles that have been looked at
+-- the nearest of the obstacles searched so far
 abbrev pub IsNearAmong : (ℕ → ℕ → ℕ) → (ℕ → ℕ → Type 0) → (ℕ → ℕ → Type 0) → ℕ → ℕ → Option Found → Type 0
 IsNearAmong distance Obstacle IsSeen x y best = IsNearCell distance (λ a b. Obstacle a b × IsSeen a b) x y best
 
--- a search for the nearest obstacle of a bitmap's cell: the nearest of the obstacles that have been looked at
+-- a search for the nearest obstacle of a bitmap's cell: the nearest of those searched so far
 pub record IsSought (distance : ℕ → ℕ → ℕ) (cells : Cells) (cell : Cell) (IsSeen : ℕ → ℕ → Type 0) (best : Option Found) : Type 0 where
   pub bitmap : IsBitmap cells
   pub inside : IsInside cells cell.x cell.y
   pub near : IsNearAmong distance (IsObstacle cells) IsSeen cell.x cell.y best
 
--- a limit above the distance of the best so far; above each distance where there is none
+-- a limit above the distance of the best so far; above every distance if there is none
 abbrev pub limit_of : Option Found → ℕ
 limit_of None = 2 ^ 32
 limit_of (Some near) = near.dist + 1
 
--- seen from the row y, the row b lies less than so many rows away
+-- seen from row y, row b is less than `gap` rows away
 abbrev pub IsWithin : ℕ → ℕ → ℕ → ℕ → Type 0
 IsWithin y gap a b = abs_diff y b < gap
 
--- seen from the row y, the row b lies less than so many rows away, or just as many above
+-- seen from row y, row b is less than `gap` rows away, or exactly `gap` rows above
 abbrev pub IsWithinOrAbove : ℕ → ℕ → ℕ → ℕ → Type 0
 IsWithinOrAbove y gap a b = (abs_diff y b < gap) ⊎ (b + gap ≡ y)
 
--- seen from the row y, the row b is looked at before another: it's fewer rows away, or as many and above
+-- seen from row y, row b is searched before another: it is fewer rows away, or as many and above
 abbrev pub IsRowFirst : ℕ → ℕ → ℕ → Type 0
 IsRowFirst y row b = (abs_diff y b < abs_diff y row) ⊎ ((abs_diff y b ≡ abs_diff y row) × (b < row))
 
--- the same of the rows up to that one, with it
+-- the same for the rows up to and including that one
 abbrev pub IsRowUpTo : ℕ → ℕ → ℕ → ℕ → Type 0
 IsRowUpTo y row a b = IsRowFirst y row b ⊎ (b ≡ row)
 
@@ -51,11 +51,11 @@ IsRowUpTo y row a b = IsRowFirst y row b ⊎ (b ≡ row)
 abbrev pub IsSeenInRow : ℕ → ℕ → (ℕ → Type 0) → ℕ → ℕ → Type 0
 IsSeenInRow y row IsColumn a b = IsRowFirst y row b ⊎ ((b ≡ row) × IsColumn a)
 
--- an obstacle is ahead of another one that isn't in a row before its own: it's nearer, or as near and in a column that isn't to the right
+-- an obstacle comes before one not of an earlier row: it is nearer, or as near and not to its right
 abbrev pub IsAhead : Found → Found → Type 0
 IsAhead one other = (one.dist < other.dist) ⊎ ((one.dist ≡ other.dist) × (one.cell.x ≤ other.cell.x))
 
--- of the best so far, if any, and an obstacle, this is the better
+-- the better one of the best so far, if there is one, and an obstacle
 abbrev pub IsBetter : Option Found → Found → Found → Type 0
 IsBetter None next better = better ≡ next
 IsBetter (Some best) next better = ((better ≡ best) × IsAhead best next) ⊎ ((better ≡ next) × (IsAhead best next → ⊥))

@@ -1,4 +1,5 @@
--- The least distance of a rectangle's cells to the obstacles, and how far the search for it has come: this project's own rule.
+-- The least distance of a rectangle's cells to the obstacles, and the progress of the search for
+-- it: this project's own rule.
 use Rattle.std.specs.Prelude.{◌≡◌, ℕ, ℤ, ◌+◌, ◌-◌, ◌<◌, ◌≤◌, List}
 use Rattle.metric.specs.declared.rect.Rect.{Rect}
 use Rattle.metric.specs.Distance.{distance_between}
@@ -6,14 +7,14 @@ use Rattle.metric.specs.Nearest.{spot_distance}
 use Rattle.bits.specs.Cells.{Cells, IsBitmap}
 use Rattle.clearance.specs.Rows.{IsMarked, IsFar}
 
--- the cell (x, y) lies in the rectangle
+-- cell (x, y) is in the rectangle
 pub record IsInRect (rect : Rect) (x y : ℕ) : Type 0 where
   pub left : rect.x0 ≤ x
   pub right : x < rect.x1
   pub top : rect.y0 ≤ y
   pub bottom : y < rect.y1
 
--- a rectangle lies in a bitmap
+-- a rectangle is within a bitmap
 pub record IsRectIn (cells : Cells) (rect : Rect) : Type 0 where
   pub bitmap : IsBitmap cells
   pub columns : rect.x1 ≤ cells.width
@@ -39,7 +40,7 @@ pub record IsLeastBelow (distance : ℕ → ℕ → ℕ) (Obstacle : ℤ → ℤ
   pub far : AreFar distance Obstacle (IsInRect rect) least
   pub reached : least < limit → IsReachedFrom distance Obstacle (IsInRect rect) least
 
--- the same of obstacles that are cells: a cell that passes a test has one at distance d
+-- a cell that passes a test has an obstacle at distance d, where obstacles are cells
 pub record IsReachedCell (distance : ℕ → ℕ → ℕ) (Obstacle IsCell : ℕ → ℕ → Type 0) (d : ℕ) : Type 0 where
   pub x : ℕ
   pub y : ℕ
@@ -59,19 +60,19 @@ pub record IsLeastInBits (distance : ℕ → ℕ → ℕ) (Obstacle : ℕ → �
   pub far : AreFarCells distance Obstacle (IsInRect rect) least
   pub reached : least < limit → IsReachedCell distance Obstacle (IsInRect rect) least
 
--- how many columns the column a lies outside of the rectangle
+-- how many columns column a is outside the rectangle
 abbrev pub column_gap : Rect → ℕ → ℕ
 column_gap rect a = (rect.x0 - a) + (a - (rect.x1 - 1))
 
--- how many rows the row b lies outside of the rectangle
+-- how many rows row b is outside the rectangle
 abbrev pub row_gap : Rect → ℕ → ℕ
 row_gap rect b = (rect.y0 - b) + (b - (rect.y1 - 1))
 
--- the distance of the rectangle's nearest cell to the cell (a, b)
+-- the distance of the rectangle's nearest cell to cell (a, b)
 abbrev pub rect_distance : (ℕ → ℕ → ℕ) → Rect → ℕ → ℕ → ℕ
 rect_distance distance rect a b = distance (column_gap rect a) (row_gap rect b)
 
--- an obstacle lies at distance d of the rectangle's nearest cell
+-- an obstacle is at distance d from the rectangle's nearest cell
 pub record IsReachedBy (distance : ℕ → ℕ → ℕ) (Obstacle : ℕ → ℕ → Type 0) (rect : Rect) (d : ℕ) : Type 0 where
   pub a : ℕ
   pub b : ℕ
@@ -84,26 +85,26 @@ pub record IsLeastAmong (distance : ℕ → ℕ → ℕ) (Obstacle : ℕ → ℕ
   pub far : (a b : ℕ) → Obstacle a b → IsRow b → IsFar (rect_distance distance rect a b) least
   pub reached : least < limit → IsReachedBy distance Obstacle rect least
 
--- the least of the limit and of the distances to the obstacles that lie less than so many rows outside of the rectangle
+-- the least of the limit and of the distances to obstacles in rows less than `gap` rows outside
 abbrev pub IsLeastWithin : (ℕ → ℕ → ℕ) → (ℕ → ℕ → Type 0) → Rect → ℕ → ℕ → ℕ → Type 0
 IsLeastWithin distance Obstacle rect gap limit least = IsLeastAmong distance Obstacle rect (λ b. row_gap rect b < gap) limit least
 
--- the least so far, lowered by the distances to the obstacles of the row y, so many rows outside of the rectangle
+-- the least so far, lowered by the distances to obstacles of row y, `gap` rows outside
 pub record IsLoweredBy (distance : ℕ → ℕ → ℕ) (Obstacle : ℕ → ℕ → Type 0) (rect : Rect) (y gap before least : ℕ) : Type 0 where
   pub within : least ≤ before
   pub far : (a : ℕ) → Obstacle a y → IsFar (distance (column_gap rect a) gap) least
   pub reached : least < before → (a : ℕ) × Obstacle a y × (distance (column_gap rect a) gap ≡ least)
 
--- the least so far, lowered by the distances to those marks of a row that pass a test of their columns
+-- the least so far, lowered by the distances to the marks of a row whose columns pass a test
 pub record IsLoweredOver (distance : ℕ → ℕ → ℕ) (words : List ℕ) (IsColumn : ℕ → Type 0) (rect : Rect) (gap before least : ℕ) : Type 0 where
   pub within : least ≤ before
   pub far : (a : ℕ) → IsColumn a → IsMarked words a → IsFar (distance (column_gap rect a) gap) least
   pub reached : least < before → (a : ℕ) × IsMarked words a × (distance (column_gap rect a) gap ≡ least)
 
--- the least so far, lowered by the distances to the marks of a row from the rectangle's first column on
+-- the least so far, lowered by the distances to the marks from the rectangle's first column on
 abbrev pub IsLoweredRight : (ℕ → ℕ → ℕ) → List ℕ → Rect → ℕ → ℕ → ℕ → Type 0
 IsLoweredRight distance words rect gap before least = IsLoweredOver distance words (λ a. rect.x0 ≤ a) rect gap before least
 
--- the same, by the marks before the rectangle's first column
+-- the least so far, lowered by the distances to the marks before the rectangle's first column
 abbrev pub IsLoweredLeft : (ℕ → ℕ → ℕ) → List ℕ → Rect → ℕ → ℕ → ℕ → Type 0
 IsLoweredLeft distance words rect gap before least = IsLoweredOver distance words (λ a. a < rect.x0) rect gap before least

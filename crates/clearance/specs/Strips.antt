@@ -1,23 +1,24 @@
--- The lines of a strip, counted from 0, and which of them have an obstacle near: this project's own rule.
+-- The lines of a strip, counted from 0, and which of them have an obstacle near: this project's own
+-- rule.
 use Rattle.std.specs.Prelude.{◌≡◌, ℕ, ℤ, ◌+◌, ◌≤◌, ◌<◌, max}
 use Rattle.metric.specs.Nearest.{spot_distance}
 use Rattle.bits.specs.Cells.{Cells, IsBitmap}
 use Rattle.clearance.specs.Paths.{towards}
 use Rattle.clearance.specs.declared.strip.Strip.{Strip}
 
--- the lines of a strip lie in a bitmap
+-- the lines of a strip are within a bitmap
 pub record IsStripIn (cells : Cells) (strip : Strip) : Type 0 where
   pub bitmap : IsBitmap cells
   pub columns : max strip.from.x strip.to.x + strip.across ≤ cells.width
   pub rows : max strip.from.y strip.to.y < cells.height
 
--- the cell (x, y) lies on the line number k of a strip
+-- cell (x, y) is on line k of a strip
 pub record IsOnLine (strip : Strip) (k x y : ℕ) : Type 0 where
   pub left : towards strip.from.x strip.to.x k ≤ x
   pub right : x < towards strip.from.x strip.to.x k + strip.across
   pub row : y ≡ towards strip.from.y strip.to.y k
 
--- some cell of the line number k has an obstacle at a distance below the limit
+-- some cell of line k has an obstacle at a distance below the limit
 pub record IsLineNear (distance : ℕ → ℕ → ℕ) (Obstacle : ℤ → ℤ → Type 0) (strip : Strip) (limit k : ℕ) : Type 0 where
   pub x : ℕ
   pub y : ℕ
@@ -27,7 +28,7 @@ pub record IsLineNear (distance : ℕ → ℕ → ℕ) (Obstacle : ℤ → ℤ �
   pub obstacle : Obstacle a b
   pub nearer : spot_distance distance x y a b < limit
 
--- no cell of the line number k has an obstacle at a distance below the limit
+-- no cell of line k has an obstacle at a distance below the limit
 abbrev pub IsLineFar : (ℕ → ℕ → ℕ) → (ℤ → ℤ → Type 0) → Strip → ℕ → ℕ → Type 0
 IsLineFar distance Obstacle strip limit k = (x y : ℕ) (a b : ℤ) → IsOnLine strip k x y → Obstacle a b → limit ≤ spot_distance distance x y a b
 
@@ -35,7 +36,7 @@ IsLineFar distance Obstacle strip limit k = (x y : ℕ) (a b : ℤ) → IsOnLine
 abbrev pub IsSomeNear : (ℕ → ℕ → ℕ) → (ℤ → ℤ → Type 0) → Strip → ℕ → ℕ → ℕ → Type 0
 IsSomeNear distance Obstacle strip limit first last = (k : ℕ) × (first ≤ k) × (k ≤ last) × IsLineNear distance Obstacle strip limit k
 
--- of the lines from one to another, this is the first that has an obstacle near
+-- the first of the lines from one to another that has an obstacle near
 pub record IsFirstNear (distance : ℕ → ℕ → ℕ) (Obstacle : ℤ → ℤ → Type 0) (strip : Strip) (limit first last line : ℕ) : Type 0 where
   pub from : first ≤ line
   pub within : line ≤ last

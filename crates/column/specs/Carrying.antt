@@ -1,4 +1,5 @@
--- What is known of the columns of a batch while its rows are worked one after another: this project's own rule.
+-- What is known of the columns of a batch while its rows are computed in order: this project's own
+-- rule.
 use Rattle.std.specs.Prelude.{◌≡◌, ℕ, ◌+◌, ◌-◌, ◌*◌, ◌/◌, ◌%◌, ◌≤◌, ◌⊎◌, IfSome, length}
 use Rattle.metric.specs.Edge.{shift}
 use Rattle.column.specs.Capped.{capped}
@@ -7,7 +8,7 @@ use Rattle.column.specs.declared.batch.Batch.{Batch}
 use Rattle.column.specs.declared.carried.Carried.{Carried}
 use Rattle.column.specs.declared.columns.Columns.{Columns}
 
--- rows of one band are looked at, from its first on; what lies before row y, and below each row of the band and each band, is known
+-- the obstacles before row y, below each row of the current band and below each band are known
 pub record IsCarriedTo (batch : Batch) (carried : Carried) (y : ℕ) : Type 0 where
   pub before : IsLineBefore (capped batch.edge batch.bitmap.now) (y + shift batch.edge) carried.before.items
   pub bands : AreBandLines batch.bitmap.now batch.edge batch.y0 batch.y1 0 carried.bands.items
@@ -22,7 +23,7 @@ pub record IsCarriedTo (batch : Batch) (carried : Carried) (y : ℕ) : Type 0 wh
   pub inside : carried.known ≤ batch.y1
   pub aligned : ((carried.known - batch.y0) % 64 ≡ 0) ⊎ (carried.known ≡ batch.y1)
 
--- the row y of the batch comes next
+-- row y of the batch is the next
 pub record IsNextRow (batch : Batch) (columns : Columns) (y : ℕ) : Type 0 where
   pub from : batch.y0 ≤ y
   pub width : length columns.entries.items ≡ batch.bitmap.now.width + 2 * shift batch.edge

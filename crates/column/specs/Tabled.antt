@@ -1,4 +1,6 @@
--- How a bitmap lies in a table of nearest rows: this project's own rule. The rows of entries lie one after another, and have the frame's columns where the border is a wall. An entry counts rows with the frame; a cell is an obstacle where its entry is its own row.
+-- A bitmap in a table of nearest rows: this project's own rule. The rows of entries lie one after
+-- another, and have the frame's columns with a wall. An entry counts rows with the frame; a cell is
+-- an obstacle if its entry is its own row.
 use Rattle.std.specs.Prelude.{◌≡◌, ℕ, ◌+◌, ◌*◌, ◌<◌, ◌==◌, List, length, slice_index}
 use Rattle.metric.specs.declared.edge.Edge.{Edge}
 use Rattle.metric.specs.Edge.{shift}
@@ -6,16 +8,16 @@ use Rattle.bits.specs.Cells.{Cells, cells_where, IsSide}
 use Rattle.bits.specs.Edges.{framed}
 use Rattle.column.specs.Columns.{IsNearestRow, row_of}
 
--- a bordered map is a bitmap, and what its border is
+-- a bitmap with its edge
 pub record Bordered : Type 0 where
   pub cells : Cells
   pub edge : Edge
 
--- a cell's entry has this place, where the cell's column and row are counted without the frame
+-- the index of a cell's entry, where the cell's column and row don't count the frame
 abbrev pub place_in : ℕ → Edge → ℕ → ℕ → ℕ
 place_in width edge x y = y * (width + 2 * shift edge) + (x + shift edge)
 
--- a table was made of this bitmap
+-- the bitmap that a table was made from
 abbrev pub cells_tabled : ℕ → ℕ → Edge → List ℕ → Cells
 cells_tabled width height edge entries = cells_where width height (λ x y. slice_index entries (place_in width edge x y) == y + shift edge)
 
@@ -24,7 +26,7 @@ pub record HasRows (cells : Cells) (edge : Edge) (width rows : ℕ) (entries : L
   pub each : (x y : ℕ) → x < width + 2 * shift edge → y < rows
       → IsNearestRow (framed edge cells) x (y + shift edge) (row_of (slice_index entries (y * (width + 2 * shift edge) + x)))
 
--- each entry is the nearest row of the bitmap that the table was made of, with its border
+-- each entry is the nearest row of the bitmap with its edge that the table was made from
 pub record IsTabled (width height : ℕ) (edge : Edge) (entries : List ℕ) : Type 0 where
   pub width_is : IsSide width
   pub height_is : IsSide height

@@ -39,8 +39,7 @@ kept_part store log = drop (base_place store log) log
 abbrev pub entries_kept_after : List StoreEntry → StoreEntry → List StoreEntry
 entries_kept_after kept e = if takes_room e.entry.command then kept ++ e ∷ [] else []
 
--- the keeper's seat is idle at the desk's log, the log gives what is held, and its end is kept,
--- with an element for what each reader announces
+-- the keeper's seat is idle at the desk's log, which gives what is held, and the log's end is kept
 pub record IsDesk (store : StoreId) (d : DeskView) (keeper : KeeperView) (h : Holding) (kept : List StoreEntry) : Type 0 where
   pub keeper_is : keeper ≡ resting (readers_of store) d.log
   pub told : IsToldByLog store.base (entries d.log) h
@@ -51,8 +50,7 @@ pub record IsDesk (store : StoreId) (d : DeskView) (keeper : KeeperView) (h : Ho
 abbrev pub IsSteady : ReaderView → Type 0
 IsSteady x = (x.announced ≡ None) ⊎ ((version : ℕ) × (x.holds ≡ Some version))
 
--- a collect's reply keeps the versions that its scan saw asked for; if all of these announcements
--- are exact, it keeps at most one version more than there are announcements
+-- a collect keeps what its scan saw asked for; exact announcements keep at most one version more
 pub record IsByScan (store : StoreId) (old : DeskView) (reply : Reply) (scanned : List (Option Seen)) : Type 0 where
   pub each : length scanned ≡ readers_of store
   pub kept_is : kept_told (story_told store old.log) reply
@@ -60,14 +58,12 @@ pub record IsByScan (store : StoreId) (old : DeskView) (reply : Reply) (scanned 
   pub few : AreExact scanned
       → length (members (kept_told (story_told store old.log) reply).slots) ≤ 1 + announcements scanned
 
--- a command is accepted: its entry ends the log, and its seat has seen all of it and counts the
--- entry
+-- a command is accepted: its entry ends the log, which its seat has seen; the seat counts the entry
 pub record IsAccepted (store : StoreId) (old : DeskView) (seat : ReaderView) (c : Command) (reply : Reply) (new : DeskView) (seat_after : ReaderView) : Type 0 where
   pub answer : IsAnswer store.base.setting (story_told store old.log) c reply
   pub log : new.log ≡ old.log ++ record { by = seat.number; entry = record { command = c; reply = reply } } ∷ []
   pub seat_is : seat_after ≡ record seat { seen = new.log; made = seat.made + 1 }
-  -- the entry is kept after the others; a checkpoint leaves none, and sets the base place to its
-  -- own
+  -- the entry is kept after the others; a checkpoint keeps none, and sets the base place to its own
   pub kept : kept_part store new.log ≡ entries_kept_after (kept_part store old.log) record { by = seat.number; entry = record { command = c; reply = reply } }
   pub base : base_place store new.log ≡ (if takes_room c then base_place store old.log else length new.log)
   pub collects : c ≡ Collect → IsByScan store old reply new.scanned

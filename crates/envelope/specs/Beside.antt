@@ -1,15 +1,17 @@
--- What is known of cells whose columns are looked at side by side, from the nearest outwards: this project's own rule. Each column has a place, 128 after its number, so that there are places on both sides of all columns.
+-- What is known of cells whose columns are searched in vectors, from the nearest outwards: this
+-- project's own rule. Each column has a place, 128 after its number, so that there are places on
+-- both sides of all columns.
 use Rattle.std.specs.Prelude.{◌≡◌, ℕ, ◌+◌, ◌-◌, ◌<◌, ◌≤◌, List, length, slice_index, Some}
 use Rattle.std.specs.Int.{abs_diff}
 use Rattle.metric.specs.Edge.{spot_of}
 use Rattle.metric.specs.declared.edge.Edge.{Edge}
 use Rattle.envelope.specs.Columns.{IsNearColumn}
 
--- no part is larger than that which stands for no obstacle
+-- no part is larger than the part for no obstacle
 abbrev pub AreSmall : List ℕ → Type 0
 AreSmall parts = (p : ℕ) → p < length parts → slice_index parts p ≤ 32400
 
--- the parts of a row's columns, each at its place; those of the other places stand for no obstacle
+-- the parts of a row's columns, each at its place; those of the other places mean no obstacle
 pub record AreColumnParts (part : ℕ → ℕ) (entries : List ℕ) (y : ℕ) (parts : List ℕ) : Type 0 where
   pub as_many : length parts ≡ length entries + 272
   pub small : AreSmall parts
@@ -17,11 +19,11 @@ pub record AreColumnParts (part : ℕ → ℕ) (entries : List ℕ) (y : ℕ) (p
   pub before : (p : ℕ) → p < 128 → slice_index parts p ≡ 32400
   pub behind : (p : ℕ) → length entries + 128 ≤ p → p < length entries + 272 → slice_index parts p ≡ 32400
 
--- the distance in 16 bits from the cell of one place to the obstacle of another
+-- the 16-bit distance from the cell of one place to the obstacle of another
 abbrev pub small_distance : (ℕ → ℕ → ℕ) → (ℕ → ℕ → ℕ) → List ℕ → ℕ → ℕ → ℕ
 small_distance distance joined parts place other = joined (slice_index parts other) (distance (abs_diff place other) 0)
 
--- of the places from one to before another the nearest, the first of those as near; it lies 128 less than `away` to the right
+-- the first nearest of the places `from` to `to - 1`; it lies `away` - 128 to the right
 pub record IsBestIn (far : ℕ → ℕ) (place from to best away : ℕ) : Type 0 where
   pub other : ℕ
   pub where_is : other + 128 ≡ place + away
@@ -31,7 +33,7 @@ pub record IsBestIn (far : ℕ → ℕ) (place from to best away : ℕ) : Type 0
   pub least : (p : ℕ) → from ≤ p → p < to → best ≤ far p
   pub first : (p : ℕ) → from ≤ p → p < other → best < far p
 
--- each of eight cells, from a place on, knows the best of the places less than so many columns away
+-- each of eight cells, from a place on, knows the best place less than this many columns away
 abbrev pub AreBestNear : (ℕ → ℕ → ℕ) → (ℕ → ℕ → ℕ) → List ℕ → ℕ → ℕ → List ℕ → List ℕ → Type 0
 AreBestNear distance joined parts at k best away =
     (i : ℕ) → i < 8 → IsBestIn (small_distance distance joined parts (at + i)) (at + i) (at + i + 1 - k) (at + i + k) (slice_index best i) (slice_index away i)
@@ -47,12 +49,12 @@ pub record IsDecided (distance joined : ℕ → ℕ → ℕ) (parts : List ℕ) 
 abbrev pub AreDecided : (ℕ → ℕ → ℕ) → (ℕ → ℕ → ℕ) → List ℕ → ℕ → List ℕ → List ℕ → Type 0
 AreDecided distance joined parts at best away = (i : ℕ) → i < 8 → IsDecided distance joined parts (at + i) (slice_index best i) (slice_index away i)
 
--- what a cell's best and how far right of 128 columns to its left it lies tell: the obstacle of the column that is the nearest to it
+-- a cell's best and its offset give the obstacle of the column nearest to the cell
 pub record IsToldByLanes (distance : ℕ → ℕ → ℕ) (entries : List ℕ) (y : ℕ) (edge : Edge) (x best away : ℕ) : Type 0 where
   pub right : 128 ≤ x + away
   pub inside : x + away - 128 < length entries
   pub near : IsNearColumn distance entries y edge x (Some (record { dist = best; cell = spot_of edge (x + away - 128) (slice_index entries (x + away - 128)) }))
 
--- the same of eight cells, as far as the row has them
+-- the same for eight cells, as far as the row goes
 abbrev pub AreTold : (ℕ → ℕ → ℕ) → List ℕ → ℕ → Edge → ℕ → List ℕ → List ℕ → Type 0
 AreTold distance entries y edge start best away = (i : ℕ) → i < 8 → start + i < length entries → IsToldByLanes distance entries y edge (start + i) (slice_index best i) (slice_index away i)

@@ -1,5 +1,7 @@
 -- The columns of a row that have an obstacle, and which of them is the nearest to a cell.
--- Source: A. Meijster, J. Roerdink, W. Hesselink, "A General Algorithm for Computing Distance Transforms in Linear Time" (2000): the second phase, here with this project's rule for ties. A column without an obstacle takes no part.
+-- Source: A. Meijster, J. Roerdink, W. Hesselink, "A General Algorithm for Computing Distance
+-- Transforms in Linear Time" (2000): the second phase, here with this project's rule for ties. A
+-- column without an obstacle takes no part.
 use Rattle.std.specs.Prelude.{◌≡◌, ◌≢◌, ℕ, ◌+◌, ◌-◌, ◌*◌, ◌<◌, ◌≤◌, List, length, slice_index, slice_index_or, Option, Some, None}
 use Rattle.std.specs.Int.{abs_diff}
 use Rattle.metric.specs.Edge.{shift, spot_of}
@@ -8,7 +10,7 @@ use Rattle.metric.specs.declared.near.Near.{Near}
 use Rattle.metric.specs.Crossing.{at_column}
 use Rattle.envelope.specs.Answer.{Reading}
 
--- a row of a table, seen from the row y: each entry is a row of a map, or 65535 where the column has no obstacle
+-- a row of a table, seen from row y: each entry is a row of a map, or 65535 without an obstacle
 pub record AreEntries (entries : List ℕ) (y : ℕ) : Type 0 where
   pub few : length entries ≤ 4098
   pub seen_from : y ≤ 4097
@@ -19,20 +21,20 @@ pub record IsAmong (entries : List ℕ) (count column : ℕ) : Type 0 where
   pub left : column < count
   pub some : slice_index entries column ≢ 65535
 
--- one of the columns from one to before another, with an obstacle
+-- one of the columns from `first` to `count - 1`, with an obstacle
 pub record IsColumnFrom (entries : List ℕ) (first count column : ℕ) : Type 0 where
   pub low : first ≤ column
   pub among : IsAmong entries count column
 
--- how many rows away from the row y the obstacle of a column lies
+-- how many rows away from row y the obstacle of a column lies
 abbrev pub gap_of : List ℕ → ℕ → ℕ → ℕ
 gap_of entries y column = abs_diff y (slice_index entries column)
 
--- the distance from the cell x to the obstacle of a column that lies so many rows away
+-- the distance from cell x to the obstacle of a column, with this gap
 abbrev pub distance_from : (ℕ → ℕ → ℕ) → (ℕ → ℕ) → ℕ → ℕ → ℕ
 distance_from distance gaps column x = at_column distance column (gaps column) x
 
--- a column's obstacle, as the cell x of the row y sees it: its distance, and its spot
+-- a column's obstacle, seen from cell x of row y: its distance, and its spot
 abbrev pub near_from : (ℕ → ℕ → ℕ) → List ℕ → ℕ → Edge → ℕ → ℕ → Near
 near_from distance entries y edge column x = record { dist = distance_from distance (gap_of entries y) column x; cell = spot_of edge column (slice_index entries column) }
 
@@ -42,18 +44,18 @@ pub record IsCrossing (distance : ℕ → ℕ → ℕ) (left left_gap right righ
   pub before : (x : ℕ) → x < start → at_column distance left left_gap x ≤ at_column distance right right_gap x
   pub after : (x : ℕ) → start ≤ x → x ≤ 4097 → at_column distance right right_gap x < at_column distance left left_gap x
 
--- of a set of columns the nearest to the cell x, the first of those as near
+-- of a set of columns the nearest to cell x, the first on a tie
 pub record IsBest (distance : ℕ → ℕ → ℕ) (gaps : ℕ → ℕ) (Among : ℕ → Type 0) (x column : ℕ) : Type 0 where
   pub among : Among column
   pub least : (other : ℕ) → Among other → distance_from distance gaps column x ≤ distance_from distance gaps other x
   pub first : (other : ℕ) → Among other → other < column → distance_from distance gaps column x < distance_from distance gaps other x
 
--- the obstacle of the column that is the nearest to the cell x; none where there is no such column
+-- the obstacle of the column nearest to cell x; none if there is no such column
 abbrev pub IsNearColumn : (ℕ → ℕ → ℕ) → List ℕ → ℕ → Edge → ℕ → Option Near → Type 0
 IsNearColumn distance entries y edge x None = (column : ℕ) → IsAmong entries (length entries) column → ⊥
 IsNearColumn distance entries y edge x (Some near) = (column : ℕ) × IsBest distance (gap_of entries y) (IsAmong entries (length entries)) x column × (near ≡ near_from distance entries y edge column x)
 
--- the answers tell the obstacles of the columns that are the nearest to the cells of the row y that lie within the border
+-- the answers are the obstacles of the columns nearest to the cells of row y within the edge
 pub record AreNearColumns {T : Type 0} (told : Reading T) (nothing : T) (distance : ℕ → ℕ → ℕ) (entries : List ℕ) (y : ℕ) (edge : Edge) (answers : List T) : Type 0 where
   pub as_many : length answers + 2 * shift edge ≡ length entries
   pub each : (x : ℕ) → x < length answers → IsNearColumn distance entries y edge (x + shift edge) (told distance x (y - shift edge) (slice_index_or answers x nothing))

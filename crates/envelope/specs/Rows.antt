@@ -1,5 +1,7 @@
 -- What a contract sees of the nearest obstacles of a bitmap's row.
--- Source: A. Meijster, J. Roerdink, W. Hesselink, "A General Algorithm for Computing Distance Transforms in Linear Time" (2000): the distance transform of a binary image, and its feature transform with this project's rule for ties.
+-- Source: A. Meijster, J. Roerdink, W. Hesselink, "A General Algorithm for Computing Distance
+-- Transforms in Linear Time" (2000): the distance transform of a binary image, and its feature
+-- transform with this project's rule for ties.
 use Rattle.std.specs.Prelude.{◌≡◌, ℕ, ◌<◌, List, Option, None, length, slice_index_or}
 use Rattle.metric.specs.declared.near.Near.{Near}
 use Rattle.metric.specs.Nearest.{IsNear}
@@ -8,12 +10,12 @@ use Rattle.bits.specs.Cells.{Cells}
 use Rattle.bits.specs.Edges.{IsBlocked}
 use Rattle.envelope.specs.Answer.{Reading}
 
--- the nearest obstacles of the first cells of the row y, from the left, or none
+-- the nearest obstacles of the first cells of row y, from the left, or none
 pub record AreRowNears (distance : ℕ → ℕ → ℕ) (cells : Cells) (edge : Edge) (y count : ℕ) (nears : List (Option Near)) : Type 0 where
   pub as_many : length nears ≡ count
   pub each : (x : ℕ) → x < count → IsNear distance (IsBlocked cells edge) x y (slice_index_or nears x None)
 
--- the answers tell the nearest obstacles of the first cells of the row y, from the left, or none
+-- the answers are the nearest obstacles of the first cells of row y, from the left, or none
 pub record AreRowAnswers {T : Type 0} (told : Reading T) (nothing : T) (distance : ℕ → ℕ → ℕ) (cells : Cells) (edge : Edge) (y count : ℕ) (answers : List T) : Type 0 where
   pub as_many : length answers ≡ count
   pub each : (x : ℕ) → x < count → IsNear distance (IsBlocked cells edge) x y (told distance x y (slice_index_or answers x nothing))

@@ -12,30 +12,30 @@ pub record IsWorkers (count : ℕ) : Type 0 where
   pub some : 1 ≤ count
   pub few : count ≤ 16
 
--- where the rows y0 to y1 - 1 are shared in so many bands, the first row after some bands from the top
+-- the first row after `bands` bands from the top, if `count` bands share rows y0 to y1 - 1
 abbrev pub row_behind : ℕ → ℕ → ℕ → ℕ → ℕ
 row_behind y0 y1 count bands = y0 + bands * (y1 - y0) / count
 
--- the bands after some from the top, as far as some others, are so many, and there is one at least
+-- of `count` bands, those after the first `above`, up to band `below`: at least one
 pub record AreBands (count above below : ℕ) : Type 0 where
   pub some : above < below
   pub within : below ≤ count
 
--- the rows from one to before another lie in the map, and there is room for their answers
+-- the rows `from` to `to - 1` are in the map, and there is room for their answers
 pub record HasRoom {T : Type 0} (cells : Cells) (from to : ℕ) (answers : List T) : Type 0 where
   pub order : from ≤ to
   pub within : to ≤ cells.height
   pub as_many : length answers ≡ (to - from) * cells.width
 
--- there is room for the answers of those bands of a batch that come after some, as far as some others, of so many
+-- there is room for the answers of a batch's bands after the first `above`, up to band `below`
 abbrev pub HasBandRoom : {T : Type 0} → Batch → ℕ → ℕ → ℕ → List T → Type 0
 HasBandRoom batch count above below answers = HasRoom batch.bitmap.now (row_behind batch.y0 batch.y1 count above) (row_behind batch.y0 batch.y1 count below) answers
 
--- the answers at the front tell the nearest obstacles of the cells of the rows from one to before another, row by row
+-- the first answers are the nearest obstacles of the cells of rows `from` to `to - 1`, in order
 pub record AreFilled {T : Type 0} (told : Reading T) (nothing : T) (distance : ℕ → ℕ → ℕ) (cells : Cells) (edge : Edge) (from to : ℕ) (answers : List T) : Type 0 where
   pub each : (x y : ℕ) → x < cells.width → from ≤ y → y < to → IsNear distance (IsBlocked cells edge) x y (told distance x y (slice_index_or answers ((y - from) * cells.width + x) nothing))
 
--- the answers are those of all cells of the rows from one to before another, and tell their nearest obstacles
+-- the answers are the nearest obstacles of all cells of rows `from` to `to - 1`
 pub record AreAnswers {T : Type 0} (told : Reading T) (nothing : T) (distance : ℕ → ℕ → ℕ) (cells : Cells) (edge : Edge) (from to : ℕ) (answers : List T) : Type 0 where
   pub as_many : length answers ≡ (to - from) * cells.width
   pub filled : AreFilled told nothing distance cells edge from to answers

@@ -1,4 +1,5 @@
--- A table that keeps of each cell's nearest obstacle only where it is: this project's own rule. How far away it is follows.
+-- A table that keeps only the position of each cell's nearest obstacle, from which the distance
+-- follows: this project's own rule.
 use Rattle.std.specs.Prelude.{◌≡◌, ℕ, ℤ, pos, negsuc, ◌<ℤ◌, ◌≤ℤ◌, int_lt, ◌+◌, ◌-◌, ◌*◌, ◌/◌, ◌%◌, ◌<◌, ◌≤◌, [], List, length, map, min, slice_index_or, Option, Some, None, if◌then◌else◌}
 use Rattle.std.specs.List.{range_with_len}
 use Rattle.metric.specs.declared.spot.Spot.{Spot}
@@ -7,21 +8,21 @@ use Rattle.metric.specs.Nearest.{spot_distance}
 use Rattle.column.specs.declared.batch.Batch.{Batch}
 use Rattle.field.specs.Bands.{AreAnswers}
 
--- this column and row are a spot, or none where the column is the mark that stands for none
+-- the spot of this column and row; none if the column is the mark for none
 abbrev pub spot_kept : ℤ → ℤ → Option Spot
 spot_kept x y = if int_lt x (negsuc 0) then None else Some (record { x = x; y = y })
 
--- the two numbers are a spot of a map with its frame, or the mark of none twice
+-- the two numbers are a spot of a map with its frame, or twice the mark for none
 pub record IsKeptSpot (x y : ℤ) : Type 0 where
   pub none : x <ℤ negsuc 0 → (x ≡ negsuc 1) × (y ≡ negsuc 1)
   pub some : negsuc 0 ≤ℤ x → (x ≤ℤ pos 4097) × (negsuc 0 ≤ℤ y) × (y ≤ℤ pos 4097)
 
--- the cell (x, y) sees an obstacle so, or sees none
+-- the obstacle seen from cell (x, y), or none
 abbrev pub seen_from : (ℕ → ℕ → ℕ) → ℕ → ℕ → Option Spot → Option Near
 seen_from distance x y None = None
 seen_from distance x y (Some spot) = Some (record { dist = spot_distance distance x y spot.x spot.y; cell = spot })
 
--- a table has the obstacles of the rows y0 to y1 - 1, row by row, each row of so many cells
+-- a table has the obstacles of rows y0 to y1 - 1, in row-major order
 pub record Obstacles : Type 0 where
   pub width : ℕ
   pub y0 : ℕ
@@ -35,52 +36,52 @@ pub record AreRows (table : Obstacles) : Type 0 where
   pub within : table.y1 ≤ 4096
   pub as_many : length table.cells ≡ (table.y1 - table.y0) * table.width
 
--- so many of some rows stand before a strip, where they stand in strips of equal height, the last of which may have fewer
+-- how many of some rows come before a strip, in strips of equal height except the last
 abbrev pub rows_before : ℕ → ℕ → ℕ → ℕ
 rows_before rows height strip = min rows (strip * height)
 
--- in strips of this height, with rows of this width, the cell so many places after the first one is this, counted row by row
+-- the cell at this index, in row-major order, in strips of this height with rows of this width
 abbrev pub cell_in : ℕ → ℕ → List (List (Option Spot)) → ℕ → Option Spot
 cell_in width height strips place = slice_index_or (slice_index_or strips (place / (height * width)) []) (place % (height * width)) None
 
--- the cells of so many rows in strips are listed row by row
+-- the cells of this many rows in strips, in row-major order
 abbrev pub cells_in : ℕ → ℕ → ℕ → List (List (Option Spot)) → List (Option Spot)
 cells_in width height rows strips = map (cell_in width height strips) (range_with_len 0 (rows * width))
 
--- the strips of this height hold so many rows of this width
+-- the strips of this height hold this many rows of this width
 pub record AreStrips (width height rows : ℕ) (strips : List (List (Option Spot))) : Type 0 where
   pub some : 1 ≤ height
   pub enough : rows ≤ length strips * height
   pub each : (strip : ℕ) → strip < length strips → length (slice_index_or strips strip []) ≡ (rows_before rows height (strip + 1) - rows_before rows height strip) * width
 
--- the rows y0 to y1 - 1 stand so in strips of this height
+-- rows y0 to y1 - 1 in strips of this height
 abbrev pub in_strips : ℕ → ℕ → ℕ → ℕ → List (List (Option Spot)) → Obstacles
 in_strips width y0 y1 height strips = record { width = width; y0 = y0; y1 = y1; cells = cells_in width height (y1 - y0) strips }
 
--- the strips have the rows y0 to y1 - 1 of a map
+-- the strips have rows y0 to y1 - 1 of a map
 pub record HaveRows (width y0 y1 height : ℕ) (strips : List (List (Option Spot))) : Type 0 where
   pub across : width ≤ 4096
   pub order : y0 ≤ y1
   pub within : y1 ≤ 4096
   pub placed : AreStrips width height (y1 - y0) strips
 
--- the first row of a strip, where the rows of a batch stand in strips of this height
+-- the first row of a strip, if the rows of a batch are in strips of this height
 abbrev pub strip_row : Batch → ℕ → ℕ → ℕ
 strip_row batch height strip = batch.y0 + rows_before (batch.y1 - batch.y0) height strip
 
--- the cells tell the nearest obstacles of the rows of one strip of a batch
+-- the cells are the nearest obstacles of the rows of one strip of a batch
 abbrev pub IsStripAnswer : (ℕ → ℕ → ℕ) → Batch → ℕ → ℕ → List (Option Spot) → Type 0
 IsStripAnswer distance batch height strip cells = AreAnswers seen_from None distance batch.bitmap.now batch.edge (strip_row batch height strip) (strip_row batch height (strip + 1)) cells
 
--- each strip tells the nearest obstacles of its rows
+-- each strip has the nearest obstacles of its rows
 pub record AreStripAnswers (distance : ℕ → ℕ → ℕ) (batch : Batch) (height : ℕ) (strips : List (List (Option Spot))) : Type 0 where
   pub each : (strip : ℕ) → strip < length strips → IsStripAnswer distance batch height strip (slice_index_or strips strip [])
 
--- a table tells these nearest obstacles, row by row, by this distance
+-- the nearest obstacles in a table, in row-major order, by this distance
 abbrev pub nears_told : (ℕ → ℕ → ℕ) → Obstacles → List (Option Near)
 nears_told distance table = map (λ k. seen_from distance (k % table.width) (table.y0 + k / table.width) (slice_index_or table.cells k None)) (range_with_len 0 (length table.cells))
 
--- this is the distance of two cells that lie at most 4097 columns and rows apart, the most in a map with its frame
+-- this is a distance of two cells at most 4097 columns and rows apart, the most in a framed map
 pub record IsDistance (distance : ℕ → ℕ → ℕ) (number : ℕ) : Type 0 where
   pub columns : ℕ
   pub rows : ℕ
@@ -88,12 +89,12 @@ pub record IsDistance (distance : ℕ → ℕ → ℕ) (number : ℕ) : Type 0 w
   pub few_rows : rows ≤ 4097
   pub is : number ≡ distance columns rows
 
--- the number is how far away this nearest obstacle is; where there is none, it is the largest number of 32 bits
+-- the number is the distance of this nearest obstacle; if there is none, the largest 32-bit number
 abbrev pub IsMeasured : (ℕ → ℕ → ℕ) → Option Near → ℕ → Type 0
 IsMeasured distance None number = number ≡ 4294967295
 IsMeasured distance (Some near) number = (number ≡ near.dist) × IsDistance distance number
 
--- the numbers are how far away these nearest obstacles are, one by one
+-- the numbers are the distances of these nearest obstacles, one by one
 pub record AreMeasured (distance : ℕ → ℕ → ℕ) (nears : List (Option Near)) (numbers : List ℕ) : Type 0 where
   pub as_many : length numbers ≡ length nears
   pub each : (x : ℕ) → x < length nears → IsMeasured distance (slice_index_or nears x None) (slice_index_or numbers x 0)

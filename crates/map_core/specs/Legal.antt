@@ -55,8 +55,7 @@ refused g s Revert = refused_log g s None
 refused g s Collect = refused_log g s None
 refused g s Checkpoint = refused_place s None
 
--- a collect's reply keeps some of the versions that were kept, the newest among them, and has the
--- least of them and by how many fewer blocks are in use
+-- a collect keeps some kept versions and the newest; its reply has the least and the blocks freed
 pub record IsCollected (s : Story) (floor freed : ℕ) (kept : Kept) : Type 0 where
   pub part : IsPartOfKept kept.slots s.kept.slots
   pub newest_in : IsIn kept (newest s)

@@ -84,8 +84,7 @@ slot_of k s version = slice_index s.slots version
 unfoldable pub next_slot : Base → Story → ℕ
 next_slot k s = first_free s.kept.slots
 
--- the bitmap that the words show in a slot: a cell's bit is that of its column, in the row of the
--- block that the slot has for the cell's position
+-- the bitmap in a slot: a cell's bit is that of its column, in the row of its position's block
 unfoldable pub shown : Base → List ℕ → ℕ → Cells
 shown k words slot =
     cells_where k.opening.width k.opening.height

@@ -15,8 +15,7 @@ abbrev pub ◌>>=◌ : {A B : Type 0} → Result A PbmFault → (A → Result B 
 (Ok x) >>= f = f x
 (Err e) >>= f = Err e
 
--- the magic number: `P1`, the bytes 80 and 49, of a plain image, or `P4`, the bytes 80 and 52, of a
--- raw one
+-- the magic number: `P1` (80 and 49) of a plain image, or `P4` (80 and 52) of a raw one
 abbrev pub magic : List ℕ → Result (Form × List ℕ) PbmFault
 magic [] = Err Truncated
 magic (p ∷ []) = if p == 80 then Err Truncated else Err BadMagic

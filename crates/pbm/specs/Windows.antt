@@ -70,8 +70,7 @@ pub record HasImage (rest : Option (List ℕ)) (cells : Cells) : Type 0 where
   pub taken : ℕ
   pub reads : Reads bytes taken cells
 
--- all bytes that the source may have had left don't read as an image, and this is their first
--- fault; or their header is valid, and there was no memory for the bitmap
+-- all bytes the source may have had left have this first fault, or no memory for their bitmap
 pub record HasFault (rest : Option (List ℕ)) (fault : PbmFault) : Type 0 where
   pub bytes : List ℕ
   pub all : AreAll rest bytes

@@ -12,8 +12,7 @@ use Rattle.proto.specs.declared.verb.QueryKind.TheVariants as kinds
 use Rattle.proto.specs.Numbers.{number, points, only, pair}
 use Rattle.proto.specs.Corners.{corners_of}
 
--- a query asks for a cell's distance, the least in a rectangle or along a path, or if a path is
--- clear
+-- a query asks for a cell's distance, the least in a rectangle or on a path, or if a path is clear
 pub data QueryView : Type 0 where
   at : MetricKind → Cell → QueryView
   rect : MetricKind → (x0 y0 x1 y1 : ℕ) → QueryView

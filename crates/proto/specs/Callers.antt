@@ -35,8 +35,7 @@ pub record HasSeenMore (store : StoreId) (old new : ReaderView) : Type 0 where
   pub legal : IsLegal store.base.setting store.base.opening (entries new.seen)
   pub seat_is : new ≡ record old { seen = new.seen }
 
--- a command is accepted: the caller has seen a legal log, which extends all that it had seen by
--- what others did in between, and ends with the command and its reply, a valid answer there
+-- a command is accepted: the caller has seen a legal log, extending its own, with its entry last
 pub record IsCommandDone (store : StoreId) (old : ReaderView) (c : Command) (reply : Reply) (new : ReaderView) : Type 0 where
   pub before : List StoreEntry
   pub began : IsPrefix old.seen before
@@ -44,8 +43,7 @@ pub record IsCommandDone (store : StoreId) (old : ReaderView) (c : Command) (rep
   pub legal : IsLegal store.base.setting store.base.opening (entries new.seen)
   pub seat_is : new ≡ record old { seen = before ++ record { by = old.number; entry = record { command = c; reply = reply } } ∷ []; made = old.made + 1 }
 
--- a command is refused: the caller has seen a legal log, and the refusal is the log's answer, or
--- out of memory, if the log doesn't refuse the command and its entry takes capacity
+-- a command is refused: by a legal log that the caller has seen, or else for no memory
 pub record IsNotDone (store : StoreId) (old : ReaderView) (c : Command) (refusal : Refusal) (new : ReaderView) : Type 0 where
   pub seen : HasSeenMore store old new
   pub why : (refused store.base.setting (story_told store new.seen) c ≡ Some refusal) ⊎ ((refused store.base.setting (story_told store new.seen) c ≡ None) × (refusal ≡ Memory) × (takes_room c ≡ true))

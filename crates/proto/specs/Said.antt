@@ -15,8 +15,7 @@ use Rattle.proto.specs.Numbers.{coordinate, number_triple, numbers}
 use Rattle.proto.specs.Told.{CommandView, alone, order_named, order_told, told_by}
 use Rattle.proto.specs.Words.{words}
 
--- what a line says: a command to the keeper of the map, a stamp with its position and number of
--- bytes, a pin or its end, a query, a dump, or the end of the stream
+-- a line says a command to the keeper, a stamp, a pin or its end, a query, a dump, or the end
 pub data LineView : Type 0 where
   told : CommandView → LineView
   stamp : (x y n : ℕ) → LineView

@@ -93,8 +93,7 @@ IsUnsaid (Some ends.WriteFailed) exchanges tail last unsaid =
     ((before : List Exchange) × (x : Exchange) × (exchanges ≡ before ++ x ∷ []) × (last ≡ []) × (unsaid ≡ text_of x)) ⊎ (IsFarewell tail last × (unsaid ≡ last))
 IsUnsaid end exchanges tail last unsaid = unsaid ≡ []
 
--- a stream with this end, or none, has read whole exchanges and a tail, and has written their texts
--- and a last text, up to the text whose write failed
+-- a stream with this end, or none, has read exchanges and a tail, and written up to a failed text
 pub record Served (store : StoreId) (end : Option End) (bytes : List ℕ) (old new : CallerValue) (said unsaid : List ℕ) : Type 0 where
   pub exchanges : List Exchange
   pub tail : List ℕ
@@ -225,8 +224,7 @@ abbrev pub IsDumpSaid : StoreId → Result (Unit {0}) WriteFault → Wire → Ca
 IsDumpSaid store written wire old wire_after =
     elim old.pin as (λ _. Type 0) [ None ↦ HasPut written wire (reply_line (answers.Refused refusals.NotPinned)) wire_after | Some version ↦ IsDumped (bitmap_held store old) written wire wire_after ]
 
--- a caller was served over a wire up to this end: some bytes were read, and texts were said, but
--- for one whose write failed, and these are a stream served with this end
+-- a caller was served over a wire up to this end: bytes were read, and texts said unless one failed
 pub record IsServed (store : StoreId) (end : Option End) (wire : Wire) (old : CallerValue) (wire_after : Wire) (new : CallerValue) : Type 0 where
   pub bytes : List ℕ
   pub said : List ℕ

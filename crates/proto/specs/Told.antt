@@ -7,8 +7,7 @@ use Rattle.proto.specs.declared.verb.CommandName.TheVariants as orders
 use Rattle.proto.specs.Corners.{Corners, corners_of, seen_corners}
 use Rattle.proto.specs.Numbers.{points, pair}
 
--- what the keeper is asked to do: set the cells of a rectangle to one value, stamp, which no line
--- asks for by itself, publish, revert, collect, or drop the entries it keeps
+-- the keeper is asked to set a rectangle, stamp, publish, revert, collect, or drop its entries
 pub data CommandView : Type 0 where
   draw : Bool → Corners → CommandView
   stamp : CommandView

@@ -79,8 +79,7 @@ abbrev pub is_whole : Looks → Bool
 is_whole (looks.Words left) = false
 is_whole looks.Whole = true
 
--- a pin holds a version published in what it has seen, has announced exactly that one, and knows
--- its slot; it has the version's bitmap once it is read, and until then a bitmap of the same size
+-- a pin holds a published version that it has seen, has announced exactly, and knows the slot of
 pub record IsPin (store : StoreId) (p : PinView) (slot : ℕ) (bitmap : Cells) (is_read : Bool) : Type 0 where
   pub announced : p.seat.announced ≡ Some (Exact p.version)
   pub held : p.seat.holds ≡ Some p.version

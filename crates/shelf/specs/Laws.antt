@@ -1,4 +1,4 @@
--- What the rule of a table comes to, in the core's words: this project's own rule.
+-- The rule of a table in the core's words: this project's own rule.
 use Rattle.shelf.specs.declared.store_entry.StoreEntry.{StoreEntry}
 use Rattle.map_core.specs.Blocks.{directory_of}
 use Rattle.map_core.specs.Legal.{refused}
@@ -37,7 +37,7 @@ ShowsKeeper y (keeping k) = y ≡ as_keeper k
 ShowsKeeper y (meeting k x) = y ≡ as_keeper k
 ShowsKeeper y role = ⊥
 
--- this state of the core is whole and safe, its words are the table's, its keeper is the keeper's view, and its readers are the readers'
+-- this state of the core is whole and safe, with the table's words, and its seats' views
 pub record IsStateOf (z : Base) (s : State Request Role) (w : core.State) : Type 0 where
   pub whole : IsWhole w
   pub safe : IsSafe w
@@ -49,11 +49,11 @@ pub record IsStateOf (z : Base) (s : State Request Role) (w : core.State) : Type
   pub together : (j : ℕ) (k : KeeperView) (x : ReaderView) → get_elem? s.views j ≡ maybe.some (meeting k x) → (w.keeper ≡ as_keeper k) × (slice_get w.readers x.number ≡ Some (as_reader x))
   pub taught : (j : ℕ) (x : ReaderView) (seen : List StoreEntry) → get_elem? s.views j ≡ maybe.some (learning x seen)
       → (slice_get w.readers x.number ≡ Some (as_reader x)) × IsBeginning (entries seen) w.keeper.log
-  -- what a ticket has seen is a beginning of the log
+  -- what a ticket has seen is a prefix of the log
   pub tickets : (j : ℕ) (seen : List StoreEntry) → get_elem? s.views j ≡ maybe.some (ticket seen) → IsBeginning (entries seen) w.keeper.log
   -- each reader is the view of a seat, or its word is 0
   pub each_reader : (r : ℕ) (y : Reader) → slice_get w.readers r ≡ Some y → IsSomeSeat (ShowsReader r y) s.views ⊎ (slice_index s.words (pin_at r) ≡ 0)
-  -- no two seats have one reader's view, and one seat at most has the keeper's
+  -- no two seats have one reader's view, and at most one seat has the keeper's
   pub apart : (i j r : ℕ) (u v : Role) → get_elem? s.views i ≡ maybe.some u → get_elem? s.views j ≡ maybe.some v → HasReader r u → HasReader r v → i ≡ j
   pub one_keeper : (i j : ℕ) (u v : Role) → get_elem? s.views i ≡ maybe.some u → get_elem? s.views j ≡ maybe.some v → HasKeeper u → HasKeeper v → i ≡ j
 
@@ -62,15 +62,15 @@ pub record IsAState (z : Base) (s : State Request Role) : Type 0 where
   pub w : core.State
   pub is : IsStateOf z s w
 
--- the table becomes this where a seat stores a word and has another view
+-- the table after a seat stores a word and has another view
 abbrev pub after_step : State Request Role → ℕ → ℕ → ℕ → Role → State Request Role
 after_step s at word id v = record { words = slice_set s.words at word; homes = s.homes; views = slice_set s.views id v }
 
--- a proof of the rule has this state of the core
+-- the state of the core in a proof of the rule
 abbrev pub ruled : (z : Base) (s : State Request Role) → Agrees z s → core.State
 ruled z s r = core_of z s.words r.k r.readers
 
--- a step of the table is this event of the core, in whatever state of the core the rule has before it
+-- a step of the table is this event of the core, in any state that the rule has before it
 pub record IsEvent (z : Base) (s : State Request Role) (r : Agrees z s) (t : State Request Role) (e : Event) (answer : StepReply) : Type 0 where
   pub after : Agrees z t
   pub stored : Option ℕ
@@ -79,12 +79,12 @@ pub record IsEvent (z : Base) (s : State Request Role) (r : Agrees z s) (t : Sta
   pub done : does (ruled z s r) e ≡ Some record { state = ruled z t after; answer = answer; stored = stored }
   pub spares : SparesLive (ruled z s r) stored
 
--- words and seats of a table become others, and no event of the core has happened: the state of the core is the same
+-- words and seats of a table change without an event of the core: its state is the same
 pub record IsNoEvent (z : Base) (s : State Request Role) (r : Agrees z s) (t : State Request Role) : Type 0 where
   pub after : Agrees z t
   pub same : ruled z t after ≡ ruled z s r
 
--- the table becomes this where its seats have other views
+-- the table with other views of its seats
 abbrev pub with_views : State Request Role → List Role → State Request Role
 with_views s views = record { words = s.words; homes = s.homes; views = views }
 
@@ -92,14 +92,14 @@ with_views s views = record { words = s.words; homes = s.homes; views = views }
 pub record StepsAreEvents (z : Base) (s : State Request Role) (r : Agrees z s) (id : ℕ) : Type 0 where
   pub announce : (x : ReaderView) → get_elem? s.views id ≡ maybe.some (reading x) → x.announced ≡ None
       → IsEvent z s r (after_step s (pin_at x.number) (pin_word (Some (From (newest_seen z (as_reader x))))) id (reading (announcing z x))) (Announce x.number) (says.Announced (newest_seen z (as_reader x)))
-  -- what a reader holds and has announced not exactly
+  -- a reader that holds a version it hasn't announced exactly
   pub confirm : (x : ReaderView) (v : ℕ) → get_elem? s.views id ≡ maybe.some (reading x) → to_confirm x.announced x.holds ≡ Some v
       → IsEvent z s r (after_step s (pin_at x.number) (pin_word (Some (Exact v))) id (reading (confirming v x))) (Confirm x.number) (says.Confirmed v)
   pub leave : (x : ReaderView) → get_elem? s.views id ≡ maybe.some (reading x) → is_some x.announced ≡ true
       → IsEvent z s r (after_step s (pin_at x.number) (pin_word None) id (reading (leaving x))) (Leave x.number) says.Left
   pub load : (x : ReaderView) → get_elem? s.views id ≡ maybe.some (reading x)
       → IsEvent z s r (after_step s now_at (slice_index s.words now_at) id (reading (loaded z r.k.log x))) (Load x.number) (says.Now (place_told (slice_index s.words now_at)) (version_told (slice_index s.words now_at)))
-  -- the load by which a reader learns what a ticket has seen, and that of a meeting, whose reader counts its entry
+  -- the loads by which a reader learns a ticket, and meets the keeper and counts its entry
   pub learn : (x : ReaderView) (seen : List StoreEntry) → get_elem? s.views id ≡ maybe.some (learning x seen)
       → IsEvent z s r (after_step s now_at (slice_index s.words now_at) id (reading (loaded z r.k.log x))) (Load x.number) (says.Now (place_told (slice_index s.words now_at)) (version_told (slice_index s.words now_at)))
   pub meet : (k : KeeperView) (x : ReaderView) → get_elem? s.views id ≡ maybe.some (meeting k x) → (k.unmet ≡ None) ⊎ (k.unmet ≡ Some x.number)
@@ -119,13 +119,13 @@ pub record StepsAreEvents (z : Base) (s : State Request Role) (r : Agrees z s) (
       → IsEvent z s r (after_step s now_at (now_of (story z (entries (committed z k may.task).log))) id (keeping (committed z k may.task))) Keep
       (says.Committed (signed_of z k may.task).entry.reply)
 
--- what seats give one another, and the last loads of a store that is closed, are no events
+-- exchanges of views, and the last loads of a store that is closed, are no events
 pub record HandingsAreNone (z : Base) (s : State Request Role) (r : Agrees z s) (id other : ℕ) : Type 0 where
-  -- a reader's view is laid in the keeper's seat, and parted from it again
+  -- a reader's view joins the keeper's seat, and is parted from it again
   pub together : (k : KeeperView) (x : ReaderView) → get_elem? s.views id ≡ maybe.some (keeping k) → other ≢ id → get_elem? (slice_set s.views id (meeting k x)) other ≡ maybe.some (reading x)
       → IsNoEvent z s r (with_views s (slice_set (slice_set s.views id (meeting k x)) other idle))
   pub apart : (k : KeeperView) (x : ReaderView) → get_elem? s.views id ≡ maybe.some (meeting k x) → IsNoEvent z s r (with_views s (slice_set s.views id (keeping k) ++ reading x ∷ []))
-  -- a ticket is cut from the keeper's seat, and laid in a reader's
+  -- a ticket is cut from the keeper's seat, and joins a reader's
   pub cut : (k : KeeperView) → get_elem? s.views id ≡ maybe.some (keeping k) → IsNoEvent z s r (with_views s (slice_set s.views id (keeping k) ++ ticket k.log ∷ []))
   pub hand : (x : ReaderView) (seen : List StoreEntry) → get_elem? s.views id ≡ maybe.some (reading x) → other ≢ id → get_elem? (slice_set s.views id (learning x seen)) other ≡ maybe.some (ticket seen)
       → IsNoEvent z s r (with_views s (slice_set (slice_set s.views id (learning x seen)) other idle))
@@ -137,21 +137,21 @@ pub record HandingsAreNone (z : Base) (s : State Request Role) (r : Agrees z s) 
       → IsNoEvent z s r (after_step s now_at (slice_index s.words now_at) id (keeping (without k x)))
   pub end : (k : KeeperView) → get_elem? s.views id ≡ maybe.some (keeping k) → IsNoEvent z s r (after_step s now_at (slice_index s.words now_at) id (keeping k))
 
--- a table becomes another by an event of the core, or by none, whatever state of the core the rule has before
+-- a table becomes another by an event of the core, or by none, in any state the rule has before
 abbrev pub Moves : (z : Base) → State Request Role → State Request Role → Type 0
 Moves z s t = (r : Agrees z s) → ((e : Event) × (answer : StepReply) × IsEvent z s r t e answer) ⊎ IsNoEvent z s r t
 
--- the tables come one after another, and each is what the one before has become
+-- the tables follow one another, each from the one before
 abbrev pub IsSchedule : Base → State Request Role → List (State Request Role) → Type 0
 IsSchedule z s [] = Unit {0}
 IsSchedule z s (t ∷ ts) = Moves z s t × IsSchedule z t ts
 
--- a schedule ends with this table, which is the first where it has no step
+-- the last table of a schedule, which is the first if it has no step
 abbrev pub last_table : State Request Role → List (State Request Role) → State Request Role
 last_table s [] = s
 last_table s (t ∷ ts) = last_table t ts
 
--- the core does these events one after another, each is enabled, and none stores in a live block
+-- the core does these events in order, each is enabled, and none stores in a live block
 abbrev pub IsCoreRun : core.State → List Event → List StepReply → core.State → Type 0
 IsCoreRun w [] [] v = v ≡ w
 IsCoreRun w [] (a ∷ answers) v = ⊥

@@ -15,14 +15,14 @@ use Rattle.shelf.specs.Roles.{KeeperView, ReaderView, Role, keeping, reading, me
 use Rattle.shelf.specs.Rule.{HasReader, HasKeeper, IsSomeSeat}
 use Rattle.shelf.specs.Steps.{newest_slot}
 
--- a reader has seen a beginning of the log, and counts its own entries there but for an unmet one
+-- a reader has seen a prefix of the log, and counts its own entries there except an unmet one
 pub record IsBehind (log : List StoreEntry) (unmet : Option ℕ) (x : ReaderView) : Type 0 where
   pub began : IsPrefix x.seen log
   pub without_callers : IsBeginning (entries x.seen) (entries log)
-  -- it counts its entries, but for one that is unmet, and has seen those that it counts
+  -- it counts its entries except an unmet one, and has seen those that it counts
   pub counted : made_by x.number log ≡ x.made + unmet_by x.number unmet
   pub seen : x.made ≤ made_by x.number x.seen
-  -- where none of its own is unmet, all its entries are among those that it has seen
+  -- if none of its own is unmet, all its entries are among those that it has seen
   pub whole : unmet ≢ Some x.number → (made_by x.number log ≡ x.made) × (made_by x.number x.seen ≡ x.made)
 
 -- a seat of this role has the keeper's view, which knows this log and this unmet entry
@@ -31,7 +31,7 @@ KnowsLog log unmet (keeping k) = (k.log ≡ log) × (k.unmet ≡ unmet)
 KnowsLog log unmet (meeting k x) = (k.log ≡ log) × (k.unmet ≡ unmet)
 KnowsLog log unmet role = ⊥
 
--- the words and the seats of a table have one log, of which one entry at most is unmet
+-- the words and the seats of a table have one log, of which at most one entry is unmet
 pub record HasOneLog (z : Base) (s : State Request Role) : Type 0 where
   pub log : List StoreEntry
   pub unmet : Option ℕ
@@ -45,14 +45,14 @@ pub record HasOneLog (z : Base) (s : State Request Role) : Type 0 where
   pub kept : IsSomeSeat (KnowsLog log unmet) s.views
   -- the keeper's seat knows both
   pub keeper : (j : ℕ) (k : KeeperView) → get_elem? s.views j ≡ maybe.some (keeping k) → (k.log ≡ log) × (k.unmet ≡ unmet)
-  -- each reader's seat has seen a beginning of the log, and counts its entries, also where its view stands in the keeper's seat
+  -- each reader's seat has seen a prefix of the log and counts its entries, even in a meeting
   pub reader : (j : ℕ) (x : ReaderView) → get_elem? s.views j ≡ maybe.some (reading x) → IsBehind log unmet x
-  -- a reader's seat has seen so much too while a ticket's view stands in it
+  -- a reader's seat has seen as much too while it has a ticket's view
   pub taught : (j : ℕ) (x : ReaderView) (seen : List StoreEntry) → get_elem? s.views j ≡ maybe.some (learning x seen) → IsBehind log unmet x × IsPrefix seen log
   pub together : (j : ℕ) (k : KeeperView) (x : ReaderView) → get_elem? s.views j ≡ maybe.some (meeting k x) → (k.log ≡ log) × (k.unmet ≡ unmet) × IsBehind log unmet x
-  -- a ticket has seen a beginning of the log
+  -- a ticket has seen a prefix of the log
   pub tickets : (j : ℕ) (seen : List StoreEntry) → get_elem? s.views j ≡ maybe.some (ticket seen) → IsPrefix seen log
   -- no two seats have one reader's view
   pub apart : (i j r : ℕ) (u v : Role) → get_elem? s.views i ≡ maybe.some u → get_elem? s.views j ≡ maybe.some v → HasReader r u → HasReader r v → i ≡ j
-  -- one seat at most has the keeper's view
+  -- at most one seat has the keeper's view
   pub one_keeper : (i j : ℕ) (u v : Role) → get_elem? s.views i ≡ maybe.some u → get_elem? s.views j ≡ maybe.some v → HasKeeper u → HasKeeper v → i ≡ j

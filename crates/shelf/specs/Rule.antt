@@ -15,19 +15,19 @@ use Rattle.shelf.specs.Roles.{KeeperView, ReaderView, Role, idle, keeping, readi
 
 -- this holds between the keeper, the core's readers and a reader's seat
 pub record Fits (z : Base) (k : KeeperView) (readers : List Reader) (x : ReaderView) : Type 0 where
-  -- the reader was dealt, and isn't given up
+  -- the reader was dealt, and hasn't been given up
   pub dealt : x.number < k.dealt
   pub here : times x.number k.gone ≡ 0
   -- it is the core's reader of its number
   pub there : slice_get readers x.number ≡ Some (as_reader x)
-  -- what it has seen is a beginning of the log, and has the version that it holds
+  -- what it has seen is a prefix of the log, and has the version that it holds
   pub began : IsPrefix x.seen k.log
   pub held : (v : ℕ) → x.holds ≡ Some v → v ≤ newest (story z (entries x.seen))
-  -- it has seen all entries that it counts, and the log has one more by it between a commit and its meeting
+  -- it has seen all entries that it counts; the log has one more of its own until they meet
   pub all_seen : x.made ≤ made_by x.number x.seen
   pub counted : made_by x.number k.log ≡ x.made + unmet_by x.number k.unmet
 
--- what a seat knows, where this is the keeper's view, and this seat has it, and these seats have the readers
+-- what a seat knows, given the keeper's view and its seat, and the seats that have the readers
 module _ (z : Base) (k : KeeperView) (readers : List Reader) (keeper : ℕ) (owner : ℕ → ℕ) (seat : ℕ) where
   abbrev pub Knows : Role → Type 0
   Knows idle = Unit {0}
@@ -63,24 +63,23 @@ pub record IsSomeSeat (Kind : Role → Type 0) (views : List Role) : Type 0 wher
 
 -- what the seats know agrees with one keeper's view and with the core's readers. No word is read.
 pub record AreSeats (z : Base) (k : KeeperView) (readers : List Reader) (views : List Role) : Type 0 where
-  -- which seats have the keeper's view and the readers
+  -- the seats that have the keeper's view and the readers
   pub keeper : ℕ
   pub owner : ℕ → ℕ
-  -- no more readers are dealt than there are sessions, and each caller is a reader that was dealt
+  -- at most as many readers are dealt as there are sessions, and each caller is a dealt reader
   pub few : k.dealt ≤ z.setting.sessions
   pub callers : All (λ e. e.by < k.dealt) k.log
-  -- a reader that isn't dealt yet is fresh, and one that is given up has announced nothing
+  -- a reader not dealt yet is fresh, and one given up has announced nothing
   pub fresh : (r : ℕ) → k.dealt ≤ r → r < z.setting.sessions → slice_get readers r ≡ Some fresh_reader
   pub left : (r : ℕ) (y : Reader) → 1 ≤ times r k.gone → slice_get readers r ≡ Some y → y.announced ≡ None
   -- a reader that is dealt and not given up has a seat
   pub seated : (r : ℕ) → r < k.dealt → times r k.gone ≡ 0 → IsSeated (HasReader r) views (owner r)
   -- the keeper's view has a seat
   pub kept : IsSeated HasKeeper views keeper
-  -- what each seat knows is so
+  -- each seat's knowledge is valid
   pub each_seat : (j : ℕ) (v : Role) → get_elem? views j ≡ maybe.some v → Knows z k readers keeper owner j v
 
--- the rule of the table of a store with this setting and opening bitmap: there is a state of the core whose words are the table's,
--- and whose keeper and readers are what the seats know
+-- there is a state of the core with the table's words, whose keeper and readers the seats know
 pub record Agrees (z : Base) (s : State Request Role) : Type 0 where
   pub k : KeeperView
   pub readers : List Reader

@@ -1,4 +1,4 @@
--- What ties a seat to its store, and what it keeps next to its view: this project's own rule.
+-- What ties a seat to its store, and what it keeps besides its view: this project's own rule.
 use Rattle.std.specs.Prelude.{◌≡◌, ℕ, ◌<◌, Bool, true, false, List, [], ◌∷◌, length, Some, None, is_some}
 use Rattle.atomic_table.specs.Seated.{TableId}
 use Rattle.atomic_table.specs.Table.{Me}
@@ -18,21 +18,21 @@ use Rattle.shelf.specs.Roles.{Task, KeeperView, ReaderView, Role, keeping, readi
 use Rattle.shelf.specs.Close.{IsClosing}
 use Rattle.shelf.specs.Steps.{newest_slot}
 
--- the test says whether a command is a publish
+-- whether a command is a publish
 abbrev pub is_publish : Command → Bool
 is_publish Publish = true
 is_publish command = false
 
--- a seat without slots has the view of this reader, if it has one
+-- the view of the reader on a seat without slots, if it has one
 abbrev pub reader_on : List Role → ReaderView
 reader_on [] = reader_at_opening 0
 reader_on (role ∷ roles) = reader_in role
 
--- a table was told this as it was made
+-- what a table was made from
 abbrev pub base_of : Basis → Base
 base_of basis = record { setting = basis.setting; opening = basis.opening.value }
 
--- a table, told this, is the store's, and a seat at this table is at it, and keeps its sizes
+-- a table made from this is the store's, and a seat at it has its sizes
 pub record IsOf (store : StoreId) (table : TableId) (basis : Basis) (seat : TableId) (plan : Plan) : Type 0 where
   pub table_is : table ≡ store.table
   pub basis_is : base_of basis ≡ store.base
@@ -41,7 +41,7 @@ pub record IsOf (store : StoreId) (table : TableId) (basis : Basis) (seat : Tabl
   pub ready : IsReady store.base
   pub plan_is : IsPlan store.base plan
 
--- what a reader's seat keeps next to its view is what the view says
+-- what a reader's seat keeps besides its view agrees with the view
 pub record ReaderSays (k : Base) (x : ReaderView) (number made version : ℕ) : Type 0 where
   pub below : x.number < k.setting.sessions
   pub number_is : number ≡ x.number
@@ -53,7 +53,7 @@ abbrev pub IsReaderSeat : StoreId → TableId → Basis → TableId → Plan →
 IsReaderSeat store table basis seat plan views number made version =
     IsOf store table basis seat plan × (views ≡ reading (reader_on views) ∷ []) × ReaderSays store.base (reader_on views) number made version
 
--- what the keeper's seat keeps next to its view is what the view says, and the command in hand was accepted
+-- what the keeper's seat keeps besides its view agrees with it, and its command was accepted
 pub record KeeperSays (z : Base) (k : KeeperView) (place version slot : ℕ) (publishes unmet : Bool) : Type 0 where
   pub legal : IsLegal z.setting z.opening (entries k.log)
   pub place_is : place ≡ length k.log
@@ -68,7 +68,7 @@ abbrev pub IsKeeperSeat : StoreId → TableId → Basis → TableId → Plan →
 IsKeeperSeat store table basis seat plan me place version slot publishes unmet =
     IsOf store table basis seat plan × (me ≡ (keeping (keeper_in me.0), [])) × KeeperSays store.base (keeper_in me.0) place version slot publishes unmet
 
--- a ticket's seat has seen this
+-- what a ticket's seat has seen
 abbrev pub ticket_on : List Role → List StoreEntry
 ticket_on (ticket seen ∷ roles) = seen
 ticket_on roles = []
@@ -81,7 +81,7 @@ AreAt table keeper reader = (keeper ≡ table) × (reader ≡ table) × (0 < tab
 abbrev pub AreKeeperAndReader : Me Request Role → List Role → Type 0
 AreKeeperAndReader keeper reader = (keeper ≡ (keeping (keeper_in keeper.0), [])) × (reader ≡ reading (reader_on reader) ∷ [])
 
--- the store of a table with this id, which was told this
+-- the store of the table with this id, made from this
 abbrev pub store_at : TableId → Basis → StoreId
 store_at table basis = record { table = table; base = base_of basis }
 
@@ -90,7 +90,7 @@ abbrev pub IsClosingSeat : StoreId → TableId → Basis → TableId → Plan �
 IsClosingSeat store table basis seat plan me =
     IsOf store table basis seat plan × (me ≡ (keeping (keeper_in me.0), [])) × IsClosing (keeper_in me.0) × ((keeper_in me.0).dealt ≡ readers_of store)
 
--- the keeper's seat at an opening is at this table, and at rest with all readers dealt
+-- the keeper's seat at an opening is at this table, and idle with all readers dealt
 abbrev pub IsFreshKeeper : TableId → Basis → TableId → Plan → Me Request Role → Type 0
 IsFreshKeeper table basis seat plan me =
     IsOf (store_at seat basis) table basis seat plan × (me ≡ (keeping (resting (readers_of (store_at seat basis)) []), []))

@@ -1,4 +1,4 @@
--- What each step does to the view of its seat, and what it tells: this project's own rule.
+-- What each step does to the view of its seat, and what it proves: this project's own rule.
 use Rattle.std.specs.Prelude.{◌≡◌, ℕ, ◌+◌, ◌*◌, ◌<◌, ◌≤◌, List, [], ◌∷◌, ◌++◌, All, length, slice_index, Option, Some, None}
 use mathlib.Core.List.{IsPrefix}
 use mathlib.Core.Option as maybe
@@ -29,7 +29,7 @@ announcing z x = record x { announced = Some (From (newest_seen z (as_reader x))
 abbrev pub confirming : ℕ → ReaderView → ReaderView
 confirming version x = record x { announced = Some (Exact version) }
 
--- the reader has loaded NOW: it has seen this log, and where it has announced and held nothing it holds the newest version
+-- a reader has loaded NOW: it has seen this log, and holds the newest version if it had to hold one
 abbrev pub loaded : Base → List StoreEntry → ReaderView → ReaderView
 loaded z log x = record x { seen = log; holds = next_hold (as_reader x) (newest (story z (entries log))) }
 
@@ -37,31 +37,31 @@ loaded z log x = record x { seen = log; holds = next_hold (as_reader x) (newest 
 abbrev pub leaving : ReaderView → ReaderView
 leaving x = record x { announced = None; holds = None }
 
--- the keeper has this command in hand
+-- the keeper has taken this command
 abbrev pub with_command : KeeperView → ℕ → Command → KeeperView
 with_command k by command = record k { task = Some record { by = by; hand = record { command = command; done = 0; scanned = [] } } }
 
--- the keeper has stored one word more
+-- the keeper has stored one more word
 abbrev pub wrote : KeeperView → Task → KeeperView
 wrote k t = record k { task = Some record t { hand = record t.hand { done = t.hand.done + 1 } } }
 
--- the keeper has loaded one reader's word more
+-- the keeper has loaded one more reader's word
 abbrev pub scanned : KeeperView → Task → ℕ → KeeperView
 scanned k t word = record k { task = Some record t { hand = record t.hand { done = t.hand.done + 1; scanned = t.hand.scanned ++ word ∷ [] } } }
 
--- the newest version of a log is in this slot
+-- the slot of a log's newest version
 abbrev pub newest_slot : Base → List StoreEntry → ℕ
 newest_slot z log = slot_of z (story z (entries log)) (newest (story z (entries log)))
 
--- the command in hand commits this entry, with its caller
+-- the entry that the current command commits, with its caller
 abbrev pub signed_of : Base → KeeperView → Task → StoreEntry
 signed_of z k t = record { by = t.by; entry = entry_of (story z (entries k.log)) t.hand }
 
--- the keeper has committed the command in hand: the log ends with it, and its reader is to meet the keeper
+-- the keeper has committed its command: it ends the log, and its reader is to meet the keeper
 abbrev pub committed : Base → KeeperView → Task → KeeperView
 committed z k t = record k { log = k.log ++ signed_of z k t ∷ []; task = None; unmet = Some t.by }
 
--- ---- what a step tells
+-- ---- what a step proves
 
 -- a seat has a view, and no slots
 abbrev Sat : Type 0
@@ -83,7 +83,7 @@ confirms st m word m' = (x : ReaderView) (v : ℕ) → m.0 ≡ reading x → x.h
 abbrev pub leaves : At → Sat → ℕ → Sat → Type 0
 leaves st m word m' = (x : ReaderView) → m.0 ≡ reading x → m' ≡ (reading (leaving x), m.1)
 
--- a load of a reader's tells that NOW is that of this log, which starts with what the reader had seen
+-- a reader's load shows that NOW is that of this log, which extends what the reader had seen
 pub record Sees (z : Base) (x : ReaderView) (word : ℕ) (log : List StoreEntry) : Type 0 where
   pub ready : IsReady z
   pub began : IsPrefix x.seen log
@@ -103,7 +103,7 @@ pub record HasBlock (z : Base) (x : ReaderView) (block : ℕ) : Type 0 where
   pub inside : position < tiles z
   pub block_is : block ≡ slice_index (directory_of (blocks z (entries x.seen)) version) position
 
--- a reader's load of a word of the version that it holds tells what it has seen: of a directory's word the block, of a row's word the row
+-- a reader's load of a word of its held version proves what it shows: a directory's block, or a row
 abbrev pub looks : Base → At → Sat → ℕ → Sat → Type 0
 looks z st m word m' =
     (m' ≡ m)
@@ -112,11 +112,11 @@ looks z st m word m' =
     × ((x : ReaderView) (v p i : ℕ) → m.0 ≡ reading x → x.holds ≡ Some v → p < tiles z → i < 64 → st.word ≡ tile_at z (slice_index (directory_of (blocks z (entries x.seen)) v) p) i
     → word ≡ row_word (bitmap_of (story z (entries x.seen)) v) p i)
 
--- the keeper takes the command that it is asked in hand
+-- the keeper takes the command that it is given
 abbrev pub orders : At → Sat → ℕ → Sat → Type 0
 orders st m word m' = (k : KeeperView) (a : Request) → m.0 ≡ keeping k → st.said ≡ maybe.some a → m' ≡ (keeping (with_command k a.by a.command), m.1)
 
--- this word, at this place, is the next that the command in hand stores
+-- this word, at this index, is the next that the current command stores
 pub record IsNextWrite (z : Base) (k : KeeperView) (at word : ℕ) : Type 0 where
   pub task : Task
   pub in_hand : k.task ≡ Some task
@@ -125,7 +125,7 @@ pub record IsNextWrite (z : Base) (k : KeeperView) (at word : ℕ) : Type 0 wher
   pub at_is : at ≡ (write_of z (story z (entries k.log)) (blocks z (entries k.log)) task.hand.done).at
   pub word_is : word ≡ (write_of z (story z (entries k.log)) (blocks z (entries k.log)) task.hand.done).word
 
--- this reader's word is the next that the command in hand loads
+-- this reader's word is the next that the current command loads
 pub record IsNextScan (z : Base) (k : KeeperView) (reader : ℕ) : Type 0 where
   pub task : Task
   pub in_hand : k.task ≡ Some task
@@ -137,12 +137,12 @@ pub record IsNextScan (z : Base) (k : KeeperView) (reader : ℕ) : Type 0 where
 abbrev pub writes : At → Sat → ℕ → Sat → Type 0
 writes st m word m' = (k : KeeperView) (t : Task) → m.0 ≡ keeping k → k.task ≡ Some t → m' ≡ (keeping (wrote k t), m.1)
 
--- the keeper's load of a reader's word: what it announces is a version that there is
+-- the keeper loads a reader's word, and what it announces is a version that exists
 abbrev pub scans : Base → At → Sat → ℕ → Sat → Type 0
 scans z st m word m' = (k : KeeperView) (t : Task) → m.0 ≡ keeping k → k.task ≡ Some t
     → (m' ≡ (keeping (scanned k t word), m.1)) × (word ≤ 2 * newest (story z (entries k.log)) + 2)
 
--- the keeper may commit: all steps of the command in hand but this are done, a reader asked for it, and each commit before was met
+-- the keeper may commit: only this step is left, a reader asked for it, and each commit was met
 pub record MayCommit (z : Base) (k : KeeperView) : Type 0 where
   pub task : Task
   pub in_hand : k.task ≡ Some task
@@ -161,21 +161,21 @@ commits z st m word m' = (k : KeeperView) (t : Task) → m.0 ≡ keeping k → k
 abbrev pub met : KeeperView → KeeperView
 met k = record k { unmet = None }
 
--- the reader has met the keeper: it has loaded NOW, and counts the entry that was committed since
+-- the reader has met the keeper: it has loaded NOW, and counts the entry committed since
 abbrev pub met_by : Base → KeeperView → ReaderView → ReaderView
 met_by z k x = record (loaded z k.log x) { made = x.made + unmet_by x.number k.unmet }
 
--- the keeper has dealt one reader more
+-- the keeper has dealt one more reader
 abbrev pub dealt_one : KeeperView → KeeperView
 dealt_one k = record k { dealt = k.dealt + 1 }
 
--- the keeper has given up one reader more
+-- the keeper has given up one more reader
 abbrev pub without : KeeperView → ReaderView → KeeperView
 without k x = record k { gone = x.number ∷ k.gone }
 
--- a load tells that a reader's view stands in the keeper's: what it had seen is a beginning of the log, and it counts its entries
+-- a load proves that a reader in the keeper's seat had seen a prefix of the log, and its count
 pub record Meets (z : Base) (k : KeeperView) (x : ReaderView) : Type 0 where
-  -- the reader was dealt, and isn't given up
+  -- the reader was dealt, and hasn't been given up
   pub dealt : x.number < k.dealt
   pub here : times x.number k.gone ≡ 0
   pub began : IsPrefix x.seen k.log
@@ -190,34 +190,34 @@ meets z st m word m' = (k : KeeperView) (x : ReaderView) → m.0 ≡ meeting k x
 abbrev pub gives_up : Base → At → Sat → ℕ → Sat → Type 0
 gives_up z st m word m' = (k : KeeperView) (x : ReaderView) → m.0 ≡ meeting k x → (m' ≡ (keeping (without k x), m.1)) × Meets z k x
 
--- a reader's load of NOW where a ticket's view stands in its seat: it has then seen all that it and the ticket had
+-- a reader with a ticket's view loads NOW, and has then seen all that it and the ticket had seen
 abbrev pub learns : Base → At → Sat → ℕ → Sat → Type 0
 learns z st m word m' = (x : ReaderView) (seen : List StoreEntry) → m.0 ≡ learning x seen
     → (log : List StoreEntry) × (m' ≡ (reading (loaded z log x), m.1)) × Sees z x word log × IsPrefix seen log
 
--- the keeper has a collect in hand, whose scan has seen these words
+-- the keeper's current command is a collect, whose scan has seen these words
 abbrev pub scanning : KeeperView → ℕ → List ℕ → KeeperView
 scanning k by words = record k { task = Some record { by = by; hand = record { command = Collect; done = length words; scanned = words } } }
 
--- the keeper has a publish in hand, of which so many words are stored
+-- the keeper's current command is a publish, with this many words stored
 abbrev pub writing : KeeperView → ℕ → ℕ → KeeperView
 writing k by n = record k { task = Some record { by = by; hand = record { command = Publish; done = n; scanned = [] } } }
 
--- a position has one own block or none
+-- how many own blocks a position has: one or none
 abbrev pub one_own : Option ℕ → ℕ
 one_own o = length (own_list (o ∷ []))
 
--- the draft's own blocks have this block in this place, at this position
+-- the draft's own blocks have this block at this index, at this position
 pub record IsOwn (z : Base) (k : KeeperView) (j block position : ℕ) : Type 0 where
   pub inside : j < length (own_list (blocks z (entries k.log)).own)
   pub block_is : block ≡ slice_index (own_list (blocks z (entries k.log)).own) j
   pub position_is : position ≡ slice_index (own_positions 0 (blocks z (entries k.log)).own) j
 
--- the keeper's seat stays as it is once a ticket is cut from it
+-- the keeper's seat is unchanged by cutting a ticket from it
 abbrev pub cutting : Role → Role
 cutting role = role
 
--- a ticket that is cut from the keeper's seat has seen the keeper's log
+-- a ticket cut from the keeper's seat has seen the keeper's log
 abbrev pub cut_off : Role → Role
 cut_off (keeping k) = ticket k.log
 cut_off role = idle
@@ -249,17 +249,17 @@ abbrev pub reader_part : Role → Role
 reader_part (meeting k x) = reading x
 reader_part role = idle
 
--- the keeper's seat has dealt a reader
+-- the keeper's seat after it has dealt a reader
 abbrev pub dealing : Role → Role
 dealing (keeping k) = keeping (dealt_one k)
 dealing role = role
 
--- the reader that is dealt has this seat
+-- the seat of the reader that is dealt
 abbrev pub next_reader : Role → Role
 next_reader (keeping k) = reading (reader_at_opening k.dealt)
 next_reader role = idle
 
--- the last load of the keeper's tells this
+-- what the keeper's last load proves
 pub record Ends (z : Base) (k : KeeperView) : Type 0 where
   pub legal : IsLegal z.setting z.opening (entries k.log)
   pub callers : All (λ e. e.by < k.dealt) k.log

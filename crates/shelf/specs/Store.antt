@@ -1,4 +1,4 @@
--- Which store a seat is of: this project's own rule.
+-- The store of a seat: this project's own rule.
 use Rattle.std.specs.Prelude.{ℕ, []}
 use Rattle.atomic_table.specs.Seated.{TableId}
 use Rattle.metric.specs.declared.edge.Edge.TheVariants.{Open}
@@ -10,11 +10,11 @@ pub record StoreId : Type 0 where
   pub table : TableId
   pub base : Base
 
--- a store has so many readers, whose numbers are below that
+-- how many readers a store has; their numbers are below this
 abbrev pub readers_of : StoreId → ℕ
 readers_of store = store.base.setting.sessions
 
--- a name stands for this store until it is given to another
+-- the store that a name means until it is given to another
 abbrev pub no_store : StoreId
 no_store =
     record {

@@ -12,8 +12,7 @@ distance_text distance = if distance == 4294967295 then 45 ∷ [] else decimal d
 abbrev pub distances_line : List ℕ → List ℕ
 distances_line distances = join_with_byte 32 (map distance_text distances) ++ 10 ∷ []
 
--- the number is this nearest obstacle's distance and doesn't mean none; or there is none, as it
--- says
+-- the number is this obstacle's distance and doesn't mean none, or there is none and it means that
 abbrev pub IsDistanceOf : Option Near → ℕ → Type 0
 IsDistanceOf None number = number ≡ 4294967295
 IsDistanceOf (Some near) number = (number ≡ near.dist) × (number < 4294967295)
