@@ -1,4 +1,5 @@
-//! Rows worked in bands: each band enters the gate once, at the same time as others, and each number of workers answers what one does.
+//! Rows computed in bands: each band enters the gate once, at the same time as others, and any
+//! number of workers gives the same answer.
 
 use crate::compare::{holds, same};
 use crate::draws::Draws;
@@ -31,7 +32,7 @@ fn bands_meet(rt: HostRuntime) -> Result<(), Fail> {
     Ok(())
 }
 
-/// Compares how the bands of a gate entered: all at the same time, and each once.
+/// Checks how the bands of a gate entered: all at the same time, and each once.
 pub fn all_met(rt: &impl Abort, gate: &Meeting, bands: u8) {
     holds(rt, !gate.was_alone(), ("all bands enter", bands));
     for band in 0..17 {
@@ -71,7 +72,7 @@ fn three_rows_over_four_workers(rt: HostRuntime) -> Result<(), Fail> {
     Ok(())
 }
 
-/// Compares the rows from one on, worked by so many workers, with those that one thread works.
+/// Compares the rows from `y0` on, computed by this many workers, with those of one thread.
 pub fn compare<M: Metric + Sync>(
     rt: &(impl Abort + Threads + Sync),
     alloc: Global,

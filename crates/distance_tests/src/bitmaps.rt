@@ -1,11 +1,12 @@
-//! Bitmaps: that calls find memory, and how cells lie in words at the words' edges.
+//! Bitmaps: that calls find memory, and the layout of cells at the edges of words.
 
 use crate::compare::{holds, same};
 use bits::Bitmap;
 use metric::{Cell, Rect};
 use std::test::Fail;
 
-/// A width, how many words its rows take, and the first and the last word of a row whose first and last cell are obstacles.
+/// A width, how many words its rows take, and the first and the last word of a row whose first and
+/// last cell are obstacles.
 const ROWS: [(u16, usize, u64, u64); 5] = [
     (1, 1, 1, 1),
     (63, 1, 0x4000_0000_0000_0001, 0x4000_0000_0000_0001),
@@ -49,9 +50,10 @@ fn rows_lie_in_words(rt: HostRuntime) -> Result<(), Fail> {
     Ok(())
 }
 
-/// Rectangles as `(x0, y0, x1, y1)`, the value that they are filled with, and how many cells change.
+/// Rectangles as `(x0, y0, x1, y1)`, the value to fill them with, and how many cells change.
 ///
-/// They are filled one after another on a bitmap of 4 columns and 3 rows, where (1, 1) alone is an obstacle at first.
+/// They are filled in order on a bitmap of 4 columns and 3 rows, whose only obstacle is (1, 1) at
+/// first.
 const FILLS: [((u16, u16, u16, u16), bool, u32); 5] = [
     ((0, 0, 3, 2), true, 5),
     ((0, 0, 3, 2), true, 0),
@@ -89,7 +91,8 @@ fn copies_are_apart(rt: HostRuntime) -> Result<(), Fail> {
     Ok(())
 }
 
-/// A position, a row, and the row's word, on a bitmap of 70 columns and 66 rows with obstacles at (0, 0), (63, 1) and (69, 65).
+/// A position, a row, and the row's word, on a bitmap of 70 columns and 66 rows with obstacles at
+/// (0, 0), (63, 1) and (69, 65).
 const TILE_ROWS: [(u16, u16, u64); 6] = [
     (0, 0, 1),
     (0, 1, 0x8000_0000_0000_0000),

@@ -1,4 +1,4 @@
-//! Which bands of 64 rows a bitmap takes for blank.
+//! Which bands of 64 rows count as blank in a bitmap.
 
 use crate::compare::same;
 use bits::Bitmap;

@@ -8,7 +8,7 @@ use std::alloc::Global;
 use std::process::Abort;
 use std::test::Fail;
 
-/// A height, the rows of a column's obstacles, and for each row the nearest of them.
+/// A height, the rows of a column's obstacles, and the nearest of them for each row.
 const COLUMNS: [(u16, &[u16], &[u16]); 8] = [
     (1, &[], &[NONE]),
     (1, &[0], &[0]),
@@ -20,7 +20,7 @@ const COLUMNS: [(u16, &[u16], &[u16]); 8] = [
     (6, &[1, 2, 5], &[1, 1, 2, 2, 5, 5]),
 ];
 
-/// The bitmap of this size that has these obstacles in one column.
+/// A bitmap of this size with these obstacles in one column.
 fn with_column(
     rt: &impl Abort,
     alloc: Global,
@@ -108,7 +108,8 @@ fn the_largest_table(rt: HostRuntime) -> Result<(), Fail> {
     Ok(())
 }
 
-/// A column and a row of a map of 3 columns and 5 rows whose border is a wall and whose obstacles are (0, 3) and (2, 1), and the row of the column's nearest obstacle.
+/// A column and a row of a map of 3 columns and 5 rows with a wall and obstacles at (0, 3) and (2,
+/// 1), and the row of the column's nearest obstacle.
 const WALLED: [(i16, u16, i16); 12] = [
     (-1, 0, 0),
     (-1, 4, 4),

@@ -14,7 +14,7 @@ pub struct Draws {
 }
 
 impl Draws {
-    /// The numbers that begin from this one.
+    /// The numbers that start from this one.
     pub fn new(state: u64) -> Self {
         Draws { state }
     }
@@ -49,7 +49,7 @@ impl Draws {
         numbers.get(place).copied().unwrap_or(1)
     }
 
-    /// An open border or a wall.
+    /// An open edge or a wall.
     pub fn edge(&mut self) -> Edge {
         if self.below(2) == 0 {
             Edge::Open
@@ -58,7 +58,7 @@ impl Draws {
         }
     }
 
-    /// A map of this size whose cells are obstacles by one chance in `rare`.
+    /// A map of this size, each of whose cells is an obstacle with a chance of one in `rare`.
     pub fn map(
         &mut self,
         alloc: Global,
@@ -107,7 +107,8 @@ impl Draws {
         Rect::new(one.x.min(other.x), one.y.min(other.y), right, bottom)
     }
 
-    /// A path of so many points on the map: each next one lies in the row or in the column of the point before it, or is it again.
+    /// A path of this many points on the map: each next one is in the row or the column of the
+    /// point before it, or repeats it.
     pub fn path(
         &mut self,
         alloc: Global,

@@ -1,10 +1,10 @@
-//! Gates that bands enter: one that tells how often, and one in which all of them have to meet.
+//! Gates that bands enter: one that counts how often, and one in which all of them must meet.
 
 use metric::Gate;
 use std::sync::atomic::{AtomicBool, AtomicU64, Ordering};
 use std::thread;
 
-/// How often a band looks whether another one has entered.
+/// How often a band checks whether another one has entered.
 const MOST_TURNS: u32 = 50_000_000;
 
 /// A gate that all workers pass.
@@ -14,7 +14,7 @@ impl Gate for Open {
     fn enter(&self, _band: u8) {}
 }
 
-/// Counts for each band how often it entered.
+/// Counts how often each band entered.
 #[derive(Drop)]
 pub struct Counts {
     bands: [AtomicU64; 17],
@@ -43,7 +43,7 @@ impl Gate for Counts {
     }
 }
 
-/// A gate in which each of so many bands waits until all others have entered.
+/// A gate in which each of this many bands waits until all others have entered.
 #[derive(Drop)]
 pub struct Meeting {
     entered: Counts,

@@ -1,4 +1,5 @@
-//! Images at the limits: the largest, heights at which a body might give up, and gaps at each place of a row.
+//! Images at the limits: the largest, heights where an implementation might give up, and gaps at
+//! each place of a row.
 
 use crate::compare::{holds, same};
 use bits::Bitmap;
@@ -8,7 +9,8 @@ use std::alloc::Global;
 use std::process::Abort;
 use std::test::Fail;
 
-/// The largest sides alone and together, heights round 32, and widths at the edges of bytes, words and lines.
+/// The largest sides one by one and together, heights around 32, and widths at the edges of bytes,
+/// words and lines.
 const SIZES: [(u16, u16); 10] = [
     (7, 3),
     (9, 2),
@@ -22,7 +24,7 @@ const SIZES: [(u16, u16); 10] = [
     (65, 4096),
 ];
 
-/// A bitmap of this size whose obstacles stand in slanted lines, in its last column and in its last row.
+/// A bitmap of this size with obstacles in slanted lines, in its last column and in its last row.
 fn slanted(rt: &impl Abort, alloc: Global, width: u16, height: u16) -> Result<Bitmap, Fail> {
     assert!(rt; 1 <= width && width <= 4096 && 1 <= height && height <= 4096);
     let mut bitmap = Bitmap::blank(alloc, width, height)?;
@@ -38,7 +40,7 @@ fn slanted(rt: &impl Abort, alloc: Global, width: u16, height: u16) -> Result<Bi
     Ok(bitmap)
 }
 
-/// Whether the two have one size and the same obstacles.
+/// Whether the two have the same size and the same obstacles.
 fn are_same(one: &Bitmap, other: &Bitmap) -> bool {
     if one.width() != other.width() || one.height() != other.height() {
         return false;
@@ -72,7 +74,8 @@ fn the_largest_images_are_read(rt: HostRuntime) -> Result<(), Fail> {
     Ok(())
 }
 
-/// The digits of one row of 140 pixels, every third of them black, with these bytes after the first `before`.
+/// The digits of one row of 140 pixels, every third of them black, with these bytes after the first
+/// `before`.
 fn digits_with(alloc: Global, gap: &[u8], before: usize) -> Result<Vec<u8>, Fail> {
     let mut text = Vec::new(alloc);
     text.extend_from_slice(b"P1 140 1 ")?;

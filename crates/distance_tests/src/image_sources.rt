@@ -1,4 +1,5 @@
-//! Images read from sources: more bytes than a window takes at once, gaps across its end, reads that fail, and what is left.
+//! Images read from sources: more bytes than a window takes at once, gaps across its end, failed
+//! reads, and what is left.
 
 use crate::compare::{holds, same};
 use bits::Bitmap;
@@ -7,13 +8,14 @@ use pbm::{ImageStop, read_image, read_source};
 use std::alloc::Global;
 use std::test::Fail;
 
-/// The sides of a plain image whose bytes don't fit into a window.
+/// The side of a plain image whose bytes don't fit a window.
 const SIDE: usize = 300;
 
-/// How many pixels stand before the end of the first window, where nothing stands between them.
+/// How many pixels fit before the end of the first window, with nothing between them.
 const BEFORE: usize = 65_525;
 
-/// A plain image of 300 by 300, every third pixel black, with these bytes before one of its pixels, so many times.
+/// A plain image of 300 by 300, every third pixel black, with these bytes before one of its pixels,
+/// repeated `times` times.
 fn image_with(alloc: Global, gap: &[u8], times: usize, before: usize) -> Result<Vec<u8>, Fail> {
     let mut text = Vec::new(alloc);
     text.extend_from_slice(b"P1 300 300 ")?;
@@ -45,7 +47,7 @@ fn is_striped(bitmap: &Bitmap) -> bool {
     true
 }
 
-/// What stands between two pixels, and how often.
+/// What may stand between two pixels, and how often.
 const GAPS: [(&[u8], usize); 5] = [
     (b"", 0),
     (b"\n", 1),
@@ -70,7 +72,7 @@ fn gaps_stand_across_a_window(rt: HostRuntime) -> Result<(), Fail> {
     Ok(())
 }
 
-/// What can't stand between two pixels, and its fault.
+/// What may not stand between two pixels, and its fault.
 const SPOILT: [(&[u8], PbmFault); 3] = [
     (b"2", PbmFault::BadPixel),
     (b"#\n", PbmFault::BadComment),
@@ -96,7 +98,7 @@ fn faults_are_met_across_a_window(rt: HostRuntime) -> Result<(), Fail> {
     Ok(())
 }
 
-/// Images with what comes after them, and faults.
+/// Images with what follows them, and faults.
 const SMALL: [&[u8]; 10] = [
     b"P1\n# made by hand\n3 1\n101 anything",
     b"P1 002 2 1 0\n\t01 #",

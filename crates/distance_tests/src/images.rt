@@ -1,4 +1,4 @@
-//! Images: that those from outside are read, and that the clauses name the fault that is meant.
+//! Images: that those from outside are read, and that the clauses name the right fault.
 
 use crate::compare::{holds, same};
 use bits::Bitmap;
@@ -81,7 +81,7 @@ const FAULTS: [(&[u8], PbmFault); 43] = [
     (b"P4\n9 1\n\x80", PbmFault::Truncated),
 ];
 
-/// Whether the bitmap has this size, and these cells as its obstacles and no others.
+/// Whether the bitmap has this size, and exactly these obstacles.
 fn is_bitmap(bitmap: &Bitmap, width: u16, height: u16, obstacles: &[(u16, u16)]) -> bool {
     let mut is_same = bitmap.width() == width && bitmap.height() == height;
     for y in 0..height {
@@ -111,7 +111,7 @@ fn images_are_read(rt: HostRuntime) {
     }
 }
 
-/// Images of 10 and of 25 bytes, none of whose fronts is an image.
+/// Images of 10 and of 25 bytes, no prefix of which is an image.
 const WHOLE: [&[u8]; 2] = [b"P4\n10 1\n\x80\x7f", b"P1\n# made by hand\n3 1\n101"];
 
 #[test]
@@ -134,7 +134,7 @@ fn faults_are_told(rt: HostRuntime) {
     }
 }
 
-/// An image, and how its bitmap is written in the plain and in the raw form.
+/// An image, and its bitmap written in the plain and in the raw form.
 const TEXTS: [(&[u8], &[u8], &[u8]); 5] = [
     (
         b"P4\n10 1\n\x80\x7f",

@@ -1,4 +1,5 @@
-//! Tests of the crates that work on maps: what no clause says of streams, bitmaps, images, rows and queries.
+//! Tests of the crates that work on maps, where no clause says it: of streams, bitmaps, images,
+//! rows and queries.
 #![tactic(auto)]
 
 #[cfg(test)]

@@ -1,4 +1,4 @@
-//! The nearest obstacle of one cell by looking at all of them, with which the tests compare.
+//! The nearest obstacle of one cell by a search of all obstacles, with which the tests compare.
 
 ghost use Rattle.std.specs.Prelude.{◌+◌, ◌≤◌};
 ghost use Rattle.bits.specs.Cells.{IsInside};
@@ -6,7 +6,8 @@ ghost use Rattle.bits.specs.Cells.{IsInside};
 use bits::Bitmap;
 use metric::{Cell, Edge, Metric, Near};
 
-/// The nearest obstacle of the cell, those of the frame among them where the edge is a wall; `None` where there is none.
+/// The nearest obstacle of the cell, with a wall those of the frame included; `None` if there is
+/// none.
 pub fn nearest_obstacle<M: Metric>(bitmap: &Bitmap, edge: Edge, from: Cell) -> Option<Near>
     requires { IsInside bitmap.now from.x from.y }
 {
@@ -33,7 +34,8 @@ fn is_obstacle(bitmap: &Bitmap, edge: Edge, x: u16, y: u16) -> bool {
     bitmap.holds(cell) && bitmap.get(cell)
 }
 
-/// The one with the lesser key: the distance, then the column, then how many rows it is away, then its row.
+/// The one with the lesser key: the distance, then the column, then how many rows it is away, then
+/// its row.
 fn nearer(from: Cell, best: Option<Near>, next: Near) -> Near {
     let key = |near: Near| {
         (

@@ -1,4 +1,5 @@
-//! The table that keeps of each cell's nearest obstacle only where it is: that it finds memory, and that it tells what the rows have, for each number of workers.
+//! The table that keeps only the positions of nearest obstacles: that it finds memory, and that it
+//! gives what the rows have, for any number of workers.
 
 use crate::bands::all_met;
 use crate::compare::{holds, same};
@@ -33,7 +34,8 @@ fn compare_row<M: Metric + Sync>(
     Ok(())
 }
 
-/// Compares the table of the rows from one on, worked by so many workers, with what one thread answers.
+/// Compares the table of the rows from `y0` on, computed by this many workers, with what one thread
+/// answers.
 pub fn compare<M: Metric + Sync>(
     rt: &(impl Abort + Threads + Sync),
     alloc: Global,

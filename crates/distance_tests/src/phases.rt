@@ -1,4 +1,5 @@
-//! Rows at the edge between the two row phases: obstacles about so far off as the columns are that are looked at side by side, and about so far as the gaps that are told in 16 bits.
+//! Rows at the limit between the two row phases: obstacles about as far off as the columns searched
+//! in vectors, and as the gaps that fit 16 bits.
 
 use crate::compare::same;
 use crate::nearest::nearest_obstacle;

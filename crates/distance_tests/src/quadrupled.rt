@@ -1,4 +1,5 @@
-//! A metric of a caller's own whose distances are too large for rows side by side, so that its rows go by the stack alone.
+//! A caller's own metric, whose distances are too large for vectors of 16 bits, so that its rows
+//! are computed by the stack only.
 
 ghost use Rattle.metric.specs.Lanes.{added};
 ghost use Rattle.distance_tests.specs.Quadrupled.{no_reach, quadrupled, quadrupled_grows, quadrupled_reaches, quadrupled_small, quadrupled_stays_nearer};
@@ -6,7 +7,7 @@ ghost use Rattle.distance_tests.specs.Quadrupled.{no_reach, quadrupled, quadrupl
 use metric::{Euclid2, Metric};
 use std::simd::prelude::*;
 
-/// Four times the square of the straight distance: that of a map each of whose cells is two units wide.
+/// Four times the square of the Euclidean distance: that of a map whose cells are two units wide.
 pub struct Quadrupled;
 
 impl Metric for Quadrupled {

@@ -15,10 +15,11 @@ use std::test::Fail;
 /// A column and a row.
 type Place = (u16, u16);
 
-/// The path round the obstacle (2, 1) of a bitmap of 6 columns and 4 rows.
+/// The path around the obstacle (2, 1) of a bitmap of 6 columns and 4 rows.
 const ROUND: [Place; 3] = [(0, 0), (5, 0), (5, 3)];
 
-/// Paths on that bitmap, and the cell of the least distance, in steps to four neighbours, with that distance, or the refusal.
+/// Paths on that bitmap, and the cell with the least distance, in steps to four neighbours, with
+/// that distance, or the refusal.
 const PATHS: [(&[Place], Result<(Place, u32), Refusal>); 10] = [
     (&ROUND, Ok(((2, 0), 1))),
     (&[(0, 0), (0, 0)], Ok(((0, 0), 3))),
@@ -35,7 +36,7 @@ const PATHS: [(&[Place], Result<(Place, u32), Refusal>); 10] = [
     (&[(0, 0), (1, 1), (6, 1)], Err(Refusal::OutOfRange)),
 ];
 
-/// The bitmap of this size with these obstacles.
+/// A bitmap of this size with these obstacles.
 fn drawn(
     rt: &impl Abort,
     alloc: Global,
@@ -54,7 +55,7 @@ fn drawn(
     Ok(bitmap)
 }
 
-/// The cells of these places.
+/// The cells at these places.
 fn cells(alloc: Global, places: &[Place]) -> Result<Vec<Cell>, AllocError> {
     places.iter().map(|&(x, y)| Cell { x, y }).collect(alloc)
 }

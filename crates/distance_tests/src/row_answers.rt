@@ -1,4 +1,5 @@
-//! Rows of answers: that calls find memory, worked rows of nearest obstacles and of distances, and that large maps are worked in time.
+//! Rows of answers: that calls find memory, worked rows of nearest obstacles and of distances, and
+//! that large maps are computed in time.
 
 use crate::compare::{holds, same};
 use crate::draws::Draws;
@@ -11,7 +12,8 @@ use std::alloc::Global;
 use std::process::Abort;
 use std::test::Fail;
 
-/// A distance, the width and the height of a bitmap, its obstacles, and of its first rows each cell's distance with the column and the row of the nearest obstacle.
+/// A distance, the width and the height of a bitmap, its obstacles, and for each cell of its first
+/// rows the distance, the column and the row of the nearest obstacle.
 const NEARS: [(MetricKind, u16, u16, &[(u16, u16)], &[(u32, u16, u16)]); 9] = [
     (
         MetricKind::City,
@@ -151,7 +153,7 @@ const NEARS: [(MetricKind, u16, u16, &[(u16, u16)], &[(u32, u16, u16)]); 9] = [
     ),
 ];
 
-/// The bitmap of this size with these obstacles.
+/// A bitmap of this size with these obstacles.
 fn drawn(
     rt: &impl Abort,
     alloc: Global,

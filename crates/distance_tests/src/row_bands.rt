@@ -1,4 +1,5 @@
-//! Rows worked from bands of 64 rows with carried lines, compared with rows of a table of the whole bitmap, and with the plain minimum.
+//! Rows computed from bands of 64 rows with carried lines, compared with rows of a table of the
+//! whole bitmap, and with the plain minimum.
 
 use crate::compare::same;
 use crate::draws::Draws;
@@ -36,7 +37,7 @@ fn compare_row<M: Metric>(
     Ok(())
 }
 
-/// Compares the rows from one to before another.
+/// Compares rows `y0` to `y1 - 1`.
 fn compare<M: Metric>(
     rt: &impl Abort,
     alloc: Global,

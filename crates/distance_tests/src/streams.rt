@@ -1,4 +1,4 @@
-//! Streams in memory and of std: the calls at which they fail, and what they then hold.
+//! Streams in memory and of std: the calls at which they fail, and what they hold then.
 
 use crate::compare::same;
 use metric::{
@@ -73,7 +73,8 @@ fn a_source_is_read_by_blocks(rt: HostRuntime) {
     same(&rt, &block, b"b-", "block");
 }
 
-/// Of a write of `abcd`, a flush and a write of `efg` the call that fails, and what the sink then holds.
+/// Of a write of `abcd`, a flush and a write of `efg`, the call that fails, and what the sink holds
+/// then.
 const WRITES: [(u64, &[u8]); 4] = [
     (1, b"abefg"),
     (2, b"abcdefg"),
@@ -285,7 +286,8 @@ fn a_failed_write_is_counted(rt: HostRuntime) -> Result<(), Fail> {
         },
     )?;
 
-    // What is flushed passes at once. Where a flush fails nothing passes any more: neither what it kept back, nor what comes later.
+    // Flushed bytes pass at once. After a failed flush nothing passes any more: neither what was
+    // buffered, nor what comes later.
     for (text, written, flushed, failed) in [
         ("ab", Ok(()), Ok(()), 0),
         ("cd", Ok(()), Err(WriteFault), 1),

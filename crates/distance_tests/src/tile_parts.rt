@@ -1,4 +1,4 @@
-//! Parts of a tile, filled or laid on its words, and a tile put into a bitmap.
+//! Parts of a tile, filled or laid on its words, and a tile written into a bitmap.
 
 use crate::compare::{holds, same};
 use bits::{Bitmap, TileBits};
@@ -16,7 +16,7 @@ const PARTS: [([u16; 4], u32); 6] = [
     ([31, 31, 33, 33], 4),
 ];
 
-/// Fills a part of a tile, and says whether it would change and how many cells did.
+/// Fills a part of a tile, and returns whether it would change and how many cells did.
 fn fill(rt: &impl Abort, words: &mut [u64; 64], corners: [u16; 4], black: bool) -> (bool, u32) {
     let [x0, y0, x1, y1] = corners;
     let part = Rect::new(x0, y0, x1, y1).expect(rt, "a rectangle");
@@ -57,7 +57,8 @@ fn parts_of_a_tile_are_filled(rt: HostRuntime) {
     }
 }
 
-/// Parts of a tile, the cell of a bitmap of 130 by 70 obstacles that comes upon their first, and how many cells of a tile without obstacles change.
+/// Parts of a tile, the cell of a bitmap of 130 by 70 obstacles that goes to their first cell, and
+/// how many cells of a tile without obstacles change.
 const LAID: [([u16; 4], (u16, u16), u32); 6] = [
     ([0, 0, 64, 64], (0, 0), 4096),
     ([3, 5, 64, 64], (0, 0), 61 * 59),

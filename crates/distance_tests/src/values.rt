@@ -112,7 +112,8 @@ fn rectangles_have_cells(rt: HostRuntime) {
     }
 }
 
-/// Columns and rows, and the distances of cells so far apart: by the square of the straight one, by steps to four neighbours, and by steps to eight.
+/// Columns and rows, and the distances of cells that far apart: by the square of the Euclidean
+/// distance, by steps to four neighbours, and by steps to eight.
 const DISTANCES: [(u16, u16, (u32, u32, u32)); 6] = [
     (0, 0, (0, 0, 0)),
     (0, 2, (4, 2, 2)),
@@ -135,7 +136,7 @@ fn distances_are_measured(rt: HostRuntime) {
     }
 }
 
-/// The last cell at which the left one of two columns isn't worse, by the rule of a metric.
+/// The last cell at which the left one of two columns isn't worse, by a metric.
 fn last_by<M: Metric>(rt: &impl Abort, (i, gi): (u16, u16), (u, gu): (u16, u16)) -> i64 {
     assert!(rt; i < u && u <= 4097);
     assert!(rt; gi <= 4097 && gu <= 4097);

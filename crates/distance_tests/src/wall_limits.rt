@@ -1,4 +1,5 @@
-//! Maps whose border is a wall at the limits: thin maps and the largest one, blank and full, by each number of workers.
+//! Maps with a wall at the limits: thin maps and the largest one, blank and full, by each number of
+//! workers.
 
 use crate::compare::{holds, same};
 use crate::nearest::nearest_obstacle;
@@ -15,10 +16,10 @@ use std::thread::Threads;
 /// The sides of thin maps.
 const THIN: [(u16, u16); 3] = [(1, 1), (1, 4096), (4096, 1)];
 
-/// Every so many cells of a thin map are compared with the plain minimum.
+/// One cell in this many of a thin map is compared with the plain minimum.
 const STRIDE: usize = 315;
 
-/// The map of this size without obstacles, or with all.
+/// A map of this size without obstacles, or with all cells obstacles.
 fn map_of(
     rt: &impl Abort,
     alloc: Global,
@@ -72,7 +73,8 @@ fn thin_maps_are_walled(rt: HostRuntime) -> Result<(), Fail> {
     Ok(())
 }
 
-/// A cell of the largest map without obstacles, how far the frame is from it, and where: by the square distance, and by the greater difference.
+/// A cell of the largest map without obstacles, how far the frame is from it, and where: by the
+/// square of the distance, and by the greater difference.
 const MIDDLE: [((u16, u16), u32, (i16, i16), (i16, i16)); 4] = [
     ((2047, 2047), 2048, (-1, 2047), (-1, 2047)),
     ((2048, 2047), 2048, (2048, -1), (0, -1)),

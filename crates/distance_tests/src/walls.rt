@@ -1,4 +1,5 @@
-//! Maps whose border is a wall: worked rows and answers, and all cells of small maps compared with the plain minimum.
+//! Maps with a wall: worked rows and answers, and all cells of small maps compared with the plain
+//! minimum.
 
 use crate::compare::same;
 use crate::draws::Draws;
@@ -48,7 +49,8 @@ fn a_blank_map_is_walled(rt: HostRuntime) -> Result<(), Fail> {
     Ok(())
 }
 
-/// A cell of a map of 7 columns and 5 rows, its one obstacle, which is as far from the cell as the frame, and the nearest of all by the square distance.
+/// A cell of a map of 7 columns and 5 rows, its only obstacle, which is as far from the cell as the
+/// frame, and the nearest of all by the square of the distance.
 const TIES: [((u16, u16), (u16, u16), (u32, i16, i16)); 4] = [
     ((3, 1), (3, 3), (4, 3, -1)),
     ((3, 3), (3, 1), (4, 3, 1)),
@@ -65,7 +67,8 @@ const CHESS_TIES: [((u16, u16), (u16, u16), (u32, i16, i16)); 5] = [
     ((3, 1), (5, 1), (2, 1, -1)),
 ];
 
-/// Compares a cell's answer, in rows and as a query, on the map of 7 columns and 5 rows with this obstacle.
+/// Compares a cell's answer, in rows and as a query, on the map of 7 columns and 5 rows with this
+/// obstacle.
 fn expect_tie<M: Metric>(
     rt: &impl Abort,
     alloc: Global,

@@ -1,4 +1,4 @@
-//! Images written row by row from words, compared with the same texts put together pixel by pixel.
+//! Images written row by row from words, compared with the same texts assembled pixel by pixel.
 
 use crate::compare::same;
 use crate::draws::Draws;

@@ -5,7 +5,7 @@ use engines::ask_run;
 use metric::{MemorySink, MemorySource, MemoryStream, Sink, Source};
 use std::process::Abort;
 
-/// What comes in, what the server says, what is sent and printed, and the status.
+/// The input, what the server says, what is sent and printed, and the status.
 static RUNS: [(&[u8], &[u8], &[u8], &[u8], u8); 16] = [
     (
         b"PIN\nQUIT\n",
@@ -111,7 +111,7 @@ const INPUT: &[u8] = b"PIN\nDUMP\nSTAMP 2 1 11\nP1\n2 2\n1001QUIT\n";
 /// What the server says to them.
 const SAID: &[u8] = b"OK 0\nOK 15\nP1\n3 2\n100\n000\nOK 1 2\nBYE\n";
 
-/// Asks over a connection whose read of this number fails, where there are so many.
+/// Asks over a connection whose read of this number fails, if there are that many.
 fn told_after_failed_read<R: Abort + AllocGlobal>(rt: &R, read: u64) {
     let source = MemorySource::new(SAID).failing_at(read);
     let mut stream = MemoryStream::new(source, MemorySink::new(rt.alloc()));
@@ -125,7 +125,7 @@ fn told_after_failed_read<R: Abort + AllocGlobal>(rt: &R, read: u64) {
     }
 }
 
-/// Asks over a connection whose write of this number fails, where there are so many.
+/// Asks over a connection whose write of this number fails, if there are that many.
 fn told_after_failed_write<R: Abort + AllocGlobal>(rt: &R, write: u64) {
     let sink = MemorySink::new(rt.alloc()).failing_at(write);
     let mut stream = MemoryStream::new(MemorySource::new(SAID), sink);
@@ -150,7 +150,8 @@ fn a_failed_connection_is_told(rt: HostRuntime) {
     }
 }
 
-/// Asks with standard streams whose calls of these numbers fail, where there are so many; nothing else is printed then.
+/// Asks with standard streams whose calls of these numbers fail, if there are that many; nothing
+/// else is printed then.
 fn ends_the_run<R: Abort + AllocGlobal>(rt: &R, read: u64, write: u64) {
     let mut stream = MemoryStream::new(MemorySource::new(SAID), MemorySink::new(rt.alloc()));
     let mut reader = MemorySource::new(INPUT).failing_at(read);

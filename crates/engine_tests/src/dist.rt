@@ -1,4 +1,4 @@
-//! The worked rows through `dist`, and writes that fail.
+//! The worked rows through `dist`, and failed writes.
 
 use crate::compare::{holds, same};
 use engines::{DistOptions, dist_run};
@@ -6,7 +6,7 @@ use metric::{Edge, MemorySink, MemorySource, MetricKind, Sink, Source};
 use std::process::Abort;
 use std::thread::Threads;
 
-/// What `dist` does where no flag is given.
+/// The options of `dist` without flags.
 const DEFAULT: DistOptions = DistOptions {
     metric: MetricKind::Euclid2,
     edge: Edge::Open,
@@ -106,7 +106,7 @@ static QUERIES: [(&[u8], &str, &str, u8); 18] = [
     ),
 ];
 
-/// Images whose border is a wall, with flags, and what is written for them.
+/// Images with a wall, with flags, and what is written for them.
 static WALLED: [(&[u8], MetricKind, bool, &str); 7] = [
     (
         FIELD,
@@ -142,7 +142,7 @@ static WALLED: [(&[u8], MetricKind, bool, &str); 7] = [
     ),
 ];
 
-/// Query lines on an image without an obstacle, whose border is a wall, and what is written for them.
+/// Query lines on an image with a wall and without obstacles, and what is written for them.
 static SEEN_FROM_WITHIN: [(&str, &str); 6] = [
     ("AT chess 2 1", "OK 2 0 -1\n"),
     ("AT euclid2 4 2", "OK 1 4 3\n"),
@@ -152,13 +152,13 @@ static SEEN_FROM_WITHIN: [(&str, &str); 6] = [
     ("CLEAROF euclid2 5 3 1 1 1", "OK 4 3 1 3 -1\n"),
 ];
 
-/// A map of five columns and three rows without an obstacle.
+/// A map of five columns and three rows without obstacles.
 const FIELD: &[u8] = b"P1\n5 3\n000000000000000";
 
 /// The worked map of six columns and four rows.
 const POST: &[u8] = b"P1\n6 4\n000000\n001000\n000000\n000000\n";
 
-/// A map of the same size without an obstacle.
+/// A map of the same size without obstacles.
 const BLANK: &[u8] = b"P1\n3 2\n000\n000\n";
 
 /// The worked map of three columns and two rows.
@@ -258,7 +258,8 @@ fn a_failed_read_writes_nothing(rt: HostRuntime) {
 
 #[test]
 fn a_failed_write_ends_the_run(rt: HostRuntime) {
-    // All lines of a small image are written at once, and then all is flushed. A failing write leaves half of them.
+    // All lines of a small image are written at once, and then all is flushed. A failing write
+    // leaves half of them.
     let beginnings: [&[u8]; 2] = [b"0 1 4\n", b"0 1 4\n1 2 5\n"];
     for (call, want) in (1u64..).zip(beginnings) {
         let mut reader = MemorySource::new(ROOM);

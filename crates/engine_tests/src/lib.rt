@@ -1,4 +1,5 @@
-//! Tests of the crate `engines`: worked runs, texts, words of the command line, connections, and streams that fail.
+//! Tests of the crate `engines`: worked runs, texts, words of the command line, connections, and
+//! failing streams.
 #![tactic(auto)]
 
 #[cfg(test)]

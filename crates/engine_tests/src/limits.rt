@@ -1,4 +1,4 @@
-//! Worked rows on images of so many rows that lines are carried from row to row, up to the highest.
+//! Worked rows on images high enough for lines to be carried from row to row, up to the highest.
 
 ghost use Rattle.std.specs.Prelude.{◌<◌};
 
@@ -34,7 +34,7 @@ fn distance(metric: MetricKind, x: u32, y: u32) -> u32
     }
 }
 
-/// A plain image with so many rows of three cells, of which the first alone is an obstacle.
+/// A plain image with this many rows of three cells, whose only obstacle is the first cell.
 fn column_image(alloc: Global, height: u32) -> Result<String, Fail> {
     let mut image = format!(in alloc; "P1\n3 {height}\n1")?;
     for _ in 1..3 * height.min(4096) {

@@ -1,4 +1,4 @@
-//! Whole runs by their words: which stream a text goes to, its status, and writes that fail.
+//! Whole runs by their words: the stream that a text goes to, its status, and failed writes.
 
 use crate::compare::{holds, same};
 use engines::run_words;
@@ -14,7 +14,7 @@ const HELP: &str =
 const DIST_HELP: &str =
     "Print each cell's distance to the nearest obstacle of the image on standard input\n\nUsage: clearmap dist [OPTIONS] < IMAGE\n\nOptions:\n      --metric <METRIC>   The distance, in cells: euclid2 (straight, squared), city or chess [default: euclid2]\n      --nearest           Print each entry as distance/x/y, with its nearest obstacle\n      --query <LINE>      Print only the answer to LINE, as 'AT city 3 4'; there are AT, RECT, PATH and CLEAROF\n      --workers <NUMBER>  How many workers share the rows, 1 to 16 [default: 1]\n      --edge <EDGE>       What the border is: open, or a wall, of obstacles one cell outside [default: open]\n  -h, --help              Print help\n\nStandard input is an image, PBM plain (P1) or raw (P4), 1 to 4096 pixels a side; a black pixel is an\nobstacle. Each line of the answer is a row of distances, and '-' stands where there is no obstacle.\nStatus 1: a fault of the image or the line is one line in its place, as 'ERR 15 BadImage BadMagic', or a\nstandard stream failed. Status 2: the command line was refused.\n\nExamples:\n  clearmap dist --metric chess < map.pbm\n  clearmap dist --query 'AT euclid2 3 4' < map.pbm\n  clearmap dist --edge wall --nearest < map.pbm\n  clearmap dist --workers 4 < map.pbm\n";
 
-/// What words that are no run write to the standard output, to the standard error, and their status.
+/// What words that name no run write to standard output and to standard error, and their status.
 static TOLD: [(&[&str], &str, &str, u8); 22] = [
     (
         &["clearmap", "serve"],
@@ -143,7 +143,7 @@ static TOLD: [(&[&str], &str, &str, u8); 22] = [
 /// The worked map of three columns and two rows.
 const ROOM: &str = "P1\n3 2\n100\n000\n";
 
-/// Words that are done, their input, their output and their status.
+/// Words that run, their input, their output and their status.
 static DONE: [(&[&str], &str, &str, u8); 7] = [
     (&["clearmap", "dist"], ROOM, "0 1 4\n1 2 5\n", 0),
     (
@@ -179,7 +179,8 @@ static DONE: [(&[&str], &str, &str, u8); 7] = [
     ),
 ];
 
-/// Runs words, and compares what they write, their status, and how much of the input is left to read.
+/// Runs words, and compares what they write, their status, and how much of the input is left to
+/// read.
 fn runs<R: Abort + AllocGlobal + Threads + Sync>(
     rt: &R,
     words: &[&str],
@@ -221,7 +222,8 @@ fn words_are_done(rt: HostRuntime) {
     }
 }
 
-/// Runs words with each call of either stream failing that is among the first so many. A beginning of the text is written, and the status is 1.
+/// Runs words with each of the first calls of either stream failing in turn. A prefix of the text
+/// is written, and the status is 1.
 fn fails_at_each<R: Abort + AllocGlobal + Threads + Sync>(
     rt: &R,
     words: &[&str],

@@ -19,7 +19,7 @@ use std::{io, thread};
 /// The worked map of three columns and two rows.
 const ROOM: &[u8] = b"P1\n3 2\n100\n000\n";
 
-/// How so many connections are served by two workers.
+/// Serves this many connections with two workers.
 fn two_workers(connections: u32) -> ServeOptions {
     ServeOptions {
         connections,
@@ -45,7 +45,7 @@ fn local(port: u16) -> SocketAddr {
     SocketAddr::V4(SocketAddrV4::new(Ipv4Addr::LOCALHOST, port))
 }
 
-/// A port of this machine on which so many connections are accepted.
+/// A port of this machine on which this many connections are accepted.
 fn listen<R: Net<Listener = TcpListener, Stream = TcpStream>>(
     rt: &R,
     connections: u32,
@@ -53,7 +53,7 @@ fn listen<R: Net<Listener = TcpListener, Stream = TcpStream>>(
     Listening::of(TcpListener::bind(rt, local(0))?, connections)
 }
 
-/// Asks lines of a server, and gives what is printed and the status.
+/// Asks a server these lines, and returns what is printed and the status.
 fn ask_at<R: Net<Listener = TcpListener, Stream = TcpStream>>(
     rt: &R,
     alloc: Global,
@@ -76,7 +76,7 @@ fn told(alloc: Global, port: u16, end: &str) -> Result<String, Fail> {
     Ok(format!(in alloc; "LISTENING {port}\n{end}")?)
 }
 
-/// What a planner is told of the published map, by what its border is.
+/// What a planner hears of the published map, by its edge.
 const ASKED: [(Edge, &[u8]); 2] = [
     (Edge::Open, b"OK 1\nOK 2 1 0\nBYE\n"),
     (Edge::Wall, b"OK 1\nOK 1 2 2\nBYE\n"),
@@ -135,7 +135,7 @@ where
     Ok(())
 }
 
-/// Sends bytes and lets the connection go.
+/// Sends bytes and drops the connection.
 fn break_off<R: Net<Listener = TcpListener, Stream = TcpStream>>(rt: &R, port: u16, bytes: &[u8]) {
     if let Ok(mut stream) = TcpStream::connect(rt, local(port)) {
         let _ = stream.write_all(bytes);

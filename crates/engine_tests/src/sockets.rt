@@ -46,7 +46,7 @@ fn write(rt: &impl Abort, socket: &mut Socket, reply: &[u8]) -> Result<(), Write
     socket.write_all(reply)
 }
 
-/// Sends the replies that have gathered.
+/// Sends the gathered replies.
 fn send(rt: &impl Abort, socket: &mut Socket) -> Result<(), WriteFault> {
     assert!(rt; socket.failed_writes() < MOST_FAILED);
     socket.flush()
@@ -99,7 +99,7 @@ fn no_more_than_a_buffer_gathers(rt: HostRuntime) -> Result<(), Fail> {
     Ok(())
 }
 
-/// Writes until a call fails, and sends each reply at once where that is asked for. `false` where none fails.
+/// Writes until a call fails, and sends each reply at once if asked to. `false` if none fails.
 fn fails(rt: &impl Abort, socket: &mut Socket, at_once: bool) -> bool {
     for _ in 0..1000 {
         if write(rt, socket, LONG.as_slice()).is_err() || (at_once && send(rt, socket).is_err()) {
@@ -140,7 +140,7 @@ fn writes_on(mut peer: TcpStream) -> io::Result<[u8; 4]> {
     Ok(reply)
 }
 
-/// Whether the last reply of a connection that is let go arrives at a peer that writes on.
+/// Whether the last reply of a dropped connection arrives at a peer that writes on.
 fn last_reply_arrives(rt: &(impl Abort + Threads + Sync), socket: Socket, peer: TcpStream) -> bool {
     let ((), reply) = thread::join(
         rt,
@@ -154,7 +154,8 @@ fn last_reply_arrives(rt: &(impl Abort + Threads + Sync), socket: Socket, peer: 
     reply.ok() == Some(*b"BYE\n")
 }
 
-/// How often a connection is let go at most: its peer may be held up longer than the connection waits.
+/// How often a connection is dropped at most: its peer may be held up longer than the connection
+/// waits.
 const TRIES: u32 = 20;
 
 #[test]

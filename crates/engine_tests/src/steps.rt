@@ -1,4 +1,4 @@
-//! Worked texts through the engine, lines of other forms, and writes that fail.
+//! Worked texts through the engine, lines of other forms, and failed writes.
 
 use crate::compare::{holds, same};
 use engines::steps_run;
@@ -216,7 +216,7 @@ fn first_lines_are_refused(rt: HostRuntime) {
     }
 }
 
-/// A text of two lines, and what stands after its last LF.
+/// A text of two lines, and what follows its last LF.
 const SHORT: &str = "OPEN 64 64 3 2 1 10\nL 0\nA 0";
 
 #[test]

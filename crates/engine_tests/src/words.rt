@@ -4,7 +4,7 @@ use crate::compare::holds;
 use engines::{AskOptions, DistOptions, Options, ServeOptions, options};
 use metric::{Edge, MetricKind};
 
-/// What `dist` does where no flag is given.
+/// The options of `dist` without flags.
 const TABLED: DistOptions = DistOptions {
     metric: MetricKind::Euclid2,
     edge: Edge::Open,
@@ -13,7 +13,7 @@ const TABLED: DistOptions = DistOptions {
     workers: 1,
 };
 
-/// What `serve` does where only the connections are given.
+/// The options of `serve` with only the connections given.
 const SERVED: ServeOptions = ServeOptions {
     connections: 1000000,
     port: 0,
@@ -124,7 +124,7 @@ static SAID: [(&[&str], Options<'static>); 13] = [
     ),
 ];
 
-/// Whether the words say just this.
+/// Whether the words say exactly this.
 fn say<R: AllocGlobal>(rt: &R, words: &[&str], want: &Options<'_>) -> bool {
     match options(rt.alloc(), words) {
         Ok(said) => said == *want,

@@ -1,4 +1,5 @@
-//! The core over events, what no clause says: that memory is found, and worked runs of events with answers from outside.
+//! The core over events, where no clause says it: that memory is found, and worked runs of events
+//! with answers from outside.
 
 use crate::compare::same;
 use crate::keeping::kept;
@@ -9,7 +10,7 @@ use std::alloc::Global;
 use std::process::Abort;
 use std::test::Fail;
 
-/// Room for three blocks, two versions, one reader and ten entries.
+/// Three blocks, two versions, one reader and ten entries.
 pub const SMALL: Setting = Setting {
     blocks: 3,
     versions: 2,
@@ -25,24 +26,25 @@ enum Step {
     Announces(u32, u32),
     /// It loads NOW: the entries and the newest version.
     Loads(u32, u32, u32),
-    /// It looks at a position: its block.
+    /// It reads a position: its block.
     Finds(u32, u32, u32),
-    /// It looks at a row of a block: its word.
+    /// It reads a row of a block: its word.
     Reads(u32, u32, u32, u64),
     Leaves(u32),
-    /// A paint of the cells of the rectangle with these corners, its place, and how many cells change.
+    /// A paint of the rectangle with these corners, its place, and how many cells change.
     Paints([u16; 4], u32, u32),
-    /// A stamp of such a map whose first cell is here, its place, and how many cells change.
+    /// A stamp of this map with its first cell here, its place, and how many cells change.
     Stamps(u16, u16, Spotted, u32, u32),
-    /// A publish of so many steps, its place, and the version.
+    /// A publish with this many steps, its place, and the version.
     Publishes(u32, u32, u32),
-    /// A collect of so many steps, which scans these words; its place, the least version that is kept, how many blocks came back, and the first slots.
+    /// A collect with this many steps, which scans these words; its place, the least version kept,
+    /// how many blocks came back, and the first slots.
     Collects(u32, (u64, u64), (u32, u32, u32), [u32; 4]),
     /// A revert, and its place.
     Reverts(u32),
 }
 
-/// What a map with obstacles at `(17, 0)` and `(64, 1)` looks like once it is opened.
+/// A map with obstacles at `(17, 0)` and `(64, 1)`, just opened.
 const OPENED: [Step; 10] = [
     Step::Announces(0, 0),
     Step::Loads(0, 0, 0),
@@ -56,7 +58,7 @@ const OPENED: [Step; 10] = [
     Step::Publishes(3, 1, 1),
 ];
 
-/// Blocks are given back to the front, and a version that is held stays.
+/// Blocks are freed to the front, and a held version stays.
 const GIVEN: [Step; 19] = [
     Step::Paints([0, 0, 192, 1], 1, 192),
     Step::Reverts(2),
@@ -79,7 +81,7 @@ const GIVEN: [Step; 19] = [
     Step::Reads(0, 0, 0, 1 << 63),
 ];
 
-/// A stamp sets cells, and clears them.
+/// A stamp sets cells and clears them.
 const STAMPED: [Step; 8] = [
     Step::Stamps(62, 62, ([2, 2], 1), 1, 4),
     Step::Stamps(61, 61, ([2, 2], 0), 2, 1),
@@ -97,7 +99,7 @@ const SCANNED: [Step; 2] = [
     Step::Collects(3, (0, 1), (1, 0, 0), [1, 0, 0, 0]),
 ];
 
-/// The last cell of the largest map, and the last of the most readers.
+/// The last cell of the largest map, and the last reader of the most.
 const LARGEST: [Step; 6] = [
     Step::Paints([4_095, 4_095, 4_096, 4_096], 1, 1),
     Step::Publishes(4_161, 2, 1),
@@ -131,7 +133,8 @@ const RUNS: [(Spotted, Setting, &[Step]); 5] = [
     ),
 ];
 
-/// What a reader does in a step of a run, and its answer; or a command's order, how many steps it takes, the words that these scan, and its answer.
+/// A reader's act in a step of a run, with its answer; or a command's order, its number of steps,
+/// the words that these scan, and its answer.
 enum Turn {
     Read(Event, StepReply),
     Ordered(Command, u32, Option<(u64, u64)>, Reply),
@@ -199,7 +202,7 @@ fn turn_of(rt: &impl Abort, alloc: Global, step: Step) -> Result<Turn, Fail> {
     })
 }
 
-/// Has it happen in a world.
+/// Makes it happen in a world.
 fn play(rt: &impl Abort, alloc: Global, world: &mut World, turn: Turn, case: (usize, usize)) {
     let (command, steps, words, reply) = match turn {
         Turn::Read(event, reply) => return same(rt, world.step(alloc, &event), Ok(reply), case),

@@ -4,7 +4,8 @@ use crate::compare::same;
 use epoch::kept_after;
 use map_core::{Kept, Seen};
 
-/// What the first four slots have, the newest version, what readers have announced, and what the slots have then. A slot has its version plus 1, or 0.
+/// The first four slots, the newest version, what readers have announced, and the slots after a
+/// collect. A slot has its version plus 1, or 0.
 const SETS: [([u32; 4], u32, &[Option<Seen>], [u32; 4]); 10] = [
     ([3, 4, 0, 2], 3, &[], [0, 4, 0, 0]),
     ([1, 0, 0, 0], 0, &[None, None, None], [1, 0, 0, 0]),

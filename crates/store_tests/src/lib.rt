@@ -1,4 +1,5 @@
-//! Tests of the crates that keep a store and speak its protocol: what no clause says of events, sessions, lines and served streams.
+//! Tests of the crates that keep a store and speak its protocol, where no clause says it: of
+//! events, sessions, lines and served streams.
 #![tactic(auto)]
 
 #[cfg(test)]

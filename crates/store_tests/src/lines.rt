@@ -1,4 +1,5 @@
-//! Lines and replies, what no clause says: that lines from outside are what is meant by them, and the text of the replies.
+//! Lines and replies, where no clause says it: that lines from outside mean what they should, and
+//! the texts of replies.
 
 use crate::compare::{holds, same};
 use map_core::{Command, Kept, Reply};
@@ -6,7 +7,7 @@ use metric::{Cell, MetricKind, Near, Rect, Refusal, Spot};
 use proto::{Answer, Line, Query, Text, parse_line, reply_text};
 use std::test::Fail;
 
-/// What is meant by a line. Rectangles have corners, paths have points.
+/// The meaning of a line. Rectangles have corners, paths have points.
 #[derive(Clone, Copy)]
 enum Meant {
     At(MetricKind, u16, u16),
@@ -25,7 +26,7 @@ enum Meant {
     Quit,
 }
 
-/// Lines, and what is meant by them.
+/// Lines, and their meanings.
 const LINES: [(&[u8], Meant); 28] = [
     (b"AT euclid2 1 0", Meant::At(MetricKind::Euclid2, 1, 0)),
     (b"AT chess 2 1", Meant::At(MetricKind::Chess, 2, 1)),
@@ -93,7 +94,7 @@ const LINES: [(&[u8], Meant); 28] = [
     (b"QUIT", Meant::Quit),
 ];
 
-/// Lines whose first word is no command.
+/// Lines whose first word isn't a command.
 const UNKNOWN: [&[u8]; 13] = [
     b"",
     b" ",
@@ -178,7 +179,7 @@ const BAD_ARGUMENTS: [&[u8]; 64] = [
     b"PAINT 00000000000 0 1 1",
 ];
 
-/// Lines of paths without a point.
+/// Lines of paths without points.
 const BAD_PATHS: [&[u8]; 2] = [b"PATH city", b"CLEAROF city 5"];
 
 /// Whether these are the points, in this order.
@@ -196,7 +197,7 @@ fn are_corners(rect: &Rect, corners: [u16; 4]) -> bool {
     [rect.x0, rect.y0, rect.x1, rect.y1] == corners
 }
 
-/// Whether this is meant by a line.
+/// Whether this is the line's meaning.
 fn is_meant(line: &Line, meant: Meant) -> bool {
     match (line, meant) {
         (Line::Query(Query::At { metric, cell }), Meant::At(kind, x, y)) => *metric == kind
@@ -235,7 +236,7 @@ fn lines_are_told(rt: HostRuntime) {
     }
 }
 
-/// Lines that are refused, and how.
+/// Lines that are refused, and their refusals.
 const REFUSED: [(&[&[u8]], Refusal); 3] = [
     (&UNKNOWN, Refusal::UnknownCommand),
     (&BAD_ARGUMENTS, Refusal::BadArguments),
@@ -252,7 +253,7 @@ fn lines_are_refused(rt: HostRuntime) {
     }
 }
 
-/// Paths of so many points, which are all `(3, 4)`, more bytes at the end, and how they are refused.
+/// Paths of this many points, all `(3, 4)`, more bytes at the end, and the refusal.
 const PATHS: [(u32, &[u8], Option<Refusal>); 3] = [
     (1000, b"", None),
     (1001, b"", Some(Refusal::BadPath)),
@@ -278,7 +279,7 @@ fn a_path_has_a_thousand_points(rt: HostRuntime) -> Result<(), Fail> {
     Ok(())
 }
 
-/// No version: a reply's text doesn't tell which are kept.
+/// No version: a reply's text doesn't say which are kept.
 const NONE: Kept = Kept { slots: [0; 64] };
 
 /// Answers, and their reply lines.

@@ -1,4 +1,4 @@
-//! The dangerous order of events, done by one call.
+//! The dangerous order of events, run by one call.
 
 use crate::compare::same;
 use crate::events::SMALL;
@@ -9,7 +9,7 @@ use map_core::{Command, Event, NotEnabled, Reply, StepReply, run};
 use std::process::Abort;
 use std::test::Fail;
 
-/// What happens: the keeper gets a command or does a step, or the one reader acts.
+/// What happens: the keeper takes a command or does a step, or the only reader acts.
 #[derive(Clone, Copy)]
 enum Happening {
     Paint,
@@ -23,7 +23,7 @@ enum Happening {
     Leave,
 }
 
-/// The event of this happening.
+/// The event that makes this happen.
 fn event_of(rt: &impl Abort, happening: Happening) -> Event {
     let reader = 0;
     match happening {
@@ -55,11 +55,11 @@ fn event_of(rt: &impl Abort, happening: Happening) -> Event {
     }
 }
 
-/// How often something happens, and what it is answered the last time.
+/// How often something happens, what it is, and its last answer.
 type Line = (Happening, u32, Result<StepReply, NotEnabled>);
 
-/// The reader announces version 0 after the collect's scan saw nothing, and the collect keeps version
-/// 1 alone. What the reader holds and sees then is version 1.
+/// The reader announces version 0 after the collect's scan saw nothing, and the collect keeps only
+/// version 1. Then the reader holds and sees version 1.
 fn lines() -> [Line; 14] {
     let painted = Reply::Painted {
         place: 1,

@@ -12,10 +12,10 @@ use std::alloc::Global;
 use std::process::Abort;
 use std::test::Fail;
 
-/// The size of a map, and how rare its obstacles are; 0 for none.
+/// The size of a map, and one obstacle per how many cells; 0 for none.
 pub type Spotted = ([u16; 2], u32);
 
-/// A map without an obstacle, or with one in so many cells.
+/// A map without obstacles, or with one per this many cells.
 pub fn spotted(rt: &impl Abort, alloc: Global, map: Spotted) -> Result<Bitmap, Fail> {
     let ([width, height], rare) = map;
     if width == 0 || 4096 < width || height == 0 || 4096 < height {
@@ -38,7 +38,7 @@ pub fn spotted(rt: &impl Abort, alloc: Global, map: Spotted) -> Result<Bitmap, F
     Ok(bitmap)
 }
 
-/// What a store on such a map is opened from.
+/// A blank store on such a map.
 pub fn blank(
     rt: &impl Abort,
     alloc: Global,
@@ -67,7 +67,8 @@ pub fn open<Id: StoreName>(
     }
 }
 
-/// Closes a store. Answers how many entries its log has, with those that a checkpoint has dropped.
+/// Closes a store. Returns how many entries its log has, including those that a checkpoint has
+/// dropped.
 pub fn close<Id: StoreName>(store: Store<Id>, sessions: Vec<Session<Id>>) -> usize {
     let (base, kept) = store.close(sessions);
     kept.len().saturating_add(base as usize)
@@ -79,7 +80,7 @@ pub fn rect(rt: &impl Abort, corners: [u16; 4]) -> Rect {
     Rect::new(x0, y0, x1, y1).expect(rt, "a rectangle")
 }
 
-/// The last of the sessions that are left.
+/// The last of the remaining sessions.
 pub fn next<Id: StoreName>(rt: &impl Abort, sessions: &mut Vec<Session<Id>>) -> Session<Id> {
     sessions.pop().expect(rt, "a session")
 }

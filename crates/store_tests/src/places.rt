@@ -1,4 +1,4 @@
-//! A log whose places are used up.
+//! A log that has used up its places.
 
 ghost use Rattle.std.specs.Prelude.{IfOk};
 ghost use Rattle.map_core.specs.Ledger.{IsBalanced};
@@ -11,7 +11,7 @@ use metric::{Rect, Refusal};
 use std::alloc::Global;
 use std::test::Fail;
 
-/// A ledger of a log with so many entries, of which the last two stand after a checkpoint.
+/// A ledger of a log with this many entries, the last two after a checkpoint.
 fn late_ledger(alloc: Global, places: u32) -> Result<Ledger, Fail>
     ensures { IfOk result (λ ledger. IsBalanced ledger) }
 {

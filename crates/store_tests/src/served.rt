@@ -1,4 +1,5 @@
-//! Served streams, what no clause says: that memory is found, and worked streams with answers from outside.
+//! Served streams, where no clause says it: that memory is found, and worked streams with answers
+//! from outside.
 
 ghost use Rattle.std.specs.Prelude.{◌≡◌};
 ghost use Rattle.proto.specs.Wire.{CanGoOn};
@@ -24,7 +25,7 @@ use std::sync::Wait;
 use std::test::Fail;
 use std::thread::Threads;
 
-/// The setting of a store with so many blocks and sessions, and room for everything else.
+/// The setting of a store with this many blocks and sessions, and ample limits otherwise.
 const fn setting(blocks: u32, sessions: u32) -> Setting {
     Setting {
         blocks,
@@ -35,13 +36,13 @@ const fn setting(blocks: u32, sessions: u32) -> Setting {
     }
 }
 
-/// A map of 64 by 64 cells without an obstacle.
+/// A map of 64 by 64 cells without obstacles.
 const SQUARE: Spotted = ([64, 64], 0);
 
-/// What is read, and which call of the reader or of the writer fails.
+/// The bytes to read, and the call of the reader or of the writer that fails.
 type Input<'a> = (&'a [u8], Option<u64>, Option<u64>);
 
-/// What came of a stream.
+/// The result of a stream.
 #[derive(Drop)]
 struct Run {
     end: End,
@@ -68,9 +69,9 @@ fn stream_of<'a>(alloc: Global, input: Input<'a>) -> MemoryStream<'a>
     MemoryStream::new(source, sink)
 }
 
-/// Serves a stream with the session of a store that is opened for it, and looks that the pin was
-/// left: by a collect after a publish the newest version alone is kept, and nobody else made an
-/// entry. Answers what came of it.
+/// Serves a stream with the session of a store opened for it, and checks that the session was
+/// unpinned: a collect after a publish keeps only the newest version, and nobody else made an
+/// entry. Returns the result.
 fn serve_in<Id: StoreName, R: Wait + Abort, S: Stream>(
     rt: &R,
     alloc: Global,
@@ -116,7 +117,8 @@ fn serve<R: Wait + Abort>(
     })
 }
 
-/// Serves streams with the sessions of a store that is opened for them, a worker for each. Answers how long the log is then, and its last reply.
+/// Serves streams with the sessions of a store opened for them, one worker each. Returns the log's
+/// length then, and its last reply.
 fn pool_in<Id: StoreName + Send + Sync, R: Wait + Threads + Abort + Sync, T: Streams + Send + Drop>(
     rt: &R,
     alloc: Global,

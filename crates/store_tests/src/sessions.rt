@@ -1,4 +1,5 @@
-//! Stores and their sessions, what no clause says: that memory is found, and worked runs with answers from outside.
+//! Stores and their sessions, where no clause says it: that memory is found, and worked runs with
+//! answers from outside.
 
 mod acts;
 mod beside;

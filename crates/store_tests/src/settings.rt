@@ -1,4 +1,5 @@
-//! Settings at their limits, what no clause says: that a world finds memory, and which field is refused first.
+//! Settings at their limits, where no clause says it: that a world finds memory, and which field is
+//! refused first.
 
 use crate::compare::same;
 use bits::Bitmap;
@@ -6,7 +7,8 @@ use map_core::{Event, Setting, run};
 use metric::{Edge, Field, Refusal};
 use std::test::Fail;
 
-/// Blocks, versions, sessions and log of a setting, and which field is refused for a map of two tiles.
+/// Blocks, versions, sessions and log of a setting, and which field is refused for a map of two
+/// tiles.
 const SETTINGS: [((u32, u32, u32, u32), Option<Field>); 12] = [
     ((2, 2, 1, 1), None),
     ((300, 64, 64, 1_048_576), None),

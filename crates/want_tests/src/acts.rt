@@ -1,4 +1,4 @@
-//! Commands in tables of rows, and what they are answered.
+//! Commands in tables of rows, and their answers.
 
 use map_core::Reply;
 use metric::Refusal;
@@ -10,7 +10,7 @@ pub enum Act {
     Paint([u16; 4]),
     /// Paints the whole map, of which more tiles change than blocks are free.
     PaintAll,
-    /// Stamps an obstacle, a cell without one and an obstacle, the first of which is here.
+    /// Stamps an obstacle, a free cell and an obstacle, with the first of them here.
     Stamp(u16, u16),
     Publish,
     Revert,
@@ -18,7 +18,7 @@ pub enum Act {
     Checkpoint,
 }
 
-/// What it is answered.
+/// The answer.
 #[derive(Clone, Copy, PartialEq, Debug)]
 pub enum Told {
     /// Its place, and how many cells changed.
@@ -27,14 +27,15 @@ pub enum Told {
     Published(u32, u32),
     /// Its place.
     Reverted(u32),
-    /// Its place, the least version that is kept, and how many blocks came back.
+    /// Its place, the least version kept, and how many blocks came back.
     Collected(u32, u32, u32),
     /// Its place.
     Checkpointed(u32),
     Refused(Refusal),
 }
 
-/// A command, what it is answered, and how many blocks a paint of the whole map needs before it, and how many are free.
+/// A command, its answer, and how many blocks a paint of the whole map needs before it, and how
+/// many are free.
 pub type Row = (Act, Told, [u32; 2]);
 
 impl Act {
@@ -52,7 +53,7 @@ impl Act {
     }
 }
 
-/// What a command is answered.
+/// The answer to a command.
 pub fn answered(answer: Result<Reply, Refusal>) -> Told {
     match answer {
         Ok(Reply::Painted { place, changed }) => Told::Painted(place, changed),

@@ -1,4 +1,5 @@
-//! Rows that find no memory: nothing is answered, and worked again they are what they would have been.
+//! Rows that find no memory: nothing is answered, and computed again they are what they would have
+//! been.
 
 use crate::compare::{holds, same};
 use crate::opened::drawn;
@@ -14,10 +15,10 @@ use std::thread::Threads;
 /// The only obstacle of the maps.
 const OBSTACLE: Cell = Cell { x: 3, y: 4 };
 
-/// A few rows, which are worked without a table, and many.
+/// A few rows, computed without a table, and many.
 const SIZES: [[u16; 2]; 2] = [[64, 8], [64, 70]];
 
-/// How many workers there are, none for the call without any, and what is told of them.
+/// The number of workers, 0 for the call without any, and what is reported of them.
 const WORKERS: [(u8, &str); 4] = [
     (0, "rows"),
     (1, "rows_with of 1 worker"),
@@ -32,7 +33,7 @@ impl Gate for Open {
     fn enter(&self, _band: u8) {}
 }
 
-/// Looks at the answers of all cells of a map of 64 columns.
+/// Checks the answers of all cells of a map of 64 columns.
 fn look_at(rt: &impl Abort, nears: &[Option<Near>], height: u16) {
     same(
         rt,
@@ -54,7 +55,7 @@ fn look_at(rt: &impl Abort, nears: &[Option<Near>], height: u16) {
     }
 }
 
-/// Works all rows of a map with so many workers.
+/// Computes all rows of a map with this many workers.
 fn work<R: Threads + Sync>(
     rt: &R,
     alloc: Global,

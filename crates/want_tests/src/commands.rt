@@ -27,10 +27,11 @@ const SETTING: Setting = Setting {
     edge: Edge::Open,
 };
 
-/// The obstacle that the map is opened with.
+/// The obstacle that the map opens with.
 const FIRST: Cell = Cell { x: 0, y: 63 };
 
-/// Four commands fill the room that the first one has made, so the fifth one asks for more. It is a paint.
+/// Four commands fill the capacity that the first one has reserved, so the fifth one asks for more.
+/// It is a paint.
 const PAINT: [Row; 6] = [
     (Act::Paint([0, 0, 1, 1]), Told::Painted(1, 1), [4, 3]),
     (Act::Publish, Told::Published(2, 1), [3, 2]),
@@ -69,7 +70,7 @@ const REVERT: [Row; 6] = [
     (Act::Publish, Told::Published(6, 2), [4, 2]),
 ];
 
-/// The fifth one is a collect. No pin is held: the tiles that were replaced come back.
+/// The fifth one is a collect. No pin is held: the replaced tiles come back.
 const COLLECT: [Row; 6] = [
     (Act::Paint([0, 0, 1, 1]), Told::Painted(1, 1), [4, 3]),
     (Act::Publish, Told::Published(2, 1), [3, 2]),
@@ -89,7 +90,7 @@ const COLLECT_BESIDE: [Row; 6] = [
     (Act::Publish, Told::Published(6, 3), [4, 1]),
 ];
 
-/// A checkpoint after four entries takes no memory, and none is asked for after it.
+/// A checkpoint after four entries takes no memory, and no memory is requested after it.
 const CHECKPOINT: [Row; 6] = [
     (Act::Collect, Told::Collected(1, 0, 0), [4, 3]),
     (Act::Paint([0, 0, 1, 1]), Told::Painted(2, 1), [4, 3]),
@@ -99,7 +100,8 @@ const CHECKPOINT: [Row; 6] = [
     (Act::Publish, Told::Published(6, 2), [4, 1]),
 ];
 
-/// A paint that needs more blocks than are free is refused for them, whether or not there is memory.
+/// A paint that needs more blocks than are free is refused for that, whether or not there is
+/// memory.
 const TOO_MANY: [Row; 2] = [
     (
         Act::PaintAll,
@@ -109,8 +111,8 @@ const TOO_MANY: [Row; 2] = [
     (Act::Publish, Told::Published(1, 1), [4, 3]),
 ];
 
-/// Whether a pin is held meanwhile, the commands, the newest version after them, the nearest obstacle of the map's last cell in its first row, and what is
-/// kept of the log.
+/// Whether a pin is held meanwhile, the commands, the newest version after them, the nearest
+/// obstacle of the last cell in the map's first row, and what is kept of the log.
 type Game = (bool, &'static [Row], u32, u32, [i16; 2], (u32, usize));
 
 const GAMES: [Game; 14] = [
@@ -139,7 +141,7 @@ fn commands_are_made_again(rt: HostRuntime) -> Result<(), Fail> {
     Ok(())
 }
 
-/// Plays a game on a store that is opened from this.
+/// Plays a game on a store opened from this.
 fn plays_in<Id: StoreName, R: Wait + Abort + Print>(
     rt: &R,
     alloc: Global,

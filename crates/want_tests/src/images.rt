@@ -1,4 +1,5 @@
-//! Images that find no memory: nothing is read, nothing is appended, and the call made again answers what it would have.
+//! Images that find no memory: nothing is read, nothing is appended, and the retried call answers
+//! what it would have.
 
 use crate::compare::{holds, same};
 use crate::told::{Call, begin, end};
@@ -9,22 +10,23 @@ use std::alloc::Global;
 use std::process::Abort;
 use std::test::Fail;
 
-/// A plain image and a raw one of ten columns with an obstacle at either end, and how many bytes each takes.
+/// A plain image and a raw one of ten columns with an obstacle at either end, and how many bytes
+/// each takes.
 const IMAGES: [(&[u8], usize); 2] = [
     (b"P1\n10 1\n1000000001\n ", 18),
     (b"P4\n10 1\n\x80\x7f ", 10),
 ];
 
-/// What stands in a text before an image is appended.
+/// The content of a text before an image is appended.
 const BEFORE: &[u8] = b"before ";
 
-/// A writer of images, its name, and what the text is once an image is appended to it.
+/// A writer of images, its name, and the text after an image is appended to it.
 const WRITERS: [(bool, &str, &[u8]); 2] = [
     (false, "write_plain", b"before P1\n10 1\n1000000001\n"),
     (true, "write_raw", b"before P4\n10 1\n\x80\x40"),
 ];
 
-/// Reads an image, and looks at its cells.
+/// Reads an image, and checks its cells.
 fn read<R: Abort + Print>(
     rt: &R,
     alloc: Global,
@@ -52,12 +54,12 @@ fn read<R: Abort + Print>(
     Ok(map)
 }
 
-/// Whether there was no memory for what was read of an image, or for its bitmap.
+/// Whether there was no memory for the bytes read of an image, or for its bitmap.
 fn wants_memory(stop: ImageStop) -> bool {
     stop == ImageStop::Memory || stop == ImageStop::Fault(PbmFault::Memory)
 }
 
-/// Reads an image from a source, and looks at its size.
+/// Reads an image from a source, and checks its size.
 fn read_from_source<R: Abort + Print>(rt: &R, alloc: Global, image: &[u8]) {
     let call: Call = ("pbm", "read_source");
     begin(rt, call);
@@ -85,7 +87,7 @@ fn append(map: &Bitmap, is_raw: bool, text: &mut Vec<u8>) -> Result<(), Refusal>
     }
 }
 
-/// Appends an image to a text, and looks at the whole text.
+/// Appends an image to a text, and checks the whole text.
 fn write<R: Abort + Print>(
     rt: &R,
     alloc: Global,

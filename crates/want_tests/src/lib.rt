@@ -1,6 +1,8 @@
-//! Each test holds whichever request for memory is refused: the call that met it has changed nothing, and made again answers what it would have.
+//! Each test passes whichever request for memory is refused: the call that met the refusal has
+//! changed nothing, and retried answers what it would have.
 //!
-//! What each call answered is told on standard output, so that a script that refuses one request after another can count.
+//! Standard output has what each call answered, so that a script that refuses one request after
+//! another can count.
 #![tactic(auto)]
 
 #[cfg(test)]

@@ -1,4 +1,4 @@
-//! Maps and stores for the tests. What finds no memory is made again.
+//! Maps and stores for the tests. What finds no memory is retried.
 
 ghost use Rattle.std.specs.Prelude.{◌≡◌};
 
@@ -13,16 +13,16 @@ use std::alloc::Global;
 use std::process::Abort;
 use std::test::Fail;
 
-/// What a blank is made by.
+/// The call that makes a blank.
 const BLANK: Call = ("Blank", "of");
 
-/// What a store is opened by.
+/// The call that opens a store.
 const OPEN: Call = ("Store", "open");
 
-/// What a session pins by.
+/// The call by which a session pins.
 pub const PIN: Call = ("Session", "pin");
 
-/// A map of this size without an obstacle.
+/// A map of this size without obstacles.
 pub fn map(alloc: Global, size: [u16; 2]) -> Result<Bitmap, Refusal> {
     let [width, height] = size;
     if width == 0 || 4096 < width || height == 0 || 4096 < height {
@@ -47,7 +47,7 @@ pub fn drawn(
     Ok(map)
 }
 
-/// What a store on a map of this size with one obstacle is opened from. A refused map is returned as it was.
+/// A blank store on a map of this size with one obstacle. A refused map is returned as it was.
 pub fn blank<R: Abort + Print>(
     rt: &R,
     alloc: Global,
@@ -102,7 +102,8 @@ pub fn open<Id: StoreName, R: Abort + Print>(
     }
 }
 
-/// Closes a store, which takes no memory. Answers the place of the last checkpoint, and how many entries are kept.
+/// Closes a store, which takes no memory. Returns the place of the last checkpoint, and how many
+/// entries are kept.
 pub fn close<Id: StoreName>(
     rt: &impl Print,
     store: Store<Id>,
@@ -121,12 +122,12 @@ pub fn rect(rt: &impl Abort, corners: [u16; 4]) -> Rect {
     Rect::new(x0, y0, x1, y1).expect(rt, "a rectangle")
 }
 
-/// The last of the sessions that are left.
+/// The last of the remaining sessions.
 pub fn next<Id: StoreName>(rt: &impl Abort, sessions: &mut Vec<Session<Id>>) -> Session<Id> {
     sessions.pop().expect(rt, "a session")
 }
 
-/// Puts a session back among the others, in the room that its `pop` left.
+/// Returns a session to the others; its `pop` left capacity for it.
 pub fn hand_back<Id: StoreName>(
     rt: &impl Abort,
     sessions: &mut Vec<Session<Id>>,
@@ -162,7 +163,7 @@ pub fn pin<Id: StoreName, R: Abort + Print>(
     }
 }
 
-/// Lets a pin go, which takes no memory.
+/// Unpins, which takes no memory.
 pub fn unpin<Id: StoreName>(rt: &impl Print, pinned: Pinned<Id>) -> Session<Id> {
     let call = ("Pinned", "unpin");
     begin(rt, call);

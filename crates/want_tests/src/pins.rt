@@ -37,7 +37,7 @@ const BESIDE: [Row; 2] = [
     (Act::Collect, Told::Collected(4, 1, 1), [4, 2]),
 ];
 
-/// After a refused pin: newest alone stays.
+/// After a refused pin: only the newest stays.
 const AFTER: [Row; 2] = [
     (Act::Publish, Told::Published(3, 2), [4, 2]),
     (Act::Collect, Told::Collected(4, 2, 1), [4, 2]),
@@ -69,7 +69,7 @@ fn pins_in<Id: StoreName, R: Wait + Abort + Print>(
     Ok(())
 }
 
-/// Pins, and looks by a collect at what is held.
+/// Pins, and checks by a collect what is held.
 fn pins_beside<Id: StoreName, R: Wait + Abort + Print>(
     rt: &R,
     alloc: Global,

@@ -1,4 +1,4 @@
-//! A pool that finds no memory returns its sessions, and has asked for no stream.
+//! A pool that finds no memory returns its sessions, and has taken no stream.
 
 ghost use Rattle.std.specs.Prelude.{◌≡◌};
 
@@ -28,12 +28,12 @@ const SETTING: Setting = Setting {
     edge: Edge::Open,
 };
 
-/// The pool, and the one stream that it serves.
+/// The pool, and the only stream that it serves.
 const POOL: Call = ("proto", "pool");
 
 const SERVED: Call = ("proto", "pool's stream");
 
-/// One stream, and how often it was asked for the next one.
+/// One stream, and how often the next one was asked for.
 #[derive(Drop)]
 struct Asked<'a> {
     left: u32,
@@ -59,7 +59,8 @@ fn a_pool_is_asked_again(rt: HostRuntime) -> Result<(), Fail> {
     pools_in::<Brand, _>(&rt, rt.alloc(), blank)
 }
 
-/// Serves one stream with two workers. Answers whether the pool itself was refused, and its sessions.
+/// Serves one stream with two workers. Returns whether the pool itself was refused, and its
+/// sessions.
 fn serve<Id: StoreName + Send + Sync, R: Wait + Threads + Abort + Sync>(
     rt: &R,
     alloc: Global,
@@ -85,7 +86,7 @@ fn serve<Id: StoreName + Send + Sync, R: Wait + Threads + Abort + Sync>(
     }
 }
 
-/// Serves with the sessions of a store that is opened from this.
+/// Serves with the sessions of a store opened from this.
 fn pools_in<Id: StoreName + Send + Sync, R: Wait + Threads + Abort + Sync + Print>(
     rt: &R,
     alloc: Global,

@@ -1,4 +1,5 @@
-//! What a pin and a session do without memory: queries, the bitmap, a ticket that is learned, and the end of a pin.
+//! What a pin and a session do without memory: queries, the bitmap, a ticket that is learned, and
+//! the end of a pin.
 
 ghost use Rattle.std.specs.Prelude.{◌≡◌};
 
@@ -26,7 +27,7 @@ const SETTING: Setting = Setting {
 /// The map's only obstacle.
 const OBSTACLE: Cell = Cell { x: 3, y: 4 };
 
-/// It stands here.
+/// Its position.
 const SPOT: Spot = Spot { x: 3, y: 4 };
 
 /// A query of a pin.
@@ -46,7 +47,7 @@ const QUERIES: [(Query, &str); 4] = [
     (Query::ClearOf, "clear_of"),
 ];
 
-/// Asks a query, and looks at its answer.
+/// Asks a query, and checks its answer.
 fn ask<Id: StoreName>(rt: &impl Abort, alloc: Global, pinned: &mut Pinned<Id>, query: Query) {
     let path = [Cell { x: 0, y: 0 }, Cell { x: 0, y: 10 }];
     let beside = (

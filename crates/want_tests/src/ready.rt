@@ -1,10 +1,11 @@
-//! A stream whose writer has its room before it is served, so that no write can fail for want of memory.
+//! A stream whose writer has its capacity before it is served, so that no write can run out of
+//! memory.
 
 ghost use Rattle.std.specs.Prelude.{◌≡◌, None};
 
 use metric::{ReadFault, Sink, Source, Stream, WriteFault};
 
-/// A stream of these bytes, and room for what is written.
+/// A stream of these bytes, with capacity for what is written.
 #[derive(Drop)]
 pub struct Ready {
     left: &'static [u8],
@@ -26,7 +27,7 @@ impl Ready {
         }
     }
 
-    /// What was written.
+    /// The bytes written.
     pub fn bytes(&self) -> &[u8] {
         self.room.get(..self.count).unwrap_or_default()
     }
@@ -40,7 +41,7 @@ impl Ready {
         Some(*byte)
     }
 
-    /// Writes one byte, if there is room for it.
+    /// Writes one byte, if there is capacity for it.
     fn put(&mut self, byte: u8) -> Option<()>
         ensures { self.new.failed ≡ self.old.failed }
     {

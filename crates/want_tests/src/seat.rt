@@ -1,4 +1,5 @@
-//! A session with a pin or without one, and its commands. One that finds no memory has changed nothing, and is made again.
+//! A session with or without a pin, and its commands. One that finds no memory has changed nothing,
+//! and is retried.
 
 use crate::acts::{Act, Row, Told, answered};
 use crate::compare::{holds, same};
@@ -14,13 +15,14 @@ use std::alloc::Global;
 use std::process::Abort;
 use std::sync::Wait;
 
-/// A session, with a pin or without one.
+/// A session, with or without a pin.
 pub enum Seat<Id: StoreName> {
     Free(Session<Id>),
     Held(Pinned<Id>),
 }
 
-/// What is seen of a desk and of a seat: the base place, how many entries are kept, what the last one was answered, and how many commands the seat counts.
+/// What is seen of a desk and of a seat: the base place, how many entries are kept, the last one's
+/// answer, and how many commands the seat counts.
 type Seen = (u32, usize, Option<Reply>, u32);
 
 /// The corners of the whole map.
@@ -39,7 +41,7 @@ fn bar(rt: &impl Abort, alloc: Global) -> Bitmap {
     bar
 }
 
-/// What is left of a stamp: nothing where it was accepted, and otherwise its bitmap.
+/// What is left of a stamp: nothing if it was accepted, otherwise its bitmap.
 fn kept_back(
     stamped: Result<Reply, (Bitmap, Refusal)>,
     bar: &mut Option<Bitmap>,
@@ -53,7 +55,7 @@ fn kept_back(
     }
 }
 
-/// Makes a session's command. A stamp takes the bitmap.
+/// Runs a session's command. A stamp takes the bitmap.
 fn by_session<Id: StoreName>(
     rt: &impl Abort,
     desk: &mut Desk<Id>,
@@ -75,7 +77,7 @@ fn by_session<Id: StoreName>(
     }
 }
 
-/// Makes a pin's command. A stamp takes the bitmap.
+/// Runs a pin's command. A stamp takes the bitmap.
 fn by_pin<Id: StoreName>(
     rt: &impl Abort,
     desk: &mut Desk<Id>,
@@ -98,7 +100,7 @@ fn by_pin<Id: StoreName>(
 }
 
 impl<Id: StoreName> Seat<Id> {
-    /// Takes a seat, and pins where a pin is wanted.
+    /// Takes a seat, and pins if a pin is wanted.
     pub fn take<R: Abort + Print>(
         rt: &R,
         alloc: Global,
@@ -112,7 +114,7 @@ impl<Id: StoreName> Seat<Id> {
         }
     }
 
-    /// Gives the session up, whose pin is let go.
+    /// Returns the session, unpinned.
     pub fn leave(self, rt: &impl Print) -> Session<Id> {
         match self {
             Seat::Free(session) => session,
@@ -128,7 +130,7 @@ impl<Id: StoreName> Seat<Id> {
         }
     }
 
-    /// Makes a command.
+    /// Runs a command.
     fn make(
         &mut self,
         rt: &impl Abort,
@@ -156,7 +158,8 @@ impl<Id: StoreName> Seat<Id> {
         (desk.base_place(), entries.len(), last, made)
     }
 
-    /// Looks that so many blocks are free, by a paint that is refused for more, and that a stamp was returned.
+    /// Checks that this many blocks are free, by a paint that is refused for needing more, and that
+    /// a stamp was returned.
     fn look_behind(
         &mut self,
         rt: &impl Abort,
@@ -180,7 +183,7 @@ impl<Id: StoreName> Seat<Id> {
         }
     }
 
-    /// Makes a row's command. Where it finds no memory, all is seen to be as before, and it is made again.
+    /// Runs a row's command. If it finds no memory, checks that all is as before, and retries it.
     fn act<R: Wait + Abort + Print>(
         &mut self,
         rt: &R,
@@ -207,7 +210,7 @@ impl<Id: StoreName> Seat<Id> {
         answered(self.make(rt, &mut store.lock(rt), act, &mut bitmap))
     }
 
-    /// Makes commands one after another, and compares what each is answered.
+    /// Runs commands in order, and compares their answers.
     pub fn play<R: Wait + Abort + Print>(
         &mut self,
         rt: &R,

@@ -1,4 +1,4 @@
-//! A stream that is served while one request for memory is refused: what is written then.
+//! A stream served while one request for memory is refused: what is written then.
 
 ghost use Rattle.std.specs.Prelude.{◌≡◌};
 
@@ -28,10 +28,10 @@ const SETTING: Setting = Setting {
 /// What is read.
 const LINES: &[u8] = b"PAINT 0 0 1 1\nPAINT 0 0 1 1\nQUIT\n";
 
-/// What is written where no request is refused.
+/// What is written if no request is refused.
 const ALL: &[u8] = b"OK 1 1\nOK 2 0\nBYE\n";
 
-/// What is written where the first command's entry finds no memory, and where the second one's does.
+/// What is written if the first command's entry finds no memory, and if the second one's does.
 const WANTING: [&[u8]; 2] = [
     b"ERR 5 Memory\nOK 1 1\nBYE\n",
     b"OK 1 1\nERR 5 Memory\nBYE\n",
@@ -44,7 +44,8 @@ fn a_stream_goes_on_after_want_of_memory(rt: HostRuntime) -> Result<(), Fail> {
     serves_in::<Brand, _>(&rt, rt.alloc(), blank)
 }
 
-/// Looks at what was written and how the stream ended, and answers whether memory was wanting, and how many commands were accepted.
+/// Checks what was written and how the stream ended, and returns whether memory ran out, and how
+/// many commands were accepted.
 fn judge(rt: &impl Abort, written: &[u8], end: End) -> (bool, u32) {
     if end == End::Memory {
         holds(rt, written.is_empty(), "nothing is written");
@@ -58,7 +59,7 @@ fn judge(rt: &impl Abort, written: &[u8], end: End) -> (bool, u32) {
     (true, 1)
 }
 
-/// Serves the stream with the session of a store that is opened from this.
+/// Serves the stream with the session of a store opened from this.
 fn serves_in<Id: StoreName, R: Wait + Abort + Print>(
     rt: &R,
     alloc: Global,

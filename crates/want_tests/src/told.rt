@@ -1,9 +1,9 @@
-//! What a test tells of its calls on standard output: where one begins, and what it answered.
+//! What a test reports of its calls on standard output: where one starts, and what it answered.
 
 /// What a call belongs to, and its name.
 pub type Call = (&'static str, &'static str);
 
-/// Tells one line of a call.
+/// Reports one line of a call.
 fn tell(rt: &impl Print, what: &str, call: Call) {
     let (owner, name) = call;
     let _ = rt.print(what);
@@ -12,12 +12,12 @@ fn tell(rt: &impl Print, what: &str, call: Call) {
     let _ = rt.println(name);
 }
 
-/// Tells that a call begins.
+/// Reports that a call starts.
 pub fn begin(rt: &impl Print, call: Call) {
     tell(rt, "call: ", call);
 }
 
-/// Tells that it has ended, and whether it met want of memory.
+/// Reports that a call has ended, and whether it ran out of memory.
 pub fn end(rt: &impl Print, call: Call, is_wanting: bool) {
     if is_wanting {
         tell(rt, "memory: ", call);

@@ -1,4 +1,5 @@
-//! Calls that take no memory, since room was made before: of an arena, of a row of distances, and of the versions that a collect keeps.
+//! Calls that take no memory, since capacity was reserved before: of an arena, of a row of
+//! distances, and of the versions that a collect keeps.
 
 ghost use Rattle.std.specs.Prelude.{◌≡◌, ◌∷◌, IfOk};
 ghost use Rattle.std.specs.List.{range_with_len};
@@ -46,7 +47,7 @@ fn give(rt: &impl Print, arena: &mut Arena, tile: Tile)
     end(rt, call, false);
 }
 
-/// An arena of three blocks, made again where there was no memory.
+/// An arena of three blocks, retried if there was no memory.
 fn three(alloc: Global) -> Result<Arena, Refusal>
     ensures { IfOk result (λ a. (a.home.count ≡ 3) × (a.free ≡ range_with_len 0 3)) }
 {
@@ -123,7 +124,8 @@ fn a_row_is_worked_without_memory(rt: HostRuntime) -> Result<(), Fail> {
     Ok(())
 }
 
-/// Works the first row of a map, whose first cell has this nearest obstacle. What the call is given is made again where there was no memory.
+/// Computes the first row of a map whose first cell has this nearest obstacle. What the call is
+/// given is retried if there was no memory.
 fn works<R: Abort + Print>(
     rt: &R,
     alloc: Global,

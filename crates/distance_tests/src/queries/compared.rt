@@ -1,4 +1,4 @@
-//! The search compared with the plain program, on maps drawn at random.
+//! The search compared with the plain program, on random maps.
 
 use super::slow::{Answers, cells_of_path, cells_of_rect};
 use crate::compare::same;
@@ -10,10 +10,11 @@ use std::alloc::Global;
 use std::process::Abort;
 use std::test::Fail;
 
-/// Sides of maps: small ones, and those round the ends of one and of two words.
+/// Sides of maps: small ones, and those around the ends of one and of two words.
 const SIDES: [u16; 12] = [1, 2, 3, 7, 20, 62, 63, 64, 65, 66, 127, 129];
 
-/// Widths and heights at both ends of the range, and higher than the rows are looked at one by one.
+/// Widths and heights at both ends of the range, and heights beyond the rows that are searched one
+/// by one.
 const LONG: [(u16, u16); 7] = [
     (1, 1),
     (4096, 1),
@@ -24,7 +25,7 @@ const LONG: [(u16, u16); 7] = [
     (700, 300),
 ];
 
-/// One cell in so many is an obstacle.
+/// One cell in this many is an obstacle.
 const RARE: [u16; 8] = [1, 2, 4, 15, 60, 300, 2000, 20000];
 
 /// A bitmap with the answers of all its cells.
@@ -62,7 +63,8 @@ fn compare_rect<M: Metric>(
     Ok(())
 }
 
-/// A path, by its least distance, and by distances below, at and above that of one of its cells.
+/// A path, by its least distance, and by limits below, at and above the distance of one of its
+/// cells.
 fn compare_path<M: Metric>(
     rt: &impl Abort,
     alloc: Global,

@@ -1,4 +1,5 @@
-//! Queries at the limits: the largest map and its last cell, the longest path, and heights round one at which another way could be taken.
+//! Queries at the limits: the largest map and its last cell, the longest path, and heights around
+//! one where an implementation might change its way.
 
 use super::{beside_at, drawn};
 use crate::compare::same;
@@ -12,10 +13,10 @@ use std::test::Fail;
 /// The last row and the last column of the largest map.
 const LAST: u16 = 4095;
 
-/// Heights at which a body might give up, or go another way.
+/// Heights where an implementation might give up, or change its way.
 const HEIGHTS: [u16; 6] = [1, 31, 32, 33, 129, 4096];
 
-/// Each call at the last cell of a map whose one obstacle is its first cell, at this distance.
+/// Each call at the last cell of a map whose only obstacle is its first cell, at this distance.
 fn ask_at_last<M: Metric>(
     rt: &impl Abort,
     alloc: Global,

@@ -1,4 +1,5 @@
-//! The same answers by those of all cells of the bitmap, cell after cell: the plain program with which the search is compared.
+//! The same answers from those of all cells of the bitmap, cell after cell: the plain program with
+//! which the search is compared.
 
 use bits::Bitmap;
 use field::{Batch, rows};
@@ -52,7 +53,7 @@ impl Answers {
     }
 }
 
-/// The cell, where its distance is less than that of the best so far; otherwise that.
+/// The cell, if its distance is less than that of the best so far; otherwise the best so far.
 fn first_least(best: Option<(Cell, Near)>, cell: Cell, near: Option<Near>) -> Option<(Cell, Near)> {
     let Some(near) = near else {
         return best;
@@ -63,7 +64,7 @@ fn first_least(best: Option<(Cell, Near)>, cell: Cell, near: Option<Near>) -> Op
     }
 }
 
-/// The cells of a rectangle, row by row from the top, each row from the left.
+/// The cells of a rectangle, in row-major order.
 pub fn cells_of_rect(alloc: Global, rect: Rect) -> Result<Vec<Cell>, AllocError> {
     let mut cells = Vec::new(alloc);
     for y in rect.y0..rect.y1 {
@@ -74,7 +75,8 @@ pub fn cells_of_rect(alloc: Global, rect: Rect) -> Result<Vec<Cell>, AllocError>
     Ok(cells)
 }
 
-/// The cells of a path: its first point, then for each next point the cells after the point before it, up to it.
+/// The cells of a path: its first point, then for each next point the cells after the point before
+/// it, up to it.
 pub fn cells_of_path(alloc: Global, points: &[Cell]) -> Result<Vec<Cell>, AllocError> {
     let mut cells = Vec::new(alloc);
     let mut before = None;
@@ -85,7 +87,7 @@ pub fn cells_of_path(alloc: Global, points: &[Cell]) -> Result<Vec<Cell>, AllocE
     Ok(cells)
 }
 
-/// Adds the cells after a point, up to another: that one alone where the point is repeated.
+/// Appends the cells after a point, up to another: only that one if the point is repeated.
 fn push_piece(cells: &mut Vec<Cell>, from: Cell, to: Cell) -> Result<(), AllocError> {
     let steps = from.x.abs_diff(to.x).max(from.y.abs_diff(to.y)).max(1);
     let mut cell = from;

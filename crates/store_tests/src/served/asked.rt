@@ -1,4 +1,4 @@
-//! Queries over served streams: what a fresh pin is asked, and asked again, is answered as on the map's bitmap.
+//! Queries over served streams: a fresh pin answers, and answers again, as the map's bitmap does.
 
 use super::{serve, setting};
 use crate::compare::{holds, same};
@@ -9,7 +9,7 @@ use proto::{Answer, Bordered, End, Line, Text, answer_of, parse_line, reply_text
 use std::alloc::Global;
 use std::test::Fail;
 
-/// Queries of a map of 130 by 70, of near cells and of far ones, some of them refused.
+/// Queries of a map of 130 by 70, of near and far cells; some are refused.
 const QUERIES: [&[u8]; 24] = [
     b"AT euclid2 0 0",
     b"AT city 129 69",
@@ -37,7 +37,7 @@ const QUERIES: [&[u8]; 24] = [
     b"CLEAROF chess 2 127 3 127 66 2 66",
 ];
 
-/// How rare a map's obstacles are, and its border.
+/// One obstacle per how many cells, and the map's edge.
 const MAPS: [(u32, Edge); 8] = [
     (0, Edge::Open),
     (9, Edge::Open),
@@ -49,7 +49,7 @@ const MAPS: [(u32, Edge); 8] = [
     (4_000, Edge::Wall),
 ];
 
-/// Adds the line of a query to what is read, and what it is answered on a map to what is written.
+/// Appends the line of a query to what is read, and its answer on a map to what is written.
 fn add_query(
     alloc: Global,
     map: Bordered<'_>,
@@ -70,7 +70,8 @@ fn add_query(
     Ok(written.extend_from_slice(text.as_bytes())?)
 }
 
-/// A client's lines, and what they are answered: each query by a fresh pin, twice, and then all of them by one pin.
+/// A client's lines and their answers: each query twice by a fresh pin, and then all of them by one
+/// pin.
 fn lines_of(
     alloc: Global,
     map: Bordered<'_>,

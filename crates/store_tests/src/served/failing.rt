@@ -1,4 +1,4 @@
-//! Streams of which a call fails: a beginning of the text is written, and the pin is left.
+//! Streams on which a call fails: a prefix of the text is written, and the session unpins.
 
 ghost use Rattle.std.specs.Prelude.{◌≡◌, None};
 
@@ -10,7 +10,7 @@ use proto::End;
 use std::marker::Brand;
 use std::test::Fail;
 
-/// A stream of 46 bytes up to QUIT, and of six replies, without a command to the keeper.
+/// A stream of 46 bytes up to QUIT, with six replies and no command to the keeper.
 const READ: &[u8] = b"PIN\nPIN\nAT euclid2 3 4\nUNPIN\nAT city 0 0\nQUIT\nPIN\n";
 
 const WRITTEN: &[u8] = b"OK 0\nERR 7 AlreadyPinned\nNONE\nOK 0\nERR 6 NotPinned\nBYE\n";
@@ -53,7 +53,7 @@ struct Narrow {
     failed_writes: u64,
 }
 
-/// Copies what there is room for, and answers how many bytes that were.
+/// Copies as many bytes as fit, and returns how many.
 fn copy_front(room: &mut [u8], bytes: &[u8]) -> usize {
     let mut count = 0usize;
     for (place, byte) in room.iter_mut().zip(bytes) {

@@ -1,4 +1,4 @@
-//! What a served stream doesn't do under the lock: a pin, a query, and its end.
+//! What a served stream does without the lock: a pin, a query, and its end.
 
 ghost use Rattle.std.specs.Prelude.{◌≡◌};
 
@@ -21,7 +21,7 @@ fn planners_pass_a_lock_that_is_held(rt: HostRuntime) -> Result<(), Fail> {
     plans_while_the_lock_is_held::<Brand, _>(&rt, alloc, blank)
 }
 
-/// A stream without a command to the keeper is served while the desk's guard is held by the very thread that serves it.
+/// Serves a stream without commands to the keeper while the same thread holds the desk's guard.
 fn plans_while_the_lock_is_held<Id: StoreName, R: Wait + Abort>(
     rt: &R,
     alloc: Global,

@@ -1,4 +1,5 @@
-//! Streams that wait for one another: each worker of a pool serves at once, and no lock is held while a reply is written.
+//! Streams that wait for each other: all workers of a pool serve at once, and none holds the lock
+//! while it writes a reply.
 
 ghost use Rattle.std.specs.Prelude.{◌≡◌, None};
 
@@ -12,11 +13,11 @@ use std::sync::atomic::{AtomicU64, Ordering};
 use std::test::Fail;
 use std::thread;
 
-/// How often a stream looks whether the others have come so far.
+/// How often a stream checks whether the others have come this far.
 const MOST_TURNS: u32 = 50_000_000;
 
-/// What the streams tell one another, and the test: which of four have come, a bit for each; what
-/// the two have begun or done, or 0; and what was written.
+/// What the streams signal to each other and to the test: which of four have come, one bit each;
+/// what the two have started or done, or 0; and what was written.
 #[derive(Drop)]
 struct Signals {
     come: AtomicU64,
@@ -29,7 +30,7 @@ struct Signals {
     wrong_texts: AtomicU64,
 }
 
-/// Waits until so much was told, but not forever.
+/// Waits for a signal of at least this, but not forever.
 fn is_seen(signal: &AtomicU64, least: u64) -> bool {
     for _ in 0..MOST_TURNS {
         if least <= signal.load(Ordering::SeqCst) {
@@ -43,8 +44,8 @@ fn is_seen(signal: &AtomicU64, least: u64) -> bool {
 /// All of four have come.
 const ALL: u64 = 0b1111;
 
-/// Which stream one is: the first or the second of two that meet at the first one's reply, or once
-/// it was taken; or the one of four that has this bit.
+/// Which stream this is: the first or the second of two that meet at the first one's reply, or
+/// after it was taken; or the one of four with this bit.
 #[derive(Clone, Copy, PartialEq)]
 enum Role {
     First,
@@ -54,7 +55,8 @@ enum Role {
     OneOfFour(u64),
 }
 
-/// One of the streams: what is left to read and to be written, and how many lines were begun and replies given.
+/// One of the streams: the bytes left to read and to write, and how many lines were started and
+/// replies given.
 #[derive(Drop)]
 struct Meeting<'a> {
     signals: &'a Signals,
@@ -85,9 +87,9 @@ impl<'a> Meeting<'a> {
     }
 
     /// Whether the next byte may be read. The first stream's second line waits for the second
-    /// stream's BYE. The second stream's first one waits for the first stream's reply: until it is
-    /// to be written, or until it was taken and the first stream's wait has begun. One of four comes,
-    /// and waits for the others.
+    /// stream's BYE. The second stream's first line waits for the first stream's reply: until it is
+    /// about to be written, or until it was taken and the first stream's wait has started. One of
+    /// four comes, and waits for the others.
     fn may_read(&self) -> bool {
         match (self.role, self.lines) {
             (Role::First, 1) => is_seen(&self.signals.second_bade, 1),
@@ -107,7 +109,8 @@ impl<'a> Meeting<'a> {
         }
     }
 
-    /// Whether the next reply may be written: the first stream's first one waits until the second stream has painted, which it can't where the lock is held over a reply.
+    /// Whether the next reply may be written: the first stream's first reply waits until the second
+    /// stream has painted, which it can't if the lock is held over a reply.
     fn may_write(&self) -> bool {
         match (self.role, self.replies) {
             (Role::First, 0) => {
@@ -122,7 +125,7 @@ impl<'a> Meeting<'a> {
         }
     }
 
-    /// Tells that a reply was taken: the first one of the first stream, and the second stream's BYE.
+    /// Signals that a reply was taken: the first stream's first one, and the second stream's BYE.
     fn tell_taken(&self) {
         match self.role {
             Role::FirstReplied => self.signals.first_replied.store(1, Ordering::SeqCst),
@@ -225,7 +228,7 @@ const TWO: [Talk; 2] = [
     (Role::Second, b"PAINT 0 0 2 1\nQUIT\n", b"OK 2 1\nBYE\n"),
 ];
 
-/// Two streams, the second of which begins once the first one's reply was taken.
+/// Two streams; the second starts after the first one's reply was taken.
 const TAKEN: [Talk; 2] = [
     (
         Role::FirstReplied,
@@ -239,7 +242,8 @@ const TAKEN: [Talk; 2] = [
     ),
 ];
 
-/// As many at once as a pool has workers: each waits for all others before its first line. What they are told isn't looked at.
+/// As many streams as a pool has workers: each waits for all others before its first line. Their
+/// answers aren't checked.
 const FOUR: [Talk; 4] = [
     (Role::OneOfFour(1), b"PAINT 0 0 1 1\nQUIT\nREVERT\n", b""),
     (Role::OneOfFour(2), b"PAINT 0 0 1 1\nQUIT\nREVERT\n", b""),
@@ -247,7 +251,7 @@ const FOUR: [Talk; 4] = [
     (Role::OneOfFour(8), b"PAINT 0 0 1 1\nQUIT\nREVERT\n", b""),
 ];
 
-/// Streams that come one after another.
+/// Streams that come in order.
 #[derive(Drop)]
 struct Talks<'a> {
     signals: &'a Signals,

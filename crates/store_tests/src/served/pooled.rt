@@ -1,4 +1,4 @@
-//! A pool goes on after streams that end early, with as many workers.
+//! A pool goes on with as many workers after streams that end early.
 
 ghost use Rattle.std.specs.Prelude.{◌≡◌};
 
@@ -13,7 +13,7 @@ use std::alloc::Global;
 use std::marker::Brand;
 use std::test::Fail;
 
-/// Streams in memory, which come one after another, and how many were given.
+/// Streams in memory, in order, and how many were taken.
 #[derive(Drop)]
 struct Listed {
     alloc: Global,
@@ -36,14 +36,16 @@ impl Streams for Listed {
 /// More letters than a line may have.
 const LETTERS: [u8; 16_385] = [b'A'; 16_385];
 
-/// A stream that pins and whose ninth read fails, and one that publishes and collects: where the first one's pin was left, its version goes.
+/// A stream that pins and whose ninth read fails, and one that publishes and collects: if the first
+/// stream unpinned, its version goes.
 const FAILING: [Input<'static>; 2] = [
     (b"PIN\nPAINT 0 0 1 1\nPUBLISH\nQUIT\n", Some(9), None),
     (b"PAINT 0 0 2 1\nPUBLISH\nCOLLECT\nQUIT\n", None, None),
 ];
 
-/// Streams that end by a line too long, by too many bytes, by a failed write (whose first command is accepted, and no other one is done) or by QUIT, after which there
-/// are more bytes; each oftener than there are workers, which is one; and a good one.
+/// Streams that end by a line too long, by too many bytes, by a failed write (whose first command
+/// is accepted, and no other is done) or by QUIT, followed by more bytes; each more often than
+/// there are workers, of which there is one; and a good stream.
 const ENDING: [Input<'static>; 13] = [
     (&LETTERS, None, None),
     (&LETTERS, None, None),
@@ -64,7 +66,8 @@ const ENDING: [Input<'static>; 13] = [
     ),
 ];
 
-/// What is served with one worker, and how long the log is then. Its last entry is a collect, at that place.
+/// Streams served by one worker, and the log's length then. The last entry is a collect at that
+/// place.
 const POOLED: [(&[Input<'static>], u32); 2] = [(&FAILING, 3), (&ENDING, 6)];
 
 #[test]

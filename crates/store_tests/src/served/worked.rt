@@ -9,10 +9,10 @@ use proto::End;
 use std::alloc::Global;
 use std::test::Fail;
 
-/// A map, and its border.
+/// A map, and its edge.
 type Map = (Spotted, Edge);
 
-/// A map of 64 by 64 cells without an obstacle.
+/// A map of 64 by 64 cells without obstacles.
 const OPEN: Map = (SQUARE, Edge::Open);
 
 /// A map of 3 by 2 with an obstacle in its first cell.
@@ -21,10 +21,10 @@ const CORNER: Map = (([3, 2], 11), Edge::Open);
 /// A map of 6 by 4 with an obstacle at `(2, 1)`.
 const MIDDLE: Map = (([6, 4], 186), Edge::Open);
 
-/// A map of 5 by 3 without an obstacle, whose border is a wall.
+/// A map of 5 by 3 without obstacles, with a wall.
 const FRAMED: Map = (([5, 3], 0), Edge::Wall);
 
-/// Queries of that map, and its dump, which has the map alone.
+/// Queries of that map, and its dump, which has only the map.
 const BLANK: [(&[u8], &[u8]); 16] = [
     (b"PIN\n", b"OK 0\n"),
     (b"AT euclid2 0 0\n", b"OK 1 -1 0\n"),
@@ -44,7 +44,8 @@ const BLANK: [(&[u8], &[u8]); 16] = [
     (b"DUMP\n", b"OK 25\nP1\n5 3\n00000\n00000\n00000\n"),
 ];
 
-/// A pin that is asked before a publish and after it, and one of the version that was published: its obstacle ties with the frame, or is nearer.
+/// A pin queried before and after a publish, and one of the published version: its obstacle ties
+/// with the frame, or is nearer.
 const PUBLISHED: [(&[u8], &[u8]); 12] = [
     (b"PIN\n", b"OK 0\n"),
     (b"AT euclid2 2 1\n", b"OK 4 2 -1\n"),
@@ -63,7 +64,8 @@ const PUBLISHED: [(&[u8], &[u8]); 12] = [
 /// As many letters as the longest line has bytes.
 const LETTERS: [u8; 16_384] = [b'A'; 16_384];
 
-/// A stream: its name, its map, what is read and what is written for it; and the end, how many bytes are left, and how many commands were accepted.
+/// A stream: its name, its map, what is read and what is written for it; its end, how many bytes
+/// are left, and how many commands were accepted.
 type Worked = (
     &'static str,
     Map,

@@ -1,16 +1,16 @@
-//! What sessions do in a table of rows, and what they are told.
+//! What sessions do in a table of rows, and their answers.
 
 use map_core::{Command, Reply};
 use metric::Refusal;
 
-/// What a session does, with its pin where it has one.
+/// What a session does, with its pin if it has one.
 #[derive(Clone, Copy)]
 pub enum Act {
     /// Paints the cells of the rectangle with these corners.
     Paint([u16; 4]),
     /// Clears them.
     Clear([u16; 4]),
-    /// Stamps a row of three obstacles, whose first cell is here.
+    /// Stamps a row of three obstacles, with its first cell here.
     Stamp(u16, u16),
     Publish,
     Revert,
@@ -18,17 +18,17 @@ pub enum Act {
     Checkpoint,
     Pin,
     Unpin,
-    /// Asks its pin how far the nearest obstacle of a cell is.
+    /// Asks its pin for the nearest obstacle of a cell.
     Near([u16; 2]),
-    /// Lays a ticket of the log into the tray.
+    /// Puts a ticket of the log into the tray.
     Ticket,
-    /// Learns the ticket that lies in the tray.
+    /// Learns the ticket in the tray.
     Learn,
     /// Discards it.
     Discard,
 }
 
-/// What it is told.
+/// The answer.
 #[derive(Clone, Copy, PartialEq, Debug)]
 pub enum Told {
     /// The command's place, and how many cells changed.
@@ -39,21 +39,21 @@ pub enum Told {
     Reverted(u32),
     /// Its place, after which there is no entry yet.
     Checkpointed(u32),
-    /// Its place, the least version that is kept, and how many blocks came back.
+    /// Its place, the least version kept, and how many blocks came back.
     Collected(u32, u32, u32),
     /// How many blocks it needs, and how many are free.
     Full(u32, u32),
     Refused(Refusal),
     /// The version that its pin holds.
     Version(u32),
-    /// The version that its pin holds, how far the nearest obstacle is, and where.
+    /// The version that its pin holds, the nearest obstacle's distance, and its position.
     Near(u32, u32, [i16; 2]),
     /// The version that its pin holds, where there is no obstacle.
     Free(u32),
     Nothing,
 }
 
-/// Which session acts, what it does, and what it is told.
+/// Which session acts, what it does, and its answer.
 pub type Row = (usize, Act, Told);
 
 /// The first session, the second one and the third one.
@@ -63,7 +63,7 @@ pub const B: usize = 1;
 
 pub const C: usize = 2;
 
-/// What a command is answered.
+/// The answer to a command.
 pub fn answered(answer: Result<Reply, (Command, Refusal)>) -> Told {
     match answer {
         Ok(Reply::Painted { place, changed }) => Told::Painted(place, changed),

@@ -1,4 +1,5 @@
-//! What waits for nobody: a pin while a lock is held, and a ticket from one thread to another.
+//! What waits for nobody: a pin while a lock is held, and a ticket passed from one thread to
+//! another.
 
 ghost use Rattle.std.specs.Prelude.{◌≡◌};
 
@@ -24,7 +25,7 @@ const SETTING: Setting = Setting {
     edge: Edge::Open,
 };
 
-/// The nearest obstacle of the cell that is asked for, once there is one.
+/// The nearest obstacle of the queried cell, once there is one.
 const SEEN: Near = Near {
     dist: 7,
     cell: Spot { x: 0, y: 0 },
@@ -36,7 +37,7 @@ fn pin_beside_lock(rt: HostRuntime) -> Result<(), Fail> {
     pins_while_the_lock_is_held::<Brand, _>(&rt, rt.alloc(), blank)
 }
 
-/// Pins, asks for the nearest obstacle of a cell, and unpins. No lock is taken.
+/// Pins, asks for the nearest obstacle of a cell, and unpins. It takes no lock.
 fn ask<Id: StoreName>(
     rt: &impl Abort,
     alloc: Global,
@@ -50,7 +51,7 @@ fn ask<Id: StoreName>(
     (pinned.version(), near, pinned.unpin())
 }
 
-/// One session has the desk's guard and publishes with it, while the other one pins, asks and unpins.
+/// One session publishes with the desk's guard while the other one pins, asks and unpins.
 fn pins_while_the_lock_is_held<Id: StoreName, R: Wait + Abort>(
     rt: &R,
     alloc: Global,
@@ -83,7 +84,7 @@ fn ticket_between_threads(rt: HostRuntime) -> Result<(), Fail> {
     hands_a_ticket_over::<Brand, _>(&rt, rt.alloc(), blank)
 }
 
-/// Publishes a version. The ticket of the log is the thread's result.
+/// Publishes a version. The thread's result is the ticket of the log.
 fn publish_and_tell<Id: StoreName, R: Wait + Abort>(
     rt: &R,
     store: &Store<Id>,
@@ -97,7 +98,7 @@ fn publish_and_tell<Id: StoreName, R: Wait + Abort>(
     store.lock(rt).ticket().expect(rt, "a ticket")
 }
 
-/// A store whose painter tells the planner by a ticket, which its thread gives as its result.
+/// A store whose painter informs the planner by a ticket, its thread's result.
 fn hands_a_ticket_over<Id: StoreName + Send + Sync, R: Threads + Wait + Abort + Sync>(
     rt: &R,
     alloc: Global,

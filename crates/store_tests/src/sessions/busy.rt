@@ -1,5 +1,5 @@
-//! Threads that paint, publish, collect, pin and ask at once, on few blocks and few slots: each pin shows the bitmap that was published under its
-//! number.
+//! Threads that paint, publish, collect, pin and ask at once, on few blocks and few slots: each pin
+//! shows the bitmap published under its number.
 
 ghost use Rattle.std.specs.Prelude.{◌≡◌, ◌<◌};
 
@@ -19,14 +19,15 @@ use std::test::Fail;
 use std::thread::{Threads, for_each_mut, sleep};
 use std::time::{Clock, Duration, Instant};
 
-/// How many versions are published, how often a planner pins, and how often a full store is tried again.
+/// How many versions are published, how often a planner pins, and how often a full store is
+/// retried.
 const VERSIONS: u32 = 300;
 
 const PINS: u32 = 1_000;
 
 const TRIES: u32 = 100_000;
 
-/// A thread's session, and the newest version that it has published, or has had pinned.
+/// A thread's session, and the newest version that it has published or pinned.
 struct Worker<Id: StoreName> {
     session: Option<Session<Id>>,
     newest: u32,
@@ -46,7 +47,7 @@ fn planners_beside_a_painter(rt: HostRuntime) -> Result<(), Fail> {
     paints_and_plans::<Brand, _>(&rt, rt.alloc(), blank, since)
 }
 
-/// Whether the threads have worked for two seconds.
+/// Whether the threads have run for two seconds.
 fn is_over(clock: &impl Clock, since: Instant) -> bool {
     match since.elapsed(clock) {
         Ok(spent) => Duration::from_secs(2) <= spent,
@@ -84,7 +85,8 @@ fn is_version(map: &Bitmap, version: u32) -> bool {
     true
 }
 
-/// Has a command accepted. Where blocks or slots are lacking it gives the planners time to unpin, collects, and tries again.
+/// Retries a command until it is accepted. If blocks or slots are lacking, it gives the planners
+/// time to unpin, collects, and tries again.
 fn apply<Id: StoreName, R: Wait + Abort + Clock>(
     rt: &R,
     store: &Store<Id>,
@@ -106,7 +108,7 @@ fn apply<Id: StoreName, R: Wait + Abort + Clock>(
     panic!(rt; "no block came back, and no slot came free")
 }
 
-/// Publishes each version: the spots of the version before are cleared, and its own are painted.
+/// Publishes each version: clears the spots of the version before, and paints its own.
 fn publish_all<Id: StoreName, R: Wait + Abort + Clock>(
     rt: &R,
     store: &Store<Id>,
@@ -153,7 +155,7 @@ fn compare<Id: StoreName>(
     (version, pinned.unpin())
 }
 
-/// Pins often. The version never falls.
+/// Pins often. The version never decreases.
 fn pin_all<Id: StoreName, R: Abort + Clock>(
     rt: &R,
     alloc: Global,
@@ -198,7 +200,7 @@ fn side_by_side<Id: StoreName + Send + Sync, R: Threads + Wait + Abort + Clock +
     );
 }
 
-/// A worker that has seen version 0 alone.
+/// A worker that has seen only version 0.
 fn hired<Id: StoreName>(rt: &impl Abort, sessions: &mut Vec<Session<Id>>) -> Worker<Id> {
     Worker {
         session: Some(next(rt, sessions)),
@@ -206,7 +208,7 @@ fn hired<Id: StoreName>(rt: &impl Abort, sessions: &mut Vec<Session<Id>>) -> Wor
     }
 }
 
-/// Takes a worker's session back, and answers the newest version that it knows.
+/// Takes back a worker's session, and returns the newest version that it knows.
 fn dismiss<Id: StoreName>(
     rt: &impl Abort,
     sessions: &mut Vec<Session<Id>>,
@@ -217,7 +219,8 @@ fn dismiss<Id: StoreName>(
     newest
 }
 
-/// A store whose painter publishes while its planners pin. Once all have ended, a pin has the version that the painter published last.
+/// A store whose painter publishes while its planners pin. After all have ended, a pin has the
+/// version that the painter published last.
 fn paints_and_plans<Id: StoreName + Send + Sync, R: Threads + Wait + Abort + Clock + Sync>(
     rt: &R,
     alloc: Global,

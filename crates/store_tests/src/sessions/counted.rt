@@ -1,5 +1,5 @@
-//! Worked runs of sessions whose blocks are counted after each command. The maps have more tiles than free blocks, so that a paint of the
-//! whole map is refused, and tells how many are free.
+//! Worked runs of sessions whose blocks are counted after each command. The maps have more tiles
+//! than free blocks, so that a paint of the whole map is refused, and reports how many are free.
 
 use crate::sessions::acts::{A, Act, B, Row, Told};
 use crate::sessions::players::Game;
@@ -24,7 +24,7 @@ const FREED: [Row; 5] = [
     (A, Act::Paint([1, 0, 2, 1]), Told::Painted(4, 1)),
 ];
 
-/// Tiles that a command needs are counted, and those that the draft has of its own aren't among them.
+/// The tiles that a command needs are counted, without those that the draft has already.
 const POSITIONS: [Row; 6] = [
     (A, Act::Paint([0, 0, 128, 1]), Told::Full(2, 1)),
     (A, Act::Paint([0, 0, 1, 1]), Told::Painted(1, 1)),
@@ -47,8 +47,8 @@ const AGAIN: [Row; 9] = [
     (A, Act::Collect, Told::Collected(9, 3, 1)),
 ];
 
-/// Of four tiles the first changes before version 1, the next two before version 2, and the third again after it. Another session has version 1 pinned
-/// meanwhile.
+/// Of four tiles the first changes before version 1, the next two before version 2, and the third
+/// again after that. Meanwhile another session has version 1 pinned.
 const TAKEN: [Row; 12] = [
     (A, Act::Paint([0, 0, 2, 1]), Told::Painted(1, 2)),
     (A, Act::Publish, Told::Published(2, 1)),
@@ -98,7 +98,8 @@ const REFUSED: [Row; 9] = [
     (A, Act::Unpin, Told::Nothing),
 ];
 
-/// A map of four tiles. A tile is counted that a stamp touches, and none that clearing leaves as it was.
+/// A map of four tiles. A tile that a stamp touches is counted, one that clearing leaves as it was
+/// isn't.
 const CORNERS: [Row; 8] = [
     (A, Act::Paint([0, 0, 70, 66]), Told::Full(4, 2)),
     (A, Act::Paint([64, 0, 70, 1]), Told::Painted(1, 6)),

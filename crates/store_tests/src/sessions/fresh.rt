@@ -1,4 +1,5 @@
-//! Fresh pins: each query is answered as by the version's bitmap, whether a pin looks at single words, has read the version, or reads it in the middle of the query.
+//! Fresh pins: each query is answered as by the version's bitmap, whether a pin reads single words,
+//! has read the version, or reads it during the query.
 
 ghost use Rattle.std.specs.Prelude.{◌≡◌};
 
@@ -23,10 +24,11 @@ pub const SETTING: Setting = Setting {
     edge: Edge::Open,
 };
 
-/// A map of six tiles, whose pins look at 48 words: fewer than some cells' queries take, and more than others' do.
+/// A map of six tiles, whose pins read 48 words: fewer than some cells' queries take, and more than
+/// others' do.
 const FAR: Spotted = ([130, 70], 300);
 
-/// Maps each of whose cells is asked for, and the border: maps of six tiles, of four and of one.
+/// Maps of which each cell is queried, and their edges: maps of six tiles, of four and of one.
 const ALL_CELLS: [(Spotted, Edge); 10] = [
     (FAR, Edge::Open),
     (([64, 1], 40), Edge::Open),
@@ -40,7 +42,8 @@ const ALL_CELLS: [(Spotted, Edge); 10] = [
     (([5, 3], 0), Edge::Wall),
 ];
 
-/// Maps of six tiles and of one, where obstacles are near and far, on which rectangles and paths are asked for.
+/// Maps of six tiles and of one, with near and far obstacles, on which rectangles and paths are
+/// queried.
 const AREAS: [Spotted; 8] = [
     FAR,
     ([130, 70], 9),
@@ -52,7 +55,7 @@ const AREAS: [Spotted; 8] = [
     ([5, 3], 0),
 ];
 
-/// Corners of rectangles, and of paths round them. Some don't lie in each map.
+/// Corners of rectangles, and of the paths around them. Some are outside some maps.
 const CORNERS: [[u16; 4]; 20] = [
     [0, 0, 1, 1],
     [0, 0, 5, 3],
@@ -94,7 +97,7 @@ pub fn cells(
     Ok(queries)
 }
 
-/// Queries of each rectangle and of the path round it.
+/// Queries of each rectangle and of the path around it.
 fn areas(rt: &impl Abort, alloc: Global, metric: MetricKind) -> Result<Vec<Query>, Fail> {
     let mut queries = Vec::new(alloc);
     for corners in CORNERS {
@@ -135,7 +138,7 @@ pub fn ask<Id: StoreName>(
     same(rt, text.as_bytes(), want, query);
 }
 
-/// Asks for each query a fresh pin, the same one again, and one that was read.
+/// Puts each query to a fresh pin, to the same pin again, and to one that was read.
 fn compare<Id: StoreName>(
     rt: &impl Abort,
     alloc: Global,
@@ -166,7 +169,7 @@ fn compare<Id: StoreName>(
     Ok(())
 }
 
-/// Asks pins of a store on this map, whose border is this.
+/// Queries pins of a store on this map with this edge.
 fn compare_on(
     rt: &impl Abort,
     alloc: Global,

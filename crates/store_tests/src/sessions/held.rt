@@ -1,4 +1,4 @@
-//! A pin that is held while many versions are published, until the log is full.
+//! A pin held while many versions are published, until the log is full.
 
 ghost use Rattle.std.specs.Prelude.{◌<◌};
 
@@ -8,7 +8,8 @@ use map_core::Setting;
 use metric::{Edge, Refusal};
 use std::test::Fail;
 
-/// Four slots, as many blocks as version 0, the newest one and the draft take, and the entries of a thousand turns.
+/// Four slots, blocks for version 0, the newest version and the draft, and the entries of a
+/// thousand turns.
 const FEW: Setting = Setting {
     blocks: 3,
     versions: 4,
@@ -17,8 +18,9 @@ const FEW: Setting = Setting {
     edge: Edge::Open,
 };
 
-/// A painter's turn of this number, from 0: it changes the first cell, publishes and collects. A pin holds version 0 meanwhile. What comes back is the tile
-/// of the version before, but for version 0's.
+/// A painter's turn of this number, from 0: it changes the first cell, publishes and collects.
+/// Meanwhile a pin holds version 0. What comes back is the tile of the version before, except
+/// version 0's.
 fn turn(number: u32) -> [Row; 3]
     requires { number < 1_000 }
 {

@@ -1,4 +1,5 @@
-//! Pins while others go on: what a fresh pin has not looked at yet is its own version's still, and what a pin before has read is no later one's.
+//! Pins while others go on: what a fresh pin hasn't read yet is still its own version's, and what
+//! an earlier pin has read isn't taken for a later one's.
 
 ghost use Rattle.std.specs.Prelude.{◌≡◌};
 
@@ -19,7 +20,7 @@ use std::test::Fail;
 /// A map of six tiles, with an obstacle at `(97, 0)`.
 const SPOTTED: Spotted = ([130, 70], 300);
 
-/// Four slots, and blocks for the version that is held, the newest one and the draft.
+/// Four slots, and blocks for the held version, the newest one and the draft.
 const SETTING: Setting = Setting {
     blocks: 18,
     versions: 4,
@@ -36,7 +37,7 @@ const fn here(x: i16, y: i16) -> Near {
     }
 }
 
-/// Fills the map or clears it, publishes that, and collects.
+/// Fills the map or clears it, publishes, and collects.
 fn publish_all<Id: StoreName, R: Wait + Abort>(
     rt: &R,
     store: &Store<Id>,
@@ -52,7 +53,8 @@ fn publish_all<Id: StoreName, R: Wait + Abort>(
     holds(rt, collected.is_ok(), "a collect");
 }
 
-/// A pin is asked before and after eight versions, which go twice round the slots: for one cell, and then for each.
+/// Queries a pin before and after eight versions, which go around the slots twice: for one cell,
+/// and then for each.
 fn ask_while_others_publish<Id: StoreName, R: Wait + Abort>(
     rt: &R,
     alloc: Global,
@@ -78,7 +80,8 @@ fn ask_while_others_publish<Id: StoreName, R: Wait + Abort>(
     Ok(())
 }
 
-/// A session's first pin reads its version. Its later pins are of the full map that was published meanwhile, and each is asked once.
+/// A session's first pin reads its version. Its later pins are of the full map published meanwhile,
+/// and each is queried once.
 fn pin_again<Id: StoreName, R: Wait + Abort>(
     rt: &R,
     alloc: Global,

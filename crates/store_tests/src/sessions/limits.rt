@@ -1,4 +1,5 @@
-//! A store at its limits: the largest map, a path of a thousand points, and stamps wider than a word.
+//! A store at its limits: the largest map, a path of a thousand points, and stamps wider than a
+//! word.
 
 ghost use Rattle.std.specs.Prelude.{◌≡◌};
 
@@ -15,7 +16,7 @@ use std::process::Abort;
 use std::sync::Wait;
 use std::test::Fail;
 
-/// A block more than the map has tiles.
+/// One more block than the map has tiles.
 const SETTING: Setting = Setting {
     blocks: 4_097,
     versions: 2,
@@ -34,7 +35,7 @@ fn the_largest_map(rt: HostRuntime) -> Result<(), Fail> {
     asks_the_largest_map::<Brand, _>(&rt, rt.alloc(), blank, [stamp, bar])
 }
 
-/// An obstacle at `(0, 0)`, so far away.
+/// An obstacle at `(0, 0)`, at this distance.
 const fn near(dist: u32) -> Near {
     Near {
         dist,
@@ -63,7 +64,8 @@ fn ask_the_last_cell<Id: StoreName>(rt: &impl Abort, alloc: Global, pinned: &mut
     same(rt, clear, Ok(None), "far enough");
 }
 
-/// A stamp of the whole map leaves one obstacle, which each query of the last cell finds. A stamp of its upper left corner by a bar wider than a word changes nothing.
+/// A stamp of the whole map leaves one obstacle, which each query of the last cell finds. A stamp
+/// of its upper left corner by a bar wider than a word changes nothing.
 fn asks_the_largest_map<Id: StoreName, R: Wait + Abort>(
     rt: &R,
     alloc: Global,

@@ -1,4 +1,5 @@
-//! How many words pins look at: queries of a fresh pin leave its version unread, until they have looked at eight words for each tile. No clause tells it.
+//! How many words pins read: queries of a fresh pin leave its version unread until they have read
+//! eight words per tile. No clause says so.
 
 ghost use Rattle.std.specs.Prelude.{◌≡◌};
 
@@ -14,7 +15,8 @@ use std::marker::Brand;
 use std::process::Abort;
 use std::test::Fail;
 
-/// A query of each kind that has to look at one word at least, and finds the obstacle in it, on a map whose pins look at 48 words.
+/// A query of each kind that has to read at least one word and finds the obstacle in it, on a map
+/// whose pins read 48 words.
 const ASKS: [(&[u8], &[u8]); 4] = [
     (b"AT city 7 0", b"OK 0 7 0\n"),
     (b"RECT city 7 0 8 1", b"OK 0 7 0 7 0\n"),
@@ -44,8 +46,9 @@ fn ask_often<Id: StoreName>(
     pinned.unpin()
 }
 
-/// Maps, and how many of their cells, at least and at most, have a query that reads the version if it is the first of a pin: few cells where some obstacles are far,
-/// and each cell where there is none, since the query has to look at each word. On the first map a few queries are asked often instead.
+/// Maps, and how many of their cells, at least and at most, have a query that reads the version if
+/// it is the first of a pin: few cells if some obstacles are far, and each cell if there is none,
+/// since the query has to read each word. On the first map a few queries are asked often instead.
 const MAPS: [(Spotted, Option<(u32, u32)>); 3] = [
     (([130, 70], 9), None),
     (([130, 70], 300), Some((1, 4_549))),
@@ -70,7 +73,7 @@ fn count_far<Id: StoreName>(
     (session, far)
 }
 
-/// Asks pins of a store often, or once for each cell of which so many are to be far.
+/// Queries pins of a store often, or once for each cell, of which this many are to be far.
 fn ask_pins<Id: StoreName>(
     rt: &impl Abort,
     alloc: Global,

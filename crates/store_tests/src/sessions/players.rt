@@ -16,16 +16,16 @@ use std::process::Abort;
 use std::sync::Wait;
 use std::test::Fail;
 
-/// Rows for the sessions of a store on a map of this size without an obstacle.
+/// Rows for the sessions of a store on a map of this size without obstacles.
 #[derive(Clone, Copy)]
 pub struct Game<'a> {
     pub name: &'static str,
     pub setting: Setting,
     pub size: [u16; 2],
     pub rows: &'a [Row],
-    /// How many blocks are free after each row, where that is counted: fewer than the map has tiles.
+    /// How many blocks are free after each row, if that is counted: fewer than the map has tiles.
     pub free: &'a [u32],
-    /// How many of the sessions aren't given to the close.
+    /// How many of the sessions the close doesn't take.
     pub left_out: usize,
     /// The place of the last checkpoint, and how many entries there are after it.
     pub log: (u32, usize),
@@ -57,7 +57,7 @@ impl<Id: StoreName> Players<Id> {
         }
     }
 
-    /// The store, and the sessions, each of which has let its pin go.
+    /// The store, and the sessions, each unpinned.
     fn rise(self, rt: &impl Abort, alloc: Global) -> (Store<Id>, Vec<Session<Id>>) {
         let Players {
             store,
@@ -79,7 +79,7 @@ impl<Id: StoreName> Players<Id> {
         (store, sessions)
     }
 
-    /// Has a session act.
+    /// Makes a session act.
     fn act<R: Wait + Abort>(&mut self, rt: &R, alloc: Global, who: usize, act: Act) -> Told {
         match act {
             Act::Ticket => {
@@ -105,8 +105,8 @@ impl<Id: StoreName> Players<Id> {
         }
     }
 
-    /// Has sessions act as the rows of a game say. A paint of the whole map is refused where fewer blocks are free than it has tiles; it tells how many are, and
-    /// changes nothing.
+    /// Makes sessions act as the rows of a game say. A paint of the whole map is refused if fewer
+    /// blocks are free than it has tiles; it reports how many are, and changes nothing.
     fn play<R: Wait + Abort>(&mut self, rt: &R, alloc: Global, game: &Game<'_>) {
         let [width, height] = game.size;
         let all = Act::Paint([0, 0, width, height]);
@@ -123,13 +123,13 @@ impl<Id: StoreName> Players<Id> {
     }
 }
 
-/// Plays a game on a store that is opened for it.
+/// Plays a game on a store opened for it.
 pub fn play<R: Wait + Abort>(rt: &R, alloc: Global, game: Game<'_>) -> Result<(), Fail> {
     let blank = blank(rt, alloc, game.setting, (game.size, 0))?;
     play_in::<Brand, _>(rt, alloc, blank, game)
 }
 
-/// Plays a game on a store that is opened from this.
+/// Plays a game on a store opened from this.
 fn play_in<Id: StoreName, R: Wait + Abort>(
     rt: &R,
     alloc: Global,

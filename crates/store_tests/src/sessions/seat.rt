@@ -1,4 +1,4 @@
-//! A session in its seat, with a pin or without, and what each act is by it.
+//! A session in its seat, with or without a pin, and how it does each act.
 
 ghost use Rattle.std.specs.Prelude.{◌≡◌};
 
@@ -12,7 +12,7 @@ use std::alloc::Global;
 use std::process::Abort;
 use std::sync::Wait;
 
-/// A session, which has a pin or none.
+/// A session, with or without a pin.
 pub enum Seat<Id: StoreName> {
     Free(Session<Id>),
     Held(Pinned<Id>),
@@ -41,7 +41,7 @@ fn command_of(rt: &impl Abort, alloc: Global, act: Act) -> Command {
     }
 }
 
-/// How far a pin's nearest obstacle of a cell is.
+/// The nearest obstacle of a cell, by a pin.
 fn near<Id: StoreName>(alloc: Global, pinned: &mut Pinned<Id>, [x, y]: [u16; 2]) -> Told {
     let near = pinned.at::<Euclid2>(alloc, Cell { x, y });
     let version = pinned.version();

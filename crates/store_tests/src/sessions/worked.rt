@@ -7,7 +7,7 @@ use map_core::Setting;
 use metric::{Edge, Refusal};
 use std::test::Fail;
 
-/// Room for three blocks, two versions, three sessions and ten entries.
+/// Three blocks, two versions, three sessions and ten entries.
 const SMALL: Setting = Setting {
     blocks: 3,
     versions: 2,
@@ -16,7 +16,7 @@ const SMALL: Setting = Setting {
     edge: Edge::Open,
 };
 
-/// Room for a block and a version more, and two sessions.
+/// One more block and version, and two sessions.
 const WIDER: Setting = Setting {
     blocks: 4,
     versions: 3,
@@ -25,7 +25,8 @@ const WIDER: Setting = Setting {
     edge: Edge::Open,
 };
 
-/// A game on a map of one tile, whose blocks aren't counted, and all of whose sessions are given to the close.
+/// A game on a map of one tile, whose blocks aren't counted, and whose sessions all go to the
+/// close.
 const GAME: Game<'static> = Game {
     name: "",
     setting: SMALL,
@@ -54,7 +55,8 @@ const KEPT: [Row; 14] = [
     (C, Act::Unpin, Told::Nothing),
 ];
 
-/// A pin of version 0 keeps that version alone: a collect drops version 1, which came after it, and gives its block back.
+/// A pin of version 0 keeps only that version: a collect drops version 1, which came after it, and
+/// frees its block.
 const ALONE: [Row; 12] = [
     (A, Act::Pin, Told::Version(0)),
     (B, Act::Paint([0, 0, 1, 1]), Told::Painted(1, 1)),
@@ -70,8 +72,9 @@ const ALONE: [Row; 12] = [
     (A, Act::Unpin, Told::Nothing),
 ];
 
-/// The log has room for two entries. Each further command is refused for that, but for one outside the map. A ticket tells of both
-/// entries, and a pin sees the version that the second one published, as it was.
+/// The log has capacity for two entries. Each further command is refused for that, except one
+/// outside the map. A ticket covers both entries, and a pin sees the version that the second one
+/// published, as it was.
 const FULL: [Row; 13] = [
     (A, Act::Paint([0, 0, 1, 1]), Told::Painted(1, 1)),
     (A, Act::Publish, Told::Published(2, 1)),
@@ -92,8 +95,8 @@ const FULL: [Row; 13] = [
     (B, Act::Unpin, Told::Nothing),
 ];
 
-/// The log has room for two entries. A checkpoint drops those that stand there, so the next two are taken, and places go on counting. A pin of before
-/// answers the same after it.
+/// The log has capacity for two entries. A checkpoint drops those in it, so that the next two are
+/// accepted, and places go on counting. An earlier pin answers the same after it.
 const DROPPED: [Row; 17] = [
     (A, Act::Paint([0, 0, 1, 1]), Told::Painted(1, 1)),
     (A, Act::Publish, Told::Published(2, 1)),
@@ -123,8 +126,8 @@ const FREED: [Row; 5] = [
     (A, Act::Paint([1, 0, 2, 1]), Told::Painted(4, 1)),
 ];
 
-/// The log has room for two entries. A paint that finds it full leaves the draft: what is published
-/// after a checkpoint has none of its cells.
+/// The log has capacity for two entries. A paint that finds it full leaves the draft: what is
+/// published after a checkpoint has none of its cells.
 const LEFT: [Row; 14] = [
     (A, Act::Paint([0, 0, 1, 1]), Told::Painted(1, 1)),
     (A, Act::Publish, Told::Published(2, 1)),
@@ -142,7 +145,7 @@ const LEFT: [Row; 14] = [
     (B, Act::Unpin, Told::Nothing),
 ];
 
-/// Two checkpoints of a log with room for two entries.
+/// Two checkpoints of a log with capacity for two entries.
 const CHECKED: [Row; 9] = [
     (A, Act::Paint([0, 0, 1, 1]), Told::Painted(1, 1)),
     (A, Act::Publish, Told::Published(2, 1)),
@@ -155,7 +158,7 @@ const CHECKED: [Row; 9] = [
     (A, Act::Publish, Told::Published(7, 2)),
 ];
 
-/// A session stamps and publishes, pins, and makes each command with its pin, whose version stays.
+/// A session stamps and publishes, pins, and runs each command with its pin, whose version stays.
 const COMMANDS: [Row; 16] = [
     (A, Act::Stamp(62, 0), Told::Refused(Refusal::OutOfRange)),
     (A, Act::Paint([0, 0, 1, 1]), Told::Painted(1, 1)),
@@ -175,8 +178,8 @@ const COMMANDS: [Row; 16] = [
     (A, Act::Unpin, Told::Nothing),
 ];
 
-/// A pin learns a ticket of a later version, before it has read its bitmap and after that: the version and what is asked stay. The session's next pin
-/// has what the ticket told.
+/// A pin learns a ticket of a later version, before and after it has read its bitmap: the version
+/// and the answers stay. The session's next pin has what the ticket brought.
 const LEARNED: [Row; 18] = [
     (A, Act::Pin, Told::Version(0)),
     (B, Act::Pin, Told::Version(0)),
@@ -218,7 +221,8 @@ const EMPTIED: [Row; 2] = [
     (B, Act::Checkpoint, Told::Checkpointed(2)),
 ];
 
-/// The last five are closed without some of their sessions, or with all: what a close gives is the entries of all of them after the last checkpoint.
+/// The last five are closed without some of their sessions, or with all: a close returns the
+/// entries of all of them after the last checkpoint.
 const GAMES: [Game<'static>; 14] = [
     Game {
         name: "a pin keeps its version",
