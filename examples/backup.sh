@@ -1,11 +1,13 @@
 #!/usr/bin/env bash
-# Back a served map up, and serve the backup. The server keeps its state in memory alone, so this is how a map outlives it.
+# Back a served map up, and serve the backup. The server keeps its state in memory alone, so this is
+# how a map outlives it.
 . "$(dirname "$0")/setup.bash"
 
 start_server examples/room.pbm --connections 2
 printf 'PAINT 2 2 5 5\nPUBLISH\nQUIT\n' | clearmap ask --port "$port"
 
-# The replies are OK 0 (the version), OK and a number of bytes, the image, and BYE. A short backup is worse than none: its bytes are counted.
+# The replies are OK 0 (the version), OK and a number of bytes, the image, and BYE. A short backup
+# is worse than none: its bytes are counted.
 printf 'PIN\nDUMP\nQUIT\n' | clearmap ask --port "$port" > "$scratch/replies"
 read -r ok bytes < <(sed -n 2p "$scratch/replies")
 [ "$ok" = OK ]

@@ -1,6 +1,7 @@
 #!/usr/bin/env bash
-# A costmap layer: from distances to costs as ROS has them. 254 is an obstacle, 253 where the robot's inscribed circle touches one, then it falls
-# off with the distance, and 0 is free. A cell without a distance, as in a map with no obstacle, costs nothing.
+# A costmap layer: from distances to costs as ROS has them. 254 is an obstacle, 253 where the
+# robot's inscribed circle touches one, then it falls off with the distance, and 0 is free. A cell
+# without a distance, as in a map with no obstacle, costs nothing.
 . "$(dirname "$0")/setup.bash"
 
 resolution=0.05 inscribed=0.10 scaling=10

@@ -1,5 +1,6 @@
 #!/usr/bin/env bash
-# A log with room for two entries: a checkpoint drops those that stand there, and changes go on. Places go on counting.
+# A log with room for two entries: a checkpoint drops those that stand there, and changes go on.
+# Places go on counting.
 . "$(dirname "$0")/setup.bash"
 
 printf 'P1 64 64 ' > "$scratch/blank.pbm"

@@ -1,7 +1,7 @@
 #!/usr/bin/env bash
-# A plan of OMPL's RRT* over a served map: from the one room through a door to the other, for a robot of 0.1 m radius; PATH confirms its clearance.
-# Needs g++: g++ pkg-config
-# Needs the header: ompl/geometric/planners/rrt/RRTstar.h
+# A plan of OMPL's RRT* over a served map: from the one room through a door to the other, for a
+# robot of 0.1 m radius; PATH confirms its clearance. Needs g++: g++ pkg-config Needs the header:
+# ompl/geometric/planners/rrt/RRTstar.h
 . "$(dirname "$0")/setup.bash"
 
 # 3 by 2 m, 0.05 m a cell: walls round it, and one across it with a door of 0.6 m near the top.
@@ -21,7 +21,8 @@ start_server "$scratch/map.pbm" --connections 3
 g++ -std=c++17 -O1 -I clients/cpp $(pkg-config --cflags-only-I ompl) -o "$scratch/ompl_plan" examples/ompl_plan.cpp -lompl
 "$scratch/ompl_plan" "$port" 60 40 0.05 0 0 0.1 0.5 0.5 2.5 0.5 > "$scratch/plan.txt"
 
-# The plan differs with OMPL's version; what it has to be doesn't: from the start to the goal, through the door, with room for the robot and half of it more.
+# The plan differs with OMPL's version; what it has to be doesn't: from the start to the goal,
+# through the door, with room for the robot and half of it more.
 sed -n '1s/,.*//p; $!{h;d}; x; s/,.*//p' "$scratch/plan.txt"
 tail -n 1 "$scratch/plan.txt" | awk '{ print ($4 >= 0.15 ? "it keeps 0.15 m or more" : "it keeps " $4 " m"), $6, $7, $8 }'
 

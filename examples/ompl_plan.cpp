@@ -1,7 +1,9 @@
-// A plan by OMPL's RRT* over a served map: ompl_plan PORT WIDTH HEIGHT RESOLUTION ORIGIN_X ORIGIN_Y RADIUS FROM_X FROM_Y TO_X TO_Y, all but the size in
-// metres. A state and a motion are valid where a pinned CLEAROF says that a round robot has room, and the plan's clearance is what is made large. It
-// prints each point of the plan with its clearance, and then that of the whole plan as PATH answers it.
-// Build: g++ -std=c++17 -I clients/cpp $(pkg-config --cflags ompl) -o ompl_plan examples/ompl_plan.cpp -lompl
+// A plan by OMPL's RRT* over a served map: ompl_plan PORT WIDTH HEIGHT RESOLUTION ORIGIN_X ORIGIN_Y
+// RADIUS FROM_X FROM_Y TO_X TO_Y, all but the size in metres. A state and a motion are valid where
+// a pinned CLEAROF says that a round robot has room, and the plan's clearance is what is made
+// large. It prints each point of the plan with its clearance, and then that of the whole plan as
+// PATH answers it. Build: g++ -std=c++17 -I clients/cpp $(pkg-config --cflags ompl) -o ompl_plan
+// examples/ompl_plan.cpp -lompl
 #include <clearmap.hpp>
 #include <ompl/base/objectives/MinimaxObjective.h>
 #include <ompl/base/spaces/RealVectorStateSpace.h>

@@ -7,7 +7,8 @@ clearmap dist --query 'AT euclid2 3 3' < examples/room.pbm
 # The tightest cell of a way through the room, in steps to the four neighbours.
 clearmap dist --query 'PATH city 2 2 2 6 6 6' < examples/room.pbm
 
-# May a robot that needs a clearance of 2 cells (4 squared) go there? The answer is the first cell that is too near.
+# May a robot that needs a clearance of 2 cells (4 squared) go there? The answer is the first cell
+# that is too near.
 clearmap dist --query 'CLEAROF euclid2 4 2 2 2 6 6 6' < examples/room.pbm
 
 # A way with a slanted piece is refused.

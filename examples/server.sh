@@ -1,5 +1,6 @@
 #!/usr/bin/env bash
-# One server, two planners and a painter. A planner's version stays as it is while the painter goes on.
+# One server, two planners and a painter. A planner's version stays as it is while the painter goes
+# on.
 . "$(dirname "$0")/setup.bash"
 
 start_server examples/room.pbm --connections 3

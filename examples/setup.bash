@@ -1,5 +1,6 @@
-# Read by each example at its start: they stop at the first fault, also of a pipe's first command; run from any folder; and write to a scratch folder
-# that is removed at the end, where `scratch` doesn't name one. `clearmap` is the installed program, or else the one of this repository.
+# Read by each example at its start: they stop at the first fault, also of a pipe's first command;
+# run from any folder; and write to a scratch folder that is removed at the end, where `scratch`
+# doesn't name one. `clearmap` is the installed program, or else the one of this repository.
 set -euo pipefail
 cd "$(dirname "${BASH_SOURCE[0]}")/.."
 command -v clearmap > /dev/null || PATH=$PWD:$PATH
@@ -15,7 +16,8 @@ finish() {
 }
 trap finish EXIT
 
-# start_server MAP FLAG ..: serves a map in the background. Its port comes into `port`, and its process into `server`.
+# start_server MAP FLAG ..: serves a map in the background. Its port comes into `port`, and its
+# process into `server`.
 start_server() {
     : > "$scratch/served"
     clearmap serve "${@:2}" < "$1" > "$scratch/served" &

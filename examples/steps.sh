@@ -1,6 +1,7 @@
 #!/usr/bin/env bash
-# A collect has looked at a reader's word just before that reader announces a version that the collect then drops. The reader's next
-# load tells it so: it holds the newest version, never the one that is gone. Each line of the text is answered by one line.
+# A collect has looked at a reader's word just before that reader announces a version that the
+# collect then drops. The reader's next load tells it so: it holds the newest version, never the one
+# that is gone. Each line of the text is answered by one line.
 . "$(dirname "$0")/setup.bash"
 
 clearmap steps << 'TEXT'

@@ -1,9 +1,10 @@
 #!/usr/bin/env bash
-# A robot's server and a desk that share no network: a link of socat leads to the server's loopback, is lost and comes back, and another server takes over.
-# Needs socat: socat ip unshare nsenter pkill
+# A robot's server and a desk that share no network: a link of socat leads to the server's loopback,
+# is lost and comes back, and another server takes over. Needs socat: socat ip unshare nsenter pkill
 . "$(dirname "$0")/setup.bash"
 
-# The robot is a network of its own, with a loopback of its own, where the system lets us make one; else it is another port of this machine.
+# The robot is a network of its own, with a loopback of its own, where the system lets us make one;
+# else it is another port of this machine.
 apart=()
 inside=()
 if unshare -rn true 2> /dev/null; then apart=(unshare -rn); fi
@@ -15,7 +16,8 @@ until port=$(sed -n 's/^LISTENING //p' "$scratch/served" 2> /dev/null) && [ -n "
 done
 if [ "${#apart[@]}" != 0 ]; then inside=(nsenter --target "$server" --user --net --preserve-credentials); fi
 
-# The link: on the robot from a file to the server's port, and on the desk from a port to that file. ssh -L does the same over a network.
+# The link: on the robot from a file to the server's port, and on the desk from a port to that file.
+# ssh -L does the same over a network.
 "${inside[@]}" socat "UNIX-LISTEN:$scratch/link,fork" "TCP:127.0.0.1:$port" 2> /dev/null &
 robots_end=$!
 until [ -S "$scratch/link" ]; do sleep 0.1; done
@@ -27,7 +29,8 @@ until near=$(sed -n 's/.*listening on AF=2 127.0.0.1:\([0-9]*\)$/\1/p' "$scratch
 ask_robot() { "${inside[@]}" clearmap ask --port "$port" | sed 's/^/robot: /'; }
 ask_desk() { clearmap ask --port "$near" | sed 's/^/desk: /'; }
 
-# The desk pins a version through the link, and keeps its connection while the robot publishes another.
+# The desk pins a version through the link, and keeps its connection while the robot publishes
+# another.
 coproc planner { clearmap ask --port "$near"; }
 told() {
     read -r reply <&"$1" || reply='nothing'
@@ -39,7 +42,8 @@ told "$answers"
 told "$answers"
 printf 'PAINT 7 4 9 6\nPUBLISH\nCOLLECT\nQUIT\n' | ask_robot
 
-# The link is lost, with all that goes through it. The server leaves the pin at once, and so nothing holds version 0 any more.
+# The link is lost, with all that goes through it. The server leaves the pin at once, and so nothing
+# holds version 0 any more.
 pkill -P "$desks_end"
 echo 'AT chess 6 4' >&"$lines" || true
 told "$answers"

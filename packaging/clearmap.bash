@@ -1,4 +1,5 @@
-# Completion of clearmap's command line for bash. tools/gate/check_install.sh compares its words with --help.
+# Completion of clearmap's command line for bash. tools/gate/check_install.sh compares its words
+# with --help.
 _clearmap() {
     local word=${COMP_WORDS[COMP_CWORD]} before=${COMP_WORDS[COMP_CWORD - 1]} command=${COMP_WORDS[1]} words=''
     if [ "$COMP_CWORD" = 1 ]; then

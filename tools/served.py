@@ -1,4 +1,5 @@
-"""A server of a map, for the scripts and tests that ask one: the built `clearmap serve`, or that of the program which CLEARMAP names.
+"""A server of a map, for the scripts and tests that ask one: the built `clearmap serve`, or that of
+the program which CLEARMAP names.
 
     with Served(blank(64, 64), "--log", "20") as server:
         client = clearmap.Client(server.port)
@@ -16,7 +17,8 @@ def blank(width, height):
 
 
 class Served:
-    """A server of an image, with these flags, on a port that the system picks where none is asked for. It is killed at the end of a `with`, or by `end`."""
+    """A server of an image, with these flags, on a port that the system picks where none is asked
+    for. It is killed at the end of a `with`, or by `end`."""
 
     def __init__(self, image, *flags, connections=1000, port=0):
         words = [PROGRAM, "serve", "--connections", str(connections), "--port", str(port), *flags]

@@ -1,10 +1,10 @@
-/* What of libclearmap is written in C: its heap over malloc, its version, the status texts. */
+/* The parts of libclearmap in C: its heap over malloc, its version, the status texts. */
 #include "clearmap.h"
 
 #include <stdbool.h>
 #include <stdlib.h>
 
-/* What the proved part asks for: whether there is room, and where. */
+/* The allocator that the proved part calls: whether there is memory, and where. */
 struct tried {
     bool ok;
     void *place;
@@ -12,7 +12,7 @@ struct tried {
 
 static char nothing;
 
-/* malloc aligns to 16, and the library asks for no more. */
+/* malloc aligns to 16, and the library needs no more. */
 struct tried rattle_alloc(size_t size, size_t align) {
     void *place = malloc(size ? size : align);
     return (struct tried){place != NULL, place ? place : &nothing};

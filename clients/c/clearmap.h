@@ -14,26 +14,25 @@
  *     if (status == CLEARMAP_DONE && near.dist != CLEARMAP_NO_OBSTACLE)
  *         metres = sqrt(near.dist) * metres_per_cell;
  *
- * Status. Each call returns CLEARMAP_DONE (0), or what is wrong with it. A call that is not done
- * has written nothing. Where several things are wrong, the status is the first of them, in the
- * order of their numbers.
+ * Status. Each call returns CLEARMAP_DONE (0), or what is wrong with it. A call with another status
+ * has written nothing. Of several faults, the status is the first in the order of the numbers.
  *
- * Threads. The library keeps nothing between calls and starts no thread. Any thread may make any
- * call at any time, also while others read the same map. What a call writes, and a map that some
- * thread writes, no other thread may touch meanwhile. To share a map's rows among threads, let each
- * ask for some rows (y0 to y1 - 1), with room of its own.
+ * Threads. The library keeps no state between calls and starts no thread. Any thread may make any
+ * call at any time, even while others read the same map. No other thread may touch what a call
+ * writes, or a map that a thread writes, in the meantime. To share a map's rows among threads, let
+ * each compute some rows (y0 to y1 - 1) into memory of its own.
  *
- * What the caller owes, and nothing checks: no pointer is null, also where its length is 0; each
- * length is true; pointers are aligned as their types are; what a call writes does not overlap what
- * it reads. A call that takes memory is not made from a signal handler, nor in the forked child of
- * a process that has threads.
+ * Caller's duties, which nothing checks: no pointer is null, even if its length is 0; each length
+ * is true; pointers are aligned for their types; what a call writes does not overlap what it reads.
+ * A call that allocates memory is not made from a signal handler, nor in the forked child of a
+ * process that has threads.
  *
- * Memory. CLEARMAP_MEMORY is for the calls `distances` and `nearest` alone: they ask malloc for a
- * copy of the map in bits, an eighth of a byte a cell, and for 160 to 300 bytes a column and some
- * 700 more, and free all before they return. The other calls ask for none. The stack grows by 6 KB
- * at most.
+ * Memory. Only the calls `distances` and `nearest` can return CLEARMAP_MEMORY: they ask malloc for
+ * a copy of the map in bits, an eighth of a byte per cell, and for 160 to 300 bytes per column and
+ * about 700 more, and free all of it before they return. The other calls allocate nothing. The
+ * stack grows by at most 6 KB.
  *
- * x86-64 wants SSE 4.2 (x86-64-v2): nothing checks it.
+ * On x86-64 the library needs SSE 4.2 (x86-64-v2); nothing checks it.
  */
 #ifndef CLEARMAP_H
 #define CLEARMAP_H
@@ -78,20 +77,20 @@ const char *clearmap_status_text(uint32_t status);
 
 /* The unit of all distances. For a radius of r cells ask euclid2 for d = ceil(r * r). */
 enum {
-    CLEARMAP_EUCLID2 = 0, /* dx * dx + dy * dy: the square of the straight distance */
+    CLEARMAP_EUCLID2 = 0, /* dx * dx + dy * dy: the square of the Euclidean distance */
     CLEARMAP_CITY = 1,    /* dx + dy: steps to the four neighbours */
     CLEARMAP_CHESS = 2    /* max(dx, dy): steps to the eight neighbours */
 };
 
 enum {
-    CLEARMAP_OPEN = 0, /* nothing lies round the map */
-    CLEARMAP_WALL = 1  /* each cell of the frame round the map is an obstacle too */
+    CLEARMAP_OPEN = 0, /* nothing lies around the map */
+    CLEARMAP_WALL = 1  /* each cell of the frame around the map is an obstacle too */
 };
 
-/* The distance that says that there is no obstacle at all. No obstacle is so far away. */
+/* The distance that means no obstacle at all. No obstacle is that far away. */
 #define CLEARMAP_NO_OBSTACLE UINT32_MAX
 
-/* The column and the row of no obstacle. */
+/* The column and the row that mean no obstacle. */
 #define CLEARMAP_NOWHERE (-2)
 
 /* A column and a row. */
@@ -100,7 +99,7 @@ typedef struct clearmap_cell {
 } clearmap_cell;
 
 /*
- * The nearest obstacle of a cell: its distance, its column and its row. In the frame round a map
+ * The nearest obstacle of a cell: its distance, its column and its row. In the frame around a map
  * either may be -1, or the number of columns or rows. Of several at the least distance it is the
  * one of the least column; of those the one in the fewest rows away, and of two such the upper.
  * Where there is no obstacle: CLEARMAP_NO_OBSTACLE, CLEARMAP_NOWHERE, CLEARMAP_NOWHERE.
@@ -110,7 +109,7 @@ typedef struct clearmap_near {
     int16_t x, y;
 } clearmap_near;
 
-/* A cell and its nearest obstacle. Where near says that there is none, the cell tells nothing. */
+/* A cell and its nearest obstacle. Where near says that there is none, the cell has no meaning. */
 typedef struct clearmap_found {
     clearmap_cell cell;
     clearmap_near near;
@@ -119,7 +118,7 @@ typedef struct clearmap_found {
 /* ---- Maps ------------------------------------------------------------------------------------ */
 
 /*
- * How a map lies in bytes: cell (x, y) is the byte at y * stride + x, and an obstacle where
+ * The layout of a map in bytes: cell (x, y) is the byte at y * stride + x, and an obstacle where
  * low <= byte && byte <= high. The last row need not be padded.
  */
 typedef struct clearmap_bytes {
@@ -130,14 +129,13 @@ typedef struct clearmap_bytes {
 } clearmap_bytes;
 
 /*
- * How a map lies in bits: cell (x, y) is bit x % 64, from the lowest, of the word at
- * y * stride + x / 64, and an obstacle where that bit is 1 and so is bit y / 64 of bands. Bits past
- * the last column may be anything.
+ * The layout of a map in bits: cell (x, y) is bit x % 64, from the lowest, of the word at y *
+ * stride + x / 64, and an obstacle where that bit is 1 and so is bit y / 64 of bands. Bits past the
+ * last column may be anything.
  *
- * Bit k of bands says that the rows 64 k to 64 k + 63 may have an obstacle: where it is 0 they are
- * taken to be blank, WHATEVER THEIR WORDS SAY. So a query walks over no blank band. clearmap_pack
- * sets bands; whoever then sets a bit in row y sets bit y / 64 of bands too. UINT64_MAX is right
- * for each map.
+ * Bit k of bands says that rows 64 k to 64 k + 63 may have an obstacle: where it is 0 they count as
+ * blank, WHATEVER THEIR WORDS SAY. So a query skips blank bands. clearmap_pack sets bands; if you
+ * set a bit in row y afterwards, set bit y / 64 of bands too. UINT64_MAX is right for every map.
  */
 typedef struct clearmap_bits {
     uint32_t width;  /* columns, 1 to 4096 */
@@ -147,16 +145,16 @@ typedef struct clearmap_bits {
 } clearmap_bits;
 
 /*
- * Writes a map in bytes to words, its rows one after another without a gap, and to *bits how it
- * lies there. words_length is (width + 63) / 64 * height or more; what is over stays as it is.
+ * Packs a map in bytes into words, its rows one after another without a gap, and writes their
+ * layout to *bits. words_length is at least (width + 63) / 64 * height; the rest stays as it is.
  * Status: SIZE, STRIDE, LENGTH, ROOM.
  */
 uint32_t clearmap_pack(const uint8_t *bytes, size_t bytes_length, const clearmap_bytes *map,
                        uint64_t *words, size_t words_length, clearmap_bits *bits);
 
 /*
- * Writes a map in bits to bytes, its rows one after another without a gap: the byte `obstacle` for
- * an obstacle, and `free` for another cell. bytes_length is width * height or more; what is over
+ * Unpacks a map in bits into bytes, its rows one after another without a gap: the byte `obstacle`
+ * for an obstacle, and `free` for any other cell. bytes_length is at least width * height; the rest
  * stays as it is.
  * Status: SIZE, STRIDE, LENGTH, ROOM.
  */
@@ -166,8 +164,8 @@ uint32_t clearmap_unpack(const uint64_t *words, size_t words_length, const clear
 /* ---- All cells of some rows ------------------------------------------------------------------ */
 
 /*
- * Writes the distances of the cells of rows y0 to y1 - 1, row by row, each row from the left.
- * distances_length is (y1 - y0) * width or more; what is over stays as it is.
+ * Writes the distances of the cells of rows y0 to y1 - 1, in row-major order. distances_length is
+ * at least (y1 - y0) * width; the rest stays as it is.
  * Status: SIZE, STRIDE, LENGTH, METRIC, EDGE, OUTSIDE, ROOM, MEMORY.
  */
 uint32_t clearmap_bytes_distances(const uint8_t *bytes, size_t bytes_length,
@@ -190,7 +188,7 @@ uint32_t clearmap_bits_nearest(const uint64_t *words, size_t words_length,
                                size_t nears_length);
 
 /* ---- Queries --------------------------------------------------------------------------------- */
-/* They search outwards from the cells that are asked for, in place. Over bits they are faster. */
+/* They search outwards from the cells of the query, in place. They are faster over bits. */
 
 /*
  * Writes the nearest obstacle of cell (x, y).
@@ -204,9 +202,8 @@ uint32_t clearmap_bits_at(const uint64_t *words, size_t words_length, const clea
                           clearmap_near *near);
 
 /*
- * Writes the first cell of the least distance in the columns x0 to x1 - 1 of the rows y0 to y1 - 1,
- * row by row from the top and each row from the left, and its nearest obstacle; none where the map
- * has no obstacle.
+ * Writes the first cell with the least distance in columns x0 to x1 - 1 of rows y0 to y1 - 1, in
+ * row-major order, and its nearest obstacle; none where the map has no obstacle.
  * Status: SIZE, STRIDE, LENGTH, METRIC, EDGE, OUTSIDE.
  */
 uint32_t clearmap_bytes_rect(const uint8_t *bytes, size_t bytes_length, const clearmap_bytes *map,
@@ -217,7 +214,7 @@ uint32_t clearmap_bits_rect(const uint64_t *words, size_t words_length, const cl
                             uint32_t y1, clearmap_found *found);
 
 /*
- * Writes the first cell of the least distance along a path, and its nearest obstacle; none where
+ * Writes the first cell with the least distance along a path, and its nearest obstacle; none where
  * the map has no obstacle. A path is 1 to 1000 points, each in the row or the column of the point
  * before it; its cells are the first point, and then those after each point up to the next.
  * Status: SIZE, STRIDE, LENGTH, METRIC, EDGE, POINTS, OUTSIDE, CROOKED.
@@ -232,7 +229,7 @@ uint32_t clearmap_bits_path(const uint64_t *words, size_t words_length, const cl
 /*
  * Writes the first cell along a path whose distance is below d, in the unit of the metric, and its
  * nearest obstacle; none where the path is clear.
- * Status: as that of a path.
+ * Status: that of a path.
  */
 uint32_t clearmap_bytes_clear_of(const uint8_t *bytes, size_t bytes_length,
                                  const clearmap_bytes *map, uint32_t metric, uint32_t edge,

@@ -407,7 +407,7 @@ static void try_statuses(void) {
     REFUSE(PATH, CLEARMAP_OUTSIDE, g.points[1].x = 3);
     REFUSE(PATH, CLEARMAP_OUTSIDE, g.points[2].y = 2);
     REFUSE(PATH, CLEARMAP_CROOKED, g.points[2].x = 1);
-    /* Of several things the first is told. */
+    /* Of several faults the first is reported. */
     REFUSE(ALL, CLEARMAP_SIZE, g.height = 4097; g.stride = 2; g.metric = 9);
     REFUSE(ALL, CLEARMAP_STRIDE, g.stride = 2; g.length = 5; g.edge = 9);
     REFUSE(ALL, CLEARMAP_LENGTH, g.length = 5; g.metric = 9; g.y1 = 9);
@@ -481,7 +481,7 @@ static long try_memory(void) {
             CHECK(same(nears[0], untouched) && distances[0] == 7);
             refused++;
         }
-    /* Queries ask for none. */
+    /* Queries allocate none. */
     until_refused = 0;
     requests = 0;
     REFUSE(QUERIES, CLEARMAP_DONE, (void)0);

@@ -9,18 +9,18 @@
 //     double tightest = map.clearance({{0, 0}, {30, 0}, {30, 9}});
 //
 // Columns x and rows y count from 0 at the upper left. A distance is in cells: euclid2 is the
-// square of the straight one, city and chess count steps. The server listens on the loopback
-// interface alone.
+// square of the Euclidean one, city and chess count steps. The server listens only on the loopback
+// interface.
 //
 // Threads. Any threads may use one client and its pins: calls take turns on the connection, each
-// from its request to its last reply, so each gets its own answers. Planners that mustn't wait
-// for one another want a client each. Only one thread may move, assign to or destroy an object, and
-// only while no other uses it. Make no call from a signal handler, and leave none by longjmp.
-// After fork() the connection stays the parent's: in the child each call throws ConnectionLost.
+// from its request to its last reply, so each gets its own answers. Planners that mustn't wait for
+// each other need a client each. Only one thread may move, assign to or destroy an object, and only
+// while no other uses it. Make no call from a signal handler, and leave none by longjmp. After
+// fork() the connection stays the parent's: in the child each call throws ConnectionLost.
 //
 // Errors. Each call that asks the server may throw ConnectionLost, TimedOut, WrongAnswer, Refused
-// and std::bad_alloc, and WrongMap where it connects anew. Whatever ends a call early, the
-// connection is in step after it or closed: no later call gets a reply that belongs to this one.
+// and std::bad_alloc, and WrongMap when it reconnects. Whatever ends a call early, the connection
+// is in step after it or closed: no later call gets a reply that belongs to this one.
 #ifndef CLEARMAP_HPP
 #define CLEARMAP_HPP
 
@@ -54,11 +54,11 @@ namespace clearmap {
 
 // ---- what is asked and answered
 
-/// How a distance is measured.
+/// The metric of a distance.
 enum class Metric { euclid2, city, chess };
 
-/// A column and a row, from 0 at the upper left. An obstacle on the frame of a map whose border
-/// is a wall lies at -1, or one cell after the last.
+/// A column and a row, from 0 at the upper left. On the frame of a map with a wall, an obstacle
+/// lies at -1, or one cell after the last.
 struct Cell {
     int x, y;
     friend bool operator==(Cell a, Cell b) { return a.x == b.x && a.y == b.y; }
@@ -95,29 +95,29 @@ struct Collected {
     std::uint32_t place, floor, freed;
 };
 
-/// What a client does where a command of its own is answered LogFull: it throws that, or it sends a
+/// What a client does if a command of its own is answered LogFull: it throws that, or it sends a
 /// checkpoint and then the command once more. **A checkpoint drops the entries of the log, those of
-/// other painters too**; no bitmap and no version changes by it. Where others have filled the log
-/// again by then, LogFull is thrown.
+/// other painters too**; it changes no bitmap and no version. If others have filled the log again
+/// by then, LogFull is thrown.
 enum class FullLog { thrown, checkpointed };
 
 /// How a client connects, and what it does later.
 struct Options {
-    /// The size that the map must have: for another one WrongMap is thrown, before anything else is
-    /// asked. Where it isn't given, nobody looks.
+    /// The size that the map must have: otherwise WrongMap is thrown, before anything else is
+    /// asked. Not checked if it isn't given.
     std::optional<Size> expected = std::nullopt;
-    /// For the connection and for each wait for bytes, whatever signals come; 0 waits for ever.
+    /// For the connection and for each wait for bytes, whatever signals come; 0 waits forever.
     std::chrono::milliseconds timeout = std::chrono::seconds(10);
     FullLog full_log = FullLog::thrown;
-    /// A call of the client that finds the connection closed connects anew first, to a map of the
-    /// same size. A call whose reply was lost isn't made again. A pin of the earlier connection
-    /// stays lost. The server may be another one: then versions and places count from their start.
+    /// A call of the client that finds the connection closed reconnects first, to a map of the same
+    /// size. A call whose reply was lost isn't repeated. A pin of the earlier connection stays
+    /// lost. The server may be another one, with versions and places that start again.
     bool reconnect = false;
 };
 
 // ---- what goes wrong
 
-/// Whatever went wrong.
+/// The base of all errors.
 struct Error : std::runtime_error {
     using std::runtime_error::runtime_error;
 };
@@ -132,7 +132,7 @@ struct TimedOut : ConnectionLost {
     using ConnectionLost::ConnectionLost;
 };
 
-/// What came is no reply to what was asked; the connection is closed.
+/// What came isn't a reply to what was asked; the connection is closed.
 struct WrongAnswer : Error {
     using Error::Error;
 };
@@ -226,13 +226,13 @@ inline std::string points(const Path& path) {
     return text;
 }
 
-/// A line as it may be sent: the server ends the connection at a longer one.
+/// A line that may be sent: the server ends the connection at a longer one.
 inline std::string checked(std::string line) {
     if (line.size() > longest_line) throw std::invalid_argument("a line of over 16384 bytes");
     return line;
 }
 
-/// The name of a refusal, and how many numbers stand after it.
+/// The name of a refusal, and how many numbers follow it.
 inline std::optional<std::pair<std::string, std::size_t>> refusal(std::uint32_t number) {
     static const std::map<std::uint32_t, std::pair<std::string, std::size_t>> known = {
         {OutOfRange, {"OutOfRange", 0}},       {BlocksFull, {"BlocksFull", 2}},
@@ -249,7 +249,7 @@ inline std::optional<std::pair<std::string, std::size_t>> refusal(std::uint32_t 
     return at->second;
 }
 
-/// A reply line: its words, or the refusal that it is.
+/// A reply line: its words, or its refusal.
 struct Reply {
     std::vector<std::string> words;
     std::optional<Refused> refused;
@@ -257,8 +257,8 @@ struct Reply {
 
 // ---- the connection
 
-/// One connection, its lines and their replies. All of it but `turn` and `owned` is for the thread
-/// that has the turn.
+/// One connection, its lines and their replies. Everything but `turn` and `owned` belongs to the
+/// thread that has the turn.
 class Wire {
 public:
     Wire(std::uint16_t port, const Options& options)
@@ -278,7 +278,7 @@ public:
 
     std::mutex turn;
 
-    /// Whether this is the process that connected, and no child of it.
+    /// Whether this is the process that connected, and not a child of it.
     bool owned() const noexcept { return owner_ == ::getpid(); }
 
     bool full_log_is_checkpointed() const { return options_.full_log == FullLog::checkpointed; }
@@ -291,7 +291,7 @@ public:
         drop();
     }
 
-    /// Closes the connection at once. A child lets go of its copy alone.
+    /// Closes the connection at once. A child closes only its own copy.
     void drop() noexcept {
         if (socket_ >= 0) {
             if (owned()) ::shutdown(socket_, SHUT_RDWR);
@@ -313,25 +313,25 @@ public:
         open();
     }
 
-    /// The same for what is asked of a pin, which no new connection has.
+    /// The same for calls of a pin, which no new connection has.
     void ready_for(std::uint64_t pin) {
         if (!is_open() || pin < first_pin_)
             throw ConnectionLost("the connection is closed, and the pin with it");
         if (pin != pinned_) throw ConnectionLost("the pin was left");
     }
 
-    /// The last byte of the last reply was taken.
+    /// Marks that the last byte of the last reply was taken.
     void done() {
         if (owed_ != 0 || !buffer_.empty()) wrong(buffer_.substr(0, longest_reply));
         busy_ = false;
     }
 
-    /// Whether a call has begun that isn't done.
+    /// Whether a call has started that isn't done.
     bool busy() const { return busy_; }
 
     // -- sending and receiving
 
-    /// Sends lines that are answered by so many replies.
+    /// Sends lines that are answered by this many replies.
     void send(const std::string& lines, std::size_t replies) {
         busy_ = true;
         owed_ += replies;
@@ -366,9 +366,9 @@ public:
         return said;
     }
 
-    /// The numbers of the next reply, the last one that is owed: OK and so many. A refusal is
-    /// thrown, and ends the call. Where a line that counts bytes is refused for its form, the
-    /// server reads these bytes as lines: the connection is closed.
+    /// The numbers of the next reply, the last one owed: OK and this many numbers. A refusal is
+    /// thrown, and ends the call. If a line that counts bytes is refused for its form, the server
+    /// reads these bytes as lines: the connection is closed.
     std::vector<std::uint32_t> numbers(std::size_t count, bool counts_bytes = false) {
         Reply said = reply();
         if (!said.refused) return numbers(said.words, count);
@@ -378,7 +378,7 @@ public:
         throw *said.refused;
     }
 
-    /// The numbers of a reply, which is OK and so many.
+    /// The numbers of a reply, which is OK and this many numbers.
     std::vector<std::uint32_t> numbers(const std::vector<std::string>& said, std::size_t count) {
         std::vector<std::uint32_t> found;
         for (std::size_t i = 1; i < said.size(); ++i)
@@ -387,7 +387,7 @@ public:
         return found;
     }
 
-    /// The obstacle that the last two words of a reply name; they are taken off it.
+    /// The obstacle that the last two words of a reply name; removes them from it.
     Cell obstacle(std::vector<std::string>& said) {
         if (said.size() < 3) wrong(said[0]);
         auto x = coordinate(said[said.size() - 2]), y = coordinate(said.back());
@@ -429,7 +429,7 @@ public:
         return {pinned_, version};
     }
 
-    /// Leaves the pin: whatever is answered, nothing is asked of it any more.
+    /// Unpins: whatever the answer, nothing is asked of the pin any more.
     void unpin() {
         pinned_ = 0;
         send("UNPIN\n", 1);
@@ -437,7 +437,7 @@ public:
         done();
     }
 
-    /// The map's size, which is found once.
+    /// The map's size, found once.
     Size size() {
         if (!options_.expected) options_.expected = measured();
         return *options_.expected;
@@ -448,7 +448,7 @@ private:
 
     static bool in_range(int side) { return 1 <= side && side <= largest_side; }
 
-    /// Connects, and looks at the map.
+    /// Connects, and checks the map.
     void open() {
         connect();
         try {
@@ -485,8 +485,8 @@ private:
                              std::generic_category().message(fault));
     }
 
-    /// Compares the map's size with the one that is expected. A connection that is made anew
-    /// wants the size of the first one.
+    /// Compares the map's size with the expected one. A new connection expects the size of the
+    /// first one.
     void check_map() {
         if (!options_.expected) {
             if (options_.reconnect) size();
@@ -515,7 +515,7 @@ private:
         return found;
     }
 
-    /// Which of these cells lie on the map, by one write. Where there is no pin it has its own.
+    /// Which of these cells lie on the map, by one write. Without a pin it takes its own.
     std::vector<bool> on_map(const std::vector<Cell>& cells) {
         bool pins = pinned_ == 0;
         std::string lines = pins ? "PIN\n" : "";
@@ -548,8 +548,8 @@ private:
         return true;
     }
 
-    /// Whether the connection is open. One that isn't in step is closed: bytes that are left or
-    /// that nobody asked for would be read as the next answer.
+    /// Whether the connection is open. One that is out of step is closed: leftover or unasked bytes
+    /// would be read as the next answer.
     bool is_open() {
         if (socket_ < 0) return false;
         if (busy_ || owed_ != 0 || !buffer_.empty()) {
@@ -569,7 +569,7 @@ private:
 
     Clock::time_point next_deadline() const { return Clock::now() + timeout_; }
 
-    /// Waits until the socket is ready or the time is over. Signals don't prolong it.
+    /// Waits until the socket is ready or the time is up. Signals don't prolong it.
     bool wait(short events, Clock::time_point deadline) {
         for (;;) {
             auto left =
@@ -583,14 +583,14 @@ private:
         }
     }
 
-    /// Waits after a call that failed, where it can be made again.
+    /// Waits after a failed call that can be retried.
     void await(short events, Clock::time_point deadline) {
         if (errno != EAGAIN && errno != EWOULDBLOCK && errno != EINTR) lost();
         if (wait(events, deadline)) return;
         late(answered_ ? "no reply" : "connected, but no worker has answered");
     }
 
-    /// Receives what has come; waits until something has.
+    /// Receives what has come, once something has.
     void more() {
         char data[65536];
         auto deadline = next_deadline();
@@ -634,18 +634,18 @@ private:
     std::chrono::milliseconds timeout_;
     pid_t owner_;
     int socket_ = -1;
-    std::string buffer_;           // what has come and wasn't taken
-    std::size_t owed_ = 0;         // replies to what was sent
+    std::string buffer_;           // received and not yet taken
+    std::size_t owed_ = 0;         // replies still to come
     bool busy_ = false;            // a call has begun
     bool answered_ = false;        // on this connection
     bool finished_ = false;        // by `close`
-    std::uint64_t pins_ = 0;       // that were made, on all connections
-    std::uint64_t first_pin_ = 1;  // that this connection can have made
+    std::uint64_t pins_ = 0;       // made so far, on all connections
+    std::uint64_t first_pin_ = 1;  // the first that this connection can have made
     std::uint64_t pinned_ = 0;     // the pin that is held, or 0
 };
 
-/// A turn on a connection for one call: its request and its replies, or several. Where it ends
-/// before the call is done, by whichever exception, the connection is closed.
+/// A turn on a connection for one call: its request and its replies, or several. If it ends before
+/// the call is done, by any exception, the connection is closed.
 class Turn {
 public:
     explicit Turn(const std::shared_ptr<Wire>& wire) : wire_(own(wire)), turn_(wire_.turn) {
@@ -665,8 +665,8 @@ public:
     Wire& operator*() const { return wire_; }
 
 private:
-    /// The connection, where this process may use it. A child mustn't wait for a turn that a
-    /// thread of its parent has.
+    /// The connection, if this process may use it. A child mustn't wait for a turn that a thread of
+    /// its parent has.
     static Wire& own(const std::shared_ptr<Wire>& wire) {
         if (!wire) throw ConnectionLost("it was moved, and has no connection");
         if (!wire->owned())
@@ -679,7 +679,7 @@ private:
     std::unique_lock<std::mutex> turn_;
 };
 
-/// For the calls that no float may reach: it would lose its fraction on the way without a word.
+/// For calls that no float may reach: it would silently lose its fraction.
 template <class... Numbers>
 using IfReal = std::enable_if_t<(std::is_floating_point<Numbers>::value || ...)>;
 
@@ -705,7 +705,7 @@ public:
         return add(Kind::clear, {}, "CLEAROF", m,
                    ' ' + std::to_string(distance) + detail::points(p));
     }
-    /// A distance is a whole number: round a fraction up, or ask Frame::clear_distance.
+    /// A distance is an integer: round a fraction up, or use Frame::clear_distance.
     template <class Real, class = detail::IfReal<Real>>
     Queries& clear_of(Real distance, const Path& p, Metric m = Metric::euclid2) = delete;
 
@@ -733,10 +733,10 @@ struct Answer {
     std::optional<Refused> refused;
 };
 
-/// A pin of one version, which stays as it is whatever is published. It is left at its end. It
-/// keeps its connection, also where its client is gone. Any threads may ask it; where one of them
-/// renews it, an answer is of the version before or of the one after. What is asked of a pin that
-/// was left, or whose connection is closed, throws ConnectionLost and isn't sent.
+/// A pin of one version, which stays as it is whatever is published. Its end unpins it. It keeps
+/// its connection, even after its client is gone. Any threads may ask it; if one of them renews it,
+/// an answer is of the version before or of the one after. A call of a pin that was left, or whose
+/// connection is closed, throws ConnectionLost and isn't sent.
 class Pinned {
 public:
     Pinned(Pinned&& other) noexcept
@@ -752,18 +752,17 @@ public:
     ~Pinned() {
         try {
             if (wire_) unpin();
-        } catch (const std::exception&) {  // it was left before, or its connection is closed
+        } catch (const std::exception&) {  // it was already left, or its connection is closed
         }
     }
 
     /// The number of the version.
     std::uint32_t version() const { return version_; }
 
-    /// Leaves the pin; nothing is asked of it any more.
+    /// Unpins; nothing is asked of the pin any more.
     void unpin() { detail::Turn(wire_, pin_)->unpin(); }
 
-    /// The nearest obstacle of a cell. Nothing where the map has none. As each query it is refused
-    /// as
+    /// The nearest obstacle of a cell. None if the map has none. As each query, it is refused as
     /// OutOfRange outside the map, and as BadArguments below 0.
     std::optional<Near> at(Cell c, Metric m = Metric::euclid2) {
         auto found = one(Queries().at(c, m));
@@ -771,37 +770,35 @@ public:
         return Near{found->distance, found->obstacle};
     }
 
-    /// The first cell by rows, of columns x0 up to x1 - 1 and rows y0 up to y1 - 1, that has the
-    /// least distance.
+    /// The first cell, in row-major order, with the least distance in columns x0 to x1 - 1 of rows
+    /// y0 to y1 - 1.
     std::optional<Tightest> rect(int x0, int y0, int x1, int y1, Metric m = Metric::euclid2) {
         return one(Queries().rect(x0, y0, x1, y1, m));
     }
     template <class A, class B, class C, class D, class = detail::IfReal<A, B, C, D>>
     std::optional<Tightest> rect(A x0, B y0, C x1, D y1, Metric m = Metric::euclid2) = delete;
 
-    /// The first cell along a path that has the least distance. Refused as BadPath where it hasn't
-    /// 1
-    /// to 1000 points, and as Crooked with the index of a point that is neither in the row nor in
-    /// the
-    /// column of the one before; std::invalid_argument where its line has over 16384 bytes.
+    /// The first cell along a path with the least distance. Refused as BadPath unless it has 1 to
+    /// 1000 points, and as Crooked with the index of a point that is in neither the row nor the
+    /// column of the one before; std::invalid_argument if its line has over 16384 bytes.
     std::optional<Tightest> path(const Path& p, Metric m = Metric::euclid2) {
         return one(Queries().path(p, m));
     }
 
-    /// Nothing where each cell of the path has this distance at least, and else the first that
-    /// hasn't. With euclid2 it is a square.
+    /// None if each cell of the path has at least this distance, otherwise the first that hasn't.
+    /// With euclid2 it is a square.
     std::optional<Tightest> clear_of(std::uint32_t distance, const Path& p,
                                      Metric m = Metric::euclid2) {
         return one(Queries().clear_of(distance, p, m));
     }
-    /// A distance is a whole number: round a fraction up, or ask Frame::clear_distance.
+    /// A distance is an integer: round a fraction up, or use Frame::clear_distance.
     template <class Real, class = detail::IfReal<Real>>
     std::optional<Tightest> clear_of(Real distance, const Path& p,
                                      Metric m = Metric::euclid2) = delete;
 
-    /// The straight distance of a path's tightest cell to its nearest obstacle, in cells from
-    /// middle to middle; infinite where the map has none. The path may have any number of points:
-    /// one of over 1000 is asked in pieces, which share their ends.
+    /// The Euclidean distance of a path's tightest cell to its nearest obstacle, in cells from
+    /// centre to centre; infinite if the map has none. The path may have any number of points: one
+    /// of over 1000 is asked in pieces, which share their ends.
     double clearance(const Path& p) {
         constexpr std::size_t longest = 1000;
         Queries queries;
@@ -820,19 +817,19 @@ public:
         return least;
     }
 
-    /// Whether a cell is on the map and no obstacle, and its straight distance to the nearest
-    /// obstacle in cells: exact but for the root's rounding.
+    /// Whether a cell is on the map and free, and its Euclidean distance to the nearest obstacle in
+    /// cells: exact but for the root's rounding.
     bool is_valid(int x, int y, double& clearance) {
         clearance = clearances({{x, y}})[0];
         return clearance > 0;
     }
-    /// A cell is two whole numbers: Frame::cell gives that of a point in metres.
+    /// A cell is two integers: Frame::cell gives that of a point in metres.
     template <class X, class Y, class = detail::IfReal<X, Y>>
     bool is_valid(X x, Y y, double& clearance) = delete;
 
-    /// For each cell its straight distance to the nearest obstacle, in cells: 0 for an obstacle
-    /// and for a cell that isn't on the map, infinite where the map has none. Cells are sent 64
-    /// in one write.
+    /// For each cell its Euclidean distance to the nearest obstacle, in cells: 0 for an obstacle
+    /// and for a cell that isn't on the map, infinite if the map has none. Sends 64 cells per
+    /// write.
     std::vector<double> clearances(const std::vector<Cell>& cells) {
         Queries queries;
         const Cell outside{detail::largest_side, detail::largest_side};
@@ -845,8 +842,7 @@ public:
         return found;
     }
 
-    /// Moves the pin to the newest version, and answers its number. Nothing else tells of a
-    /// publish.
+    /// Moves the pin to the newest version, and returns its number. Nothing else reports a publish.
     std::uint32_t renew() {
         detail::Turn turn(wire_, pin_);
         turn->unpin();
@@ -862,8 +858,8 @@ public:
         return image;
     }
 
-    /// The answers to many queries, all by one version; 64 are sent at a time without waiting in
-    /// between. A refused one has its refusal in its place.
+    /// The answers to many queries, all by one version; sends 64 at a time without waiting in
+    /// between. A refused query has its refusal in its place.
     std::vector<Answer> ask(const Queries& queries) {
         constexpr std::size_t batch = 64;
         const std::vector<Queries::Query>& all = queries.queries_;
@@ -913,20 +909,20 @@ private:
     }
 
     std::shared_ptr<detail::Wire> wire_;
-    std::uint64_t pin_;  // the number that the connection knows it by
+    std::uint64_t pin_;  // its number on the connection
     std::atomic<std::uint32_t> version_;
 };
 
 // ---- the client
 
-/// A connection to a server on this machine. It can be moved; what is asked of one that was moved
-/// from throws ConnectionLost. At its end the connection goes to its pin, and ends with that.
+/// A connection to a server on this machine. It can be moved; calls of a client that was moved from
+/// throw ConnectionLost. At its end the connection goes to its pin, and ends with that.
 class Client {
 public:
     Client(Client&&) noexcept = default;
     Client& operator=(Client&&) noexcept = default;
-    /// Throws WrongMap where the map has another size than is expected, and std::invalid_argument
-    /// for an expected size that no map has, or a time-out below 0.
+    /// Throws WrongMap if the map doesn't have the expected size, and std::invalid_argument for an
+    /// expected size that no map has, or a time-out below 0.
     explicit Client(std::uint16_t port, const Options& options = {})
         : wire_(std::make_shared<detail::Wire>(port, options)) {}
     Client(std::uint16_t port, std::chrono::milliseconds timeout,
@@ -934,8 +930,8 @@ public:
         : Client(port, Options{std::nullopt, timeout, full_log, false}) {}
 
     /// Ends the connection, once the call of another thread is done; what was accepted stays
-    /// accepted, and a pin is left. It may be called again, and isn't undone by
-    /// `Options::reconnect`.
+    /// accepted, and a pin is left. It may be called again, and `Options::reconnect` doesn't undo
+    /// it.
     void close() {
         if (!wire_ || !wire_->owned()) return;
         std::lock_guard<std::mutex> turn(wire_->turn);
@@ -945,10 +941,9 @@ public:
     /// The map's size: what was expected, or what is found by two writes at the first call.
     Size size() { return detail::Turn(wire_)->size(); }
 
-    /// Makes columns x0 up to x1 - 1 of rows y0 up to y1 - 1 of the draft obstacles. Refused as
-    /// BadArguments where that is no cell or a number is below 0 or over 4096, as OutOfRange, and
-    /// as
-    /// each command may be: LogFull, PlacesUsed, BlocksFull and Memory.
+    /// Makes columns x0 to x1 - 1 of rows y0 to y1 - 1 of the draft obstacles. Refused as
+    /// BadArguments if that is no cell or a number is below 0 or over 4096, as OutOfRange, and as
+    /// any command may be: LogFull, PlacesUsed, BlocksFull and Memory.
     Change paint(int x0, int y0, int x1, int y1) {
         return draw("PAINT" + detail::points({{x0, y0}, {x1, y1}}));
     }
@@ -962,9 +957,9 @@ public:
     template <class A, class B, class C, class D, class = detail::IfReal<A, B, C, D>>
     Change clear(A x0, B y0, C x1, D y1) = delete;
 
-    /// Gives the cells from (x, y) on the values of a PBM image, plain or raw, of at most
-    /// 17,100,000 bytes; black is an obstacle. Throws std::invalid_argument for a larger image or
-    /// a cell below 0.
+    /// Sets the cells from (x, y) on to the values of a PBM image, plain or raw, of at most
+    /// 17,100,000 bytes; black is an obstacle. Throws std::invalid_argument for a larger image or a
+    /// cell below 0.
     Change stamp(Cell corner, const void* image, std::size_t bytes) {
         if (corner.x < 0 || corner.y < 0) throw std::invalid_argument("a cell below 0");
         if (bytes > detail::largest_image)
@@ -986,20 +981,20 @@ public:
         return stamp(corner, image, length - (image[length - 1] == '\0'));
     }
 
-    /// Appends the draft as the next version, and answers its number. Refused as VersionsFull too.
+    /// Appends the draft as the next version, and returns its number. Refused as VersionsFull too.
     std::uint32_t publish() { return change("PUBLISH", 2)[1]; }
 
-    /// Makes the draft the newest version again, and answers the place in the log.
+    /// Makes the draft the newest version again, and returns the place in the log.
     std::uint32_t revert() { return change("REVERT", 1)[0]; }
 
-    /// Gives back what no kept version uses: the newest is kept, and each that a pin holds.
+    /// Frees what no kept version uses: the newest is kept, and each that a pin holds.
     Collected collect() {
         auto n = change("COLLECT", 3);
         return {n[0], n[1], n[2]};
     }
 
-    /// Drops the entries of the log that the server keeps, so that a full log goes on, and
-    /// answers its own place. Places go on counting, and no bitmap and no version changes.
+    /// Drops the entries of the log that the server keeps, so that a full log goes on, and returns
+    /// its own place. Places go on counting; no bitmap and no version changes.
     std::uint32_t checkpoint() { return sent(*detail::Turn(wire_), "CHECKPOINT", 1)[0]; }
 
     /// Pins the newest version. One at a time on a connection: a second is refused as
@@ -1018,7 +1013,7 @@ private:
         return numbers;
     }
 
-    /// The same, with a checkpoint in between where the log is full and the client was told so.
+    /// The same, with a checkpoint in between if the log is full and the client allows it.
     std::vector<std::uint32_t> change(const std::string& line, std::size_t count,
                                       const char* data = nullptr, std::size_t size = 0) {
         detail::Turn turn(wire_);
@@ -1046,26 +1041,26 @@ struct Point {
     double x, y;
 };
 
-/// Where a map lies in the world, as a ROS `map.yaml` says: metres a cell, and the lower left
+/// The position of a map in the world, as in a ROS `map.yaml`: metres per cell, and the lower left
 /// corner in metres, y upwards.
 struct Frame {
     int width, height;
     double resolution, origin_x, origin_y;
 
-    /// The size that a client of the map can be told to expect.
+    /// The size that a client of the map can expect.
     Size size() const { return {width, height}; }
 
-    /// The cell of a point in metres; nothing outside the map. A point within a billionth of a
-    /// cell of an edge counts as on it.
+    /// The cell of a point in metres; none outside the map. A point within a billionth of a cell of
+    /// an edge counts as on it.
     std::optional<Cell> cell(double x, double y) const {
         double u = std::floor(across(x)), t = std::floor(up(y));
         if (!(0 <= u && u < width && 0 <= t && t < height)) return std::nullopt;
         return Cell{static_cast<int>(u), height - 1 - static_cast<int>(t)};
     }
 
-    /// The path through the cells that a plan's segments cross; through a corner it goes by one
-    /// of the cells next to it. Nothing where the plan has no point, or one outside the map. The
-    /// middle of each cell of it is less than one cell from the plan.
+    /// The path through the cells that a plan's segments cross; at a corner it passes one of the
+    /// adjacent cells. None if the plan has no points, or one outside the map. The centre of each
+    /// of its cells is less than one cell from the plan.
     std::optional<Path> staircase(const std::vector<Point>& plan) const {
         Path path;
         for (std::size_t i = 0; i < plan.size(); ++i) {
@@ -1084,7 +1079,7 @@ struct Frame {
     double metres(double cells) const { return cells * resolution; }
 
     /// The `d` of `clear_of` by euclid2 for a round robot of this radius in metres, which may be
-    /// anywhere in its cell: so much that it touches no obstacle's cell.
+    /// anywhere in its cell: enough for it to touch no obstacle's cell.
     std::uint32_t clear_distance(double radius) const {
         double cells = radius / resolution;
         if (!(cells >= 0 && cells < 10000))
@@ -1095,8 +1090,8 @@ struct Frame {
     }
 
 private:
-    /// A number of cells, where it is that of an edge but for rounding: decimals such as 0.05
-    /// have no double.
+    /// A number of cells, snapped to an edge that only rounding separates it from: decimals such as
+    /// 0.05 aren't doubles.
     static double snapped(double cells) {
         double edge = std::round(cells);
         return std::abs(cells - edge) < 1e-9 ? edge : cells;
@@ -1106,8 +1101,8 @@ private:
     double across(double x) const { return snapped((x - origin_x) / resolution); }
     double up(double y) const { return snapped((y - origin_y) / resolution); }
 
-    /// A crossing of an edge: how far along the segment it is, in whole trillionths so that
-    /// rounding parts no two at one corner, and the step.
+    /// A crossing of an edge: how far along the segment it is, in whole trillionths, so that
+    /// rounding separates no two at one corner, and the step.
     struct Crossing {
         double along;
         int dx, dy;
@@ -1121,7 +1116,7 @@ private:
                              step > 0 ? dx : -dx, step > 0 ? dy : -dy});
     }
 
-    /// Adds the cells that a segment enters after its first.
+    /// Appends the cells that a segment enters after its first.
     void cross(Point start, Point end, Path& path) const {
         std::vector<Crossing> found;
         edges(across(start.x), across(end.x), 1, 0, found);

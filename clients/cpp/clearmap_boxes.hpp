@@ -1,5 +1,5 @@
-// Boxes of cells, for clearmap_field.hpp: which obstacle of a full box is the nearest one of a
-// cell, and which boxes differ between two maps. Include clearmap_map.hpp instead.
+// Boxes of cells, for clearmap_field.hpp: which obstacle of a full box is nearest to a cell, and
+// which boxes differ between two maps. Include clearmap_map.hpp instead.
 #ifndef CLEARMAP_BOXES_HPP
 #define CLEARMAP_BOXES_HPP
 
@@ -7,7 +7,7 @@
 
 namespace clearmap::detail {
 
-/// Columns x0 up to x1 - 1 of rows y0 up to y1 - 1.
+/// Columns x0 to x1 - 1 of rows y0 to y1 - 1.
 struct Box {
     int x0, y0, x1, y1;
 
@@ -16,17 +16,17 @@ struct Box {
     bool has(int x, int y) const noexcept { return x0 <= x && x < x1 && y0 <= y && y < y1; }
 };
 
-/// The cells that are in both of two boxes.
+/// The cells in both of two boxes.
 inline Box meet(const Box& a, const Box& b) noexcept {
     return {std::max(a.x0, b.x0), std::max(a.y0, b.y0), std::min(a.x1, b.x1), std::min(a.y1, b.y1)};
 }
 
-/// The least box that has two others.
+/// The least box that contains two others.
 inline Box around(const Box& a, const Box& b) noexcept {
     return {std::min(a.x0, b.x0), std::min(a.y0, b.y0), std::max(a.x1, b.x1), std::max(a.y1, b.y1)};
 }
 
-/// The least box that has all of some cells.
+/// The least box that contains some cells.
 inline Box box_of(const std::vector<Cell>& cells) noexcept {
     Box box{largest_side, largest_side, 0, 0};
     for (Cell c : cells)
@@ -35,7 +35,7 @@ inline Box box_of(const std::vector<Cell>& cells) noexcept {
     return box;
 }
 
-/// The distance of two cells so many columns and rows from one another.
+/// The distance of two cells this many columns and rows apart.
 inline std::uint32_t distance(Metric metric, int columns, int rows) noexcept {
     switch (metric) {
         case Metric::euclid2: return numbered(columns * columns + rows * rows);
@@ -44,20 +44,20 @@ inline std::uint32_t distance(Metric metric, int columns, int rows) noexcept {
     }
 }
 
-/// How many columns, or rows, a cell of this distance may be away at most.
+/// How many columns, or rows, a cell at this distance can be away at most.
 inline int reach(Metric metric, std::uint32_t dist) noexcept {
     const double steps = metric == Metric::euclid2 ? std::sqrt(static_cast<double>(dist)) : dist;
     return static_cast<int>(std::min(steps, 2.0 * largest_side));
 }
 
-/// How many columns, or rows, lie from one span of them to another: 0 where they meet.
+/// How many columns, or rows, one span of them is from another: 0 if they meet.
 inline int gap(int begin, int end, int other_begin, int other_end) noexcept {
     return std::max({0, other_begin - (end - 1), begin - (other_end - 1)});
 }
 
-/// The nearest obstacle of a cell where each cell of a box is one and no other is, by the rule of
-/// clearmap.h: the least distance, of several the least column, then the fewest rows away. It is
-/// the only one at this distance by euclid2 and city. By chess a whole side of the box may be.
+/// The nearest obstacle of a cell if exactly the cells of a box are obstacles, by the rule of
+/// clearmap.h: the least distance, then the least column, then the fewest rows away. By euclid2 and
+/// city it is the only one at this distance; by chess a whole side of the box may be.
 inline clearmap_near nearest_in(const Box& box, Cell c, Metric metric) noexcept {
     int x = std::clamp(c.x, box.x0, box.x1 - 1), y = std::clamp(c.y, box.y0, box.y1 - 1);
     std::uint32_t dist = distance(metric, std::abs(x - c.x), std::abs(y - c.y));
@@ -73,7 +73,7 @@ inline bool nearer(const clearmap_near& a, const clearmap_near& b, int y) noexce
     return rows_a != rows_b ? rows_a < rows_b : a.y < b.y;
 }
 
-/// The nearest obstacle of a cell in the frame round a map.
+/// The nearest obstacle of a cell in the frame around a map.
 inline clearmap_near nearest_in_frame(Size size, Cell c, Metric metric) noexcept {
     const int right = size.width, below = size.height;
     const Box sides[] = {{-1, -1, 0, below + 1},
@@ -90,8 +90,8 @@ inline clearmap_near nearest_in_frame(Size size, Cell c, Metric metric) noexcept
 
 // ---- what differs between two maps
 
-/// Boxes that have all of some cells, which come by rows: runs of a row, and one box of equal runs
-/// in rows that follow one another.
+/// Boxes that cover some cells, which come by rows: runs of a row, and one box for equal runs in
+/// consecutive rows.
 class Runs {
 public:
     /// Takes the cells of a row whose bits are set in `with` and not in `without`.
@@ -126,7 +126,7 @@ public:
     std::vector<Box> boxes;
 
 private:
-    /// Takes a run: as one row more of the box over it, where that has the same columns.
+    /// Takes a run: as one more row of the box above it, if that has the same columns.
     void take(int y, int x0, int x1) {
         auto over = std::lower_bound(above_.begin(), above_.end(), x0,
                                      [](const Box& box, int x) { return box.x0 < x; });
@@ -138,8 +138,8 @@ private:
     std::vector<Box> above_, here_;  // the boxes that end with the row before, and with this one
 };
 
-/// What became free and what became an obstacle from one map to another of the same size. Where
-/// these are more boxes than `most`, it is some of them, and more than `most`.
+/// What became free and what became an obstacle from one map to another of the same size. If these
+/// are more boxes than `most`, only some of them, but more than `most`.
 struct Changes {
     Runs cleared, painted;
 
@@ -161,8 +161,8 @@ struct Changes {
     std::size_t count() const noexcept { return cleared.boxes.size() + painted.boxes.size(); }
 
 private:
-    /// Joins boxes whose common box is of obstacles alone, or of free cells, and not much larger
-    /// than both: cells that did not change do no harm in it.
+    /// Joins boxes whose common box has only obstacles, or only free cells, and isn't much larger
+    /// than both: unchanged cells do no harm in it.
     static void join(std::vector<Box>& boxes, const Map& map, bool obstacles) noexcept {
         std::size_t kept = 0;
         for (const Box box : boxes) {
@@ -199,7 +199,7 @@ private:
         return std::equal(row(from, y0), row(from, y1), row(to, y0));
     }
 
-    /// Takes what differs in the rows y0 up to y1 - 1.
+    /// Takes what differs in rows y0 to y1 - 1.
     void rows(const Map& from, const Map& to, int y0, int y1, std::size_t most) {
         for (int y = y0; y < y1 && count() <= most; ++y)
             if (same(from, to, y, y + 1)) {

@@ -1,6 +1,6 @@
 // Tables of all distances of a map, for clearmap_map.hpp, which includes this file: include that.
-// What follows a change of the map is not proved; test_field.cpp compares it with fields built
-// anew.
+// Updates after a change of the map aren't proved; test_field.cpp compares them with rebuilt
+// fields.
 #ifndef CLEARMAP_FIELD_HPP
 #define CLEARMAP_FIELD_HPP
 
@@ -10,18 +10,18 @@
 
 namespace clearmap {
 
-/// The nearest obstacle of each cell of a map by one metric: 8 bytes a cell, and a look-up reads
-/// one of them. It can be moved; one that was moved from has the size 0 by 0.
+/// The nearest obstacle of each cell of a map by one metric: 8 bytes per cell, of which a look-up
+/// reads one. It can be moved; a field that was moved from has the size 0 by 0.
 ///
-/// A field has a copy of its map, and answers for that copy alone: where the map that it was made
-/// from is painted, the field stays as it is. `paint`, `clear` and `update` change the copy and
-/// work the cells that this can change, and no others; then each cell has the answer of a field
-/// that is made anew. The first of them reads the table once more, and takes a bit more memory. A
-/// call may take as much as another field meanwhile; where `clear` finds none it is slower.
+/// A field has a copy of its map, and answers only for that copy: painting the original map doesn't
+/// change the field. `paint`, `clear` and `update` change the copy and recompute only the cells
+/// that this can change; then each cell has the answer of a rebuilt field. The first of them reads
+/// the table once more, and allocates a little memory. A call may temporarily allocate as much as
+/// another field; if `clear` finds none it is slower.
 class Field {
 public:
-    /// Shares the rows among so many threads, each of which takes 3.3 MB on the largest map; 0 is
-    /// as many as the machine runs at a time, and no more than one for each 2^18 cells. Throws
+    /// Shares the rows among this many threads, each of which takes 3.3 MB on the largest map; 0 is
+    /// as many as the machine runs at a time, but at most one per 2^18 cells. Throws
     /// std::invalid_argument for a map that was moved from.
     explicit Field(Map map, Metric metric = Metric::euclid2, unsigned threads = 0)
         : map_(std::move(map)), table_(checked(map_.size()), metric), threads_(threads) {
@@ -33,30 +33,29 @@ public:
     Size size() const noexcept { return map_.size(); }
     Metric metric() const noexcept { return table_.metric(); }
 
-    /// The nearest obstacle of a cell. Nothing where the map has none; throws std::out_of_range for
-    /// a cell that isn't in the map.
+    /// The nearest obstacle of a cell. None if the map has none; throws std::out_of_range for a
+    /// cell that isn't in the map.
     std::optional<Near> at(Cell c) const {
         if (!inside(c)) detail::check(CLEARMAP_OUTSIDE);
         return detail::answer(near(c));
     }
 
-    // -- look-ups of a cell that IS in the map, which nothing checks but an assertion
+    // -- look-ups of a cell that IS in the map; only an assertion checks it
 
-    /// The distance by the field's metric; CLEARMAP_NO_OBSTACLE where the map has no obstacle.
+    /// The distance by the field's metric; CLEARMAP_NO_OBSTACLE if the map has no obstacle.
     std::uint32_t distance(Cell c) const noexcept { return near(c).dist; }
 
-    /// The nearest obstacle; CLEARMAP_NOWHERE twice where the map has none.
+    /// The nearest obstacle; CLEARMAP_NOWHERE twice if the map has none.
     Cell obstacle(Cell c) const noexcept { return {near(c).x, near(c).y}; }
 
-    /// The direction away from the nearest obstacle, of the length 1. Nothing in an obstacle, and
-    /// where the map has none.
+    /// The unit vector away from the nearest obstacle. None in an obstacle, and if the map has
+    /// none.
     std::optional<Direction> gradient(Cell c) const noexcept {
         if (distance(c) == CLEARMAP_NO_OBSTACLE) return std::nullopt;
         return detail::direction(obstacle(c), c);
     }
 
-    /// The distance in cells, the straight one where the metric is euclid2; infinite where the map
-    /// has no obstacle.
+    /// The distance in cells, the Euclidean one for euclid2; infinite if the map has no obstacle.
     double clearance(Cell c) const noexcept { return detail::in_cells(distance(c), metric()); }
 
     /// The same in metres for a point in metres: 0 for one outside. The frame has the field's size.
@@ -68,7 +67,7 @@ public:
 
     // -- changes
 
-    /// Makes columns x0 up to x1 - 1 of rows y0 up to y1 - 1 obstacles, and answers how many cells
+    /// Makes columns x0 to x1 - 1 of rows y0 to y1 - 1 obstacles, and returns how many cells
     /// changed.
     std::uint32_t paint(int x0, int y0, int x1, int y1) {
         ready();
@@ -79,7 +78,7 @@ public:
     template <class A, class B, class C, class D, class = detail::IfReal<A, B, C, D>>
     std::uint32_t paint(A x0, B y0, C x1, D y1) = delete;
 
-    /// Makes these cells free, and answers how many changed.
+    /// Makes these cells free, and returns how many changed.
     std::uint32_t clear(int x0, int y0, int x1, int y1) {
         ready();
         std::uint32_t changed = map_.clear(x0, y0, x1, y1);
@@ -91,7 +90,7 @@ public:
     std::uint32_t clear(A x0, B y0, C x1, D y1) = delete;
 
     /// Makes this the field of another map, or of its own as it is now: compares the bits of both,
-    /// and works what they change. A map of another size or edge is worked whole, and so is one
+    /// and recomputes what they change. Recomputes the whole of a map of another size or edge, or
     /// with many changes. Throws std::invalid_argument for a map that was moved from.
     void update(const Map& map) {
         if (!(checked(map.size()) == size())) return remake(map);
@@ -109,9 +108,9 @@ public:
 private:
     friend class SignedField;
 
-    static constexpr std::size_t few_cells = 128;        // which are asked for one by one
+    static constexpr std::size_t few_cells = 128;        // of a box, asked for one by one
     static constexpr std::size_t few_boxes = 8;          // which are drawn one by one
-    static constexpr std::size_t cells_a_change = 2048;  // a field of fewer is made anew
+    static constexpr std::size_t cells_a_change = 2048;  // a field of fewer cells is rebuilt
 
     static Size checked(Size size) {
         if (size.width == 0) detail::check(CLEARMAP_SIZE);
@@ -125,15 +124,15 @@ private:
         return table_[c];
     }
 
-    /// Makes what changes want of the table, before the first one. One that was moved from has
-    /// none.
+    /// Prepares the table for changes, before the first one. A field that was moved from has no
+    /// table.
     void ready() {
         if (size().width > 0 && !table_.is_bounded()) table_.bound();
     }
     void remake(const Map& map) { *this = Field(map, metric(), threads_); }
 
-    /// The same for a map of this size, in the memory that there is: rows for which the library has
-    /// none left are asked for cell by cell.
+    /// The same for a map of this size, in the memory that there is: cell by cell for rows for
+    /// which the library finds no memory.
     void refill(const Map& map) {
         map_ = map;  // takes no memory: the sizes are the same
         table_.unbound();
@@ -145,7 +144,7 @@ private:
             for (int x = 0; x < size().width; ++x) table_.row(y)[x] = query({x, y});
     }
 
-    /// Makes the field's map the same as another of its size, which takes no memory.
+    /// Makes the field's map equal to another of its size, without allocating.
     void follow(const Map& map, const detail::Changes& changes) {
         if (changes.count() > few_boxes) {
             map_ = map;
@@ -157,15 +156,15 @@ private:
 
     // -- all rows
 
-    /// How many threads are worth their start for so many cells.
+    /// How many threads are worth starting for this many cells.
     static unsigned chosen(std::size_t cells) {
         std::size_t most = std::max<std::size_t>(1, cells >> 18);
         return static_cast<unsigned>(
             std::min<std::size_t>(std::max(1u, std::thread::hardware_concurrency()), most));
     }
 
-    /// Fills the table by threads, and answers the first status that isn't DONE; what a thread that
-    /// can't be started had to do is done here.
+    /// Fills the table by threads, and returns the first status that isn't DONE; does the work of a
+    /// thread that can't be started itself.
     std::uint32_t fill() {
         const auto height = detail::numbered(size().height);
         const unsigned wanted = threads_ > 0 ? threads_ : chosen(table_.cells());
@@ -188,7 +187,7 @@ private:
         return *std::max_element(statuses.begin(), statuses.end());
     }
 
-    /// Fills the rows y0 up to y1 - 1, and answers the status.
+    /// Fills rows y0 to y1 - 1, and returns the status.
     std::uint32_t rows(std::uint32_t y0, std::uint32_t y1) noexcept {
         const clearmap_bits bits = map_.bits();
         return clearmap_bits_nearest(map_.words().data(), map_.words().size(), &bits,
@@ -199,8 +198,8 @@ private:
 
     // -- the cells whose obstacle is gone
 
-    /// Works the cells anew whose nearest obstacle was in one of some boxes, which are free now.
-    /// The others keep theirs: what was the nearest of all obstacles is the nearest of those left.
+    /// Recomputes the cells whose nearest obstacle was in one of some boxes, which are now free.
+    /// The others keep theirs: the nearest of all obstacles is also the nearest of those left.
     void rework(const detail::Box* first, const detail::Box* last) noexcept {
         try {
             if (by_windows(first, last)) return;
@@ -210,8 +209,8 @@ private:
             table_.held_by(*first, [&](Cell c) { by_query(c); });
     }
 
-    /// The same by windows, and whether it is done. The first window round the cells of a box tells
-    /// most answers; what is left of all boxes is worked together by larger and larger ones.
+    /// The same by windows, and whether it is done. The first window around the cells of a box
+    /// gives most answers; larger and larger windows do what is left of all boxes together.
     bool by_windows(const detail::Box* first, const detail::Box* last) {
         const std::size_t most = table_.cells() / 4;
         std::vector<Cell> left;
@@ -233,7 +232,7 @@ private:
         return true;
     }
 
-    /// Makes the table anew, and answers whether there was memory for it.
+    /// Rebuilds the table, and returns whether there was memory for it.
     bool filled() {
         const std::uint32_t status = fill();
         table_.bound();

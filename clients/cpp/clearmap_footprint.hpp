@@ -1,13 +1,13 @@
-// Footprints, over clearmap_map.hpp: whether a robot of any convex shape stands on an obstacle,
-// pose by pose. Not proved; test_footprint.cpp compares it with a search of all cells, and with a
-// model in Python.
+// Footprints, over clearmap_map.hpp: whether a robot of any convex shape is on an obstacle, pose by
+// pose. Not proved; test_footprint.cpp compares it with a search of all cells, and with a model in
+// Python.
 //
 //     clearmap::Footprint robot({{-0.3, -0.2}, {0.5, 0}, {-0.3, 0.2}}, 0.05);  // metres, of 0.05
 //     if (robot.hits(map, 31.5, 20.5, 0.7)) ..          // a pose in cells of the map
 //     if (robot.is_clear(map, frame, 1.5, 1, 0.7)) ..   // a pose in metres
 //
-// Threads. Any threads may ask one footprint, of one map or field too, while none changes it. A
-// query takes no memory.
+// Threads. Any threads may use one footprint, on one map or field too, while none changes that. A
+// query allocates no memory.
 #ifndef CLEARMAP_FOOTPRINT_HPP
 #define CLEARMAP_FOOTPRINT_HPP
 
@@ -15,32 +15,32 @@
 
 namespace clearmap {
 
-/// A robot's outline: a convex polygon of 3 to 128 points round its centre, in their order. They
-/// reach 4096 cells from the centre (0, 0) at most, which may lie outside of them.
+/// A robot's outline: a convex polygon of 3 to 128 points around its centre, in order. They reach
+/// at most 4096 cells from the centre (0, 0), which may be outside the polygon.
 ///
-/// A pose is where the centre is, and by how much the points are turned, in radians from x towards
-/// y. In cells of the map cell (3, 4) is the square from (3, 4) to (4, 5), and (3.5, 4.5) its
-/// middle. Row 0 of a Frame is at the top: by a frame x, y and the points are in metres with y
+/// A pose is the position of the centre, and how far the points are turned, in radians from x
+/// towards y. In cells of the map cell (3, 4) is the square from (3, 4) to (4, 5), and (3.5, 4.5)
+/// its centre. Row 0 of a Frame is at the top: by a frame x, y and the points are in metres with y
 /// upwards, and the map's rows the other way round.
 ///
-/// A pose hits an obstacle where the inside of the polygon meets an obstacle's square: to touch it
-/// from outside is no hit. Round the map all is free with Edge::open, and all are obstacles with
-/// Edge::wall. So each pose has an answer, on the map or off it.
+/// A pose hits an obstacle if the inside of the polygon meets an obstacle's square: touching it
+/// from outside isn't a hit. aaround the map, all cells are free with Edge::open, and obstacles
+/// with Edge::wall. So each pose has an answer, on the map or off it.
 ///
-/// Exact is the answer for the polygon whose corners lie on whole steps of 1/65536 of a cell: the
+/// The answer is exact for the polygon whose corners lie on whole steps of 1/65536 of a cell: the
 /// points, the pose and the turned corners are rounded to these, and the cosine and the sine to
-/// 2^-30. No corner is moved by more than 1/16384 of a cell, and by none at right angles.
+/// 2^-30. No corner moves by more than 1/16384 of a cell, and none moves at right angles.
 class Footprint {
 public:
-    /// Points in cells. Throws std::invalid_argument for points that are no convex polygon.
+    /// Points in cells. Throws std::invalid_argument for points that don't form a convex polygon.
     explicit Footprint(const std::vector<Point>& points) : Footprint(points, 1, std::nullopt) {}
 
-    /// Points in metres, on maps of so many metres a cell.
+    /// Points in metres, on maps with this many metres per cell.
     Footprint(const std::vector<Point>& points, double resolution)
         : Footprint(points, resolution, resolution) {}
 
-    /// Whether the robot stands on an obstacle at a pose in cells of a map, or of a field's map.
-    /// Throws std::invalid_argument where a number isn't finite, and for a map that was moved from.
+    /// Whether the robot is on an obstacle at a pose in cells of a map, or of a field's map. Throws
+    /// std::invalid_argument if a number isn't finite, and for a map that was moved from.
     bool hits(const Map& map, double x, double y, double theta) const {
         return asked(map, {x, y, theta, 1});
     }
@@ -48,9 +48,9 @@ public:
         return asked(field, {x, y, theta, 1});
     }
 
-    /// At a pose in metres, y upwards and turned from x towards it, of a map or a field. Throws
-    /// std::invalid_argument where the frame has another size than the map, or another resolution
-    /// than the points.
+    /// At a pose in metres, y upwards and turned from x towards it, on a map or a field. Throws
+    /// std::invalid_argument if the frame's size differs from the map's, or its resolution from the
+    /// points'.
     template <class Area>
     bool hits(const Area& area, const Frame& frame, double x, double y, double theta) const {
         if (!(frame.size() == area.size()))
@@ -61,7 +61,7 @@ public:
                             frame.height - (y - frame.origin_y) / frame.resolution, theta, -1});
     }
 
-    /// Whether it stands on none.
+    /// Whether it is on none.
     template <class Area, class... Pose>
     bool is_clear(const Area& area, const Pose&... pose) const {
         return !hits(area, pose...);
@@ -70,7 +70,7 @@ public:
 private:
     using Corner = detail::Corner;
 
-    /// Centre and turn; `down` is -1 where the points have y against the rows.
+    /// Centre and turn; `down` is -1 if the y of the points runs against the rows.
     struct Pose {
         double x, y, theta;
         int down;
@@ -108,8 +108,8 @@ private:
         return corners;
     }
 
-    /// By the squares round the outer circle and in the inner one, of which a look at the bits
-    /// tells whether they have an obstacle, and where these don't tell it by the cells.
+    /// By the squares around the outer circle and in the inner one, whose bits show whether they
+    /// have an obstacle, and if these don't decide, by the cells.
     bool asked(const Map& map, const Pose& pose) const {
         if (is_far(map, pose)) return map.edge() == Edge::wall;
         const Square outer(map.size(), pose, outer_), inner(map.size(), pose, inner_ * root_half);
@@ -119,7 +119,7 @@ private:
         return (inner_ > 0 && inner.has_obstacle(map)) || by_cells(map, pose);
     }
 
-    /// By a look-up, where the field has straight distances.
+    /// By a look-up, if the field has Euclidean distances.
     bool asked(const Field& field, const Pose& pose) const {
         const Map& map = field.map();
         if (field.metric() != Metric::euclid2) return asked(map, pose);
@@ -136,7 +136,7 @@ private:
         return by_cells(map, pose);
     }
 
-    /// Whether a pose is so far from the map that no covered cell is one of its own.
+    /// Whether a pose is too far from the map to cover one of its cells.
     bool is_far(const Map& map, const Pose& pose) const {
         const Size size = map.size();
         if (size.width == 0) detail::check(CLEARMAP_SIZE);
@@ -154,7 +154,7 @@ private:
         return std::max({cell - at, at - cell - 1, 0.0});
     }
 
-    /// The cells of a map that a square round a pose meets.
+    /// The cells of a map that a square around a pose meets.
     struct Square {
         Square(Size size, const Pose& pose, double reach) noexcept
             : x0(cell(pose.x - reach, size.width)),

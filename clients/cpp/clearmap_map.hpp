@@ -12,16 +12,16 @@
 //     double nearest = field.clearance({3, 4});        // a look-up
 //     field.paint(8, 0, 16, 8);                        // the field's own map, and its distances
 //
-// Columns x and rows y count from 0. A distance is in cells: euclid2 is the square of the straight
+// Columns x and rows y count from 0. A distance is in cells: euclid2 is the square of the Euclidean
 // one, city and chess count steps.
 //
-// Threads. Any threads may ask one map or field at the same time, without a lock. While a thread
-// paints, clears, updates, assigns to, moves or destroys one, no other uses it.
+// Threads. Any threads may query one map or field at the same time, without a lock. While a thread
+// paints, clears, updates, assigns to, moves or destroys one, no other may use it.
 //
-// Errors. What is wrong with a call is thrown with the text of its status: std::out_of_range for a
-// cell, rectangle or point that isn't in the map, std::invalid_argument for all else. A call that
-// throws has changed nothing. A query whose arguments are good throws nothing and takes no memory.
-// What makes a map or a field, or changes a field, may throw std::bad_alloc.
+// Errors. A wrong call throws with the text of its status: std::out_of_range for a cell, rectangle
+// or point that isn't in the map, std::invalid_argument for everything else. A call that throws has
+// changed nothing. A query with valid arguments throws nothing and allocates nothing. Calls that
+// make a map or a field, or change a field, may throw std::bad_alloc.
 #ifndef CLEARMAP_MAP_HPP
 #define CLEARMAP_MAP_HPP
 
@@ -36,20 +36,21 @@
 
 namespace clearmap {
 
-/// What lies round a map: nothing, or a frame of obstacles.
+/// What surrounds a map: nothing, or a frame of obstacles.
 enum class Edge { open, wall };
 
-/// Which bytes are obstacles: low to high. An occupancy grid's occupied cells are {65, 100}, and
-/// {65, 255} with the unknown ones; a costmap's lethal ones {253, 254}; an image's zeros {0, 0}.
+/// The bytes that mark obstacles: low to high. {65, 100} for an occupancy grid's occupied cells,
+/// {65, 255} with the unknown ones; {253, 254} for a costmap's lethal ones; {0, 0} for an image's
+/// zeros.
 struct Range {
     std::uint8_t low, high;
 };
 
-/// How the rows of a map lie in memory: the top one first, or, as in ROS's occupancy grids and
-/// costmaps, the lowest first. In a map row 0 is the top one, as a Frame has it.
+/// The order of a map's rows in memory: the top one first, or, as in ROS's occupancy grids and
+/// costmaps, the lowest first. In a Map row 0 is the top one, as in a Frame.
 enum class Rows { downwards, upwards };
 
-/// A way in the plane, by columns and by rows.
+/// A vector in the plane, by columns and by rows.
 struct Direction {
     double x, y;
     friend bool operator==(Direction a, Direction b) { return a.x == b.x && a.y == b.y; }
@@ -59,7 +60,7 @@ namespace detail {
 
 inline constexpr std::size_t most_points = 1000;
 
-/// What a status says, thrown; nothing where the call is done.
+/// Throws what a status says; nothing for DONE.
 inline void check(std::uint32_t status) {
     if (status == CLEARMAP_DONE) return;
     if (status == CLEARMAP_MEMORY) throw std::bad_alloc();
@@ -67,7 +68,7 @@ inline void check(std::uint32_t status) {
     throw std::invalid_argument(clearmap_status_text(status));
 }
 
-/// A number of a metric, of an edge, or of a column or row: one below 0 is in no map.
+/// A number of a metric, an edge, a column or a row: a negative one is in no map.
 template <class Value>
 constexpr std::uint32_t numbered(Value value) {
     return static_cast<std::uint32_t>(value);
@@ -87,27 +88,27 @@ inline std::optional<Tightest> answer(const clearmap_found& found) {
     return Tightest{found.near.dist, {found.cell.x, found.cell.y}, {found.near.x, found.near.y}};
 }
 
-/// A distance by a metric as a straight one, or as steps, in cells.
+/// A distance by a metric as a Euclidean one, or as steps, in cells.
 inline double in_cells(std::uint32_t distance, Metric metric) noexcept {
     if (distance == CLEARMAP_NO_OBSTACLE) return std::numeric_limits<double>::infinity();
     return metric == Metric::euclid2 ? std::sqrt(static_cast<double>(distance)) : distance;
 }
 
-/// The bits of a word that has the columns 0 to 63 from x0 up to x1 - 1, which has some of them.
+/// The bits x0 to x1 - 1 of a word of columns 0 to 63; at least one.
 constexpr std::uint64_t bits_of(int x0, int x1) noexcept {
     const int from = x0 < 0 ? 0 : x0, to = x1 > 64 ? 64 : x1;
     return ~std::uint64_t{0} << from & ~std::uint64_t{0} >> (64 - to);
 }
 
-/// The way from one cell to another, of the length 1. Nothing where they are the same.
+/// The unit vector from one cell to another. None if they are the same.
 inline std::optional<Direction> direction(Cell from, Cell to) noexcept {
     if (from == to) return std::nullopt;
     const double x = to.x - from.x, y = to.y - from.y, length = std::sqrt(x * x + y * y);
     return Direction{x / length, y / length};
 }
 
-/// Points as the library takes them, without memory of the heap. Of too many there is none, which
-/// has the same status.
+/// Points as the library takes them, without heap memory. Too many become none, which has the same
+/// status.
 struct Points {
     clearmap_cell cells[most_points];
     std::size_t length = 0;
@@ -119,14 +120,14 @@ struct Points {
     }
 
 private:
-    /// A column or a row in 16 bits; what is in no map stays in none.
+    /// A column or a row in 16 bits; what is outside every map stays outside.
     static std::uint16_t narrow(int at) {
         return static_cast<std::uint16_t>(at < 0 || at > 65535 ? 65535 : at);
     }
 };
 
-/// Reads a PBM image, plain or raw, by the rules of docs/use/FORMATS.md. The first fault from its
-/// front is thrown by its name there.
+/// Reads a PBM image, plain or raw, by the rules of docs/use/FORMATS.md. Throws the first fault
+/// from its front, by its name there.
 class ImageReader {
 public:
     explicit ImageReader(std::string_view image) : rest_(image) {
@@ -143,7 +144,7 @@ public:
 
     Size size() const { return {width_, height_}; }
 
-    /// Sets the bits of the black pixels in rows of so many words, which are 0.
+    /// Sets the bits of the black pixels in rows of this many words, which are all 0.
     void read(std::vector<std::uint64_t>& words, std::size_t stride) {
         space();
         if (plain_)
@@ -239,8 +240,8 @@ private:
 
 // ---- the map
 
-/// A map of 1 to 4096 columns and rows, and what lies round it: a bit a cell. It can be copied and
-/// moved; one that was moved from has the size 0 by 0, and no cell.
+/// A map of 1 to 4096 columns and rows, and what surrounds it: one bit per cell. It can be copied
+/// and moved; a map that was moved from has the size 0 by 0, and no cells.
 class Map {
 public:
     /// A map without obstacles.
@@ -251,8 +252,8 @@ public:
         words_.resize(stride() * static_cast<std::size_t>(size.height));
     }
 
-    /// A map in bytes, as a vector, an array or a span has them: its rows one after another, width
-    /// times height bytes and no more.
+    /// A map in bytes, in a vector, an array or a span: its rows one after another, exactly width
+    /// times height bytes.
     template <class Bytes, class Element = decltype(*std::data(std::declval<const Bytes&>()))>
     static Map of_bytes(const Bytes& cells, Size size, Range obstacles, Edge edge = Edge::open,
                         Rows rows = Rows::downwards) {
@@ -265,7 +266,7 @@ public:
         return map;
     }
 
-    /// The same in a larger array: `stride` bytes lie from one row to the next, and `length` from
+    /// The same in a larger array: `stride` bytes from one row to the next, and `length` bytes from
     /// `cells` to the end of the array.
     static Map of_bytes(const void* cells, std::size_t length, std::size_t stride, Size size,
                         Range obstacles, Edge edge = Edge::open, Rows rows = Rows::downwards) {
@@ -303,15 +304,15 @@ public:
 
     // -- queries
 
-    /// The nearest obstacle of a cell. Nothing where the map has none.
+    /// The nearest obstacle of a cell. None if the map has none.
     std::optional<Near> at(Cell c, Metric m = Metric::euclid2) const {
         clearmap_near near{};
         ask(clearmap_bits_at, m, detail::numbered(c.x), detail::numbered(c.y), &near);
         return detail::answer(near);
     }
 
-    /// The first cell by rows, of columns x0 up to x1 - 1 and rows y0 up to y1 - 1, that has the
-    /// least distance. Nothing where the map has no obstacle.
+    /// The first cell, in row-major order, with the least distance in columns x0 to x1 - 1 of rows
+    /// y0 to y1 - 1. None if the map has no obstacle.
     std::optional<Tightest> rect(int x0, int y0, int x1, int y1, Metric m = Metric::euclid2) const {
         clearmap_found found{};
         ask(clearmap_bits_rect, m, detail::numbered(x0), detail::numbered(y0), detail::numbered(x1),
@@ -321,14 +322,14 @@ public:
     template <class A, class B, class C, class D, class = detail::IfReal<A, B, C, D>>
     std::optional<Tightest> rect(A x0, B y0, C x1, D y1, Metric m = Metric::euclid2) const = delete;
 
-    /// The first cell along a path of 1 to 1000 points that has the least distance. Nothing where
-    /// the map has no obstacle.
+    /// The first cell along a path of 1 to 1000 points with the least distance. None if the map has
+    /// no obstacle.
     std::optional<Tightest> path(const Path& p, Metric m = Metric::euclid2) const {
         return tightest(p.data(), p.size(), m);
     }
 
-    /// Nothing where each cell of the path has this distance at least, and else the first that
-    /// hasn't. With euclid2 it is a square.
+    /// None if each cell of the path has at least this distance, otherwise the first that hasn't.
+    /// With euclid2 it is a square.
     std::optional<Tightest> clear_of(std::uint32_t distance, const Path& p,
                                      Metric m = Metric::euclid2) const {
         const detail::Points points(p.data(), p.size());
@@ -336,13 +337,13 @@ public:
         ask(clearmap_bits_clear_of, m, points.cells, points.length, distance, &found);
         return detail::answer(found);
     }
-    /// A distance is a whole number: round a fraction up, or ask Frame::clear_distance.
+    /// A distance is an integer: round a fraction up, or use Frame::clear_distance.
     template <class Real, class = detail::IfReal<Real>>
     std::optional<Tightest> clear_of(Real distance, const Path& p,
                                      Metric m = Metric::euclid2) const = delete;
 
-    /// The straight distance of a path's tightest cell to its nearest obstacle, in cells from
-    /// middle to middle; infinite where the map has none. The path has one point or more.
+    /// The Euclidean distance of a path's tightest cell to its nearest obstacle, in cells from
+    /// centre to centre; infinite if the map has none. The path has at least one point.
     double clearance(const Path& p) const {
         std::uint32_t least = CLEARMAP_NO_OBSTACLE;
         std::size_t start = 0;
@@ -355,8 +356,8 @@ public:
         return detail::in_cells(least, Metric::euclid2);
     }
 
-    /// Whether a cell is on the map and no obstacle, and its straight distance to the nearest
-    /// obstacle in cells: 0 for a cell that isn't on the map, infinite where the map has none.
+    /// Whether a cell is on the map and free, and its Euclidean distance to the nearest obstacle in
+    /// cells: 0 for a cell that isn't on the map, infinite if the map has none.
     bool is_valid(int x, int y, double& clearance) const {
         clearance = 0;
         if (!inside(x, y)) return false;
@@ -364,12 +365,12 @@ public:
         clearance = detail::in_cells(near ? near->distance : CLEARMAP_NO_OBSTACLE, Metric::euclid2);
         return clearance > 0;
     }
-    /// A cell is two whole numbers: Frame::cell gives that of a point in metres.
+    /// A cell is two integers: Frame::cell gives that of a point in metres.
     template <class X, class Y, class = detail::IfReal<X, Y>>
     bool is_valid(X x, Y y, double& clearance) const = delete;
 
-    /// The direction away from a cell's nearest obstacle, of the length 1. Nothing in an obstacle,
-    /// and where the map has none.
+    /// The unit vector away from a cell's nearest obstacle. None in an obstacle, and if the map has
+    /// none.
     std::optional<Direction> gradient(Cell c, Metric m = Metric::euclid2) const {
         auto near = at(c, m);
         return near ? detail::direction(near->obstacle, c) : std::nullopt;
@@ -381,7 +382,7 @@ public:
         return (words_[word(c.x, c.y)] >> (c.x % 64) & 1) != 0;
     }
 
-    /// The map whose obstacles are this one's free cells. Its border is open.
+    /// The map whose obstacles are this one's free cells. Its edge is open.
     Map inverse() const {
         Map map(size());
         const std::uint64_t last = ~std::uint64_t{0} >> (63 - (width() - 1) % 64);
@@ -393,13 +394,13 @@ public:
 
     // -- changes
 
-    /// Makes columns x0 up to x1 - 1 of rows y0 up to y1 - 1 obstacles, and answers how many cells
+    /// Makes columns x0 to x1 - 1 of rows y0 to y1 - 1 obstacles, and returns how many cells
     /// changed.
     std::uint32_t paint(int x0, int y0, int x1, int y1) { return draw(x0, y0, x1, y1, true); }
     template <class A, class B, class C, class D, class = detail::IfReal<A, B, C, D>>
     std::uint32_t paint(A x0, B y0, C x1, D y1) = delete;
 
-    /// Makes these cells free, and answers how many changed.
+    /// Makes these cells free, and returns how many changed.
     std::uint32_t clear(int x0, int y0, int x1, int y1) { return draw(x0, y0, x1, y1, false); }
     template <class A, class B, class C, class D, class = detail::IfReal<A, B, C, D>>
     std::uint32_t clear(A x0, B y0, C x1, D y1) = delete;
@@ -416,7 +417,7 @@ private:
         return 0 <= x && x < size().width && 0 <= y && y < size().height;
     }
 
-    /// Asks a call of the library about these bits.
+    /// Makes a call of the library on these bits.
     template <class Call, class... Asked>
     void ask(Call call, Metric m, Asked... asked) const {
         static constexpr std::uint64_t none = 0;
@@ -432,7 +433,7 @@ private:
         return detail::answer(found);
     }
 
-    /// Takes the cells over from bytes.
+    /// Takes the cells from bytes.
     void pack(const void* cells, std::size_t length, std::size_t stride, Range obstacles,
               Rows rows) {
         if (obstacles.low > obstacles.high)
@@ -447,7 +448,7 @@ private:
         if (rows == Rows::upwards) flip();
     }
 
-    /// Turns the rows over, from the top to the bottom.
+    /// Reverses the order of the rows.
     void flip() {
         for (int y = 0; y < size_.height / 2; ++y) {
             auto upper = words_.begin() + static_cast<std::ptrdiff_t>(word(0, y));
@@ -458,7 +459,7 @@ private:
         mark(0, size_.height);
     }
 
-    /// Says of each band of the rows y0 up to y1 - 1 whether it has an obstacle.
+    /// Sets whether each band of rows y0 to y1 - 1 has an obstacle.
     void mark(int y0, int y1) {
         for (int b = y0 / band; b <= (y1 - 1) / band; ++b) {
             auto rows = [&](int y) {
@@ -493,8 +494,8 @@ private:
     std::vector<std::uint64_t> words_;
 };
 
-/// A pinned version, by one DUMP. What a server answers doesn't tell its edge: give the one that it
-/// was started with (`serve --edge`), or the distances differ from its own.
+/// A pinned version, by one DUMP. A server's answer doesn't say its edge: give the one that it was
+/// started with (`serve --edge`), or the distances differ from its own.
 inline Map map_of(Pinned& pinned, Edge edge) { return Map::of_pbm(pinned.dump(), edge); }
 
 }  // namespace clearmap

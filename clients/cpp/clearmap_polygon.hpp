@@ -1,5 +1,5 @@
-// Convex polygons in whole numbers, for clearmap_footprint.hpp: their corners, and the cells that
-// they cover. Include clearmap_footprint.hpp instead.
+// Convex polygons in integers, for clearmap_footprint.hpp: their corners, and the cells that they
+// cover. Include clearmap_footprint.hpp instead.
 #ifndef CLEARMAP_POLYGON_HPP
 #define CLEARMAP_POLYGON_HPP
 
@@ -12,7 +12,7 @@ inline constexpr std::int64_t unit = 1 << 30;     // the length of a direction
 inline constexpr std::size_t most_corners = 128;  // of a footprint
 inline constexpr double largest_reach = 4096;     // cells
 inline constexpr std::int64_t thinnest = steps / 1024;
-inline constexpr std::int64_t loose = 2;  // steps that a point of a straight side may lie inside
+inline constexpr std::int64_t loose = 2;  // steps that a point of a straight side may be inside
 
 struct Corner {
     std::int64_t x, y;
@@ -20,18 +20,18 @@ struct Corner {
     friend bool operator<(Corner a, Corner b) { return a.y != b.y ? a.y < b.y : a.x < b.x; }
 };
 
-/// The nearest whole number; of two the greater.
+/// The nearest integer; the greater of two.
 inline std::int64_t rounded(double number) noexcept {
     return static_cast<std::int64_t>(std::floor(number + 0.5));
 }
 
-/// A quotient, rounded down; the divisor is above 0.
+/// A quotient, rounded down; the divisor is positive.
 inline std::int64_t floored(std::int64_t number, std::int64_t divisor) noexcept {
     const std::int64_t found = number / divisor;
     return found - (number % divisor < 0);
 }
 
-/// Twice the area of a triangle: above 0 where it turns from x to y.
+/// Twice the area of a triangle: positive if it turns from x to y.
 inline std::int64_t cross(Corner a, Corner b, Corner c) noexcept {
     return (b.x - a.x) * (c.y - a.y) - (b.y - a.y) * (c.x - a.x);
 }
@@ -40,8 +40,8 @@ inline double length(Corner a, Corner b) noexcept {
     return std::hypot(static_cast<double>(b.x - a.x), static_cast<double>(b.y - a.y));
 }
 
-/// The convex hull of some corners, without those that lie on a side: its two sides, each from the
-/// corner of the least row to that of the greatest.
+/// The convex hull of some corners, without those on a side: its two sides, each from the corner of
+/// the least row to that of the greatest.
 struct Hull {
     Corner left[most_corners], right[most_corners];
     std::size_t lefts = 0, rights = 0;
@@ -63,7 +63,7 @@ private:
         if (count == 0 || !(side[count - 1] == corner)) side[count++] = corner;
     }
 
-    /// Takes corners as they are, where each turns from x to y and rows grow once and shrink once.
+    /// Takes corners as they are, if each turns from x to y and rows grow once and shrink once.
     bool takes_ring(const Corner* corners, std::size_t count) noexcept {
         std::size_t first = 0, last = 0;
         for (std::size_t k = 1; k < count; ++k) {
@@ -92,7 +92,7 @@ private:
     }
 };
 
-/// One side of a hull, walked by rows: `sign` is 1 for the left side, and -1 for the right one,
+/// One side of a hull, followed by rows: `sign` is 1 for the left side, and -1 for the right one,
 /// whose columns are counted backwards.
 template <int sign>
 class Walk {
@@ -119,7 +119,7 @@ private:
         slope_ = sign * dx / static_cast<double>(at_[1].y - at_->y);
     }
 
-    /// The column at y, by floats where they are sure of it.
+    /// The column at y, by floats if these are certain.
     std::int64_t column(std::int64_t y) const noexcept {
         const Corner a = at_[0], b = at_[1];
         if (y == b.y) return floored(sign * b.x, steps);
@@ -139,9 +139,9 @@ private:
     std::int64_t before_;
 };
 
-/// Calls visit(row, first, end) for the cells whose squares meet the inside of a hull, of rows
-/// `top` up to `bottom` - 1: columns first up to end - 1. It ends where a call answers true, and
-/// answers whether one did.
+/// Calls visit(row, first, end) for the cells whose squares meet the inside of a hull, in rows
+/// `top` to `bottom` - 1: columns first to end - 1. It stops when a call returns true, and returns
+/// whether one did.
 template <class Visit>
 bool any_row(const Hull& hull, int top, int bottom, Visit visit) {
     const std::int64_t begin = hull.left[0].y, end = hull.left[hull.lefts - 1].y;
@@ -159,7 +159,7 @@ bool any_row(const Hull& hull, int top, int bottom, Visit visit) {
     return false;
 }
 
-/// Whether one of the bits `first` up to `end` - 1 of a row of words is set.
+/// Whether one of the bits `first` to `end` - 1 of a row of words is set.
 inline bool any_set(const std::uint64_t* row, std::int64_t first, std::int64_t end) noexcept {
     if (first >= end) return false;
     const std::int64_t word = first / 64, last = (end - 1) / 64;
@@ -193,8 +193,7 @@ inline bool is_on_side(Corner a, Corner b, Corner corner) noexcept {
            static_cast<double>(std::abs(cross(a, b, corner))) <= loose * length(a, b);
 }
 
-/// Whether points go round their hull once, and none lies inside of it by more than rounding brings
-/// about.
+/// Whether points go around their hull once, and none is inside it by more than rounding can cause.
 inline bool goes_round(const std::vector<Corner>& points, const std::vector<Corner>& outline) {
     const auto start = static_cast<std::size_t>(
         std::find(points.begin(), points.end(), outline[0]) - points.begin());

@@ -1,10 +1,10 @@
-// Signed distances, over clearmap_map.hpp: in a free cell how far its nearest obstacle is, and in
-// an obstacle, below 0, how far its nearest free cell is. Not proved; test_signed.cpp compares it
-// with a search of all cells.
+// Signed distances, over clearmap_map.hpp: for a free cell the distance to its nearest obstacle,
+// for an obstacle the negative distance to its nearest free cell. Not proved; test_signed.cpp
+// compares it with a search of all cells.
 //
 //     clearmap::SignedField field(map);
-//     double cells = field.clearance({3, 4});    // below 0 in an obstacle
-//     auto way = field.gradient({3, 4});         // where it grows, of the length 1
+//     double cells = field.clearance({3, 4});    // negative in an obstacle
+//     auto way = field.gradient({3, 4});         // where it grows, a unit vector
 #ifndef CLEARMAP_SIGNED_HPP
 #define CLEARMAP_SIGNED_HPP
 
@@ -12,9 +12,9 @@
 
 namespace clearmap {
 
-/// Two fields, one of a map and one of its inverse: 16 bytes a cell. With Edge::wall the frame is
-/// an obstacle to the free cells; free cells are those of the map alone, by either edge. It can be
-/// moved, and is shared by threads, as a Field is.
+/// Two fields, one of a map and one of its inverse: 16 bytes per cell. With Edge::wall the frame is
+/// an obstacle for the free cells; with either edge only cells of the map are free cells. It can be
+/// moved, and shared by threads, as a Field can.
 class SignedField {
 public:
     /// As the constructor of Field.
@@ -26,11 +26,11 @@ public:
     Size size() const noexcept { return free_.size(); }
     Metric metric() const noexcept { return free_.metric(); }
 
-    // -- look-ups of a cell that IS in the map, which nothing checks but an assertion
+    // -- look-ups of a cell that IS in the map; only an assertion checks it
 
-    /// The distance from middle to middle in cells, the straight one where the metric is euclid2: 1
-    /// or more in a free cell, and -1 or less in an obstacle. Infinite where the map has no
-    /// obstacle, and infinite below 0 where it has no free cell.
+    /// The distance from centre to centre in cells, the Euclidean one for euclid2: at least 1 in a
+    /// free cell, and at most -1 in an obstacle. Infinite if the map has no obstacle, and minus
+    /// infinity if it has no free cell.
     double clearance(Cell c) const noexcept {
         const double free = free_.clearance(c);
         return free > 0 ? free : -blocked_.clearance(c);
@@ -43,15 +43,15 @@ public:
         return cell ? frame.metres(clearance(*cell)) : 0;
     }
 
-    /// The direction in which the distance grows, of the length 1: away from the nearest obstacle,
-    /// and in an obstacle to the nearest free cell. Nothing where the map has no such cell.
+    /// The unit vector in which the distance grows: away from the nearest obstacle, and in an
+    /// obstacle towards the nearest free cell. None if the map has no such cell.
     std::optional<Direction> gradient(Cell c) const noexcept {
         if (free_.distance(c) > 0) return free_.gradient(c);
         if (blocked_.distance(c) == CLEARMAP_NO_OBSTACLE) return std::nullopt;
         return detail::direction(c, blocked_.obstacle(c));
     }
 
-    // -- changes, as those of a Field. One that throws has changed nothing
+    // -- changes, as of a Field; one that throws has changed nothing
 
     std::uint32_t paint(int x0, int y0, int x1, int y1) {
         ready();
@@ -72,7 +72,7 @@ public:
     std::uint32_t clear(A x0, B y0, C x1, D y1) = delete;
 
 private:
-    /// Takes the memory that changes want. After it they throw for a rectangle off the map alone,
+    /// Allocates the memory for changes. After that they throw only for a rectangle off the map,
     /// which is off both.
     void ready() {
         free_.ready();

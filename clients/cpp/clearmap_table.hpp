@@ -7,9 +7,9 @@
 
 namespace clearmap::detail {
 
-/// The nearest obstacle of each cell by one metric. For changes it keeps, of each tile of 16 by 16
-/// cells, a number that no distance in it is over: a box that is farther away has the nearest
-/// obstacle of none of these cells, so that most tiles are passed over.
+/// The nearest obstacle of each cell by one metric. For changes it keeps an upper bound of the
+/// distances in each tile of 16 by 16 cells: a box farther away than that has the nearest obstacle
+/// of none of these cells, so that most tiles are skipped.
 class Table {
 public:
     Table(Size size, Metric metric)
@@ -25,7 +25,7 @@ public:
     /// The answers from row y on.
     clearmap_near* row(int y) noexcept { return nears_.get() + index({0, y}); }
 
-    /// Reads the table for the calls below. Once it has found memory it needs none.
+    /// Reads the table for the calls below. Once it has found memory it needs no more.
     void bound() {
         tops_.assign(tiles(width_) * tiles(height_), 0);
         row_tops_.assign(tiles(height_), 0);
@@ -33,7 +33,7 @@ public:
             for (int x = 0; x < width_; x += side) raise(x, y, most(tile(x, y)));
     }
 
-    /// Says that the table was written by `row`.
+    /// Marks the table as written by `row`.
     void unbound() noexcept { row_tops_.clear(); }
     bool is_bounded() const noexcept { return !row_tops_.empty(); }
 
@@ -46,7 +46,7 @@ public:
         }
     }
 
-    /// Calls `visit` for each cell whose nearest obstacle lies in a box.
+    /// Calls `visit` for each cell whose nearest obstacle is in a box.
     template <class Visit>
     void held_by(const Box& box, Visit visit) const {
         reached(box, [&](const Box& cells) {
@@ -74,7 +74,7 @@ private:
                static_cast<std::size_t>(c.x);
     }
 
-    /// The tile of a cell, cut off at the table's end.
+    /// The tile of a cell, clipped to the table.
     Box tile(int x, int y) const noexcept {
         x = x / side * side, y = y / side * side;
         return {x, y, std::min(x + side, width_), std::min(y + side, height_)};
@@ -96,7 +96,7 @@ private:
         of_tile = std::max(of_tile, dist);
         of_row = std::max(of_row, dist);
     }
-    /// Lowers the numbers of a tile and its row to what the table has.
+    /// Lowers the bounds of a tile and its row to what the table has.
     void tighten(int x, int y) noexcept {
         std::uint32_t& of_row = row_tops_[static_cast<std::size_t>(y / side)];
         const std::uint32_t old = std::exchange(tops_[tile_index(x, y)], most(tile(x, y)));
@@ -124,7 +124,7 @@ private:
         }
     }
 
-    /// A box with all cells that are no farther away.
+    /// A box with all cells that are at most this far away.
     Box grown(const Box& box, std::uint32_t dist) const noexcept {
         const int steps = reach(metric_, dist);
         return {box.x0 - steps, box.y0 - steps, box.x1 + steps, box.y1 + steps};
@@ -137,7 +137,7 @@ private:
         });
     }
 
-    /// Takes the cells of a box as obstacles for some cells, and answers whether one changed.
+    /// Takes the cells of a box as obstacles for some cells, and returns whether one changed.
     template <Metric metric>
     bool paint_cells(const Box& cells, const Box& box) noexcept {
         bool changed = false;

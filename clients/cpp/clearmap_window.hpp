@@ -1,4 +1,4 @@
-// A part of a map that is worked by itself, for clearmap_field.hpp. Include clearmap_map.hpp
+// A part of a map that is computed by itself, for clearmap_field.hpp. Include clearmap_map.hpp
 // instead.
 #ifndef CLEARMAP_WINDOW_HPP
 #define CLEARMAP_WINDOW_HPP
@@ -7,11 +7,11 @@
 
 namespace clearmap::detail {
 
-/// The nearest obstacles of a box of cells, worked by the library for a window round it, as if the
-/// rest of the map were free: and which of them are those in the whole map.
+/// The nearest obstacles of a box of cells, computed by the library in a window around it, as if
+/// the rest of the map were free, and which of them are also the nearest in the whole map.
 class Window {
 public:
-    /// Throws std::bad_alloc where there is no memory for it.
+    /// Throws std::bad_alloc when out of memory.
     Window(const Map& map, Metric metric, const Box& cells, int margin)
         : size_(map.size()),
           edge_(map.edge()),
@@ -29,8 +29,8 @@ public:
                                     numbered(cells.y1 - box_.y0), nears_.get(), length(cells)));
     }
 
-    /// The nearest obstacle of one of the cells in the whole map. Nothing where a nearer one, or
-    /// one as near, may lie outside of the window.
+    /// The nearest obstacle of one of the cells in the whole map. None if a nearer or equally near
+    /// one may be outside the window.
     std::optional<clearmap_near> at(Cell c) const noexcept {
         clearmap_near near = nears_[numbered(c.y - first_row_) * width() + numbered(c.x - box_.x0)];
         if (near.dist != CLEARMAP_NO_OBSTACLE) {
@@ -46,7 +46,7 @@ public:
     }
 
 private:
-    /// The window round a box: its first column begins a word of the map.
+    /// The window around a box: its first column begins a word of the map.
     static Box round(const Box& cells, int margin, Size size) noexcept {
         return {std::max(0, cells.x0 - margin) / 64 * 64, std::max(0, cells.y0 - margin),
                 std::min(size.width, cells.x1 + margin), std::min(size.height, cells.y1 + margin)};
@@ -57,7 +57,7 @@ private:
         return numbered(cells.y1 - cells.y0) * width();
     }
 
-    /// Whether all cells of the map that are as near as this lie in the window.
+    /// Whether the window contains all cells of the map that are as near as this.
     bool surrounds(Cell c, std::uint32_t dist) const noexcept {
         auto over = [&](int steps, bool at_end) {
             return at_end || distance(metric_, steps, 0) > dist;

@@ -1,4 +1,4 @@
-// What the tests of a field draw: maps and boxes at random, and whether a field is that of a map.
+// What the tests of a field draw: random maps and boxes, and whether a field is that of a map.
 #ifndef CLEARMAP_DRAWING_HPP
 #define CLEARMAP_DRAWING_HPP
 

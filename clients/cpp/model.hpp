@@ -1,5 +1,5 @@
-// A model of the map that the tests of clearmap.hpp ask about: 64 by 48 cells with one obstacle,
-// and questions drawn at random, each with its answer.
+// A model of the map that the tests of clearmap.hpp query: 64 by 48 cells with one obstacle, and
+// questions drawn at random, each with its answer.
 #ifndef CLEARMAP_MODEL_HPP
 #define CLEARMAP_MODEL_HPP
 
@@ -38,8 +38,7 @@ inline bool is(const std::optional<Tightest>& found, Cell wanted, Metric m) {
            found->obstacle == obstacle;
 }
 
-/// Questions drawn at random to a pin of the map as it was served first, each with the model's
-/// answer.
+/// Random queries of a pin of the map as it was served first, each with the model's answer.
 class Asker {
 public:
     explicit Asker(unsigned seed) : random_(seed) {}

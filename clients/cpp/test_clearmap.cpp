@@ -1,6 +1,7 @@
-// Tests of clearmap.hpp: test_clearmap POST SMALL WALLED, the ports of three servers of the map with one obstacle at column 2 of row 1 of 6 by 4; the
-// second has two blocks, two versions and a log of three, and the border of the third is a wall. Servers that answer wrongly, late or not at all are
-// threads of this program.
+// Tests of clearmap.hpp: test_clearmap POST SMALL WALLED, the ports of three servers of the map
+// with one obstacle at column 2 of row 1 of 6 by 4; the second has two blocks, two versions and a
+// log of three, and the border of the third is a wall. Servers that answer wrongly, late or not at
+// all are threads of this program.
 #include "testing.hpp"
 
 static const Path corner = {{0, 0}, {5, 0}, {5, 3}};
@@ -51,7 +52,7 @@ static void queries(std::uint16_t port) {
     CHECK(throws<ConnectionLost>([&] { map.at({0, 0}); }));
 }
 
-/// The cells round the map are obstacles too: the frame.
+/// The cells around the map are obstacles too: the frame.
 static void walls(std::uint16_t port) {
     Client client(port);
     Pinned map = client.pin();

@@ -1,13 +1,13 @@
 // Tests of a field that follows its map (clearmap_field.hpp): test_field MAPS, how many random
-// maps. After each change all cells are compared with those of a field that is made anew, which
-// test_map.cpp compares with a search of all obstacles. Wants the linker's --wrap=malloc.
+// maps. After each change all cells are compared with those of a rebuilt field, which test_map.cpp
+// compares with a search of all obstacles. Needs the linker's --wrap=malloc.
 #include "drawing.hpp"
 #include "testing.hpp"
 
 // ---- memory that is refused
 
 /// How many requests for memory are granted before one is refused: this program's own, and those of
-/// the library. Below 0 none is.
+/// the library. A negative number refuses none.
 static std::atomic<long> granted{-1};
 static bool all_after = false;
 static std::atomic<int> refusals{0};

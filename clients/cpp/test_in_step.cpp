@@ -25,7 +25,7 @@ static thread_local long allowed = -1;  // allocations until they fail; -1: none
 [[gnu::noinline]] void operator delete(void* data) noexcept { std::free(data); }
 [[gnu::noinline]] void operator delete(void* data, std::size_t) noexcept { std::free(data); }
 
-/// Whether a call ends by want of memory, where its allocations fail after so many.
+/// Whether a call runs out of memory if its allocations fail after this many.
 template <class Call>
 static bool starved(long allocations, Call call) {
     allowed = allocations;
@@ -78,7 +78,7 @@ static void side_by_side(std::uint16_t port, int threads, int calls) {
 
 // ---- calls that are interrupted
 
-/// A client and its pin, made anew where their connection was closed.
+/// A client and its pin, rebuilt where their connection was closed.
 struct Planner {
     std::uint16_t port;
     std::optional<Client> client;
@@ -246,7 +246,7 @@ static void lost() {
     CHECK(throws<ConnectionLost>([&] { kept.renew(); }) &&
           throws<ConnectionLost>([&] { kept.unpin(); }));
     CHECK(anew.at({2, 1})->distance == 8193);
-    server.cut();  // between two calls: the next one connects anew, and is sent once
+    server.cut();  // between two calls: the next one reconnects, and is sent once
     let_arrive();
     CHECK(again.paint(5, 0, 6, 1).changed == 5 && server.connections == 4 &&
           server.drawn().size() == 4);

@@ -26,7 +26,7 @@ static std::atomic<long> granted{-1};
 [[gnu::noinline]] void operator delete[](void* place) noexcept { std::free(place); }
 [[gnu::noinline]] void operator delete[](void* place, std::size_t) noexcept { std::free(place); }
 
-/// Makes a call with so many requests granted; whether it was done, and no bad_alloc.
+/// Makes a call with this many requests granted; whether it was done without bad_alloc.
 template <class Call>
 static bool done_with(long requests, Call call) {
     granted = requests;

@@ -138,7 +138,7 @@ static void told() {
                                         clearmap_status_text(CLEARMAP_SIZE)));
 }
 
-/// A change that is refused, for its rectangle or for want of memory, has changed nothing.
+/// A change that is refused, for its rectangle or because memory ran out, has changed nothing.
 static void refused_changes() {
     Map map({60, 40}, Edge::wall);
     map.paint(5, 5, 9, 9), map.paint(30, 20, 50, 22);

@@ -1,5 +1,5 @@
 #!/usr/bin/env python3
-"""Writes the package's wheel, with the standard library alone, so that nothing is fetched.
+"""Writes the package's wheel, with the only the standard library, so that nothing is fetched.
 
     build_wheel.py FOLDER
 
@@ -61,7 +61,7 @@ def libraries() -> Dict[str, pathlib.Path]:
 
 
 def write_wheel(folder: str, processor: Optional[str] = None) -> str:
-    """Writes the wheel with the library of a processor, or with none, and answers its file name."""
+    """Writes the wheel with the library of a processor, or with none, and returns its file name."""
     tag = f"py3-none-linux_{processor}" if processor else "py3-none-any"
     files = {part: (HERE / part).read_bytes() for part in PARTS}
     if processor:
@@ -77,7 +77,7 @@ def stem() -> str:
 
 
 def pack(folder: str, tag: str, files: Dict[str, bytes]) -> str:
-    """Writes a wheel of these files, and answers its file name. `files` gets what describes it."""
+    """Writes a wheel of these files, and returns its file name. `files` gets what describes it."""
     info = f"{stem()}.dist-info"
     pure = str(tag.endswith("-any")).lower()
     files[f"{info}/METADATA"] = metadata().encode()
@@ -106,7 +106,7 @@ def record(files: Dict[str, bytes], own_name: str) -> bytes:
 def build_wheel(
     wheel_directory: str, config_settings: object = None, metadata_directory: object = None
 ) -> str:
-    """Writes the wheel for this machine into a folder, and answers its file name."""
+    """Writes the wheel for this machine into a folder, and returns its file name."""
     here = platform.machine() if sys.platform == "linux" else None
     return write_wheel(wheel_directory, here if here in libraries() else None)
 
@@ -114,12 +114,12 @@ def build_wheel(
 def build_editable(
     wheel_directory: str, config_settings: object = None, metadata_directory: object = None
 ) -> str:
-    """Writes a wheel that leads to the modules of this folder, and answers its file name."""
+    """Writes a wheel that leads to the modules of this folder, and returns its file name."""
     return pack(wheel_directory, "py3-none-any", {"clearmap.pth": f"{HERE}\n".encode()})
 
 
 def build_sdist(sdist_directory: str, config_settings: object = None) -> str:
-    """Writes the sources into a folder, and answers the file name."""
+    """Writes the sources into a folder, and returns the file name."""
     name = f"{stem()}.tar.gz"
     with tarfile.open(pathlib.Path(sdist_directory, name), "w:gz") as sources:
         for part in SOURCES:

@@ -1,5 +1,6 @@
 #!/usr/bin/env python3
-"""Tests of the client against the built `clearmap serve`, named by CLEARMAP, and against servers that answer wrongly, late or not at all."""
+"""Tests of the client against the built `clearmap serve`, named by CLEARMAP, and against servers
+that answer wrongly, late or not at all."""
 import io
 import math
 import pathlib
@@ -103,7 +104,8 @@ class Serving(unittest.TestCase):
             self.assertRaisesRegex(clearmap.ClearmapError, "the pin was left", pinned.at, 0, 0)  # it was left, and not taken again
 
     def test_a_pin_that_was_left(self):
-        """Nothing of it is sent, also where the connection has another pin by then, which would answer from another version."""
+        """Nothing of it is sent, also where the connection has another pin by then, which would
+        answer from another version."""
         calls = (
             lambda pinned: pinned.at(0, 0),
             lambda pinned: pinned.rect(0, 0, 1, 1),
@@ -148,7 +150,8 @@ class Serving(unittest.TestCase):
             self.assertEqual(pinned.clearances([(1, 0), (2, 0)]), [math.inf, 0])
 
     def test_walls(self):
-        """The cells round the map are obstacles: the frame, whose cells lie at -1 and one cell after the last."""
+        """The cells around the map are obstacles: the frame, whose cells lie at -1 and one cell
+        after the last."""
         with Served(b"P1\n5 3\n00000\n00000\n00000\n", "--edge", "wall") as server, clearmap.Client(server.port) as client, client.pin() as pinned:
             self.assertEqual(pinned.at(0, 1), clearmap.Near(1, (-1, 1)))
             self.assertEqual(pinned.at(2, 1, "chess"), (2, (0, -1)))

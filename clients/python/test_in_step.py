@@ -297,7 +297,7 @@ class Reconnecting(unittest.TestCase):
         self.assertEqual(fake.lines, [[b"PUBLISH\n"], [b"REVERT\n"]])
 
     def test_after_an_interrupt(self):
-        """The call that finds out raises, and the next one connects anew."""
+        """The call that finds out raises, and the next one reconnects."""
         late = (b"OK 0\n", b"OK 4 0 0\n")
         with Fake(b"OK 0\n", Ring(), closes=False, then=late) as fake:
             with clearmap.Client(fake.port, timeout=5, reconnect=True) as client:

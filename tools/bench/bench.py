@@ -1,14 +1,18 @@
 #!/usr/bin/env python3
-"""Measures `clearmap dist` next to scipy's exact distance transform, on the same maps and with the same text at the end.
+"""Measures `clearmap dist` next to scipy's exact distance transform, on the same maps and with the
+same text at the end.
 
-Six maps (one obstacle; 0.1, 1 and 20 per cent of the cells at random; obstacles alone; a floor plan of rooms with doors) in
-several sizes, each with a fixed seed, are written as raw PBM. For each map the programs run in turn, round by round: `dist`,
-`dist --workers 4`, `dist --nearest`, and `scipy_dist.py`, which reads the same file and writes the same lines. All read from and
-write to files in memory. What four workers write is compared byte by byte with what one writes, the distances of the others are
-compared, and each obstacle that `--nearest` names is looked up in the map.
+Six maps (one obstacle; 0.1, 1 and 20 per cent of the cells at random; obstacles alone; a floor plan
+of rooms with doors) in several sizes, each with a fixed seed, are written as raw PBM. For each map
+the programs run in turn, round by round: `dist`, `dist --workers 4`, `dist --nearest`, and
+`scipy_dist.py`, which reads the same file and writes the same lines. All read from and write to
+files in memory. What four workers write is compared byte by byte with what one writes, the
+distances of the others are compared, and each obstacle that `--nearest` names is looked up in the
+map.
 
-Printed is a Markdown table: the least and the median time of each program and of its processors, how many times as
-fast `dist` is as the script (the least of each), and the time of four workers next to that of one. The program has to be built before.
+Printed is a Markdown table: the least and the median time of each program and of its processors,
+how many times as fast `dist` is as the script (the least of each), and the time of four workers
+next to that of one. The program has to be built before.
 """
 import argparse
 import datetime
@@ -78,7 +82,8 @@ def cuts(side, rng):
 
 
 def draw_walls(side, places, crossing, rng, draw):
-    """Walls at these places, each with a door of 10 cells between two walls that cross it, but for those at the edges."""
+    """Walls at these places, each with a door of 10 cells between two walls that cross it, but for
+    those at the edges."""
     for place in places:
         for first, last in zip(crossing, crossing[1:]):
             door = rng.randrange(first + 5, last - 15) if 0 < place < side - 1 else side
@@ -122,7 +127,8 @@ def processor_seconds():
 
 
 def timed(command, source, target):
-    """The seconds of one run, its processor's, and those that the command tells of its own work, if it does."""
+    """The seconds of one run, its processor's, and those that the command tells of its own work, if
+    it does."""
     with open(source, "rb") as given, open(target, "wb") as taken:
         start, used = time.perf_counter(), processor_seconds()
         run = subprocess.run(command, stdin=given, stdout=taken, stderr=subprocess.PIPE)
@@ -159,7 +165,8 @@ def cell(times):
 
 
 def ratios(times):
-    """How many times as fast `dist` is as the script, and the time of four workers next to that of one."""
+    """How many times as fast `dist` is as the script, and the time of four workers next to that of
+    one."""
     return f"{min(times['scipy']) / min(times['dist']):.1f} | {min(times['dist --workers 4']) / min(times['dist']):.2f}"
 
 
@@ -175,7 +182,8 @@ def first_line(command):
 
 
 def ask_for_huge_pages():
-    """Has the programs that are run from now on ask for huge pages, where the C library gives them large memory."""
+    """Has the programs that are run from now on ask for huge pages, where the C library gives them
+    large memory."""
     os.environ["GLIBC_TUNABLES"] = "glibc.malloc.hugetlb=1"
 
 

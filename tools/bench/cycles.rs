@@ -1,11 +1,14 @@
-//! Planners of a `clearmap serve` that pin, ask and unpin in turn over loopback, next to one that paints and publishes.
+//! Planners of a `clearmap serve` that pin, ask and unpin in turn over loopback, next to one that
+//! paints and publishes.
 //!
 //!     cycles PORT SIDE PLANNERS SECONDS BATCH
 //!
-//! Each planner is a thread with a connection: `PIN`, `AT euclid2` of a random cell, `UNPIN`. With a BATCH of 0 each line is sent once the reply before is there, else
-//! the lines of so many cycles are sent in one write, and then their replies are read. The publisher paints or clears a cell, publishes and collects every millisecond; where old pins
-//! leave no slot the publish is refused. Printed: the cycles a second of all planners, the 50th and 99th percentile of a cycle or a batch in microseconds, and how
-//! many versions were published.
+//! Each planner is a thread with a connection: `PIN`, `AT euclid2` of a random cell, `UNPIN`. With
+//! a BATCH of 0 each line is sent once the reply before is there, else the lines of so many cycles
+//! are sent in one write, and then their replies are read. The publisher paints or clears a cell,
+//! publishes and collects every millisecond; where old pins leave no slot the publish is refused.
+//! Printed: the cycles a second of all planners, the 50th and 99th percentile of a cycle or a batch
+//! in microseconds, and how many versions were published.
 mod random;
 
 use random::below;
@@ -55,7 +58,8 @@ impl Client {
     }
 }
 
-/// A planner: its connection, the cells that it asks, and the newest version that it has pinned. The versions that it pins never go down.
+/// A planner: its connection, the cells that it asks, and the newest version that it has pinned.
+/// The versions that it pins never go down.
 struct Planner {
     client: Client,
     side: usize,
@@ -113,7 +117,7 @@ impl Planner {
     }
 }
 
-/// Paints or clears a cell, publishes and collects, and answers how many versions that were.
+/// Paints or clears a cell, publishes and collects, and returns how many versions that were.
 fn publish(port: u16, side: u64, end: Instant) -> u64 {
     let mut client = Client::new(port);
     let mut published = 0;

@@ -1,8 +1,8 @@
 // DynamicEDT3D next to clearmap_map.hpp on random maps: each cell's distance, before and after some
 // paints and clears, and the time of a first build, of a look-up, and of a paint or a clear of 8 by
 // 8 cells with 1,000 look-ups, by `paint` and `clear` of a field and by `update` of its map. Then
-// the time of an update after one cell in five was drawn anew: theirs of these cells, ours, and
-// theirs of a new build.
+// the time of an update after one cell in five was redrawn: theirs of these cells, ours, and theirs
+// of a new build.
 //     dynamic_edt SIDE PERCENT ROUNDS
 // Build: g++ -std=c++17 -O2 -pthread -I clients/c -I clients/cpp -o dynamic_edt
 //     tools/bench/dynamic_edt.cpp crates/libclearmap/out/libclearmap.a -ldynamicedt3d
@@ -159,8 +159,7 @@ private:
     int x_ = 0, y_ = 0;
 };
 
-/// One cell in five is drawn anew, some rounds: the least times of an update, and of their new
-/// build.
+/// One cell in five is redrawn, some rounds: the least times of an update, and of their new build.
 static void redraw(const Grid& grid, int rounds) {
     Grid now = grid;
     std::mt19937 random(4);

@@ -1,4 +1,5 @@
-"""Maps that are hard for their density: what a row phase or a column phase that fits the other maps badly would be slow on."""
+"""Maps that are hard for their density: what a row phase or a column phase that fits the other maps
+badly would be slow on."""
 
 
 def rows_of(draw_row):

@@ -5,10 +5,10 @@ Each call gets the same array of bytes and makes its own arrays of answers. The 
 round by round, and the least time of each counts. All are of one thread, but for the last column.
 The distances of all are compared cell by cell first; OpenCV's are floats, and its labels are of a
 transform that isn't exact. Printed is a Markdown table: milliseconds of `distances` alone and with
-the obstacles, and how many times as long the others take. scipy is left out above 1024 cells a
-side unless --scipy is given: it takes seconds there.
+the obstacles, and how many times as long the others take. scipy is left out above 1024 cells a side
+unless --scipy is given: it takes seconds there.
 
-Wants Debian's python3-numpy, python3-opencv and python3-scipy, and the library (`make lib`).
+Needs Debian's python3-numpy, python3-opencv and python3-scipy, and the library (`make lib`).
 """
 import argparse
 import pathlib

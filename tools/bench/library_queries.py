@@ -6,7 +6,7 @@ library's tests of arguments. Both draw the same queries, and the sums of their 
 compared. They run in turn, on the six maps of `bench.py` and on a blank one; the least of each
 figure is printed as a Markdown table, in nanoseconds, after the stroke divided by the twin's.
 
-Wants gcc, rustc and the library (`make lib`).
+Needs gcc, rustc and the library (`make lib`).
 """
 import argparse
 import pathlib

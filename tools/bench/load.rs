@@ -1,10 +1,12 @@
-//! Asks `AT` of a `clearmap serve`, or `GET` of a Redis server, over loopback, and measures the replies.
+//! Asks `AT` of a `clearmap serve`, or `GET` of a Redis server, over loopback, and measures the
+//! replies.
 //!
 //!     load PORT CONNECTIONS LINES_A_WRITE REQUESTS_A_CONNECTION TABLE|get
 //!
-//! TABLE is what `clearmap dist --nearest` writes of the served map: each reply is compared with it. A connection is a thread.
-//! Printed: requests a second of all connections, the 50th and 99th percentile of a write's latency in microseconds, how many
-//! replies came, and how many of them were wrong.
+//! TABLE is what `clearmap dist --nearest` writes of the served map: each reply is compared with
+//! it. A connection is a thread. Printed: requests a second of all connections, the 50th and 99th
+//! percentile of a write's latency in microseconds, how many replies came, and how many of them
+//! were wrong.
 mod random;
 
 use random::below;
@@ -31,7 +33,7 @@ impl Kind {
         Kind { rows }
     }
 
-    /// Adds one request, and answers its reply's lines.
+    /// Adds one request, and returns its reply's lines.
     fn ask(&self, random: &mut u64, request: &mut Vec<u8>) -> Vec<String> {
         if self.rows.is_empty() {
             request.extend_from_slice(b"GET k\r\n");

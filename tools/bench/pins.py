@@ -1,10 +1,14 @@
 #!/usr/bin/env python3
-"""Measures how many pins a second a store's sessions make next to one that publishes, and LMDB's read transactions next to one that commits.
+"""Measures how many pins a second a store's sessions make next to one that publishes, and LMDB's
+read transactions next to one that commits.
 
-A program over `session` (`pins/main.rt.in`) is proved and built in a scratch copy of the crates, one over LMDB (`pins/lmdb_pins.cpp`) by g++; LMDB's headers
-are Debian's liblmdb-dev. A third, by rustc, makes the loads and stores of a pin and nothing else (`pins/words.rs`). They run in turn, in several rounds, with one reader and with three. The best round of each is printed as a Markdown table: pins a
-second of all readers together, and percentiles of the slowest reader in nanoseconds, among which reading the clock is counted; and the microseconds of a
-pin's first query, and cycles of a pin, a query and an unpin a second, on a floor plan of 4096 by 4096 cells.
+A program over `session` (`pins/main.rt.in`) is proved and built in a scratch copy of the crates,
+one over LMDB (`pins/lmdb_pins.cpp`) by g++; LMDB's headers are Debian's liblmdb-dev. A third, by
+rustc, makes the loads and stores of a pin and nothing else (`pins/words.rs`). They run in turn, in
+several rounds, with one reader and with three. The best round of each is printed as a Markdown
+table: pins a second of all readers together, and percentiles of the slowest reader in nanoseconds,
+among which reading the clock is counted; and the microseconds of a pin's first query, and cycles of
+a pin, a query and an unpin a second, on a floor plan of 4096 by 4096 cells.
 """
 import argparse
 import pathlib

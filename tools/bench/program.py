@@ -35,7 +35,8 @@ def without_edge(text):
 
 
 def build(folder, text, uses, root=ROOT, answers=None):
-    """Proves and builds this text, over the crates that it uses, as a program named `measure` in this folder.
+    """Proves and builds this text, over the crates that it uses, as a program named `measure` in
+    this folder.
 
     The crates are those of the clone at `root`; `answers` are the program's own, where it has any.
     """

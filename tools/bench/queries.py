@@ -1,12 +1,16 @@
 #!/usr/bin/env python3
-"""Measures queries, and the reading and writing of images, at 4096 by 4096, on the six maps of `bench.py`.
+"""Measures queries, and the reading and writing of images, at 4096 by 4096, on the six maps of
+`bench.py`.
 
-In a copy of the crates that are wanted, a program (`queries/main.rt.in`) is proved and built that times each kind of query inside one
-process. Next to it stands a twin in Rust of the very same loops: the sources of `clearance` and the raw raster of `pbm` without
-their clauses, between `queries/twin_head.rs` and `queries/twin_tail.rs`, compiled by `rustc -O`. Both draw the same queries, and the sums of their
-answers are compared. Each map is timed in several runs, in turn; the least of each figure is printed as a Markdown table.
+In a copy of the crates that are wanted, a program (`queries/main.rt.in`) is proved and built that
+times each kind of query inside one process. Next to it stands a twin in Rust of the very same
+loops: the sources of `clearance` and the raw raster of `pbm` without their clauses, between
+`queries/twin_head.rs` and `queries/twin_tail.rs`, compiled by `rustc -O`. Both draw the same
+queries, and the sums of their answers are compared. Each map is timed in several runs, in turn; the
+least of each figure is printed as a Markdown table.
 
-With `--program`, `dist --query` is timed whole, on raw and plain images, and next to it netpbm's `pamtopnm` where it is installed.
+With `--program`, `dist --query` is timed whole, on raw and plain images, and next to it netpbm's
+`pamtopnm` where it is installed.
 """
 import argparse
 import os

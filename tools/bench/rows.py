@@ -1,13 +1,21 @@
 #!/usr/bin/env python3
-"""Measures the rows of nearest obstacles inside one process, and the table that keeps only where these are, by each metric and with 1, 2 and 4 workers, on the maps of `bench.py`, next to OpenCV's distance transforms on one thread.
+"""Measures the rows of nearest obstacles inside one process, and the table that keeps only where
+these are, by each metric and with 1, 2 and 4 workers, on the maps of `bench.py`, next to OpenCV's
+distance transforms on one thread.
 
-Each map is worked by the program and by OpenCV in turn, and the least time of all rounds counts. Printed are Markdown tables: milliseconds and the ratio to OpenCV's time
-for each map, then the ratios' geometric means and largest values next to the aims, and how the time a cell grows from the smallest to the largest maps. The sums of
-the answers have to be the same for each number of workers and for the table. With `--before CLONE` the one-worker times of another clone of this repository stand next to them.
+Each map is worked by the program and by OpenCV in turn, and the least time of all rounds counts.
+Printed are Markdown tables: milliseconds and the ratio to OpenCV's time for each map, then the
+ratios' geometric means and largest values next to the aims, and how the time a cell grows from the
+smallest to the largest maps. The sums of the answers have to be the same for each number of workers
+and for the table. With `--before CLONE` the one-worker times of another clone of this repository
+stand next to them.
 
-With `--wall` each time where the border is open stands next to the same where it is a wall, in place of OpenCV's.
+With `--wall` each time where the border is open stands next to the same where it is a wall, in
+place of OpenCV's.
 
-With `--hard` the maps are those of `hard_maps.py` besides, without OpenCV, and each map's nanoseconds a cell stand next to the most that one of the others takes: no map should take over 2.5 times as much.
+With `--hard` the maps are those of `hard_maps.py` besides, without OpenCV, and each map's
+nanoseconds a cell stand next to the most that one of the others takes: no map should take over 2.5
+times as much.
 
 OpenCV is Debian's `python3-opencv`.
 """
@@ -26,7 +34,8 @@ from program import HERE, ROOT, build
 USES = ["field", "pbm", "bits", "metric"]
 METRICS = ("euclid2", "city", "chess")
 KINDS = ("", "-table")
-# The largest mean and the largest ratio that are aimed at, by kind, metric and whether the map has 512 cells a side.
+# The largest mean and the largest ratio that are aimed at, by kind, metric and whether the map has
+# 512 cells a side.
 AIMS = {
     ("", "euclid2", False): (0.30, 0.40),
     ("", "euclid2", True): (0.40, 0.60),
@@ -119,7 +128,7 @@ def print_growth(cells, sides):
 
 
 def print_map(name, side, metric, now, peer, old):
-    """Prints one map's line, and answers the ratios of rows and table to OpenCV's time."""
+    """Prints one map's line, and returns the ratios of rows and table to OpenCV's time."""
     counts = (1, 2, 4)
     rows, table = ([now[f"{metric}{kind}-{count}"] for count in counts] for kind in KINDS)
     if len({answers for _, answers in rows + table} | {old[f"{metric}-1"][1] for _ in old}) != 1:
@@ -161,7 +170,8 @@ def hard_map(make):
 
 
 def print_hard(programs, sides, rounds, source):
-    """Nanoseconds a cell of the table on hard maps, next to the most that one of the other maps takes."""
+    """Nanoseconds a cell of the table on hard maps, next to the most that one of the other maps
+    takes."""
     print("| Map | Cells a side | Metric | " + " | ".join(f"{name}, ns a cell | next to the worst" for name in programs) + " |")
     print("|" + "---|" * (3 + 2 * len(programs)))
     for side in sides:

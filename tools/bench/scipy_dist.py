@@ -1,9 +1,11 @@
 #!/usr/bin/python3
 # Debian's own python3, as its packages python3-numpy and python3-scipy are for that one alone.
-"""Reads a raw PBM image from standard input and writes the squared distances of its cells, as `clearmap dist` does.
+"""Reads a raw PBM image from standard input and writes the squared distances of its cells, as
+`clearmap dist` does.
 
-The distances are those of scipy's exact transform, taken with the indices of the nearest obstacles, squared and rounded.
-The last line on standard error is how many seconds that took, without the start of Python and its imports.
+The distances are those of scipy's exact transform, taken with the indices of the nearest obstacles,
+squared and rounded. The last line on standard error is how many seconds that took, without the
+start of Python and its imports.
 """
 import sys
 import time

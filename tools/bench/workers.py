@@ -1,9 +1,10 @@
 #!/usr/bin/env python3
 """Measures `clearmap dist` with 1, 2 and 4 workers, on a quiet machine or next to busy programs.
 
-The maps are some of `bench.py`; all programs read from and write to files in memory, in turn, round by round. With `--load N` so many programs that do nothing
-but count run all the while. Printed is a Markdown table: the median of one worker in milliseconds, and the medians of the others next to it. The program has
-to be built before.
+The maps are some of `bench.py`; all programs read from and write to files in memory, in turn, round
+by round. With `--load N` so many programs that do nothing but count run all the while. Printed is a
+Markdown table: the median of one worker in milliseconds, and the medians of the others next to it.
+The program has to be built before.
 """
 import argparse
 import contextlib

@@ -3,7 +3,7 @@
 
     clearmap-publish --port 7400 --name yard [--redis redis://store:6379]
 
-Wants numpy, libclearmap and python3-redis. Nothing here is proved.
+Needs numpy, libclearmap and python3-redis. Nothing here is proved.
 """
 import argparse
 import os

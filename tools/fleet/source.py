@@ -27,7 +27,7 @@ class Copy:
 
 class Source:
     """Looks at a server, or at a gateway to it. A look or a copy raises a ClearmapError, and the
-    next one connects anew where the connection was lost."""
+    next one reconnects where the connection was lost."""
 
     def __init__(self, port: int) -> None:
         self._port = port

@@ -144,7 +144,7 @@ class Publishing:
 
 
 class Answering:
-    """What listens as a server does, and answers the lines of each connection with these."""
+    """What listens as a server does, and returns the lines of each connection with these."""
 
     def __init__(self, replies):
         self.listener, self.replies = socket.create_server(("127.0.0.1", 0)), replies

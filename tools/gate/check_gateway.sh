@@ -1,7 +1,7 @@
 #!/bin/sh
 # Tries the gateway before servers of the built program: its tests, and the model and the busy
 # clients, which ask through it what they ask a server. CLEARMAP names another program. Loopback
-# alone, and nothing is left. Leaves all out with a word where numpy or the library isn't there.
+# only, and nothing is left. Leaves all out with a word where numpy or the library isn't there.
 set -u
 cd "$(dirname "$0")/../.." || exit 1
 built=${CLEARMAP:-$PWD/crates/clearmap/out/clearmap}

@@ -1,7 +1,8 @@
 #!/bin/sh
-# Installs what is built into a scratch folder, and tries it there: the program, the pages of the manual, completion, the unit, the clients, the scripts,
-# and the wrapper ./clearmap through a symbolic link and without rt. Leaves out, with a word, what isn't installed here.
-# What may wait has a time limit.
+# Installs what is built into a scratch folder, and tries it there: the program, the pages of the
+# manual, completion, the unit, the clients, the scripts, and the wrapper ./clearmap through a
+# symbolic link and without rt. Leaves out, with a word, what isn't installed here. What may wait
+# has a time limit.
 set -u
 cd "$(dirname "$0")/../.." || exit 1
 top=$PWD
@@ -41,14 +42,16 @@ expect() { # expect WHAT GOT WANTED
 room='P1\n3 2\n100\n000\n'
 version=$("$program" --version)
 
-# The wrapper, with a path that has no rt on it; where sources are newer than the program it says so and runs it.
+# The wrapper, with a path that has no rt on it; where sources are newer than the program it says so
+# and runs it.
 ln -s "$top/clearmap" "$scratch/linked"
 for tool in sh dirname readlink find mktemp rm cat touch; do ln -s "$(command -v "$tool")" "$scratch/$tool"; done
 expect 'through a link, without rt' "$(printf "$room" | PATH=$scratch "$scratch/linked" dist 2> /dev/null)" "$(printf '0 1 4\n1 2 5')"
 (cd "$scratch" && ln -s linked twice && printf "$room" | PATH=$scratch ./twice dist --metric foo 2> /dev/null)
 expect 'its status' "$?" 2
 
-# The wrapper's first run, with an rt of two crates that takes its time: what is being proved is told on a terminal alone.
+# The wrapper's first run, with an rt of two crates that takes its time: what is being proved is
+# told on a terminal alone.
 mkdir -p "$scratch/fresh/bin" "$scratch/fresh/crates/low" "$scratch/fresh/crates/clearmap"
 cp clearmap "$scratch/fresh/"
 printf 'low:\nclearmap: low\n' > "$scratch/fresh/crates.txt"
@@ -171,7 +174,7 @@ else
     echo 'the unit is not verified: there is no systemd-analyze'
 fi
 
-# The pages are what --help and docs/use/PROTOCOL.md say, and man has nothing to complain of.
+# The pages are what --help and docs/use/PROTOCOL.md say, and man reports nothing.
 tools/package/make_man.py --check "$program" || wrong=$((wrong + 1))
 if command -v man > /dev/null; then
     for page in man1/clearmap.1 man1/clearmap-backup.1 man1/clearmap-gateway.1 \

@@ -1,6 +1,7 @@
 #!/bin/bash
-# The largest map through the built program (or that of CLEARMAP): what `dist` answers by one worker and by several, read from a file and from a pipe,
-# and how many threads it has meanwhile. Each run has a time limit.
+# The largest map through the built program (or that of CLEARMAP): what `dist` answers by one worker
+# and by several, read from a file and from a pipe, and how many threads it has meanwhile. Each run
+# has a time limit.
 set -u
 cd "$(dirname "$0")/../.." || exit 1
 program=$(realpath "${CLEARMAP:-crates/clearmap/out/clearmap}")
@@ -46,8 +47,9 @@ for y in range(4096):
         lines = []
 PYTHON
 
-# Runs `dist` with these words on the raw map, and tells the most threads that it was seen with: in ten runs at most, until these or more were seen, since on a busy
-# machine a run may be over before a look finds all of them.
+# Runs `dist` with these words on the raw map, and tells the most threads that it was seen with: in
+# ten runs at most, until these or more were seen, since on a busy machine a run may be over before
+# a look finds all of them.
 threads() { # threads WANTED WORD..
     timeout 120 python3 - "$program" "$room/raw" "$@" << 'PYTHON'
 import subprocess
@@ -72,8 +74,8 @@ for workers in 1 3 16; do
     clearmap dist --workers "$workers" < "$room/raw" | cmp -s - "$room/wanted"; expect "dist of the largest map by $workers workers" "${PIPESTATUS[*]}" '0 0'
 done
 
-# The maps of `0 1 4` and of `0/0/0 1/0/0 2/0/0 1/4/0 0/4/0` as the first rows of maps of 2^20 cells,
-# which several threads share: one obstacle in the corner, and another four columns from it.
+# The maps of `0 1 4` and of `0/0/0 1/0/0 2/0/0 1/4/0 0/4/0` as the first rows of maps of 2^20
+# cells, which several threads share: one obstacle in the corner, and another four columns from it.
 python3 - "$room" << 'PYTHON'
 import sys
 room, side = sys.argv[1], 1024

@@ -1,9 +1,9 @@
 #!/bin/sh
 # Builds libclearmap where it has to, and tries it from C and C++: the header against the source,
 # what the shared library shows, the tests (also under valgrind, the sanitizers and, for ARM, qemu),
-# and the programs of docs/use/LIBRARY.md. Leaves out, with a word, what isn't installed here. MAPS is
-# how many random maps. The C++ test asks servers of the built program too; CLEARMAP names another
-# one. Footprints are tried on cases that the model in Python has answered.
+# and the programs of docs/use/LIBRARY.md. Leaves out, with a word, what isn't installed here. MAPS
+# is how many random maps. The C++ test asks servers of the built program too; CLEARMAP names
+# another one. Footprints are tried on cases that the model in Python has answered.
 set -u
 cd "$(dirname "$0")/../.." || exit 1
 library=$PWD/crates/libclearmap/out

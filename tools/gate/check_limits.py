@@ -3,7 +3,7 @@
 last that is taken, the first that isn't, and what is answered then, with the row's own numbers and
 answers.
 
-A row without a try fails, and so does a try without a row. Loopback alone; each wait has a time
+A row without a try fails, and so does a try without a row. Loopback only; each wait has a time
 limit. `tools/gate/check_limits.py WORD ..` tries the rows that have these words in their first
 column. ROUNDS is how often stamps fill the memory, 20 unless set.
 """

@@ -1,6 +1,7 @@
 #!/bin/bash
-# Tries the built program (or that of CLEARMAP) on standard streams that are closed, full or fail, on its command line, and on the ends that a
-# server and `ask` can come to. Loopback alone. Prints what differs, and counts; each run has a time limit.
+# Tries the built program (or that of CLEARMAP) on standard streams that are closed, full or fail,
+# on its command line, and on the ends that a server and `ask` can come to. Loopback only. Prints
+# what differs, and counts; each run has a time limit.
 set -u
 cd "$(dirname "$0")/../.." || exit 1
 program=$(realpath "${CLEARMAP:-crates/clearmap/out/clearmap}")
@@ -23,7 +24,8 @@ clearmap() { timeout 20 "$program" "$@"; }
 image() { printf 'P1\n3 2\n100\n000\n'; }
 image > "$room/map"
 
-# Closes each descriptor but the three standard streams: those that this script was started with would count among the few of a server.
+# Closes each descriptor but the three standard streams: those that this script was started with
+# would count among the few of a server.
 no_others() {
     local open
     for open in /proc/self/fd/*; do
@@ -32,8 +34,9 @@ no_others() {
     done
 }
 
-# A server of the worked map with these flags, with at most so many descriptors where `descriptors` is set: its port comes into `port`, its process into
-# `server`, and what it prints into the file `said`.
+# A server of the worked map with these flags, with at most so many descriptors where `descriptors`
+# is set: its port comes into `port`, its process into `server`, and what it prints into the file
+# `said`.
 serve() {
     : > "$room/said"
     (no_others && ulimit -n "${descriptors:-$(ulimit -n)}" && exec timeout 60 "$program" serve "$@") < "$room/map" > "$room/said" &
@@ -148,9 +151,9 @@ check_ask() {
     ended; expect 'a server of six clients, to which two others sent nothing' "$status" 0 "$text" 'SERVED 6 3'
 }
 
-# Where no descriptor is left nothing can be accepted: such a connection counts, and the server waits
-# before it tries again, twice as long each time, so that two seconds have room for eight of twenty. It
-# has four for itself.
+# Where no descriptor is left nothing can be accepted: such a connection counts, and the server
+# waits before it tries again, twice as long each time, so that two seconds have room for eight of
+# twenty. It has four for itself.
 check_descriptors() {
     descriptors=4
     serve --connections 20; expect 'a server that may have no connection' $? 0 '' ''

@@ -1,10 +1,13 @@
 #!/usr/bin/env python3
-"""Tells the processor minutes that a running gate takes, by crate, and its slowest edits. It isn't in the gate.
+"""Tells the processor minutes that a running gate takes, by crate, and its slowest edits. It isn't
+in the gate.
 
     tools/gate/gate_minutes.py CLONE
 
-Start it together with `.ci/run` of that clone. It looks at the checks of that gate every three seconds until the gate has ended, and prints two Markdown tables: minutes
-of proofs, tests and edits by crate, and the edits that took longest, by the line that they write. Checks that end within three seconds are missed.
+Start it together with `.ci/run` of that clone. It looks at the checks of that gate every three
+seconds until the gate has ended, and prints two Markdown tables: minutes of proofs, tests and edits
+by crate, and the edits that took longest, by the line that they write. Checks that end within three
+seconds are missed.
 """
 import collections
 import os
@@ -18,12 +21,14 @@ TICKS = os.sysconf("SC_CLK_TCK") * 60
 
 
 def stat_of(pid):
-    """The fields of a process after its name: the second is its parent, the twelfth and thirteenth are its ticks, the twentieth is when it began."""
+    """The fields of a process after its name: the second is its parent, the twelfth and thirteenth
+    are its ticks, the twentieth is when it began."""
     return pathlib.Path(f"/proc/{pid}/stat").read_text().rsplit(") ", 1)[1].split()
 
 
 def check_of(pid, clone):
-    """A check of the gate: what tells it from others, its crate, its folder, whether it is of tests, and its minutes; or nothing."""
+    """A check of the gate: what tells it from others, its crate, its folder, whether it is of
+    tests, and its minutes; or nothing."""
     words = pathlib.Path(f"/proc/{pid}/cmdline").read_text().split("\0")
     if pathlib.Path(words[0]).name != "rattle" or "--crate-name" not in words:
         return None

@@ -1,4 +1,5 @@
-"""What check_limits.py and check_beside.py try with: checks that count, runs of the program, and connections."""
+"""What check_limits.py and check_beside.py try with: checks that count, runs of the program, and
+connections."""
 import pathlib
 import socket
 import struct
@@ -141,7 +142,7 @@ class Line:
         return self.come
 
     def reverts(self, first, count):
-        """Sends so many REVERTs, and answers how many had the next place."""
+        """Sends so many REVERTs, and returns how many had the next place."""
         good = 0
         for start in range(first, first + count, BATCH):
             places = range(start, min(start + BATCH, first + count))

@@ -1,5 +1,6 @@
 #!/usr/bin/env python3
-"""Tests of bin/clearmap-backup against the built server, which CLEARMAP names, and against servers whose dump isn't whole, or none."""
+"""Tests of bin/clearmap-backup against the built server, which CLEARMAP names, and against servers
+whose dump isn't whole, or none."""
 import contextlib
 import os
 import pathlib

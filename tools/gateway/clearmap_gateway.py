@@ -3,7 +3,7 @@
 
     clearmap-gateway --port 7400 [--listen 7401] [--links 4]
 
-Wants numpy and libclearmap. It listens on loopback alone. Nothing here is proved.
+Needs numpy and libclearmap. It listens only on loopback. Nothing here is proved.
 """
 import argparse
 import asyncio

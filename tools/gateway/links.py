@@ -43,7 +43,7 @@ class Link(asyncio.Protocol):
     # ---- exchanges
 
     async def ask(self, sent: bytes, body: bytes = b"") -> bytes:
-        """Sends a line, with the bytes that it counts, and answers its reply line."""
+        """Sends a line, with the bytes that it counts, and returns its reply line."""
         self._begin(sent)
         self._transport.write(body)
         reply = await self._line()

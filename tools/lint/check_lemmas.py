@@ -1,10 +1,12 @@
 #!/usr/bin/env python3
-"""Lists lemmas that say the same, lemmas that nothing cites, and what is `pub` without need. It isn't in the gate.
+"""Lists lemmas that say the same, lemmas that nothing cites, and what is `pub` without need. It
+isn't in the gate.
 
     tools/lint/check_lemmas.py [CRATE ..]
 
-A lemma is cited by its name: in its own file, or by a `use` line of another. One that nothing cites may still be taken by the search: check its crate from nothing,
-without its `out/`, before you drop it.
+A lemma is cited by its name: in its own file, or by a `use` line of another. One that nothing cites
+may still be taken by the search: check its crate from nothing, without its `out/`, before you drop
+it.
 """
 import collections
 import pathlib
@@ -14,7 +16,8 @@ import sys
 
 TOP = pathlib.Path(__file__).resolve().parents[2]
 LEMMA = re.compile(r"(pub )?([\w◌-]+) : (.*)")
-# Files of lemmas, in folders of their own too; what a function's folder has is an answer to its goals.
+# Files of lemmas, in folders of their own too; what a function's folder has is an answer to its
+# goals.
 LEMMAS = re.compile(r"crates/(\w+)/proofs/((?:\w+/)*)(?!(?:Answers|Invariants|Proof|Given|Statement|Send)\.antt)(\w+)\.antt")
 RUNS = {"WorkedRows"}  # its lemmas are runs that are worked out, so nothing cites them
 
@@ -27,7 +30,8 @@ def read_all():
 
 
 def citations(texts):
-    """The files that name an item of a module by a `use` line, by module and name; with no name, those that name the module."""
+    """The files that name an item of a module by a `use` line, by module and name; with no name,
+    those that name the module."""
     cited = collections.defaultdict(set)
     for path, text in texts.items():
         for module, names in re.findall(r"use (Rattle[\w.]+?)(?:\.\{([^}]*)\})?(?: as \w+)?;?\n", text):
@@ -37,7 +41,8 @@ def citations(texts):
 
 
 def lemmas(text):
-    """The lemmas of a file: the number of the line, whether it is `pub`, its name, its statement, and the code of the file without it."""
+    """The lemmas of a file: the number of the line, whether it is `pub`, its name, its statement,
+    and the code of the file without it."""
     lines = text.split("\n")
     for start, line in enumerate(lines):
         if not (found := LEMMA.fullmatch(line)):

@@ -1,10 +1,10 @@
 #!/usr/bin/env python3
 """Looks that being out of memory is never made up: each `Memory` comes from a refused growth.
 
-A value that says so is made in a `From` of the toolchain's `AllocError` or `AllocFailed`, and reaches
-callers by `?` and by arms whose pattern already names it. The status of the library for C that says so
-(`MEMORY`) stands on an arm for an error. Any other expression that makes one is listed, and the status
-is 1. Tests may make them.
+A value that says so is made in a `From` of the toolchain's `AllocError` or `AllocFailed`, and
+reaches callers by `?` and by arms whose pattern already names it. The status of the library for C
+that says so (`MEMORY`) stands on an arm for an error. Any other expression that makes one is
+listed, and the status is 1. Tests may make them.
 
 What that doesn't show: that a growth was needed, or that it wasn't larger than it had to be.
 """
@@ -23,9 +23,11 @@ REFUSED_GROWTH = re.compile(r"\bAllocError\b(?!>)|\bAllocFailed\s*\{")
 
 # The other places, each with why it is no invention.
 ALLOWED = {
-    # `Region::new` answers None where its one request is refused, and nowhere else: it is proved by hand.
+    # `Region::new` answers None where its one request is refused, and nowhere else: it is proved by
+    # hand.
     ("arena/src/arena.rt", "return Err(Refusal::Memory);"),
-    # Both ask for the reason as a condition: an error of std's of that kind, and a refusal for that.
+    # Both ask for the reason as a condition: an error of std's of that kind, and a refusal for
+    # that.
     ("metric/src/refusal.rt", "Refusal::Memory"),
     ("metric/src/fault.rt", "PbmFault::Memory"),
     # Told to a connection for whose buffers there was none, which the line above it looks at.

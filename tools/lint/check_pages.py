@@ -1,8 +1,10 @@
 #!/usr/bin/env python3
-"""Checks what README.md, CONTRIBUTING.md, CHANGELOG.md and docs/ quote and name: pieces of files, runs at a terminal, the conversation of docs/use/PROTOCOL.md, links, and names in backticks.
+"""Checks what README.md, CONTRIBUTING.md, CHANGELOG.md and docs/ quote and name: pieces of files,
+runs at a terminal, the conversation of docs/use/PROTOCOL.md, links, and names in backticks.
 
-A block after `<!-- from FILE -->` stands so in that file; a line `..` in it stands for what is left out. A block whose first line has `$ ` in front is run
-by bash, with `clearmap` on the path, in a scratch folder of its page; blocks that name a port are left out, as they take two terminals.
+A block after `<!-- from FILE -->` stands so in that file; a line `..` in it stands for what is left
+out. A block whose first line has `$ ` in front is run by bash, with `clearmap` on the path, in a
+scratch folder of its page; blocks that name a port are left out, as they take two terminals.
 """
 import os
 import pathlib

@@ -1,10 +1,12 @@
 #!/usr/bin/env python3
-"""Lists what isn't plain English: in the pages, in the `--` lines of .antt files, in the `///` lines and the texts of .rt files, and in scripts. It isn't in the gate.
+"""Lists what isn't plain English: in the pages, in the `--` lines of .antt files, in the `///`
+lines and the texts of .rt files, and in scripts. It isn't in the gate.
 
     tools/lint/check_words.py [PATH ..]
 
-Everywhere: words that have a plainer one. In pages: a sentence of many words, or of several facts. In proofs: a lemma without a line, a line that begins in the middle,
-one that has no verb, and one that several lemmas have.
+Everywhere: words that have a plainer one. In pages: a sentence of many words, or of several facts.
+In proofs: a lemma without a line, a line that begins in the middle, one that has no verb, and one
+that several lemmas have.
 """
 import collections
 import pathlib
@@ -83,7 +85,8 @@ def in_page(path):
 
 
 def in_proofs(path, told):
-    """What is wrong with the lines over definitions and lemmas; `told` gathers which lemmas have a line."""
+    """What is wrong with the lines over definitions and lemmas; `told` gathers which lemmas have a
+    line."""
     lines = (TOP / path).read_text().split("\n")
     for number, line in enumerate(lines, 1):
         if said := re.match(r" *-- (.*)", line):

@@ -1,7 +1,10 @@
-"""Looks up what a page names in backticks: paths, calls, clauses and definitions. tools/lint/check_pages.py calls it.
+"""Looks up what a page names in backticks: paths, calls, clauses and definitions.
+tools/lint/check_pages.py calls it.
 
-A path is one of the repository, or the end of one: `tools/stress/soak.py`, `metric/specs/Kind.antt`, `sessions/acts.rt`. A call is `Type::name`, and each part of it is an item of a crate.
-Any other name with a capital or of several words, as `IsNear` or `one_failure`, stands somewhere in the sources: one that is gone there is found on the page.
+A path is one of the repository, or the end of one: `tools/stress/soak.py`,
+`metric/specs/Kind.antt`, `sessions/acts.rt`. A call is `Type::name`, and each part of it is an item
+of a crate. Any other name with a capital or of several words, as `IsNear` or `one_failure`, stands
+somewhere in the sources: one that is gone there is found on the page.
 """
 import functools
 import pathlib
@@ -64,7 +67,8 @@ def is_path(name):
 
 
 def has_path(name):
-    """Whether a file or a folder has this path, or a longer one that ends so. A file of definitions or proofs may be named without its ending."""
+    """Whether a file or a folder has this path, or a longer one that ends so. A file of definitions
+    or proofs may be named without its ending."""
     wanted = re.escape(name.rstrip("/")).replace(r"\*", "[^/]*")
     return any(re.search(rf"(^|/){wanted}(\.antt)?(/|$)", path) for path in files())
 
@@ -80,7 +84,8 @@ def is_there(span):
 
 
 def lines_of_text(page):
-    """The lines of a page outside of blocks, each with its number. A block is moved in by four blanks, and comes after an empty line."""
+    """The lines of a page outside of blocks, each with its number. A block is moved in by four
+    blanks, and comes after an empty line."""
     before, in_block = "", False
     for number, line in enumerate(page.split("\n"), 1):
         in_block = line.startswith("    ") and (in_block or not before.strip())
@@ -96,7 +101,8 @@ def wrong_names(text):
 
 
 def wrong_promises(text):
-    """What is wrong in the table of promises, whose columns are a part, its calls, their clauses, and files with definitions."""
+    """What is wrong in the table of promises, whose columns are a part, its calls, their clauses,
+    and files with definitions."""
     wrong = []
     table = text.partition("\n## The promises\n")[2].partition("\n## ")[0]
     for row in re.findall(r"^\| (.*) \|$", table, re.M)[1:]:

@@ -1,6 +1,6 @@
 #!/bin/sh
 # Writes packages for Debian into a folder: clearmap, libclearmap0 and libclearmap-dev. Together
-# they are what `make install` installs. The program and the library have to be built. Wants
+# they are what `make install` installs. The program and the library have to be built. Needs
 # dpkg-deb, and strip and objdump of binutils.
 #   tools/package/make_deb.sh FOLDER
 set -eu

@@ -1,6 +1,7 @@
 #!/usr/bin/env python3
-"""Writes man/clearmap.1 from the program's --help, man/clearmap-protocol.7 from docs/use/PROTOCOL.md, and the pages of the scripts from what they read their
-command lines with. With --check it compares instead.
+"""Writes man/clearmap.1 from the program's --help, man/clearmap-protocol.7 from
+docs/use/PROTOCOL.md, and the pages of the scripts from what they read their command lines with.
+With --check it compares instead.
 
     tools/package/make_man.py [--check] [PROGRAM]
 """
@@ -16,7 +17,8 @@ COMMANDS = ("dist", "steps", "serve", "ask")
 
 
 def plain(text):
-    """Text of a page: what roff would read as its own is escaped, and the marks of Markdown become fonts."""
+    """Text of a page: what roff would read as its own is escaped, and the marks of Markdown become
+    fonts."""
     text = text.replace("\\|", "|").replace("\\", "\\e").replace("-", "\\-")
     text = re.sub(r"\[([^]]*)\]\([^)]*\)", r"\1", text)
     text = re.sub(r"\*\*([^*]*)\*\*", r"\\fB\1\\fP", text)
@@ -34,7 +36,8 @@ def heading(name, section, title):
 
 
 class Help:
-    """A --help: what it is about, its usage, its options as pairs of words and text, and the paragraphs after them."""
+    """A --help: what it is about, its usage, its options as pairs of words and text, and the
+    paragraphs after them."""
 
     def __init__(self, *words, program=None):
         text = subprocess.run([program or PROGRAM, *words, "--help"], capture_output=True, text=True, check=True).stdout.rstrip("\n")
@@ -90,7 +93,8 @@ def rows_of(block):
 
 
 def table(block):
-    """A table as a list: the first cell of each row, and then each other cell after its column's name."""
+    """A table as a list: the first cell of each row, and then each other cell after its column's
+    name."""
     names, *rows = rows_of(block)
     page = []
     for row in rows:
@@ -130,7 +134,8 @@ def words_of(action):
 
 
 def script_page(name, about, parser, notes, related):
-    """The page of a script, from its parser of arguments; a line in the fixed font for each line of `notes` that is moved in."""
+    """The page of a script, from its parser of arguments; a line in the fixed font for each line of
+    `notes` that is moved in."""
     page = heading(plain(name.upper()), 1, "Clearance maps") + [".SH NAME", f"{plain(name)} \\- {about}", ".SH SYNOPSIS"]
     page += [plain(re.sub(r"\s+", " ", parser.format_usage()).replace("usage: ", "").strip()), ".SH DESCRIPTION", plain(parser.description)]
     commands = next((action for action in parser._actions if isinstance(action, argparse._SubParsersAction)), None)

@@ -1,14 +1,10 @@
-/* A library that is put before the C library, and refuses requests for memory of the program itself: LD_PRELOAD=./refuse.so
- *
- *   REFUSE_AT=N     the N-th request, counted from 1, is refused
- *   REFUSE_FROM=N   the N-th and each later one
- *   REFUSE_ALL=1    the C library's own requests count too, as those of a thread's start
- *   REFUSE_TELL=1   a line for each request that is met
- *   REFUSE_LOG=FILE where the lines go: 'REQUEST <number> <bytes>' and 'REFUSED <number> <bytes>'
- *
- * A request is a malloc, a calloc, or a realloc that makes or enlarges. Others aren't told apart by size. Wants the GNU C library:
- *
- *   cc -O2 -shared -fPIC -o refuse.so refuse.c */
+/* A library that is put before the C library, and refuses requests for memory of the program
+ * itself: LD_PRELOAD=./refuse.so  REFUSE_AT=N     the N-th request, counted from 1, is refused
+ * REFUSE_FROM=N   the N-th and each later one REFUSE_ALL=1    the C library's own requests count
+ * too, as those of a thread's start REFUSE_TELL=1   a line for each request that is met
+ * REFUSE_LOG=FILE where the lines go: 'REQUEST <number> <bytes>' and 'REFUSED <number> <bytes>'  A
+ * request is a malloc, a calloc, or a realloc that makes or enlarges. Others aren't told apart by
+ * size. Needs the GNU C library:  cc -O2 -shared -fPIC -o refuse.so refuse.c */
 #define _GNU_SOURCE
 #include <errno.h>
 #include <fcntl.h>

@@ -1,11 +1,16 @@
 #!/usr/bin/env python3
-"""Refuses each request for memory in turn, of the built tests of `want_tests` and of the built program, and looks at what is answered.
+"""Refuses each request for memory in turn, of the built tests of `want_tests` and of the built
+program, and looks at what is answered.
 
-A library that is compiled from refuse.c is put before the C library: it refuses the N-th request, for N from 1 until several runs met none. Of the program the
-N-th and all later ones are refused too. `refuse_calls.py` says what each call is to meet and to answer, `refuse_runs.py` what each run may write.
+A library that is compiled from refuse.c is put before the C library: it refuses the N-th request,
+for N from 1 until several runs met none. Of the program the N-th and all later ones are refused
+too. `refuse_calls.py` says what each call is to meet and to answer, `refuse_runs.py` what each run
+may write.
 
-A signal, a run that isn't done in a minute, another text than wanted, a call that met no refusal though it asks for memory, a command that met two requests and a call
-that met one though it takes no memory are wrong. Prints tables of how many requests were refused, and a line for each thing that is wrong; the status is 1 where there is one.
+A signal, a run that isn't done in a minute, another text than wanted, a call that met no refusal
+though it asks for memory, a command that met two requests and a call that met one though it takes
+no memory are wrong. Prints tables of how many requests were refused, and a line for each thing that
+is wrong; the status is 1 where there is one.
 
     tools/refuse/refuse_each_request.py [--only WORD] [--calls | --runs | --all]       a minute; wants a C compiler, the built program and the built tests:
                                                                                 rt run -- --version in crates/clearmap, rt test in crates/want_tests

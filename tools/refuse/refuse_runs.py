@@ -1,8 +1,10 @@
-"""Refuses each request for memory of the built program in turn: of `dist`, `steps`, `serve` with one connection, and `ask`.
+"""Refuses each request for memory of the built program in turn: of `dist`, `steps`, `serve` with
+one connection, and `ask`.
 
-A run with one request refused answers as it does with all its memory (where a growth by a hint is made again smaller), or tells want of memory once, by the
-line `ERR 5 Memory`: alone and with status 1, or in the place of one reply, and then all others are what they are without that line. Where the N-th request and
-each later one are refused, the same holds, and there may be several.
+A run with one request refused answers as it does with all its memory (where a growth by a hint is
+made again smaller), or tells want of memory once, by the line `ERR 5 Memory`: alone and with status
+1, or in the place of one reply, and then all others are what they are without that line. Where the
+N-th request and each later one are refused, the same holds, and there may be several.
 """
 import socket
 import subprocess
@@ -66,7 +68,8 @@ class Runs:
         self.whole = {}
 
     def is_ample(self):
-        """Whether no request of the last run was refused: then none may be answered by want of memory."""
+        """Whether no request of the last run was refused: then none may be answered by want of
+        memory."""
         return not self.refuser.refused()
 
     def known(self, key, make):
@@ -83,7 +86,8 @@ class Runs:
         return None
 
     def steps(self, mode, number):
-        """An order that found no memory changes nothing: a line of no form in its place changes nothing either."""
+        """An order that found no memory changes nothing: a line of no form in its place changes
+        nothing either."""
 
         def without(wanting):
             lines = [b"Z\n" if at in wanting else line for at, line in enumerate(EVENTS)]
@@ -103,7 +107,8 @@ class Runs:
         return None
 
     def served(self, words, lines, mode=None, number=0):
-        """One run of a server: its first line, what one connection got, its other lines, its status."""
+        """One run of a server: its first line, what one connection got, its other lines, its
+        status."""
         environment = self.refuser.environment(mode, number) if mode else None
         server = subprocess.Popen(
             [self.program, "serve", "--connections", "1", *words], stdin=subprocess.PIPE, stdout=subprocess.PIPE, stderr=subprocess.PIPE, env=environment
@@ -129,7 +134,8 @@ class Runs:
         return first, got, rest, status
 
     def serve(self, mode, number, words, lines):
-        """The line of the opening, that of the pool, a connection that is told or has no buffers, or replies."""
+        """The line of the opening, that of the pool, a connection that is told or has no buffers,
+        or replies."""
 
         def without(wanting):
             left = [line for at, line in enumerate(lines) if at not in wanting]
@@ -160,7 +166,8 @@ class Runs:
         return None if not err and ((status, out) == want[:2] or early) else f"status {status}, {out[-120:]!r}, {err[:120]!r}"
 
     def asked(self, mode, number):
-        """One run of `ask`. The server has a second connection to end by, where the client made none."""
+        """One run of `ask`. The server has a second connection to end by, where the client made
+        none."""
         server = subprocess.Popen([self.program, "serve", "--connections", "1"], stdin=subprocess.PIPE, stdout=subprocess.PIPE)
         server.stdin.write(BLANK)
         server.stdin.close()

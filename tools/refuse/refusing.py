@@ -1,4 +1,5 @@
-"""What refuses requests for memory: the library of refuse.c before a built program, and a sweep that refuses one request after another."""
+"""What refuses requests for memory: the library of refuse.c before a built program, and a sweep
+that refuses one request after another."""
 import os
 import pathlib
 import shutil
@@ -33,7 +34,8 @@ class Refuser:
         subprocess.run([compiler, "-O2", "-shared", "-fPIC", "-o", self.library, TOOLS / "refuse.c"], check=True)
 
     def environment(self, mode, number, log=None):
-        """What a program is run in whose N-th request (`at`), or that and each later one (`from`), is refused; `tell` refuses none."""
+        """What a program is run in whose N-th request (`at`), or that and each later one (`from`),
+        is refused; `tell` refuses none."""
         self.log.write_bytes(b"")
         words = {"at": "REFUSE_AT", "from": "REFUSE_FROM", "tell": "REFUSE_TELL"}
         environment = dict(os.environ, LD_PRELOAD=str(self.library), REFUSE_LOG=str(log or self.log), REFUSE_ALL=str(int(self.everything)))
@@ -56,7 +58,8 @@ class Refuser:
 
 
 def sweep(once):
-    """Runs `once(N)` for N from 1 until several runs met no refusal: how many met one, and what was wrong.
+    """Runs `once(N)` for N from 1 until several runs met no refusal: how many met one, and what was
+    wrong.
 
     `once` answers how many requests were refused, and what was wrong, if anything.
     """

@@ -1,5 +1,5 @@
 """What a costmap and a picture of distances are made of: the distances of one version, by rows from
-the top, and a robot's radii. Wants numpy, no ROS; nothing here is proved.
+the top, and a robot's radii. Needs numpy, no ROS; nothing here is proved.
 
 A costmap has the values that ROS's costmap_2d publishes: 100 in an obstacle, 99 where the robot's
 middle may not be, then less and less, 0 beyond the inflation radius, and -1 in unknown cells.

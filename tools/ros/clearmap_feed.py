@@ -1,6 +1,8 @@
-"""One map on a server as a robot's topics have it: what changed is put and published, and plans are asked about. No ROS is wanted, and nothing here is proved.
+"""One map on a server as a robot's topics have it: what changed is put and published, and plans are
+asked about. No ROS is wanted, and nothing here is proved.
 
-The server is one that runs, by its port, or one that is started with the first map. A server that went away is asked for again at the next call.
+The server is one that runs, by its port, or one that is started with the first map. A server that
+went away is asked for again at the next call.
 """
 import math
 import subprocess
@@ -20,7 +22,8 @@ CONNECTIONS = "1000000"
 
 @dataclass(frozen=True)
 class Clearance:
-    """What a plan's tightest cell is, in metres: from middle to middle, free in any case, and where the two middles are."""
+    """What a plan's tightest cell is, in metres: from middle to middle, free in any case, and where
+    the two middles are."""
 
     version: int
     metres: float
@@ -109,7 +112,8 @@ class Feed:
             return self._tried(lambda: self._newer(known, self.place, find))
 
     def clearance(self, plan: Sequence[Point]) -> Clearance:
-        """How far a plan in metres keeps from the obstacles of the newest version; infinite where it has none."""
+        """How far a plan in metres keeps from the obstacles of the newest version; infinite where
+        it has none."""
         with self._lock:
             if self.frame is None:
                 raise RosError("no map has come yet")
@@ -125,7 +129,8 @@ class Feed:
     # the server
 
     def _tried(self, call: Callable[[], T]) -> T:
-        """What a call gives. Where the server has gone since the last one, the call is made once more with a fresh connection."""
+        """What a call gives. Where the server has gone since the last one, the call is made once
+        more with a fresh connection."""
         fresh = self._client is None
         try:
             return call()
@@ -210,7 +215,8 @@ class Feed:
 
     @staticmethod
     def _with_room(client: clearmap.Client, call: Callable[[], T]) -> T:
-        """What a command gives; where versions or blocks are full, it is given once more after a collect."""
+        """What a command gives; where versions or blocks are full, it is given once more after a
+        collect."""
         try:
             return call()
         except (clearmap.VersionsFull, clearmap.BlocksFull):

@@ -1,7 +1,9 @@
-"""Grids as ROS sends them, for clearmap: thresholds, what changed from one to the next, and metres. Standard library alone, and no ROS. Nothing here is proved.
+"""Grids as ROS sends them, for clearmap: thresholds, what changed from one to the next, and metres.
+Only the standard library, and no ROS. Nothing here is proved.
 
-A grid of `nav_msgs/OccupancyGrid` counts its cells from the lower left, y upwards: 0 to 100 is how likely a cell is occupied, and -1 is unknown. Here it
-becomes one byte a cell, by rows from the top, as clearmap counts them: 1 is an obstacle.
+A grid of `nav_msgs/OccupancyGrid` counts its cells from the lower left, y upwards: 0 to 100 is how
+likely a cell is occupied, and -1 is unknown. Here it becomes one byte a cell, by rows from the top,
+as clearmap counts them: 1 is an obstacle.
 """
 import array
 import math
@@ -31,7 +33,8 @@ NO_TURN = 1e-6  # the largest part of a quaternion, its w apart, that is taken f
 
 
 def decimal_of(single: float) -> Fraction:
-    """The shortest decimal that a number of 32 bits may stand for: a message's 0.05000000074505806 is 1/20."""
+    """The shortest decimal that a number of 32 bits may stand for: a message's 0.05000000074505806
+    is 1/20."""
     for digits in range(1, 10):
         word = f"{single:.{digits}g}"
         if struct.pack("f", float(word)) == struct.pack("f", single):
@@ -41,14 +44,16 @@ def decimal_of(single: float) -> Fraction:
 
 @dataclass(frozen=True)
 class Reading:
-    """Which values are obstacles: those above `occupied_thresh`, and all but those below `free_thresh` where unknown cells aren't free."""
+    """Which values are obstacles: those above `occupied_thresh`, and all but those below
+    `free_thresh` where unknown cells aren't free."""
 
     occupied_thresh: Number = "0.65"
     free_thresh: Number = "0.196"
     unknown_is_free: bool = False
 
     def table(self) -> bytes:
-        """What each byte of a message becomes. A value that is neither -1 nor 0 to 100 is an obstacle."""
+        """What each byte of a message becomes. A value that is neither -1 nor 0 to 100 is an
+        obstacle."""
         occupied, free = exact(self.occupied_thresh), exact(self.free_thresh)
         if not 0 <= free <= occupied <= 1:
             raise RosError("the thresholds aren't 0 <= free_thresh <= occupied_thresh <= 1")
@@ -109,7 +114,8 @@ class Grid:
         return self.width, self.height
 
     def changed(self, newer: "Grid") -> Optional[Area]:
-        """The least rectangle that has each cell that another grid of the same size has otherwise; None where there is none."""
+        """The least rectangle that has each cell that another grid of the same size has otherwise;
+        None where there is none."""
         width = self.width
         pairs = [(self.row(y, 0, width), newer.row(y, 0, width)) for y in range(self.height)]
         rows = [y for y, (old, new) in enumerate(pairs) if old != new]
@@ -138,7 +144,8 @@ class Grid:
         return b"P4\n%d %d\n" % (width, area.y1 - area.y0) + bytes(packed)
 
     def updated(self, left: int, low: int, width: int, height: int, cells: bytes) -> "Grid":
-        """The grid with an update's cells in it, whose lower left one is at column `left` and at row `low`, counted upwards from the lowest."""
+        """The grid with an update's cells in it, whose lower left one is at column `left` and at
+        row `low`, counted upwards from the lowest."""
         if not (0 <= left and 0 <= low and left + width <= self.width and low + height <= self.height):
             raise RosError(f"the update of {width} by {height} cells at {left}, {low} isn't wholly on the map of {self.width} by {self.height}")
         changed = bytearray(self.cells)
@@ -201,7 +208,8 @@ def cells_of_map(known: Map, unknown_is_free: bool) -> bytes:
 
 
 def frame_of(width: int, height: int, resolution: float, origin: Tuple[float, float], turn: Tuple[float, float, float]) -> Frame:
-    """Where a message's map lies: metres a cell, the lower left corner, and the x, y and z of its quaternion, which have to be 0."""
+    """Where a message's map lies: metres a cell, the lower left corner, and the x, y and z of its
+    quaternion, which have to be 0."""
     if not (1 <= width <= LARGEST_SIDE and 1 <= height <= LARGEST_SIDE):
         raise RosError(f"the map has {width} by {height} cells, and clearmap has 1 to {LARGEST_SIDE} a side")
     if not 0 < resolution < math.inf:

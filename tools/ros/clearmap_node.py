@@ -6,7 +6,7 @@ distances.
     clearmap-ros-node [_port:=7400] [map:=/map] [plan:=/move_base/NavfnROS/plan]
     clearmap-ros-node _yaml:=map.yaml [_port:=7400]
 
-Wants rospy of ROS 1 and numpy; nothing here is proved.
+Needs rospy of ROS 1 and numpy; nothing here is proved.
 """
 import argparse
 import math
@@ -29,7 +29,8 @@ from clearmap_ros import RosError
 
 
 def program() -> str:
-    """The program that serves: the one that CLEARMAP names, this repository's, the one installed with this node, or that on the path."""
+    """The program that serves: the one that CLEARMAP names, this repository's, the one installed
+    with this node, or that on the path."""
     built = (TOP / "crates/clearmap/out/clearmap", HERE.parent.parent.parent / "bin/clearmap")
     found = [str(path) for path in built if os.access(path, os.X_OK)]
     return os.environ.get("CLEARMAP") or (found[0] if found else shutil.which("clearmap") or "clearmap")
@@ -189,7 +190,8 @@ class Node:
             self.rospy.loginfo("an update: %s", said)
 
     def take_plan(self, message: object) -> None:
-        """Answers a plan's clearance; one that can't be asked about gets NaN, so that nobody goes on with an older answer."""
+        """Answers a plan's clearance; one that can't be asked about gets NaN, so that nobody goes
+        on with an older answer."""
         frame_id = message.header.frame_id
 
         def ask() -> object:
@@ -217,7 +219,8 @@ class Node:
 
 
 def main() -> int:
-    """Runs until the master, or a signal, ends it. Status 1 where something isn't installed, or a parameter is refused, with one line on standard error."""
+    """Runs until the master, or a signal, ends it. Status 1 where something isn't installed, or a
+    parameter is refused, with one line on standard error."""
     parser().parse_args([word for word in sys.argv[1:] if ":=" not in word])
     try:
         import rospy

@@ -1,10 +1,13 @@
 #!/usr/bin/env python3
-"""Maps, plans and radii of ROS for clearmap: metres to cells and back. Python 3.9 or later, standard library alone, but that an image which is no PGM
-wants Debian's python3-pil. Nothing here is proved.
+"""Maps, plans and radii of ROS for clearmap: metres to cells and back. Python 3.9 or later, only
+the standard library, but that an image which is no PGM wants Debian's python3-pil. Nothing here is
+proved.
 
-A map of ROS is a `map.yaml` and an image, as `map_saver` writes them. It is in metres with y upwards; clearmap's cells are counted from the
-upper left, y downwards. All is computed in fractions, of the decimals that numbers are written as, and what has to be rounded is rounded to the safe side:
-a cell that may be occupied is an obstacle, a least distance is rounded up, and a clearance in metres is rounded down.
+A map of ROS is a `map.yaml` and an image, as `map_saver` writes them. It is in metres with y
+upwards; clearmap's cells are counted from the upper left, y downwards. All is computed in
+fractions, of the decimals that numbers are written as, and what has to be rounded is rounded to the
+safe side: a cell that may be occupied is an obstacle, a least distance is rounded up, and a
+clearance in metres is rounded down.
 """
 import argparse
 import io
@@ -64,7 +67,8 @@ def root_below(number: int) -> Fraction:
 
 
 def yaml_values(text: str) -> Dict[str, Union[str, List[str]]]:
-    """The keys and values of the flat YAML that a map has: words, and lists as `[1, 2]` or as lines with `-`."""
+    """The keys and values of the flat YAML that a map has: words, and lists as `[1, 2]` or as lines
+    with `-`."""
     values: Dict[str, Union[str, List[str]]] = {}
     key = ""
     for line in text.splitlines():
@@ -92,7 +96,8 @@ def yaml_values(text: str) -> Dict[str, Union[str, List[str]]]:
 
 @dataclass(frozen=True)
 class Settings:
-    """What `map.yaml` says: metres a cell, where the lower left corner is, and which samples are occupied and free."""
+    """What `map.yaml` says: metres a cell, where the lower left corner is, and which samples are
+    occupied and free."""
 
     image: str
     resolution: Fraction
@@ -176,7 +181,8 @@ def plain_samples(data: bytes, count: int) -> List[int]:
 
 
 def read_pgm(data: bytes) -> Gray:
-    """A PGM image, plain (P2) or raw (P5), of any maximum up to 65535; samples over 255 are two bytes, the high one first."""
+    """A PGM image, plain (P2) or raw (P5), of any maximum up to 65535; samples over 255 are two
+    bytes, the high one first."""
     magic = data[:2]
     if magic not in PGM:
         raise RosError("the image is no PGM: its first two bytes aren't P2 or P5")
@@ -273,9 +279,11 @@ def is_obstacle(share: Fraction, opaque: int, settings: Settings, unknown_is_fre
 
 
 def obstacles(image: Gray, settings: Settings, unknown_is_free: bool = False) -> List[List[bool]]:
-    """Which cells are obstacles, by rows from the top. A sample is occupied by so much as it is dark, or with `negate` bright, of the whole.
+    """Which cells are obstacles, by rows from the top. A sample is occupied by so much as it is
+    dark, or with `negate` bright, of the whole.
 
-    Above `occupied_thresh` it is occupied, below `free_thresh` free, and else unknown, which is an obstacle too unless it is asked otherwise.
+    Above `occupied_thresh` it is occupied, below `free_thresh` free, and else unknown, which is an
+    obstacle too unless it is asked otherwise.
     """
     opaque = image.opaque or bytes([1]) * len(image.samples)
 
@@ -337,25 +345,30 @@ class Frame:
         return self.middle(cell)
 
     def middle(self, cell: Cell) -> Tuple[float, float]:
-        """The middle of a cell, in metres, also of one that lies round the map: an obstacle where the border is a wall."""
+        """The middle of a cell, in metres, also of one that lies around the map: an obstacle where
+        the border is a wall."""
         x, y = cell
         half = Fraction(1, 2)
         return float(self.origin_x + (x + half) * self.resolution), float(self.origin_y + (self.height - 1 - y + half) * self.resolution)
 
     def metres(self, square: int) -> float:
-        """A `euclid2` distance, which is a square in cells, in metres from middle to middle; rounded down."""
+        """A `euclid2` distance, which is a square in cells, in metres from middle to middle;
+        rounded down."""
         return float_below(root_below(square) * self.resolution)
 
     def free_metres(self, square: int) -> float:
-        """How far any point of the asked cell is at least from any point of an obstacle, in metres, where its `euclid2` distance is this; rounded down."""
+        """How far any point of the asked cell is at least from any point of an obstacle, in metres,
+        where its `euclid2` distance is this; rounded down."""
         diagonal = Fraction(math.isqrt(2 * 10**18) + 1, 10**9)
         return float_below(max(Fraction(0), root_below(square) - diagonal) * self.resolution)
 
     def staircase(self, plan: Sequence[Point]) -> List[Cell]:
-        """A path for clearmap along a plan of points in metres: its corners, each in the row or column of the one before.
+        """A path for clearmap along a plan of points in metres: its corners, each in the row or
+        column of the one before.
 
-        The path goes through exactly the cells that the plan's segments cross, and where one goes through a corner, through one of the two next to it.
-        So each point of the plan lies in a cell of the path, and the middle of each such cell is less than one cell from the plan.
+        The path goes through exactly the cells that the plan's segments cross, and where one goes
+        through a corner, through one of the two next to it. So each point of the plan lies in a
+        cell of the path, and the middle of each such cell is less than one cell from the plan.
         """
         if not plan:
             raise RosError("the plan has no point")
@@ -367,7 +380,8 @@ class Frame:
 
 
 def crossed(start: Tuple[Fraction, Fraction], end: Tuple[Fraction, Fraction]) -> Iterator[Cell]:
-    """The cells that a segment enters after the cell that it begins in, in their order; each is next to the one before."""
+    """The cells that a segment enters after the cell that it begins in, in their order; each is
+    next to the one before."""
     x, y = math.floor(start[0]), math.floor(start[1])
     crossings = []
     for axis in (0, 1):
@@ -391,14 +405,16 @@ def corners(cells: Sequence[Cell]) -> List[Cell]:
 
 
 def pieces(path: Sequence[Cell]) -> Iterator[Sequence[Cell]]:
-    """A path in pieces of at most 1000 points. Each starts at the last point of the one before, so that no cell between is left out."""
+    """A path in pieces of at most 1000 points. Each starts at the last point of the one before, so
+    that no cell between is left out."""
     yield path[:LONGEST_PATH]
     for start in range(LONGEST_PATH - 1, len(path) - 1, LONGEST_PATH - 1):
         yield path[start : start + LONGEST_PATH]
 
 
 def query_lines(command: str, path: Sequence[Cell]) -> List[str]:
-    """The lines of a path, as `PATH euclid2` or `CLEAROF euclid2 34` begins them: one for each piece of it."""
+    """The lines of a path, as `PATH euclid2` or `CLEAROF euclid2 34` begins them: one for each
+    piece of it."""
     return [" ".join([command] + [f"{x} {y}" for x, y in piece]) for piece in pieces(path)]
 
 
@@ -416,8 +432,9 @@ def least_whole(holds_from: Fraction, root_two_times: Fraction) -> int:
 def clear_distance(radius: Number, resolution: Number, metric: str = "euclid2", whole_cells: bool = True) -> int:
     """The least `d` of CLEAROF for a round robot of this radius, both in metres.
 
-    With `whole_cells`, which is the safe reading, the robot's middle may be anywhere in its cell and the obstacle anywhere in its own. Without
-    it both are in the middle of their cells, as costmaps inflate, and a robot may come nearer than its radius by up to sqrt 2 cells.
+    With `whole_cells`, which is the safe reading, the robot's middle may be anywhere in its cell
+    and the obstacle anywhere in its own. Without it both are in the middle of their cells, as
+    costmaps inflate, and a robot may come nearer than its radius by up to sqrt 2 cells.
     """
     r, s = exact(radius), exact(resolution)
     if r < 0 or s <= 0:
@@ -425,7 +442,7 @@ def clear_distance(radius: Number, resolution: Number, metric: str = "euclid2", 
     n = r / s
     if metric == "euclid2":  # the square of n, or of n + sqrt 2
         return least_whole(n * n + 2, 2 * n) if whole_cells else math.ceil(n * n)
-    if metric == "city":  # the straight distance may be less than the steps by sqrt 2
+    if metric == "city":  # the Euclidean distance may be less than the steps by sqrt 2
         return least_whole(Fraction(2 if whole_cells else 0), n)
     if metric == "chess":
         return math.ceil(n) + (1 if whole_cells else 0)
@@ -510,7 +527,8 @@ def parser() -> argparse.ArgumentParser:
 
 
 def main() -> int:
-    """Runs a command. Status 1 where the map or a number is refused, with one line on standard error."""
+    """Runs a command. Status 1 where the map or a number is refused, with one line on standard
+    error."""
     options = parser().parse_args()
     try:
         if options.command == "pbm":

@@ -1,6 +1,6 @@
 #!/bin/bash
 # Writes the two pictures of rviz that docs/images/ has, of the map examples/house.yaml: a costmap
-# with a plan, and distances. Wants ROS 1 with roslaunch and rviz, as Debian has them, xvfb,
+# with a plan, and distances. Needs ROS 1 with roslaunch and rviz, as Debian has them, xvfb,
 # imagemagick, and the built program and library.
 #   tools/ros/screenshot.sh [FOLDER]
 set -eu

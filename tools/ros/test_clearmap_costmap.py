@@ -1,6 +1,6 @@
 #!/usr/bin/env python3
 """Tests of costmaps and of clouds of distances: against a search of all obstacles, on maps drawn at
-random. Wants numpy and python3-pil, and no ROS."""
+random. Needs numpy and python3-pil, and no ROS."""
 import math
 import pathlib
 import random

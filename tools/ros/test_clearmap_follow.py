@@ -1,6 +1,6 @@
 #!/usr/bin/env python3
 """Tests of what follows a server's versions, with the built server, which CLEARMAP names: against a
-search of all obstacles, on maps drawn at random. Wants numpy, and no ROS."""
+search of all obstacles, on maps drawn at random. Needs numpy, and no ROS."""
 import pathlib
 import random
 import sys

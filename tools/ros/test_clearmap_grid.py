@@ -1,5 +1,6 @@
 #!/usr/bin/env python3
-"""Tests of clearmap_grid.py against small grids made by hand, and of clearmap_feed.py with the built program, which CLEARMAP names. No ROS is wanted."""
+"""Tests of clearmap_grid.py against small grids made by hand, and of clearmap_feed.py with the
+built program, which CLEARMAP names. No ROS is wanted."""
 import math
 import pathlib
 import random
@@ -137,7 +138,8 @@ class Feeds(unittest.TestCase):
     def test_plans(self):
         feed = self.feed(program=PROGRAM)
         feed.put(POST, PLACE)
-        # the post's middle is at (0.25, -0.75); the plan goes along the lowest row, two rows below it
+        # the post's middle is at (0.25, -0.75); the plan goes along the lowest row, two rows below
+        # it
         found = feed.clearance([(-0.9, -1.9), (1.9, -1.9)])
         self.assertEqual((found.version, found.metres, found.cell, found.obstacle), (0, 1.0, (0.25, -1.75), (0.25, -0.75)))
         self.assertAlmostEqual(found.free_metres, 1.0 - math.sqrt(2) / 2)

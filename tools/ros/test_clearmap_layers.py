@@ -2,8 +2,8 @@
 """Tests of the versions that clearmap_node.py publishes, with a real master and subscribers of ROS
 1, against a search of all obstacles; CLEARMAP names the built program.
 
-Wants what test_clearmap_node.py wants, numpy, and Debian's python3-sensor-msgs; roslaunch, where it
-is there, is tried too. Loopback alone, and nothing is left.
+Needs what test_clearmap_node.py wants, numpy, and Debian's python3-sensor-msgs; roslaunch, where it
+is there, is tried too. Loopback only, and nothing is left.
 """
 import math
 import os

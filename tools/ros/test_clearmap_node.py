@@ -1,7 +1,9 @@
 #!/usr/bin/env python3
-"""Tests of clearmap_node.py with a real master, publishers and subscribers of ROS 1; CLEARMAP names the built program.
+"""Tests of clearmap_node.py with a real master, publishers and subscribers of ROS 1; CLEARMAP names
+the built program.
 
-Wants Debian's ros-core, python3-rospy, python3-nav-msgs, python3-map-msgs and python3-visualization-msgs. Loopback alone, and nothing is left.
+Needs Debian's ros-core, python3-rospy, python3-nav-msgs, python3-map-msgs and
+python3-visualization-msgs. Loopback only, and nothing is left.
 """
 import math
 import os
@@ -51,7 +53,8 @@ def until(holds, what):
 
 
 def map_message(walls=(), width=WIDTH, height=HEIGHT, frame_id="map"):
-    """A free map with a border, and walls of cells as column, row, and the first column and row after it, counted from the lower left."""
+    """A free map with a border, and walls of cells as column, row, and the first column and row
+    after it, counted from the lower left."""
     cells = bytearray(width * height)
     for x0, y0, x1, y1 in ((0, 0, width, 1), (0, height - 1, width, height), (0, 0, 1, height), (width - 1, 0, width, height), *walls):
         for y in range(y0, y1):
@@ -110,7 +113,8 @@ class Running(unittest.TestCase):
         process.wait(PATIENCE)
 
     def start(self, *words):
-        """A node, once it takes what is published: the publishers of the map, of updates and of plans."""
+        """A node, once it takes what is published: the publishers of the map, of updates and of
+        plans."""
         both = [*self.publishers, *self.subscribers]
         until(lambda: not any(topic.get_num_connections() for topic in both) and self.logs.get_num_connections() < 2, "the end of the node before")
         for kept in (self.said, self.clearances, self.markers):

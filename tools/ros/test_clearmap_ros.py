@@ -1,5 +1,6 @@
 #!/usr/bin/env python3
-"""Tests of clearmap_ros.py against small maps made by hand, whose answers are known. Given the program as CLEARMAP, it reads what was written, too."""
+"""Tests of clearmap_ros.py against small maps made by hand, whose answers are known. Given the
+program as CLEARMAP, it reads what was written, too."""
 import io
 import math
 import os
@@ -56,7 +57,8 @@ class Images(unittest.TestCase):
         self.assertEqual(rows_of(b"P2 4 3 255 0 205 254 254 # a row\n254 254 254 0\n100 89 # here\n90 206"), SAFE)
 
     def test_other_maxima(self):
-        # 0.65 of 100 is dark above 65: sample 35 is at the threshold and unknown, 34 is occupied. 0.196 of 1000 is 196: sample 804 is unknown.
+        # 0.65 of 100 is dark above 65: sample 35 is at the threshold and unknown, 34 is occupied.
+        # 0.196 of 1000 is 196: sample 804 is unknown.
         hundred = [34, 35, 80, 81, 100, 0, 100, 100, 100, 100, 100, 100]
         for form in (plain, raw):
             self.assertEqual(rows_of(form(hundred, 100)), [[1, 1, 1, 0], [0, 1, 0, 0], [0, 0, 0, 0]])
@@ -292,7 +294,8 @@ class Places(unittest.TestCase):
                 ros.clear_distance(radius, resolution, metric)
 
     def test_radius_is_safe(self):
-        """Of all cells up to 24 away: those at `d` or more keep the radius between any two of their points, or between their middles."""
+        """Of all cells up to 24 away: those at `d` or more keep the radius between any two of their
+        points, or between their middles."""
         for tenths in (0, 3, 10, 44, 60, 79):
             radius = Fraction(tenths, 10)
             for metric, distance in (("euclid2", lambda x, y: x * x + y * y), ("city", lambda x, y: x + y), ("chess", max)):
@@ -342,7 +345,8 @@ class Plans(unittest.TestCase):
                 wide.staircase(plan)
 
     def test_never_further_than_a_cell(self):
-        """Plans drawn by a fixed rule: each cell's middle is within a cell of its plan, neighbours are next to one another, and each point is in a cell."""
+        """Plans drawn by a fixed rule: each cell's middle is within a cell of its plan, neighbours
+        are next to one another, and each point is in a cell."""
         frame = ros.Frame(40, 40, Fraction("0.05"), Fraction(-1), Fraction(-1))
         state = 7
         for _ in range(60):

@@ -1,6 +1,6 @@
 #!/usr/bin/env python3
 """Tests of clearmap_ros2_node.py with stand-ins for rclpy and its messages, and the built server,
-which CLEARMAP names. Wants numpy, and no ROS."""
+which CLEARMAP names. Needs numpy, and no ROS."""
 import math
 import pathlib
 import subprocess

@@ -1,9 +1,12 @@
 #!/usr/bin/env python3
-"""Keeps 16 clients of `clearmap serve` busy with every kind of line, kills some in the middle of lines and stamps, and then counts.
+"""Keeps 16 clients of `clearmap serve` busy with every kind of line, kills some in the middle of
+lines and stamps, and then counts.
 
-Each accepted command has a place in the log, which is short: it is full now and then, until the next checkpoint. In the end one more connection asks what was left: the places from 1 to the last
-are each answered once, or belong to a client that was killed before its reply; the next command has the place after the last;
-and the least version that a collect keeps is the newest one, so that no pin of a killed client is left.
+Each accepted command has a place in the log, which is short: it is full now and then, until the
+next checkpoint. In the end one more connection asks what was left: the places from 1 to the last
+are each answered once, or belong to a client that was killed before its reply; the next command has
+the place after the last; and the least version that a collect keeps is the newest one, so that no
+pin of a killed client is left.
 
     tools/stress/busy_clients.py [SECONDS]
 """
@@ -56,7 +59,8 @@ def request(rng):
 
 
 class Client:
-    """One connection after another; the places that were answered, and how many commands were sent whose reply never came."""
+    """One connection after another; the places that were answered, and how many commands were sent
+    whose reply never came."""
 
     def __init__(self, port, seed, until):
         self.port, self.rng, self.until = port, random.Random(seed), until

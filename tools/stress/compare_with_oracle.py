@@ -2,15 +2,16 @@
 # Debian's own python3, as its packages python3-numpy and python3-scipy are for that one alone.
 """Compares the built program with a plain minimum written here, on random small maps.
 
-Maps of all small sizes and densities, in both forms of PBM with comments and odd whitespace, every metric, with an open
-border and with a wall, with and without `--nearest`, or with a query line, good or bad; and the same images damaged at one
-place, which are judged by a reader written here from the format's description alone. The program is called directly, so build it first
-(`./clearmap --version`).
+Maps of all small sizes and densities, in both forms of PBM with comments and odd whitespace, every
+metric, with an open border and with a wall, with and without `--nearest`, or with a query line,
+good or bad; and the same images damaged at one place, which are judged by a reader written here
+from the format's description alone. The program is called directly, so build it first (`./clearmap
+--version`).
 
     tools/stress/compare_with_oracle.py [--seed N] [--maps N]
 
-The seed stands on the first line, the count and the disagreements on the last. Where Debian's python3-scipy is installed,
-its exact Euclidean transform is asked as well.
+The seed stands on the first line, the count and the disagreements on the last. Where Debian's
+python3-scipy is installed, its exact Euclidean transform is asked as well.
 """
 import argparse
 import pathlib
@@ -38,7 +39,7 @@ def nearest(cells, distance, x, y):
 
 
 def frame(width, height):
-    """The cells round a map, which are obstacles where its border is a wall."""
+    """The cells around a map, which are obstacles where its border is a wall."""
     columns, rows = range(-1, width + 1), range(-1, height + 1)
     return {(x, y) for x in columns for y in (-1, height)} | {(x, y) for x in (-1, width) for y in rows}
 
@@ -287,7 +288,8 @@ def wanted(image, metric, walled, tell, line):
 
 
 def scipy_disagrees(image):
-    """Whether scipy's Euclidean transform differs from the plain minimum; None where it can't be asked."""
+    """Whether scipy's Euclidean transform differs from the plain minimum; None where it can't be
+    asked."""
     try:
         import numpy
         from scipy import ndimage

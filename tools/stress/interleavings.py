@@ -1,10 +1,14 @@
 #!/usr/bin/env python3
-"""Every interleaving of two readers with a publish, a checkpoint and a collect, through `clearmap steps`, against a plain model.
+"""Every interleaving of two readers with a publish, a checkpoint and a collect, through `clearmap
+steps`, against a plain model.
 
-The first reader announces, loads, announces what it holds exactly, and looks and leaves; the second one announces, loads, looks and leaves. The keeper publishes a painted cell (its stores as one lump, then the commit), then does a
-checkpoint (its one step), without which the log has no room for more, and then collects (two scans, then the commit); each order stands directly
-before its first step. That is 210,210 orders of 14 events. Each is one run of the built program, whose answers are compared line by line with those of `steps_model`.
-Prints how many were run and how many disagreed; status 1 where one did.
+The first reader announces, loads, announces what it holds exactly, and looks and leaves; the second
+one announces, loads, looks and leaves. The keeper publishes a painted cell (its stores as one lump,
+then the commit), then does a checkpoint (its one step), without which the log has no room for more,
+and then collects (two scans, then the commit); each order stands directly before its first step.
+That is 210,210 orders of 14 events. Each is one run of the built program, whose answers are
+compared line by line with those of `steps_model`. Prints how many were run and how many disagreed;
+status 1 where one did.
 """
 import argparse
 import itertools

@@ -1,11 +1,15 @@
 #!/usr/bin/env python3
-"""Draws commands for two connections of `clearmap serve`, one after another, and compares each reply with a plain model.
+"""Draws commands for two connections of `clearmap serve`, one after another, and compares each
+reply with a plain model.
 
-The model (`steps_model.py`) has sets of cells, and lists of blocks by their numbers: it says how many cells change, how many blocks a command needs and
-how many are free, which version may be published, what a collect frees, and what a pin is held back by. A pinned version is dumped now and then and
-compared cell by cell. The maps are small, with sides at the edges of tiles, mostly there is hardly a free block, and a log is full again and again until a
-checkpoint. At the end of each map both pins are left, the draft is reverted, and after a publish and a collect the map's own tiles are all that is in use: a
-paint of the whole map then tells how many blocks it needs and how many are free. The server's last line has the last place.
+The model (`steps_model.py`) has sets of cells, and lists of blocks by their numbers: it says how
+many cells change, how many blocks a command needs and how many are free, which version may be
+published, what a collect frees, and what a pin is held back by. A pinned version is dumped now and
+then and compared cell by cell. The maps are small, with sides at the edges of tiles, mostly there
+is hardly a free block, and a log is full again and again until a checkpoint. At the end of each map
+both pins are left, the draft is reverted, and after a publish and a collect the map's own tiles are
+all that is in use: a paint of the whole map then tells how many blocks it needs and how many are
+free. The server's last line has the last place.
 
     tools/stress/random_commands.py [COMMANDS [SEED]]
 """
@@ -133,7 +137,8 @@ def one(rng, world, connections):
 
 
 def ended(world, connections):
-    """The requests after which the newest version's blocks alone are in use, each with what came and what the model says."""
+    """The requests after which the newest version's blocks alone are in use, each with what came
+    and what the model says."""
     for session in (0, 1):
         yield "UNPIN", connections[session].ask(b"UNPIN\n"), world.unpin(session)
     for name in ("CHECKPOINT", "REVERT", "COLLECT", "PUBLISH", "COLLECT"):

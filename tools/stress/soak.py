@@ -1,9 +1,12 @@
 #!/usr/bin/env python3
-"""Sends commands without end to one `clearmap serve`, with a checkpoint whenever its log of 100,000 entries is nearly full, and watches its memory.
+"""Sends commands without end to one `clearmap serve`, with a checkpoint whenever its log of 100,000
+entries is nearly full, and watches its memory.
 
-One painter paints and clears rectangles of a map of 1024 by 1024, publishes and collects, sixty-four lines a write; a planner has a new pin for each
-round and asks it. Each reply has to be an OK with the next place. Each round ends in a checkpoint, after which the server's resident memory is read
-from /proc: it may not be over that of the third round by more than 1 MB. Linux alone. Prints a line for each tenth of the rounds.
+One painter paints and clears rectangles of a map of 1024 by 1024, publishes and collects,
+sixty-four lines a write; a planner has a new pin for each round and asks it. Each reply has to be
+an OK with the next place. Each round ends in a checkpoint, after which the server's resident memory
+is read from /proc: it may not be over that of the third round by more than 1 MB. Linux alone.
+Prints a line for each tenth of the rounds.
 
     tools/stress/soak.py [COMMANDS]        10,000,000 where nothing is said, which takes some minutes
 """
@@ -40,7 +43,8 @@ def resident(process):
 
 
 def command(rng, place):
-    """The command for a place: mostly a paint or a clear, and each 16 a publish with a collect after it."""
+    """The command for a place: mostly a paint or a clear, and each 16 a publish with a collect
+    after it."""
     if place % 16 == 0:
         return "PUBLISH"
     if place % 16 == 1:

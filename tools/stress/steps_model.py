@@ -1,4 +1,5 @@
-"""A small plain model of `clearmap steps`: sets of cells, lists of blocks, and the text of each line's answer."""
+"""A small plain model of `clearmap steps`: sets of cells, lists of blocks, and the text of each
+line's answer."""
 import re
 
 NUMBER = re.compile(r"[0-9]{1,10}")
@@ -166,7 +167,8 @@ class World:
         return [min(kept), len(gone)]
 
     def stays(self, version):
-        """Newest is kept, and what a word of the scan asks for: an odd one its version and those after it, an even one its version alone."""
+        """Newest is kept, and what a word of the scan asks for: an odd one its version and those
+        after it, an even one its version alone."""
         if version is None:
             return False
         asked = any(word // 2 <= version if word % 2 else word // 2 - 1 == version for word in self.scanned if word)

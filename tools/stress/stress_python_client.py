@@ -6,7 +6,7 @@
 An alarm comes at a random moment of a call and raises there. The same client is asked again: it has
 to answer rightly, or to say that its connection is lost. The same is done at each step of the
 interpreter, or each so many, of one call of each kind. Eight threads ask one client and one pin at
-once, while a painter publishes and one of them renews the pin. Wants the built program, which
+once, while a painter publishes and one of them renews the pin. Needs the built program, which
 CLEARMAP names. Status 1 where an answer is wrong.
 """
 import argparse

@@ -4,8 +4,8 @@ distances, which follows the newest version.
 
     clearmap-view --port 7400 [--web 7480] [--map map.yaml] [--radius 0.22] [--read-only]
 
-Wants aiohttp and numpy (Debian's python3-aiohttp and python3-numpy), and libclearmap or the program
-clearmap. It listens on loopback alone. Nothing here is proved.
+Needs aiohttp and numpy (Debian's python3-aiohttp and python3-numpy), and libclearmap or the program
+clearmap. It listens only on loopback. Nothing here is proved.
 """
 import argparse
 import os

@@ -1,8 +1,8 @@
 """A client of `clearmap serve`, a reader of what `clearmap dist` writes, and distances in process.
 
-Python 3.8 or later, standard library alone; what works in process needs numpy and libclearmap, and
-says so at its first use. The server and the library are proved; this package is not. It is tested
-against the built server, and against servers that answer wrongly, late or not at all.
+Python 3.8 or later, only the standard library; what works in process needs numpy and libclearmap,
+and says so at its first use. The server and the library are proved; this package is not. It is
+tested against the built server, and against servers that answer wrongly, late or not at all.
 
     import clearmap
 
@@ -16,9 +16,9 @@ against the built server, and against servers that answer wrongly, late or not a
         free = pinned.clear_of(34, [(0, 0), (30, 0)]) is None
 
 Columns x and rows y count from 0 at the upper left, and are whole numbers: an int, or an integer of
-numpy. A distance is in cells: `euclid2` is the square of the straight one, `city` and `chess` count
-steps. With `size` a client refuses a server of another map. The server listens on the loopback
-interface of its machine alone.
+numpy. A distance is in cells: `euclid2` is the square of the Euclidean one, `city` and `chess`
+count steps. With `size` a client refuses a server of another map. The server listens on the
+loopback interface of its machine only.
 
 In process, over an array of numpy:
 

@@ -14,8 +14,8 @@ FORKED = "a forked process can't use its parent's connection: it makes a client 
 
 
 class Client:
-    """A connection to a server on this machine. `timeout` is in seconds, above 0, for each wait
-    for bytes; None waits for ever.
+    """A connection to a server on this machine. `timeout` is in seconds, above 0, for each wait for
+    bytes; None waits for ever.
 
     **Threads.** Calls of several threads, also of pins, are done one after another: each waits for
     the whole of the one before, and gets its own answer. A process that was forked is refused, and
@@ -32,9 +32,9 @@ class Client:
     With `size`, as columns and rows, another map is refused by `WrongMap`, when the connection is
     made. It takes a pin for that time.
 
-    With `reconnect` a call that finds the connection closed connects anew first, and a known size
-    is checked again. A call whose own reply was lost raises, and is never sent twice. A pin is lost
-    with its connection. Nothing connects anew after `close`.
+    With `reconnect` a call that finds the connection closed reconnects first, and a known size is
+    checked again. A call whose own reply was lost raises, and is never sent twice. A pin is lost
+    with its connection. Nothing reconnects after `close`.
 
     With `checkpoints` a command that is answered LogFull is sent once more after a checkpoint.
     **That drops the entries of the log, those of other painters too**: no bitmap and no version
@@ -130,12 +130,12 @@ class Client:
         return self._command(requests.stamp(x, y, image))
 
     def publish(self) -> int:
-        """Appends the draft as the next version, and answers its number. VersionsFull where as many
+        """Appends the draft as the next version, and returns its number. VersionsFull where as many
         are kept as may be."""
         return self._command(requests.PUBLISH)
 
     def revert(self) -> int:
-        """Makes the draft the newest version again, and answers the place in the log."""
+        """Makes the draft the newest version again, and returns the place in the log."""
         return self._command(requests.REVERT)
 
     def collect(self) -> Collected:
@@ -144,7 +144,7 @@ class Client:
 
     def checkpoint(self) -> int:
         """Drops the entries of the log that the server keeps, so that a full log goes on, and
-        answers its own place. Places go on counting, and no bitmap and no version changes."""
+        returns its own place. Places go on counting, and no bitmap and no version changes."""
         return raised(self._exchange(lambda connection: connection.ask(requests.CHECKPOINT)))
 
     def _command(self, request: Request[T]) -> T:
@@ -196,7 +196,7 @@ class Client:
             return answer
 
     def _newest(self) -> Connection:
-        """The connection, made anew where it has ended and that is wanted."""
+        """The connection, rebuilt where it has ended and that is wanted."""
         if self._reconnect and not self._is_closed and self._connection.has_ended():
             self._connection = self._connected()
         return self._connection

@@ -33,7 +33,7 @@ class Footprint:
     are turned, in radians, from x towards y.
 
     A pose hits an obstacle where the inside of the polygon meets an obstacle's square: to touch it
-    from outside is no hit. Round the map all is free with the edge `open`, and with `wall` all are
+    from outside is no hit. around the map all is free with the edge `open`, and with `wall` all are
     obstacles. So each pose has an answer, on the map or off it.
 
     Exact is the answer for the polygon whose corners lie on whole steps of 1/65536 of a cell: the

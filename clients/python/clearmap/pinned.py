@@ -48,8 +48,8 @@ class Pinned:
     pinned:` leaves it at the end.
 
     Several threads may ask one pin, as they may use one client; `unpin` and `renew` are for all of
-    them. A pin belongs to its connection, and is lost with it: a client that connects anew pins
-    anew. Errors are those of a `Client`; a pin that was left raises ClearmapError.
+    them. A pin belongs to its connection, and is lost with it: a client that reconnects pins anew.
+    Errors are those of a `Client`; a pin that was left raises ClearmapError.
     """
 
     def __init__(
@@ -97,7 +97,7 @@ class Pinned:
         self._exchange(work)
 
     def renew(self) -> int:
-        """Moves the pin to the newest version, and answers its number. Nothing else tells of a
+        """Moves the pin to the newest version, and returns its number. Nothing else tells of a
         publish. Where the server refuses the new pin, the old one was left."""
 
         def work(connection: Connection) -> Union[int, Refused]:
@@ -138,7 +138,7 @@ class Pinned:
         return self._ask(requests.clear_of(distance, points, metric))
 
     def clearance(self, points: Sequence[Cell]) -> float:
-        """The straight distance of a path's tightest cell to its nearest obstacle, in cells from
+        """The Euclidean distance of a path's tightest cell to its nearest obstacle, in cells from
         middle to middle; infinite where the map has none.
 
         The path may have any number of points: one of over 1000 is asked in pieces, which share
@@ -156,7 +156,7 @@ class Pinned:
         return least
 
     def clearances(self, cells: Iterable[Cell]) -> List[float]:
-        """For each cell its straight distance to the nearest obstacle, in cells: 0 for an obstacle
+        """For each cell its Euclidean distance to the nearest obstacle, in cells: 0 for an obstacle
         and for a cell that isn't on the map, infinite where the map has none. Cells are sent 64 in
         one write."""
         queries = Queries()

@@ -37,7 +37,7 @@ def flat(x: object, y: object, theta: object) -> List[Any]:
 
 def by_table(held: Held, circles: Tuple[float, float], each: Each, out: Any) -> Any:
     """Writes the answers that the distances of the poses' cells tell, by the inner and the outer
-    circle, and answers the numbers of the other poses."""
+    circle, and returns the numbers of the other poses."""
     np = numpy()
     (inner, outer), (x, y, _) = circles, each
     width, height = held.size
@@ -128,7 +128,7 @@ def _turn_once(sides: _Sides) -> Any:
 
 
 def _covered(held: Held, table: Any, sides: _Sides) -> Any:
-    """Whether the covered cells of convex polygons, or the cells round the map, are obstacles."""
+    """Whether the covered cells of convex polygons, or the cells around the map, are obstacles."""
     np = numpy()
     width, height = held.size
     lowest, highest = sides.y.min(axis=1), sides.y.max(axis=1)

@@ -95,15 +95,15 @@ def distances(
     low: Optional[float] = None,
     high: Optional[float] = None,
 ) -> Any:
-    """The distance of each cell of a grid to its nearest obstacle, as an array of uint32:
-    `euclid2` is the square of the straight distance in cells, `city` and `chess` count steps.
-    NO_OBSTACLE stands in each cell where there is no obstacle at all.
+    """The distance of each cell of a grid to its nearest obstacle, as an array of uint32: `euclid2`
+    is the square of the Euclidean distance in cells, `city` and `chess` count steps. NO_OBSTACLE
+    stands in each cell where there is no obstacle at all.
 
     A grid is an array of 2 dimensions with 1 to 4096 rows and as many columns, of any memory order.
     Of bools, True is an obstacle. Of numbers, a cell is one where low <= cell <= high; a limit that
     isn't given is none, and one of them has to be given. Limits of whole numbers are whole; floats
     are compared as numpy compares them, and a NaN is a ValueError. By `edge="wall"` each cell of
-    the frame round the grid is an obstacle too.
+    the frame around the grid is an obstacle too.
 
     With `nearest=True` the answer is (distances, obstacles), two views of one array: obstacles has
     the shape (rows, columns, 2) and the dtype int16, and obstacles[y, x] is the column and the row

@@ -31,13 +31,13 @@ def signed_distances(
 ) -> Reals:
     """The distance of each free cell to its nearest obstacle, and of each obstacle to its nearest
     free cell with a minus, as an array of float64: from middle to middle, so that no cell has less
-    than 1 and more than -1. `euclid2` tells straight distances, the roots of `distances`; `city`
+    than 1 and more than -1. `euclid2` tells Euclidean distances, the roots of `distances`; `city`
     and `chess` count steps. They are in cells, or in metres where `resolution` is metres a cell.
 
     inf stands in each cell where there is no obstacle, and -inf where there is no free cell. With
-    `edge="wall"` the frame round the grid is an obstacle to the free cells. Free cells are those of
-    the grid alone, by either edge. Grid, metric, edge, `threads`, `low` and `high` are as those of
-    `distances`, and so are the errors; a resolution that isn't above 0 is a ValueError.
+    `edge="wall"` the frame around the grid is an obstacle to the free cells. Free cells are those
+    of the grid alone, by either edge. Grid, metric, edge, `threads`, `low` and `high` are as those
+    of `distances`, and so are the errors; a resolution that isn't above 0 is a ValueError.
     """
     return signed_of(_packed(grid, low, high), metric, edge, resolution, threads)
 

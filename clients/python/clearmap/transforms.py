@@ -21,7 +21,7 @@ def distance_transform_edt(
     *,
     threads: int = 1,
 ) -> Any:
-    """scipy.ndimage.distance_transform_edt of an array of 2 dimensions: the straight distance of
+    """scipy.ndimage.distance_transform_edt of an array of 2 dimensions: the Euclidean distance of
     each nonzero cell to the nearest zero, as float64, and with `return_indices` the row and the
     column of that zero, as int32 of the shape (2, rows, columns). Both where both are asked for.
 

@@ -1,5 +1,6 @@
-//! Counts and times what a pin and its unpin do with shared words, and nothing else: two loads of one word that another thread stores every 50 microseconds, and three
-//! stores in a line of the cache that each reader has to itself, all of them sequentially consistent.
+//! Counts and times what a pin and its unpin do with shared words, and nothing else: two loads of
+//! one word that another thread stores every 50 microseconds, and three stores in a line of the
+//! cache that each reader has to itself, all of them sequentially consistent.
 //!   words READERS SECONDS
 //! A line for each reader, as `lmdb_pins` writes it.
 use std::sync::atomic::{AtomicBool, AtomicU64, Ordering::SeqCst};
@@ -32,7 +33,8 @@ fn pin_once(own: &Word, seen: &mut u64) {
     own.0.store(0, SeqCst);
 }
 
-/// How many pins a reader makes while they are counted, and the nanoseconds of each while they are timed.
+/// How many pins a reader makes while they are counted, and the nanoseconds of each while they are
+/// timed.
 fn read(own: &Word) -> (u64, Vec<u32>) {
     let mut seen = 0;
     let mut pins = 0;

@@ -1,4 +1,5 @@
-// The types that the loops stand on, in Rust: what `queries.py` puts in front of the loops of `clearance` and `pbm`.
+// The types that the loops stand on, in Rust: what `queries.py` puts in front of the loops of
+// `clearance` and `pbm`.
 #![allow(dead_code, unused_mut, unused_variables)]
 use std::time::Instant;
 

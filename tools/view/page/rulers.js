@@ -1,4 +1,5 @@
-// What measures the map: the axes at the window's border, the scale bar, and a wall round the map.
+// What measures the map: the axes at the window's border, the scale bar, and a wall around the
+// map.
 import { dark } from "./colours.js";
 import { inSteps, roundBelow } from "./sight.js";
 

@@ -76,8 +76,7 @@ fn draw<Id: StoreName, R: Wait>(
     painter.publish(&mut store.lock(rt))
 }
 
-/// The tightest cell of a path on the newest version. The session goes in and comes back on every
-/// way out. It takes no lock.
+/// The tightest cell of a path on the newest version. The session goes in and comes back on every way out. No lock is taken.
 fn plan<Id: StoreName>(
     alloc: Global,
     planner: Session<Id>,
@@ -96,7 +95,7 @@ fn plan<Id: StoreName>(
     }
 }
 
-/// Returns a session to those that `close` takes; its `pop` left capacity for it.
+/// Puts a session back among those that `close` takes, in the room that its `pop` left.
 fn hand_back<Id: StoreName>(
     rt: &impl Abort,
     sessions: &mut Vec<Session<Id>>,
