@@ -72,7 +72,7 @@ def write_wheel(folder: str, processor: Optional[str] = None) -> str:
 
 
 def stem() -> str:
-    """What a wheel's file name and its folders begin with."""
+    """The start of a wheel's file name and of its folders."""
     return "{name}-{version}".format(**settings())
 
 

@@ -1,4 +1,4 @@
-"""A server for the tests of the client that answers as it is told to: wrongly, late or never."""
+"""A server for the tests of the client that answers as instructed: wrongly, late or never."""
 import contextlib
 import signal
 import socket

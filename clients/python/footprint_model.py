@@ -3,7 +3,7 @@
 
     footprint_model.py CASES [SEED]
 
-prints so many maps, each with a footprint and poses and the model's answers, for the test in C++:
+prints CASES maps, each with a footprint and poses and the model's answers, for the test in C++:
 lines `map WIDTH HEIGHT EDGE CELLS`, `footprint RESOLUTION X Y ..` and `pose X Y THETA HITS`. All
 reals are in hexadecimal, so that both read the same ones.
 """
@@ -23,7 +23,7 @@ CELL = 65536
 
 
 def nearest(number):
-    """The nearest whole number to a fraction; of two the greater."""
+    """The nearest integer to a fraction; the greater of two."""
     return math.floor(Fraction(number) + Fraction(1, 2))
 
 

@@ -39,7 +39,7 @@ def by_scipy(obstacles, metric, edge):
 
 
 def cap_of(metric, reach):
-    """A cap that reaches over so many cells, and with squares over a part of one more."""
+    """A cap that reaches over this many cells, and with squares over a part of one more."""
     return reach * reach + reach if metric == "euclid2" else reach
 
 

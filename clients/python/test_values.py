@@ -93,7 +93,7 @@ class Numbers(unittest.TestCase):
 
 class Images(unittest.TestCase):
     def test_buffers(self):
-        """Whatever has bytes is sent by so many of them, and the next line is a line again."""
+        """Any buffer is sent with its number of bytes, and the next line is a line again."""
         image = b"P4\n16 2\n\xff\x00\x0f\xf0"
         spaced = bytearray(2 * len(image))
         spaced[::2] = image
@@ -237,7 +237,7 @@ class Sizes(unittest.TestCase):
             self.assertTrue(all(len(data.splitlines()) <= 129 for data in way.writes))
 
     def test_a_server_that_makes_no_sense(self):
-        """A size that can't be is a wrong answer, and not a size."""
+        """An impossible size is a wrong answer, and not a size."""
         ok, out = b"NONE\n", b"ERR 1 OutOfRange\n"
         lines = [b"OK 0\n"] + [out, ok] * 63
         with Fake(*lines, closes=False) as fake:

@@ -1,8 +1,9 @@
 """A client of `clearmap serve`, a reader of what `clearmap dist` writes, and distances in process.
 
-Python 3.8 or later, only the standard library; what works in process needs numpy and libclearmap,
-and says so at its first use. The server and the library are proved; this package is not. It is
-tested against the built server, and against servers that answer wrongly, late or not at all.
+Python 3.8 or later, with only the standard library; what works in process needs numpy and
+libclearmap, and says so at its first use. The server and the library are proved; this package is
+not. It is tested against the built server, and against servers that answer wrongly, late or not at
+all.
 
     import clearmap
 
@@ -15,10 +16,10 @@ tested against the built server, and against servers that answer wrongly, late o
         tight = pinned.path([(0, 0), (30, 0), (30, 9)])
         free = pinned.clear_of(34, [(0, 0), (30, 0)]) is None
 
-Columns x and rows y count from 0 at the upper left, and are whole numbers: an int, or an integer of
+Columns x and rows y count from 0 at the upper left, and are integers: an int, or an integer of
 numpy. A distance is in cells: `euclid2` is the square of the Euclidean one, `city` and `chess`
-count steps. With `size` a client refuses a server of another map. The server listens on the
-loopback interface of its machine only.
+count steps. With `size` a client refuses a server of a map of another size. The server listens on
+the loopback interface of its machine only.
 
 In process, over an array of numpy:
 

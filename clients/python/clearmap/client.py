@@ -15,30 +15,30 @@ FORKED = "a forked process can't use its parent's connection: it makes a client 
 
 class Client:
     """A connection to a server on this machine. `timeout` is in seconds, above 0, for each wait for
-    bytes; None waits for ever.
+    bytes; None waits forever.
 
-    **Threads.** Calls of several threads, also of pins, are done one after another: each waits for
-    the whole of the one before, and gets its own answer. A process that was forked is refused, and
-    makes a client of its own; a client can't be copied or pickled.
+    **Threads.** Calls of several threads, also of pins, run one after another: each waits for the
+    whole of the one before, and gets its own answer. A forked process is refused, and makes a
+    client of its own; a client can't be copied or pickled.
 
-    **Interrupts.** Where a call is cut off (`KeyboardInterrupt`, an alarm, any exception), and
-    where a signal's handler calls the client in the middle of a call, the connection is closed: no
-    answer can belong to an earlier question. What was sent by then may have been accepted.
+    **Interrupts.** If a call is cut off (`KeyboardInterrupt`, an alarm, any exception), or a
+    signal's handler calls the client in the middle of a call, the connection is closed: no answer
+    can belong to an earlier question. What was sent by then may have been accepted.
 
-    **Errors.** Any call raises `ConnectionLost`, or `TimedOut`, where no reply comes, `WrongAnswer`
-    where what comes is none, and the `Refused` of what the server refuses. What can't be sent
+    **Errors.** Any call raises `ConnectionLost`, or `TimedOut`, if no reply comes, `WrongAnswer` if
+    what comes isn't a reply, and the `Refused` of what the server refuses. What can't be sent
     raises TypeError or ValueError, and nothing is sent.
 
-    With `size`, as columns and rows, another map is refused by `WrongMap`, when the connection is
-    made. It takes a pin for that time.
+    With `size`, as columns and rows, a map of another size raises `WrongMap` when the connection is
+    made. That takes a pin for the time.
 
-    With `reconnect` a call that finds the connection closed reconnects first, and a known size is
-    checked again. A call whose own reply was lost raises, and is never sent twice. A pin is lost
-    with its connection. Nothing reconnects after `close`.
+    With `reconnect` a call that finds the connection closed reconnects first, and checks a known
+    size again. A call whose own reply was lost raises, and is never sent twice. A pin is lost with
+    its connection. Nothing reconnects after `close`.
 
     With `checkpoints` a command that is answered LogFull is sent once more after a checkpoint.
-    **That drops the entries of the log, those of other painters too**: no bitmap and no version
-    changes by it. A log that others have filled again by then is a LogFull as without the flag.
+    **That drops the entries of the log, those of other painters too**: it changes no bitmap and no
+    version. If others have filled the log again by then, LogFull is raised as without the flag.
     """
 
     def __init__(
@@ -88,8 +88,8 @@ class Client:
 
     @property
     def size(self) -> Size:
-        """Columns and rows of the served map. Where they weren't told, the first use asks for them,
-        by two writes, and with a pin where none stands."""
+        """Columns and rows of the served map. If they aren't known, the first use asks for them, by
+        two writes, and with a pin if there is none."""
         return self._size or raised(self._exchange(self._found_size))
 
     @property
@@ -112,10 +112,10 @@ class Client:
     # ---- painters
 
     def paint(self, x0: int, y0: int, x1: int, y1: int) -> Change:
-        """Makes columns x0 up to x1 - 1 of rows y0 up to y1 - 1 of the draft obstacles.
+        """Makes columns x0 to x1 - 1 of rows y0 to y1 - 1 of the draft obstacles.
 
-        They are 1 cell at least, else BadArguments, and lie on the map, else OutOfRange. LogFull
-        and BlocksFull are refusals of any change.
+        They are at least 1 cell, else BadArguments, and are on the map, else OutOfRange. LogFull
+        and BlocksFull can refuse any change.
         """
         return self._command(requests.draw("PAINT", x0, y0, x1, y1))
 
@@ -124,14 +124,14 @@ class Client:
         return self._command(requests.draw("CLEAR", x0, y0, x1, y1))
 
     def stamp(self, x: int, y: int, image: object) -> Change:
-        """Gives the cells from (x, y) on the values of a PBM image, plain or raw; black is an
+        """Sets the cells from (x, y) on to the values of a PBM image, plain or raw; black is an
         obstacle. The image is anything with the buffer protocol, as `bytes`, by its bytes: at most
-        17,100,000. BadImage where they are no image; else refused as `paint` is."""
+        17,100,000. BadImage if they aren't an image; else refused as `paint` is."""
         return self._command(requests.stamp(x, y, image))
 
     def publish(self) -> int:
-        """Appends the draft as the next version, and returns its number. VersionsFull where as many
-        are kept as may be."""
+        """Appends the draft as the next version, and returns its number. VersionsFull if all slots
+        for versions are in use."""
         return self._command(requests.PUBLISH)
 
     def revert(self) -> int:
@@ -139,16 +139,16 @@ class Client:
         return self._command(requests.REVERT)
 
     def collect(self) -> Collected:
-        """Gives back what no kept version uses: the newest is kept, and each that a pin holds."""
+        """Frees what no kept version uses: the newest is kept, and each that a pin holds."""
         return self._command(requests.COLLECT)
 
     def checkpoint(self) -> int:
         """Drops the entries of the log that the server keeps, so that a full log goes on, and
-        returns its own place. Places go on counting, and no bitmap and no version changes."""
+        returns its own place. Places go on counting; no bitmap and no version changes."""
         return raised(self._exchange(lambda connection: connection.ask(requests.CHECKPOINT)))
 
     def _command(self, request: Request[T]) -> T:
-        """Sends a command; where the log is full and `checkpoints` is set, a checkpoint and the
+        """Sends a command; if the log is full and `checkpoints` is set, a checkpoint and the
         command again."""
 
         def work(connection: Connection) -> Union[T, Refused]:
@@ -165,7 +165,7 @@ class Client:
     # ---- planners
 
     def pin(self) -> Pinned:
-        """Pins the newest version: a context manager that is asked, and leaves the pin at its end.
+        """Pins the newest version: a context manager that answers queries, and unpins at its end.
         One at a time on a connection: a second one is AlreadyPinned."""
 
         def work(connection: Connection) -> Union[Pinned, Refused]:
@@ -179,7 +179,7 @@ class Client:
     def _exchange(self, work: Callable[[Connection], T], of: Optional[Connection] = None) -> T:
         """Does a request and its replies, on the connection of a pin or the newest, with nothing
         between them. What `work` raises closes the connection; an error that leaves it in step, as
-        a refusal, is given back."""
+        a refusal, is returned."""
         if self._process != os.getpid():
             (of or self._connection).close()
             raise ConnectionLost(FORKED)
@@ -196,7 +196,7 @@ class Client:
             return answer
 
     def _newest(self) -> Connection:
-        """The connection, rebuilt where it has ended and that is wanted."""
+        """The connection, reconnected if it has ended and that is wanted."""
         if self._reconnect and not self._is_closed and self._connection.has_ended():
             self._connection = self._connected()
         return self._connection

@@ -27,8 +27,8 @@ class Connection:
     """A socket and what was read from it ahead. It is never opened again once it is closed.
 
     `busy` is set before the first byte of an exchange is sent, and cleared once the last byte of
-    its last reply was taken. Whoever finds it set at the start of an exchange knows that the one
-    before was cut off, so that the next reply may belong to it.
+    its last reply was taken. If it is set at the start of an exchange, the one before was cut off,
+    and the next reply may belong to it.
     """
 
     def __init__(self, address: Tuple[str, int], timeout: Optional[float]) -> None:
@@ -58,7 +58,7 @@ class Connection:
         return self._stream is not None and self.is_of_this_process()
 
     def close(self) -> None:
-        """Gives back this process's descriptor. It sends nothing, and may be called again."""
+        """Closes this process's descriptor. It sends nothing, and may be called again."""
         stream, self._stream = self._stream, None
         if stream is not None:
             stream.close()
@@ -70,7 +70,7 @@ class Connection:
         return self._stream is None
 
     def check_ready(self) -> None:
-        """Closes it and raises ConnectionLost where the next reply could belong to an earlier
+        """Closes it and raises ConnectionLost if the next reply could belong to an earlier
         question, or there is nobody to ask."""
         if self._stream is None:
             raise ConnectionLost("the connection is closed")
@@ -87,8 +87,8 @@ class Connection:
         raise ConnectionLost(f"the server sent {text!r} unasked: the connection is closed")
 
     def _unasked(self) -> Optional[bytes]:
-        """What has come though nothing is asked: b"" where the server has ended the connection,
-        and None where nothing has come."""
+        """What has come unasked: b"" if the server has ended the connection, and None if nothing
+        has come."""
         if self._buffer:
             return bytes(self._buffer)
         stream = self._open()
@@ -100,8 +100,8 @@ class Connection:
     # ---- exchanges
 
     def ask(self, request: Request[T]) -> Union[T, Refused]:
-        """Sends a request, and reads its reply. A refusal is given back, and not raised: all that
-        is raised here leaves the connection out of step."""
+        """Sends a request, and reads its reply. A refusal is returned, and not raised: everything
+        raised here leaves the connection out of step."""
         self._send(request.sent())
         return self._receive(request)
 
@@ -111,7 +111,7 @@ class Connection:
         return [self._receive(request) for request in requests]
 
     def counted(self, count: int) -> bytes:
-        """The next bytes, so many."""
+        """The next `count` bytes."""
         while len(self._buffer) < count:
             self._read_more()
         data = bytes(self._buffer[:count])
@@ -119,7 +119,7 @@ class Connection:
         return data
 
     def quit(self) -> None:
-        """Says that the connection ends, where somebody still listens."""
+        """Says that the connection ends, if somebody still listens."""
         try:
             self._send(b"QUIT\n")
         except ConnectionLost:
@@ -158,14 +158,14 @@ class Connection:
         return closed if self._stream is None else f"the server went away: {fault}"
 
     def _why_late(self) -> str:
-        """What it may be that no reply comes."""
+        """Possible reasons why no reply comes."""
         if self._heard:
             return f"no reply{self._within()}"
         late = f"connected, but no worker has answered{self._within()}"
         return f"{late}: are all workers of the server taken?"
 
     def _within(self) -> str:
-        """The time that was waited; the system has a limit of its own where none is set here."""
+        """The time waited; the system has a limit of its own if none is set here."""
         return "" if self._timeout is None else f" within {self._timeout:g} s"
 
     def _receive(self, request: Request[T]) -> Union[T, Refused]:

@@ -1,4 +1,4 @@
-"""What a pin copies of its server: the pinned version, as a map of this process."""
+"""Copies of the pinned version, as a map of this process."""
 import re
 from typing import Any, Callable, Dict, Iterator, Optional, Tuple, Union
 
@@ -13,8 +13,8 @@ Ask = Callable[[Request[Any]], Any]
 
 
 def read_dump(text: bytes) -> Memory:
-    """The image that DUMP tells, as a map in bytes. Anything else is a WrongAnswer. The digits are
-    read by numpy alone, which lets others of this process go on meanwhile."""
+    """The image in a DUMP, as a map in bytes. Anything else is a WrongAnswer. Only numpy reads the
+    digits, so that other threads go on meanwhile."""
     np = numpy()
     head = re.match(rb"P1\n(\d{1,4}) (\d{1,4})\n", text)
     if not head:
@@ -32,11 +32,11 @@ def read_dump(text: bytes) -> Memory:
 def copied(
     text: bytes, edge: Optional[str], ask: Ask, untold: Optional[str] = None
 ) -> Union[Map, ClearmapError]:
-    """The dumped version as a map. Where no edge is named, the server is asked for a cell whose
-    answer tells it. Where there is none, it is `untold`, and an error if that is None.
+    """The dumped version as a map. If no edge is named, asks the server for a cell whose answer
+    shows it. If there is no such cell, it is `untold`, or an error if that is None.
 
-    Where no cell of the border tells it, no cell of the map does, until some are cleared: what is
-    nearest to a cell, and not of the frame, is then nearer than the frame."""
+    If no cell of the border shows it, no cell of the map does, until some are cleared: a nearest
+    obstacle that isn't of the frame is then nearer than the frame."""
     if edge is not None:
         return Map._of(packed(read_dump(text)), edge)
     maps = maps_of(text)
@@ -69,8 +69,8 @@ def telling(maps: Dict[str, Map]) -> Optional[Tuple[Cell, str]]:
 
 
 def _free_border(area: Map) -> Iterator[Cell]:
-    """The cells of the first and last columns and rows that are no obstacles. An obstacle is its
-    own nearest one by either edge."""
+    """The free cells of the first and last columns and rows. An obstacle is its own nearest one
+    with either edge."""
     width, height = area.size
     free = ~area.grid()
     for x in (0, width - 1):

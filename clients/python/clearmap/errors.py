@@ -1,4 +1,4 @@
-"""What goes wrong between a client and its server: what is lost, what is wrong, each refusal."""
+"""Errors between a client and its server: losses, wrong answers, and each refusal."""
 from typing import Dict, Tuple, Type, TypeVar, Union
 
 Size = Tuple[int, int]
@@ -21,11 +21,11 @@ class TimedOut(ConnectionLost):
 
 
 class WrongAnswer(ClearmapError):
-    """What came is no reply to what was asked; the connection is closed."""
+    """What came isn't a reply to what was asked; the connection is closed."""
 
 
 class WrongMap(ClearmapError):
-    """The served map isn't of the size that was expected; the connection is closed.
+    """The served map doesn't have the expected size; the connection is closed.
 
     `expected` and `served` are the two sizes, as columns and rows.
     """
@@ -40,17 +40,16 @@ class WrongMap(ClearmapError):
 
 
 class NoVersion(ClearmapError):
-    """No version of a followed map has come yet, or none that is newer in the time that was given.
-    """
+    """No version of a followed map has come yet, or no newer one in the given time."""
 
 
 class BadVersion(ClearmapError):
-    """A published version isn't whole, or isn't what its hashes say: it isn't taken."""
+    """A published version isn't whole, or doesn't match its hashes: it isn't taken."""
 
 
 class Refused(ClearmapError):
-    """A line that the server refused. Nothing has changed, and the connection goes on, except after
-    `LineTooLong` and `TooMuchData`, which end it.
+    """A line that the server refused. It has changed nothing, and the connection goes on, except
+    after `LineTooLong` and `TooMuchData`, which end it.
 
     `number` and `name` are the refusal's, and `details` are the words after them: numbers, or the
     name of an image's fault. `line` is what was refused.
@@ -72,7 +71,7 @@ class OutOfRange(Refused):
 
 
 class BlocksFull(Refused):
-    """A change needs `needed` new blocks, and `free` are there: collect, or revert."""
+    """A change needs `needed` new blocks, and `free` are free: collect, or revert."""
 
     @property
     def needed(self) -> int:
@@ -86,7 +85,7 @@ class BlocksFull(Refused):
 
 
 class VersionsFull(Refused):
-    """As many versions are kept as may be: collect, once old pins are left."""
+    """All slots for versions are in use: collect, once old pins are left."""
 
 
 class LogFull(Refused):
@@ -106,11 +105,11 @@ class AlreadyPinned(Refused):
 
 
 class BadPath(Refused):
-    """A path of no point or over 1000."""
+    """A path of no points or over 1000."""
 
 
 class Crooked(Refused):
-    """The point `index` of a path is neither in the row nor in the column of the one before."""
+    """The point `index` of a path is in neither the row nor the column of the one before."""
 
     @property
     def index(self) -> int:
@@ -123,7 +122,7 @@ class BadArguments(Refused):
 
 
 class BadImage(Refused):
-    """The bytes of a stamp are no PBM image; `fault` says why."""
+    """The bytes of a stamp aren't a PBM image; `fault` says why."""
 
     @property
     def fault(self) -> str:
@@ -132,7 +131,7 @@ class BadImage(Refused):
 
 
 class PlacesUsed(Refused):
-    """The log has had as many entries as places can count: no command is accepted any more."""
+    """The log has had as many entries as places can number: no command is accepted any more."""
 
 
 REFUSALS: Dict[int, Tuple[str, Type[Refused]]] = {
@@ -157,8 +156,8 @@ ENDING = (13, 14)  # the server ends the connection after these
 
 
 def raised(answer: Union[T, ClearmapError]) -> T:
-    """An answer that is no error. Errors that leave a connection in step are given back by what
-    asks there, and raised here."""
+    """An answer that isn't an error. Errors that leave a connection in step are returned by the
+    exchange, and raised here."""
     if isinstance(answer, ClearmapError):
         raise answer
     return answer

@@ -15,15 +15,15 @@ MICRO = 1_000_000
 
 
 class State(NamedTuple):
-    """The newest version's order, 0 where there is none, and when the publisher last found that it
-    is the server's newest, by `time.monotonic` of this process; None where nobody tells."""
+    """The newest version's order, 0 if there is none, and when the publisher last found it to be
+    the server's newest, by `time.monotonic` of this process; None if unknown."""
 
     newest: int
     seen: Optional[float]
 
 
 def place_of(url: str) -> str:
-    """Where a Redis is, without what a URL has of passwords."""
+    """The address of a Redis, without the passwords of its URL."""
     parts = urlsplit(url)
     where = parts.hostname or parts.path
     return f"{where}:{parts.port}" if parts.port else where
@@ -38,7 +38,7 @@ def connected(url: str, timeout: float) -> Any:
 
 
 class News:
-    """What is told of new versions on a connection of its own."""
+    """News of new versions, on a connection of its own."""
 
     def __init__(self, client: Any, channel: str) -> None:
         self._listener = client.pubsub(ignore_subscribe_messages=True)
@@ -49,7 +49,7 @@ class News:
             raise
 
     def wait(self, seconds: float) -> bool:
-        """Whether something is told within this time. What else came by then is dropped."""
+        """Whether news come within this time. Drops whatever else came by then."""
         told = bool(self._listener.get_message(timeout=seconds))
         while told and self._listener.get_message():
             pass
@@ -67,19 +67,19 @@ class News:
 
 
 class Fetcher:
-    """Reads the versions of a name. Tiles that were fetched for a version that couldn't be taken
-    are kept for the next try."""
+    """Reads the versions of a name. Keeps tiles fetched for a version that couldn't be taken for
+    the next try."""
 
     def __init__(self, client: Any, name: str, size: Optional[Size]) -> None:
         self._client, self._keys, self._size = client, Keys(name), size
         self._fetched: Dict[bytes, bytes] = {}
 
     def news(self) -> News:
-        """A connection that is told of new versions."""
+        """A connection for news of new versions."""
         return News(self._client, self._keys.news)
 
     def state(self) -> State:
-        """What is the newest version, by one question."""
+        """The newest version's state, by one question."""
         asked, begun = self._client.pipeline(transaction=False), time.monotonic()
         asked.get(self._keys.newest).get(self._keys.seen).time()
         newest, seen, now = asked.execute()
@@ -87,8 +87,8 @@ class Fetcher:
         return State(order, _when(told, now, begun) if told else None)
 
     def version(self, order: int, before: Optional[Version]) -> Version:
-        """The version of this order. BadVersion where it isn't whole, and WrongMap where its map
-        has another size than is wanted."""
+        """The version of this order. BadVersion if it isn't whole, and WrongMap if its map doesn't
+        have the expected size."""
         asked, begun = self._client.pipeline(transaction=False), time.monotonic()
         asked.hget(self._keys.versions, order).time()
         data, now = asked.execute()
@@ -124,8 +124,8 @@ class Fetcher:
 
 
 def _when(told: int, now: Any, begun: float) -> float:
-    """The time by `time.monotonic` of what Redis told, which answered at its time `now` a question
-    that began here at `begun`. An answer that was long on its way makes it too early, and never too
-    late; what Redis' clock has in the future is now."""
+    """Converts a time of Redis to `time.monotonic`; Redis answered at its time `now` a question
+    asked here at `begun`. A slow answer makes the result too early, never too late; a time in the
+    future of Redis' clock is now."""
     seconds, micros = now
     return begun - max(0.0, int(seconds) + int(micros) / MICRO - told / MICRO)

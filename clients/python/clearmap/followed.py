@@ -1,4 +1,4 @@
-"""A followed version: its map, which nobody changes, and how it is put together from tiles."""
+"""A followed version: its map, which nobody changes, and how it is assembled from tiles."""
 import time
 from dataclasses import dataclass, field
 from typing import Any, Dict, NoReturn, Optional, Sequence
@@ -48,14 +48,14 @@ class Version:
 
 
 def stock_of(version: Optional[Version]) -> Dict[bytes, Tile]:
-    """Where a version has which tile, by the hash."""
+    """The position of each tile of a version, by its hash."""
     if version is None:
         return {}
     return dict(zip(version._record.tiles, tiles_of(version.map.size)))
 
 
 def missing(record: Record, stock: Dict[bytes, Any]) -> Dict[bytes, Tile]:
-    """The tiles of a record that aren't in stock, each once, with a place that each has."""
+    """The tiles of a record that aren't in stock, each once, with one of its positions."""
     places = zip(record.tiles, tiles_of(record.size))
     return {wanted: tile for wanted, tile in places if wanted not in stock}
 
@@ -63,7 +63,7 @@ def missing(record: Record, stock: Dict[bytes, Any]) -> Dict[bytes, Tile]:
 def put_together(
     record: Record, before: Optional[Version], fetched: Dict[bytes, bytes], published: float
 ) -> Version:
-    """A version of the tiles that were fetched, and of those that the one before it has."""
+    """A version assembled from fetched tiles and from those of the version before."""
     words = _words(record, before, fetched)
     width, height = record.size
     if width % 64 and (words[:, -1] >> numpy().uint64(width % 64)).any():
@@ -94,7 +94,7 @@ def _words(record: Record, before: Optional[Version], fetched: Dict[bytes, bytes
 
 
 def _bands(words: Any) -> int:
-    """A bit for each 64 rows that have an obstacle."""
+    """One bit per 64 rows, set if they have an obstacle."""
     rows = words.any(axis=1)
     starts = range(0, len(rows), ROWS)
     return sum(1 << k for k, y in enumerate(starts) if rows[y : y + ROWS].any())

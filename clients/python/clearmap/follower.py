@@ -24,14 +24,14 @@ class Follower:
             version = follower.wait(timeout=10)
             near = version.map.at(3, 4)
 
-    A thread of its own fetches what each version lacks. `version` is always a whole one, and never
-    older than one before it. What isn't whole, or isn't what its hashes say, isn't taken, and
-    `error` tells so. Without Redis the version stays: its `age` and `stale` grow. With `size` a map
-    of another size isn't taken.
+    A thread of its own fetches what each version lacks. `version` is always whole, and never older
+    than one before it. What isn't whole, or doesn't match its hashes, isn't taken, and `error` says
+    so. Without Redis the version stays: its `age` and `stale` grow. With `size` a map of another
+    size isn't taken.
 
     Ask a version, not the follower, for answers that belong together. Any thread may use all of
-    this, and a signal's handler `version`, `stale` and `error`. A process that was forked makes a
-    follower of its own. It needs numpy, libclearmap and redis, else ImportError.
+    this, and a signal's handler `version`, `stale` and `error`. A forked process makes a follower
+    of its own. It needs numpy, libclearmap and redis, else ImportError.
     """
 
     def __init__(
@@ -66,7 +66,7 @@ class Follower:
 
     @property
     def version(self) -> Version:
-        """The newest whole version. NoVersion where none has come yet."""
+        """The newest whole version. NoVersion if none has come yet."""
         self._check_process()
         if self._version is None:
             raise NoVersion(self._none())
@@ -74,21 +74,21 @@ class Follower:
 
     @property
     def error(self) -> Optional[str]:
-        """What keeps it now from the newest version; None where nothing does."""
+        """What currently keeps it from the newest version; None if nothing does."""
         why = self._error
         return None if why is None else f"{self._what}: {why}"
 
     @property
     def stale(self) -> float:
-        """Seconds since the version was last known to be the newest of the server. While all is
-        well it stays below three; it is infinite without a version."""
+        """Seconds since the version was last known to be the server's newest. While all is well it
+        stays below three; it is infinite without a version."""
         return max(0.0, time.monotonic() - self._newest_at)
 
     def wait(
         self, newer_than: Optional[Version] = None, timeout: Optional[float] = None
     ) -> Version:
-        """The newest version, once there is one, or one that is newer than this. NoVersion where
-        none comes within so many seconds, or the follower is closed."""
+        """The newest version, once there is one, or one that is newer than this. NoVersion if none
+        comes within the time-out, or the follower is closed."""
         self._check_process()
         with self._changed:
             self._changed.wait_for(lambda: self._is_newer(newer_than) or self._is_over(), timeout)
@@ -130,8 +130,8 @@ class Follower:
     # ---- the thread
 
     def _run(self) -> None:
-        """Follows until the end. What Redis, its link or what is stored there does wrong is told,
-        and tried again."""
+        """Follows until the end. Reports what goes wrong with Redis, its link or its data, and
+        tries again."""
         pause, longest = PAUSES
         while not self._is_over():
             begun = time.monotonic()
@@ -145,7 +145,8 @@ class Follower:
         self._fetcher.close()
 
     def _follow(self) -> None:
-        """Looks at each news, and now and then without any, over one connection of news."""
+        """Looks at each piece of news, and now and then without any, over one connection for news.
+        """
         news = self._news = self._fetcher.news()
         try:
             is_told = True
@@ -175,7 +176,7 @@ class Follower:
         return False
 
     def _wants(self, newest: int) -> bool:
-        """Whether a version of this order is newer than what is there. An error where it's older.
+        """Whether a version of this order is newer than the current one. An error if it is older.
         """
         mine = 0 if self._version is None else self._version.order
         if newest == 0:

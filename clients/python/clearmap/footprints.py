@@ -1,4 +1,4 @@
-"""Footprints: whether a robot of any convex shape stands on an obstacle, pose by pose."""
+"""Footprints: whether a robot of any convex shape is on an obstacle, pose by pose."""
 from __future__ import annotations
 
 import ctypes
@@ -19,28 +19,28 @@ if TYPE_CHECKING:
 
 WALLED = EDGES.index(WALL)
 HALF_DIAGONAL = math.sqrt(0.5)
-SLACK = 2.0**-13  # cells: more than rounding moves any corner, and than a root is off by
-LONE_POSES = 1000  # cells of a map for which as much work is done as for a pose
+SLACK = 2.0**-13  # cells: more than rounding moves any corner, or a root is off
+LONE_POSES = 1000  # cells of a map that take as much work as one pose
 
 
 class Footprint:
-    """A robot's outline: a convex polygon of 3 to 128 points around its centre, in their order.
+    """A robot's outline: a convex polygon of 3 to 128 points around its centre, in order.
 
-    The points are (x, y) in cells, or in metres where `resolution` says how many metres a cell has.
-    They reach 4096 cells from the centre (0, 0) at most, which may lie outside of them. A pose is
-    (x, y, theta): where the centre is, in cells of the map, so that cell (3, 4) is the square from
-    (3, 4) to (4, 5) and (3.5, 4.5) its middle, whatever `resolution` is; and by how much the points
-    are turned, in radians, from x towards y.
+    The points are (x, y) in cells, or in metres if `resolution` gives metres per cell. They reach
+    at most 4096 cells from the centre (0, 0), which may be outside the polygon. A pose is (x, y,
+    theta): the position of the centre, in cells of the map, so that cell (3, 4) is the square from
+    (3, 4) to (4, 5) and (3.5, 4.5) its centre, whatever `resolution` is; and how far the points are
+    turned, in radians, from x towards y.
 
     A pose hits an obstacle where the inside of the polygon meets an obstacle's square: to touch it
     from outside is no hit. around the map all is free with the edge `open`, and with `wall` all are
     obstacles. So each pose has an answer, on the map or off it.
 
-    Exact is the answer for the polygon whose corners lie on whole steps of 1/65536 of a cell: the
+    The answer is exact for the polygon whose corners lie on whole steps of 1/65536 of a cell: the
     points, the pose and the turned corners are rounded to these, and the cosine and the sine to
-    2**-30. No corner is moved by more than 1/16384 of a cell, and by none at right angles.
+    2**-30. No corner moves by more than 1/16384 of a cell, and none moves at right angles.
 
-    ValueError for what is no such polygon or pose. Any threads may ask one footprint.
+    ValueError for anything but such a polygon or pose. Any threads may use one footprint.
     """
 
     __slots__ = ("_outline", "_inner", "_outer")
@@ -51,22 +51,22 @@ class Footprint:
         self._inner, self._outer = inner - SLACK, outer + SLACK
 
     def hits(self, area: Map, x: float, y: float, theta: float) -> bool:
-        """Whether the robot stands on an obstacle of a map at this pose."""
+        """Whether the robot is on an obstacle of a map at this pose."""
         pose = float(x), float(y), float(theta)
         if not all(map(math.isfinite, pose)):
             raise ValueError(f"a pose of {pose}, where finite numbers are wanted")
         return self._hits(area._held, *pose)
 
     def is_clear(self, area: Map, x: float, y: float, theta: float) -> bool:
-        """Whether it stands on none."""
+        """Whether it is on none."""
         return not self.hits(area, x, y, theta)
 
     def hits_many(
         self, area: Map, x: ArrayLike, y: ArrayLike, theta: ArrayLike
     ) -> NDArray[np.bool_]:
         """`hits` of each pose of three arrays, which numpy broadcasts: an array of bools. All poses
-        are asked of the cells as they are when the call begins. Where they are many for the map,
-        each cell's distance is worked first, in 12 bytes a cell for the time of the call."""
+        are answered for the cells as they are when the call starts. If there are many poses for the
+        map, the call first computes each cell's distance, in 12 bytes per cell while it runs."""
         np = numpy()
         held = area._held
         arrays = poses.flat(x, y, theta)
@@ -85,7 +85,7 @@ class Footprint:
     # ---- one pose
 
     def _hits(self, held: Held, x: float, y: float, theta: float) -> bool:
-        """By the circles, and where these don't tell it by the cells."""
+        """By the circles, and if these don't decide, by the cells."""
         width, height = held.size
         far = self._outer + 1
         if not (-far <= x <= width + far and -far <= y <= height + far):
@@ -94,8 +94,8 @@ class Footprint:
         return self._by_cells(held, x, y, theta) if told is None else told
 
     def _by_circles(self, held: Held, x: float, y: float) -> Optional[bool]:
-        """False where all obstacles lie outside of the outer circle, True where one meets the
-        inner, and else None."""
+        """False if all obstacles are outside the outer circle, True if one meets the inner circle,
+        otherwise None."""
         column, row = math.floor(x), math.floor(y)
         width, height = held.size
         if not (0 <= column < width and 0 <= row < height):
@@ -125,8 +125,8 @@ class Footprint:
 
 
 def _circles(outline: Iterable[Corner]) -> Tuple[float, float]:
-    """The radii of the largest circle round the centre that lies in a polygon, 0 where there is
-    none, and of the least that has it inside."""
+    """The radii of the largest circle around the centre inside a polygon, 0 if there is none, and
+    of the smallest that contains it."""
     corners = list(outline)
     inner = min(
         cross(a, b, (0, 0)) / math.hypot(b[0] - a[0], b[1] - a[1])
@@ -137,12 +137,12 @@ def _circles(outline: Iterable[Corner]) -> Tuple[float, float]:
 
 
 def _leaves(corners: Iterable[Corner], right: int, below: int) -> bool:
-    """Whether a polygon isn't all on a map of this size in steps."""
+    """Whether a polygon isn't wholly on a map of this size in steps."""
     return not all(0 <= x <= right and 0 <= y <= below for x, y in corners)
 
 
 def _nearer(held: Held, x: int, y: int, limit: int) -> Optional[Tuple[int, int]]:
-    """The nearest obstacle of a cell whose square of a distance is below a limit."""
+    """The nearest obstacle of a cell, if the square of its distance is below a limit."""
     point, found = array("H", (x, y)), CFound()
     where = *held.where, number_of(EUCLID2), held.edge, point.buffer_info()[0], 1, limit
     check(library().clearmap_bits_clear_of(*where, ctypes.byref(found)))

@@ -1,4 +1,4 @@
-"""Arrays of numpy as maps that libclearmap reads, in place where their memory allows it."""
+"""Arrays of numpy as maps that libclearmap reads, in place if their memory allows it."""
 from typing import Any, NamedTuple, Optional, Tuple, Union
 
 from .library import Bits, Bytes, numpy
@@ -10,8 +10,8 @@ NUMBERS = {metric: number for number, metric in enumerate(METRICS)}
 
 
 class Memory(NamedTuple):
-    """A map as the library reads it. `cells` is the array that owns the memory, and is held as long
-    as a call runs."""
+    """A map as the library reads it. `cells` is the array that owns the memory, held while a call
+    runs."""
 
     kind: str  # bytes or bits
     cells: Any
@@ -59,8 +59,8 @@ def _array(grid: object) -> Any:
 
 
 def byte_map(array: Any, low: int, high: int) -> Memory:
-    """A map of an array of one byte a cell: in place where its rows lie from the left, without
-    overlapping, one after another."""
+    """A map of an array of one byte per cell: in place if its rows lie from the left, one after
+    another, without overlapping."""
     np = numpy()
     height, width = array.shape
     array = array.view(np.uint8)
@@ -75,7 +75,7 @@ def byte_map(array: Any, low: int, high: int) -> Memory:
 
 
 def _byte_range(array: Any, low: int, high: int) -> Optional[Tuple[int, int]]:
-    """The limits low to high as limits of an array's bytes, where it has one byte a cell, and the
+    """The limits low to high as limits of an array's bytes, if it has one byte per cell, and the
     cells in between are one range of bytes."""
     kind, size = array.dtype.kind, array.dtype.itemsize
     if size != 1:
@@ -88,8 +88,7 @@ def _byte_range(array: Any, low: int, high: int) -> Optional[Tuple[int, int]]:
 
 
 def _of_numbers(array: Any, low: Optional[float], high: Optional[float]) -> Memory:
-    """A map of an array of numbers: an obstacle is a cell from low to high. A limit that is None is
-    none."""
+    """A map of an array of numbers: an obstacle is a cell from low to high. None means no limit."""
     np = numpy()
     kind = array.dtype.kind
     if kind == "c":

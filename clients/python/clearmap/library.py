@@ -10,7 +10,7 @@ from typing import Any, Dict, List, Optional
 from .errors import ClearmapError
 
 FILE = "libclearmap.so.0"
-VERSION = "0.2."  # what a library's version starts with whose calls are those below
+VERSION = "0.2."  # the start of the versions of the library that have the calls below
 NO_OBSTACLE = 0xFFFF_FFFF  # the distance where there is no obstacle at all
 NOWHERE = -2  # the column and the row of no obstacle
 
@@ -18,7 +18,7 @@ DONE, CROOKED, MEMORY = 0, 8, 10  # statuses
 
 
 class Bytes(ctypes.Structure):
-    """clearmap_bytes: how a map lies in bytes."""
+    """clearmap_bytes: the layout of a map in bytes."""
 
     _fields_ = [
         ("width", ctypes.c_uint32),
@@ -30,7 +30,7 @@ class Bytes(ctypes.Structure):
 
 
 class Bits(ctypes.Structure):
-    """clearmap_bits: how a map lies in bits."""
+    """clearmap_bits: the layout of a map in bits."""
 
     _fields_ = [
         ("width", ctypes.c_uint32),
@@ -53,7 +53,7 @@ class CFound(ctypes.Structure):
 
 
 def _declare(library: ctypes.CDLL) -> None:
-    """Gives the calls their argument lists. All but the version answer a status."""
+    """Gives the calls their argument lists. All but the version return a status."""
     address, u32, length = ctypes.c_void_p, ctypes.c_uint32, ctypes.c_size_t
     library.clearmap_version.restype = ctypes.c_char_p
     library.clearmap_status_text.restype = ctypes.c_char_p
@@ -80,9 +80,9 @@ def _declare(library: ctypes.CDLL) -> None:
 
 
 def _places() -> List[pathlib.Path]:
-    """Where the library may lie: next to the package, in the tree that the package is in, and in
-    the folder lib of the prefix that it is installed to, of Python's, and of /usr/local, which the
-    system's loader knows after `ldconfig` alone."""
+    """Where the library may be: next to the package, in the tree that the package is in, and in the
+    folder lib of the prefix that it is installed to, of Python's, and of /usr/local, which the
+    system's loader knows only after `ldconfig`."""
     folder = pathlib.Path(__file__).resolve().parent
     parents = folder.parents
     places = [folder]
@@ -95,8 +95,8 @@ def _places() -> List[pathlib.Path]:
 
 
 def _found() -> str:
-    """The file that is loaded. CLEARMAP_LIBRARY names it, or it lies in one of the places, or the
-    system's loader knows it."""
+    """The file to load. CLEARMAP_LIBRARY names it, or it is in one of the places, or the system's
+    loader knows it."""
     named = os.environ.get("CLEARMAP_LIBRARY")
     if named:
         return os.path.abspath(named)
@@ -104,7 +104,7 @@ def _found() -> str:
 
 
 def _why_not(path: str, fault: Optional[OSError]) -> str:
-    """What is said where a file can't be loaded."""
+    """What to say if a file can't be loaded."""
     if path == FILE:
         return (
             f"there is no {FILE}: build it by `make lib` in clearmap's tree, install it by "
@@ -115,7 +115,7 @@ def _why_not(path: str, fault: Optional[OSError]) -> str:
 
 @functools.lru_cache(maxsize=None)
 def library() -> ctypes.CDLL:
-    """The library, loaded at the first use. ImportError where it isn't there, or is another one.
+    """The library, loaded at the first use. ImportError if it isn't there, or is another one.
 
     It isn't loaded by PyDLL: the interpreter's lock is released while a call runs."""
     path = _found()
@@ -156,8 +156,8 @@ def redis() -> Any:
 
 
 def check(status: int) -> None:
-    """Raises what a status says. The arguments were checked before, so that only want of memory is
-    left to be told."""
+    """Raises what a status says. The arguments were checked before, so only out of memory is left.
+    """
     if status == MEMORY:
         raise MemoryError("libclearmap had no memory for the call")
     if status != DONE:

@@ -35,7 +35,7 @@ if TYPE_CHECKING:
     from .signed import Reals
 
 M = TypeVar("M", bound="Map")
-END = 1 << 32  # what is less can be asked for
+END = 1 << 32  # nothing below it can be asked for
 ROWS = 64  # rows of a band
 
 
@@ -68,7 +68,7 @@ def _call(name: str) -> Any:
 
 class Held:
     """The cells of a map at one time, which nobody writes, the number of its edge, and how a call
-    is told of them."""
+    takes them."""
 
     __slots__ = ("memory", "edge", "size", "where")
 
@@ -79,13 +79,13 @@ class Held:
 
 
 class Map:
-    """A map of this process: the cells of a grid, as `distances` takes it, in an eighth of a byte a
-    cell. The grid isn't used afterwards. Queries answer what those of a `Pinned` answer, and raise
-    what they raise.
+    """A map of this process: the cells of a grid, as `distances` takes it, in an eighth of a byte
+    per cell. The grid isn't used afterwards. Queries return what those of a `Pinned` return, and
+    raise what they raise.
 
-    Any threads may ask, paint and clear one map at any time: a query answers for the cells as they
-    are when it begins. `paint` and `clear` copy the map's bits, and wait for one another alone; a
-    signal's handler makes neither.
+    Any threads may query, paint and clear one map at any time: a query answers for the cells as
+    they are when it starts. `paint` and `clear` copy the map's bits, and wait only for each other;
+    a signal's handler may call neither.
     """
 
     def __init__(
@@ -99,14 +99,14 @@ class Map:
         self._begin(packed(map_of(grid, low, high)), edge)
 
     def _begin(self, memory: Memory, edge: str) -> None:
-        """Holds a map in bits, which nobody writes any more."""
+        """Holds a map in bits that nobody writes any more."""
         self._edge, self._lock = edge_of(edge), threading.Lock()
         self._held = Held(memory, self._edge)
         self._size = self._held.size
 
     @classmethod
     def _of(cls: Type[M], memory: Memory, edge: str) -> M:
-        """A map of what is packed already."""
+        """A map of cells that are already packed."""
         made = cls.__new__(cls)
         made._begin(memory, edge)
         return made
@@ -144,7 +144,7 @@ class Map:
         return None if near.dist == NO_OBSTACLE else Near(near.dist, (near.x, near.y))
 
     def _near(self, x: int, y: int, metric: str) -> CNear:
-        """The nearest obstacle as the library tells it."""
+        """The nearest obstacle as the library returns it."""
         width, height = self._size
         if not (0 <= x < width and 0 <= y < height):
             raise _outside((x, y), requests.at(x, y, metric))
@@ -153,8 +153,8 @@ class Map:
         return near
 
     def gradient(self, x: int, y: int, metric: str = EUCLID2) -> Optional[Tuple[float, float]]:
-        """The direction away from the nearest obstacle of a cell, by columns and by rows, of the
-        length 1; None in an obstacle, and where the map has none. Refused as `at` is."""
+        """The unit vector away from the nearest obstacle of a cell, by columns and by rows; None in
+        an obstacle, and if the map has none. Refused as `at` is."""
         near = self.at(x, y, metric)
         if near is None or near.distance == 0:
             return None
@@ -185,7 +185,7 @@ class Map:
     def _along(
         self, distance: Optional[int], points: Iterable[Cell], metric: str
     ) -> Optional[Tightest]:
-        """PATH where there is no distance, and else CLEAROF."""
+        """PATH without a distance, otherwise CLEAROF."""
         cells = _cells(points)
         if not self._has(cells) or not (distance is None or 0 <= distance < END):
             raise self._bad_path(distance, cells, metric)
@@ -202,14 +202,14 @@ class Map:
     # ---- what a server refuses
 
     def _has(self, cells: List[Cell]) -> bool:
-        """Whether these are the points of a path, and on the map."""
+        """Whether these are the points of a path on the map."""
         width, height = self._size
         return 0 < len(cells) <= LONGEST_PATH and all(
             0 <= x < width and 0 <= y < height for x, y in cells
         )
 
     def _corners(self, name: str, *corners: int) -> Tuple[int, ...]:
-        """The corners x0, y0, x1, y1 of a rectangle that has a cell, and lies on the map."""
+        """The corners x0, y0, x1, y1 of a rectangle that has a cell and is on the map."""
         numbers = tuple(map(whole, corners))
         x0, y0, x1, y1 = numbers
         if not (0 <= x0 < x1 <= LARGEST_SIDE and 0 <= y0 < y1 <= LARGEST_SIDE):
@@ -257,8 +257,8 @@ class Map:
         return gradients_of(self._held.memory, metric, self.edge, inside, threads)
 
     def grid(self, y0: int = 0, y1: Optional[int] = None) -> NDArray[np.bool_]:
-        """The cells as an array of bools by rows, True where an obstacle is: of rows y0 up to
-        y1 - 1, which are on the map, else OutOfRange; without y1 of those up to the last."""
+        """The cells as an array of bools by rows, True for an obstacle: of rows y0 to y1 - 1, which
+        are on the map, else OutOfRange; without y1 up to the last."""
         end = self.height if y1 is None else whole(y1)
         _, y0, _, end = self._corners("the rows of", 0, y0, self.width, end)
         return unpacked(self._held.memory, y0, end)  # type: ignore[no-any-return]
@@ -266,7 +266,7 @@ class Map:
     # ---- changes
 
     def paint(self, x0: int, y0: int, x1: int, y1: int) -> None:
-        """Makes columns x0 up to x1 - 1 of rows y0 up to y1 - 1 obstacles, at once. Refused as
+        """Makes columns x0 to x1 - 1 of rows y0 to y1 - 1 obstacles, at once. Refused as
         `Client.paint` is for its rectangle."""
         self._draw("PAINT", x0, y0, x1, y1)
 
@@ -275,7 +275,7 @@ class Map:
         self._draw("CLEAR", x0, y0, x1, y1)
 
     def _draw(self, name: str, *corners: int) -> None:
-        """Puts a changed copy in the place of the cells, which queries may still read."""
+        """Replaces the cells, which queries may still read, by a changed copy."""
         x0, y0, x1, y1 = self._corners(name, *corners)
         first, mask = _mask(x0, x1)
         with self._lock:
@@ -294,8 +294,8 @@ class Map:
 
 
 def _mask(x0: int, x1: int) -> Tuple[int, Any]:
-    """The first word of a row that has some of the columns x0 up to x1 - 1, and these bits of it
-    and of the words after it."""
+    """The first word of a row with some of the columns x0 to x1 - 1, and these bits of it and of
+    the words after it."""
     first, last = x0 // 64, (x1 - 1) // 64
     row = ((1 << x1) - (1 << x0)) >> (64 * first)
     words = [row >> (64 * k) & (2**64 - 1) for k in range(last - first + 1)]
@@ -303,7 +303,8 @@ def _mask(x0: int, x1: int) -> Tuple[int, Any]:
 
 
 def _outside(numbers: Iterable[int], request: Request[Any]) -> Refused:
-    """The refusal of a request whose numbers no line has, or whose cells aren't all on the map."""
+    """The refusal of a request whose numbers don't fit a line, or whose cells aren't all on the
+    map."""
     if not all(0 <= number < END for number in numbers):
         return BadArguments(12, "BadArguments", (), request.line)
     return OutOfRange(1, "OutOfRange", (), request.line)

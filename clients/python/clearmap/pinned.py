@@ -45,10 +45,10 @@ BATCH = 64  # requests that are sent before their replies are read
 
 class Pinned:
     """A pin of one version, which stays as it is whatever is published. `with client.pin() as
-    pinned:` leaves it at the end.
+    pinned:` unpins at the end.
 
-    Several threads may ask one pin, as they may use one client; `unpin` and `renew` are for all of
-    them. A pin belongs to its connection, and is lost with it: a client that reconnects pins anew.
+    Several threads may use one pin, as they may use one client; `unpin` and `renew` affect all of
+    them. A pin belongs to its connection, and is lost with it: a client that reconnects pins again.
     Errors are those of a `Client`; a pin that was left raises ClearmapError.
     """
 
@@ -74,7 +74,7 @@ class Pinned:
         raise TypeError("a Pinned belongs to its connection, which can't be copied or pickled")
 
     def _exchange(self, work: Callable[[Connection], Union[T, ClearmapError]]) -> T:
-        """Does what is asked of this pin, on its own connection alone."""
+        """Does what is asked of this pin, only on its own connection."""
 
         def held(connection: Connection) -> Union[T, ClearmapError]:
             return ClearmapError("the pin was left") if self._is_left else work(connection)
@@ -88,7 +88,7 @@ class Pinned:
         return self._exchange(lambda connection: connection.ask(request))
 
     def unpin(self) -> None:
-        """Leaves the pin. What is asked of it later is refused here, and isn't sent."""
+        """Unpins. Later calls are refused here, and not sent."""
 
         def work(connection: Connection) -> Union[int, Refused]:
             self._is_left = True
@@ -97,8 +97,8 @@ class Pinned:
         self._exchange(work)
 
     def renew(self) -> int:
-        """Moves the pin to the newest version, and returns its number. Nothing else tells of a
-        publish. Where the server refuses the new pin, the old one was left."""
+        """Moves the pin to the newest version, and returns its number. Nothing else reports a
+        publish. If the server refuses the new pin, the old one is gone."""
 
         def work(connection: Connection) -> Union[int, Refused]:
             self._is_left = True
@@ -113,33 +113,33 @@ class Pinned:
         return self._exchange(work)
 
     def at(self, x: int, y: int, metric: str = EUCLID2) -> Optional[Near]:
-        """The nearest obstacle of a cell. None where the map has none; OutOfRange for a cell that
+        """The nearest obstacle of a cell. None if the map has none; OutOfRange for a cell that
         isn't on it. The distance is in cells, with euclid2 a square."""
         return self._ask(requests.at(x, y, metric))
 
     def rect(
         self, x0: int, y0: int, x1: int, y1: int, metric: str = EUCLID2
     ) -> Optional[Tightest]:
-        """The first cell by rows, of columns x0 up to x1 - 1 and rows y0 up to y1 - 1, that has the
-        least distance. None where the map has no obstacle."""
+        """The first cell, in row-major order, with the least distance in columns x0 to x1 - 1 of
+        rows y0 to y1 - 1. None if the map has no obstacle."""
         return self._ask(requests.rect(x0, y0, x1, y1, metric))
 
     def path(self, points: Iterable[Cell], metric: str = EUCLID2) -> Optional[Tightest]:
-        """The first cell along a path that has the least distance. A path has 1 to 1000 points,
-        else BadPath, each in the row or column of the one before, else Crooked. None as in `rect`.
+        """The first cell along a path with the least distance. A path has 1 to 1000 points, else
+        BadPath, each in the row or column of the one before, else Crooked. None as in `rect`.
         """
         return self._ask(requests.path(points, metric))
 
     def clear_of(
         self, distance: int, points: Iterable[Cell], metric: str = EUCLID2
     ) -> Optional[Tightest]:
-        """None where each cell of the path has this distance at least, and else the first that
+        """None if each cell of the path has at least this distance, otherwise the first that
         hasn't. With euclid2 the distance is a square."""
         return self._ask(requests.clear_of(distance, points, metric))
 
     def clearance(self, points: Sequence[Cell]) -> float:
         """The Euclidean distance of a path's tightest cell to its nearest obstacle, in cells from
-        middle to middle; infinite where the map has none.
+        centre to centre; infinite if the map has none.
 
         The path may have any number of points: one of over 1000 is asked in pieces, which share
         their ends.
@@ -157,8 +157,8 @@ class Pinned:
 
     def clearances(self, cells: Iterable[Cell]) -> List[float]:
         """For each cell its Euclidean distance to the nearest obstacle, in cells: 0 for an obstacle
-        and for a cell that isn't on the map, infinite where the map has none. Cells are sent 64 in
-        one write."""
+        and for a cell that isn't on the map, infinite if the map has none. Sends 64 cells per
+        write."""
         queries = Queries()
         for x, y in cells:
             x, y = whole(x), whole(y)
@@ -183,10 +183,10 @@ class Pinned:
         """The version as a map of this process, which outlives the pin, by one DUMP. It needs numpy
         and libclearmap, else ImportError.
 
-        A dump tells no edge. Where none is named, the server is asked about a cell of the border
-        whose answer tells it. ClearmapError where no cell does, as where the whole border are
-        obstacles: name it then, or name by `untold` the one for maps that don't tell it, whose
-        answers don't depend on it. A named edge is taken as it is.
+        A dump doesn't say the edge. If none is named, asks the server about a cell of the border
+        whose answer shows it. ClearmapError if no cell does, for example because the whole border
+        is obstacles: then name the edge, or name by `untold` the one for maps that don't show it,
+        whose answers don't depend on it. A named edge is taken as it is.
         """
         return self._copied(edge, untold)
 
@@ -216,8 +216,8 @@ class Pinned:
         *,
         edge: Optional[str] = None,
     ) -> Any:
-        """The package's `distances`, of this version, by one DUMP; as `map`, but that an edge which
-        no cell tells isn't needed, since it changes no distance and no nearest obstacle."""
+        """The package's `distances`, of this version, by one DUMP; as `map`, but without need for
+        an edge that no cell shows, since that changes no distance and no nearest obstacle."""
         copy = self._copied(edge, OPEN)
         return copy.distances(metric, nearest, threads)  # type: ignore[call-overload]
 
@@ -237,7 +237,7 @@ class Pinned:
         return self._exchange(work)
 
     def ask(self, queries: Queries) -> List[object]:
-        """The answers to many queries, sent without waiting in between. A refused one has its
+        """The answers to many queries, sent without waiting in between. A refused query has its
         `Refused` in its place, which isn't raised."""
         asked = tuple(queries._requests)
 

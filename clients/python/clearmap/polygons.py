@@ -1,4 +1,4 @@
-"""Convex polygons in whole numbers: their corners at a pose, and the cells that they cover."""
+"""Convex polygons in integers: their corners at a pose, and the cells that they cover."""
 from __future__ import annotations
 
 import math
@@ -15,17 +15,17 @@ Corner = Tuple[int, int]
 
 
 def rounded(number: float) -> int:
-    """The nearest whole number; of two the greater."""
+    """The nearest integer; the greater of two."""
     return math.floor(number + 0.5)
 
 
 def cross(a: Corner, b: Corner, c: Corner) -> int:
-    """Twice the area of a triangle: above 0 where it turns from x to y."""
+    """Twice the area of a triangle: positive if it turns from x to y."""
     return (b[0] - a[0]) * (c[1] - a[1]) - (b[1] - a[1]) * (c[0] - a[0])
 
 
 def hull(corners: Iterable[Corner]) -> List[Corner]:
-    """The corners of the convex hull, turning from x to y, without those that lie on a side."""
+    """The corners of the convex hull, turning from x to y, without those on a side."""
     ordered = sorted(set(corners), key=lambda corner: (corner[1], corner[0]))
     return _chain(ordered)[:-1] + _chain(ordered[::-1])[:-1]
 
@@ -75,8 +75,8 @@ def _corner(number: int, point: Iterable[float], cell: float) -> Corner:
 
 
 def _goes_round(ring: Sequence[Corner], outline: Sequence[Corner]) -> bool:
-    """Whether points go round their hull once, and none lies inside of it by more than rounding
-    brings about."""
+    """Whether points go around their hull once, and none is inside it by more than rounding can
+    cause."""
     start, at = ring.index(outline[0]), 0
     for corner in [*ring[start + 1 :], *ring[: start + 1]]:
         a, b = (outline[number % len(outline)] for number in (at, at + 1))
@@ -97,7 +97,7 @@ def _is_on_side(a: Corner, b: Corner, corner: Corner) -> bool:
 
 
 def _check_width(outline: Sequence[Corner]) -> None:
-    """A thin polygon has no inside left where its corners are rounded."""
+    """Refuses a polygon so thin that rounding its corners leaves no inside."""
     for a, b in zip(outline, [*outline[1:], outline[0]]):
         most = max(cross(a, b, corner) for corner in outline)
         if most < THINNEST * math.hypot(b[0] - a[0], b[1] - a[1]):
@@ -126,8 +126,9 @@ def placed(outline: Sequence[Corner], x: float, y: float, theta: float) -> List[
 
 
 def rows_of(outline: Sequence[Corner], top: int, bottom: int) -> Iterator[Tuple[int, int, int]]:
-    """The cells whose squares meet the inside of a convex polygon: of each row from `top` to
-    `bottom` - 1 that has some the row, the first column and the one after the last."""
+    """The cells whose squares meet the inside of a convex polygon: for each row from `top` to
+    `bottom`
+    - 1 that has some, the row, the first column and the one after the last."""
     top = max(top, min(y for _, y in outline) // STEPS)
     bottom = min(bottom, -(-max(y for _, y in outline) // STEPS))
     count = max(bottom - top, 0)
@@ -145,8 +146,8 @@ def rows_of(outline: Sequence[Corner], top: int, bottom: int) -> Iterator[Tuple[
 
 
 def _side(a: Corner, b: Corner, left: bool, top: int, bottom: int) -> Tuple[int, List[int]]:
-    """The first row that a side from a to b goes through, and of each row its least column, or
-    where it isn't the left side the one after its greatest."""
+    """The first row that a side from a to b goes through, and for each row its least column, or, if
+    it isn't the left side, the one after its greatest."""
     begin, end = max(a[1] // STEPS, top), min(-(-b[1] // STEPS), bottom)
     dx, dy = b[0] - a[0], b[1] - a[1]
     if begin >= end or dy == 0:  # the ends of a level side are those of others

@@ -12,7 +12,7 @@ from .requests import EUCLID2
 from .rows import distances_of
 
 HALF_DIAGONAL = math.sqrt(0.5)
-PIECE = 1 << 16  # rows of poses that are worked at once
+PIECE = 1 << 16  # rows of poses computed at once
 NOWHERE = 1 << 40  # a column after all others
 Each = Tuple[Any, ...]  # x, y and theta of all poses
 
@@ -71,7 +71,7 @@ def by_cells(
     held: Held, outline: Sequence[Corner], each: Each, alone: Callable[..., bool]
 ) -> Any:
     """Whether covered cells are obstacles, pose by pose. A pose whose corners rounding has moved to
-    a side, or into the polygon, is asked alone."""
+    a side, or into the polygon, is asked by itself."""
     np = numpy()
     found = np.empty(each[0].size, bool)
     if not found.size:
@@ -90,7 +90,7 @@ def by_cells(
 
 
 def _counts(memory: Memory) -> Any:
-    """How many obstacles of its row lie before each column, and after the last in all."""
+    """How many obstacles of its row are before each column, and at the end how many in all."""
     np = numpy()
     cells = unpacked(memory, 0, memory.layout.height)
     table = np.zeros((cells.shape[0], cells.shape[1] + 1), np.int16)
@@ -118,7 +118,7 @@ def _placed(outline: Sequence[Corner], each: Each) -> _Sides:
 
 
 def _turn_once(sides: _Sides) -> Any:
-    """Of which polygons all corners turn from x to y, once round in all."""
+    """Which polygons' corners all turn from x to y, once around in all."""
     np = numpy()
     dx, dy = sides.next_x - sides.x, sides.next_y - sides.y
     after_x, after_y = np.roll(dx, -1, 1), np.roll(dy, -1, 1)
@@ -163,8 +163,8 @@ def _ends(sides: _Sides, borders: Any) -> Tuple[Any, Any]:
 
 
 def _upwards(sides: _Sides) -> Iterator[Tuple[Any, ...]]:
-    """Of each side of all polygons: whether these lie after it in their rows, its end of the lesser
-    row, and the way to the other end."""
+    """For each side of all polygons: whether the polygon lies after it in its rows, its end of the
+    lesser row, and the vector to the other end."""
     np = numpy()
     for number in range(sides.x.shape[1]):
         x, y, next_x, next_y = (numbers[:, number : number + 1] for numbers in sides)

@@ -1,4 +1,4 @@
-"""How a published version lies in Redis: its keys, its record, its tiles (docs/use/FORMATS.md)."""
+"""A published version in Redis: its keys, its record, its tiles (docs/use/FORMATS.md)."""
 import hashlib
 import re
 import zlib
@@ -36,7 +36,7 @@ class Keys:
 
 
 class Tile(NamedTuple):
-    """Rows y0 up to y1 - 1 of the words first up to end - 1 of a map in bits."""
+    """Rows y0 to y1 - 1 of the words first to end - 1 of a map in bits."""
 
     y0: int
     y1: int
@@ -78,7 +78,7 @@ def hash_of(data: bytes) -> bytes:
 
 
 def compressed_tiles(area: Map) -> Tuple[List[bytes], Dict[bytes, bytes]]:
-    """The hashes of a map's tiles in their order, and what is stored of each."""
+    """The hashes of a map's tiles in order, and what is stored of each."""
     words = area._held.memory.cells
     cells = [cells_of(words, tile) for tile in tiles_of(area.size)]
     hashes = [hash_of(part) for part in cells]
@@ -86,7 +86,7 @@ def compressed_tiles(area: Map) -> Tuple[List[bytes], Dict[bytes, bytes]]:
 
 
 def read_tile(value: object, wanted: bytes, tile: Tile) -> bytes:
-    """The bytes of a stored tile, which has the hash that is wanted, and else is a BadVersion."""
+    """The bytes of a stored tile; BadVersion if it doesn't have the wanted hash."""
     name = wanted.hex()[:16]
     if not isinstance(value, bytes):
         raise BadVersion(f"its tile {name} isn't there")
@@ -117,7 +117,7 @@ class Record:
     tiles: Tuple[bytes, ...]
 
     def written(self) -> bytes:
-        """Its bytes, of which the last are the hash of those before them."""
+        """Its bytes; the last are the hash of those before them."""
         numbers = f"{self.order} {self.run} {self.number} {self.published}"
         width, height = self.size
         head = f"clearmap-version 1 {numbers} {width} {height} {self.edge}\n".encode()
@@ -131,7 +131,7 @@ class Record:
 
 
 def read_record(data: object) -> Record:
-    """The record that these bytes are; BadVersion where they are none."""
+    """The record in these bytes; BadVersion if they aren't one."""
     if not isinstance(data, bytes):
         raise BadVersion("its record isn't there")
     head = HEAD.match(data)
@@ -154,7 +154,7 @@ def read_record(data: object) -> Record:
 
 
 def order_of(data: object, key: str) -> int:
-    """The order that a key holds, 0 where there is no such key. ClearmapError for anything else."""
+    """The order that a key holds, 0 if there is no such key. ClearmapError for anything else."""
     if data is None:
         return 0
     is_order = isinstance(data, bytes) and re.fullmatch(rb"\d{1,16}", data)

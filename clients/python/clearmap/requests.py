@@ -20,8 +20,7 @@ LARGEST_DUMP = 17_100_000  # bytes; the text of the largest map is below it
 class Near(NamedTuple):
     """A distance, and the obstacle it is to.
 
-    On a map whose border is a wall the obstacle may lie on the frame: at -1, or one cell after the
-    last.
+    On a map with a wall the obstacle may be on the frame: at -1, or one cell after the last.
     """
 
     distance: int
@@ -29,8 +28,8 @@ class Near(NamedTuple):
 
 
 class Tightest(NamedTuple):
-    """The cell that was found, its distance, and the obstacle it is to, which may lie on the frame
-    of a map whose border is a wall."""
+    """The cell that was found, its distance, and the obstacle it is to, which may be on the frame
+    of a map with a wall."""
 
     distance: int
     cell: Cell
@@ -67,7 +66,7 @@ class Request(Generic[T_co]):
 
 
 def whole(number: object) -> int:
-    """A whole number: an int, or what stands for one exactly, as numpy's integers do."""
+    """An integer: an int, or what stands for one exactly, as numpy's integers do."""
     try:
         return int(operator.index(number))  # type: ignore[arg-type]
     except TypeError:
@@ -76,7 +75,7 @@ def whole(number: object) -> int:
 
 
 def bytes_of(image: object) -> bytes:
-    """The bytes of whatever has the buffer protocol, by rows where it has several dimensions."""
+    """The bytes of any buffer, by rows if it has several dimensions."""
     try:
         return memoryview(image).tobytes()  # type: ignore[arg-type]
     except TypeError:
@@ -85,7 +84,7 @@ def bytes_of(image: object) -> bytes:
 
 
 def checked(line: str) -> str:
-    """A line that the server reads as one: a longer one would end the connection."""
+    """A line that the server reads as one line: a longer one would end the connection."""
     if len(line) > LONGEST_LINE:
         raise ValueError(f"a line of {len(line)} bytes, where {LONGEST_LINE} are the most")
     return line
@@ -102,7 +101,7 @@ def metric_of(metric: str) -> str:
 
 
 def _numbers(count: int, signed: int = 0) -> Callable[[str, str], Tuple[int, ...]]:
-    """A reader of `OK` and so many numbers, the last of which may have a sign: the coordinates of
+    """A reader of `OK` and this many numbers, the last of which may have a sign: the coordinates of
     an obstacle."""
     form = re.compile("OK" + r" (\d{1,10})" * (count - signed) + r" (-?\d{1,10})" * signed)
 
@@ -125,7 +124,7 @@ _obstacle_of, _cell_and_obstacle = _numbers(3, signed=2), _numbers(5, signed=2)
 
 
 def read_one(reply: str, line: str) -> int:
-    """The one number of a reply."""
+    """The only number of a reply."""
     return _one(reply, line)[0]
 
 
@@ -158,7 +157,7 @@ def _read_change(reply: str, line: str) -> Change:
 
 
 def _read_version(reply: str, line: str) -> int:
-    """The answer of PUBLISH, whose place isn't told."""
+    """The answer of PUBLISH, without its place."""
     return _two(reply, line)[1]
 
 

@@ -20,7 +20,7 @@ if TYPE_CHECKING:
 
 
 def in_bands(height: int, threads: int, work: Callable[[int, int], None]) -> None:
-    """Does work(y0, y1) for bands of rows, each by a thread of its own."""
+    """Calls work(y0, y1) for bands of rows, each in a thread of its own."""
     count = whole(threads)
     if count < 1:
         raise ValueError(f"{count} threads, where 1 or more are wanted")
@@ -52,7 +52,7 @@ def near_type() -> Any:
 
 
 def distances_of(memory: Memory, metric: str, edge: str, nearest: bool, threads: int) -> Any:
-    """What `distances` answers, of a map."""
+    """What `distances` returns, for a map."""
     np = numpy()
     numbers = number_of(metric), edge_of(edge)
     height, width = memory.layout.height, memory.layout.width
@@ -96,25 +96,25 @@ def distances(
     high: Optional[float] = None,
 ) -> Any:
     """The distance of each cell of a grid to its nearest obstacle, as an array of uint32: `euclid2`
-    is the square of the Euclidean distance in cells, `city` and `chess` count steps. NO_OBSTACLE
-    stands in each cell where there is no obstacle at all.
+    is the square of the Euclidean distance in cells, `city` and `chess` count steps. Each cell is
+    NO_OBSTACLE if there is no obstacle at all.
 
     A grid is an array of 2 dimensions with 1 to 4096 rows and as many columns, of any memory order.
-    Of bools, True is an obstacle. Of numbers, a cell is one where low <= cell <= high; a limit that
-    isn't given is none, and one of them has to be given. Limits of whole numbers are whole; floats
-    are compared as numpy compares them, and a NaN is a ValueError. By `edge="wall"` each cell of
-    the frame around the grid is an obstacle too.
+    Of bools, True is an obstacle. Of numbers, a cell is an obstacle if low <= cell <= high; at
+    least one limit must be given. Limits of integers are integers; floats are compared as numpy
+    compares them, and a NaN is a ValueError. With `edge="wall"` each cell of the frame around the
+    grid is an obstacle too.
 
-    With `nearest=True` the answer is (distances, obstacles), two views of one array: obstacles has
+    With `nearest=True` the result is (distances, obstacles), two views of one array: obstacles has
     the shape (rows, columns, 2) and the dtype int16, and obstacles[y, x] is the column and the row
-    of the nearest obstacle of cell (x, y); on the frame of a wall it is -1, or one after the last;
-    NOWHERE, twice, where there is none. Of several it is the one of the least column; of those the
-    one in the fewest rows away, and of two such the upper.
+    of the nearest obstacle of cell (x, y); on the frame of a wall either is -1, or one after the
+    last; NOWHERE, twice, if there is none. Ties go to the least column; among those to the fewest
+    rows away, and of two such to the upper one.
 
-    `threads` share the rows. A grid of bool, uint8 or int8 whose rows lie one after another, also
-    with gaps between them, is read in place: nobody writes it meanwhile. int8 limits that go from
-    below 0 to 0 or more cost a copy, as other dtypes and orders do, of one byte a cell.
+    `threads` share the rows. A grid of bool, uint8 or int8 whose rows lie one after another, even
+    with gaps between them, is read in place: nobody may write it meanwhile. int8 limits from below
+    0 to 0 or more cost a copy of one byte per cell, as do other dtypes and orders.
 
-    ValueError and TypeError for what is no grid, and MemoryError.
+    ValueError and TypeError for anything but a grid, and MemoryError.
     """
     return distances_of(map_of(grid, low, high), metric, edge, nearest, threads)

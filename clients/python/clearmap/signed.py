@@ -29,15 +29,15 @@ def signed_distances(
     low: Optional[float] = None,
     high: Optional[float] = None,
 ) -> Reals:
-    """The distance of each free cell to its nearest obstacle, and of each obstacle to its nearest
-    free cell with a minus, as an array of float64: from middle to middle, so that no cell has less
-    than 1 and more than -1. `euclid2` tells Euclidean distances, the roots of `distances`; `city`
-    and `chess` count steps. They are in cells, or in metres where `resolution` is metres a cell.
+    """The distance of each free cell to its nearest obstacle, and the negative distance of each
+    obstacle to its nearest free cell, as an array of float64: from centre to centre, so that no
+    cell is between -1 and 1. `euclid2` gives Euclidean distances, the roots of `distances`; `city`
+    and `chess` count steps. They are in cells, or in metres if `resolution` is metres per cell.
 
-    inf stands in each cell where there is no obstacle, and -inf where there is no free cell. With
-    `edge="wall"` the frame around the grid is an obstacle to the free cells. Free cells are those
-    of the grid alone, by either edge. Grid, metric, edge, `threads`, `low` and `high` are as those
-    of `distances`, and so are the errors; a resolution that isn't above 0 is a ValueError.
+    Each cell is inf if there is no obstacle, and -inf if there is no free cell. With `edge="wall"`
+    the frame around the grid is an obstacle for the free cells. Only cells of the grid are free
+    cells, with either edge. Grid, metric, edge, `threads`, `low` and `high` are as those of
+    `distances`, and so are the errors; a resolution that isn't above 0 is a ValueError.
     """
     return signed_of(_packed(grid, low, high), metric, edge, resolution, threads)
 
@@ -52,12 +52,12 @@ def gradients(
     low: Optional[float] = None,
     high: Optional[float] = None,
 ) -> Reals:
-    """The direction away from each cell's nearest obstacle, as float64 of the shape (rows, columns,
-    2): by columns and by rows, of the length 1. It is (0, 0) in obstacles and where there is none.
-    Of several nearest obstacles it is the one that `distances` tells.
+    """The unit vector away from each cell's nearest obstacle, as float64 of the shape (rows,
+    columns, 2): by columns and by rows. It is (0, 0) in obstacles and if there is none. Of several
+    nearest obstacles it takes the one that `distances` returns.
 
-    With `inside=True` the direction in an obstacle is that to its nearest free cell, so that each
-    is the one in which `signed_distances` grow. The rest is as there.
+    With `inside=True` the direction in an obstacle is that to its nearest free cell, so that
+    `signed_distances` grow along each. The rest is as there.
     """
     return gradients_of(_packed(grid, low, high), metric, edge, inside, threads)
 
@@ -80,7 +80,7 @@ def inverse(memory: Memory) -> Memory:
 
 
 def signed_of(memory: Memory, metric: str, edge: str, resolution: float, threads: int) -> Reals:
-    """What `signed_distances` answers, of a map in bits."""
+    """What `signed_distances` returns, for a map in bits."""
     np = numpy()
     size = float(resolution)
     if not 0 < size < math.inf:
@@ -110,7 +110,7 @@ def signed_of(memory: Memory, metric: str, edge: str, resolution: float, threads
 
 
 def gradients_of(memory: Memory, metric: str, edge: str, inside: bool, threads: int) -> Reals:
-    """What `gradients` answers, of a map in bits."""
+    """What `gradients` returns, for a map in bits."""
     np = numpy()
     asked = number_of(metric), edge_of(edge)
     height, width = memory.layout.height, memory.layout.width
@@ -136,7 +136,7 @@ def _pieces(cells: Any) -> Tuple[slice, ...]:
 
 
 def _directions(nears: Any, y0: int, sign: int, out: Any) -> None:
-    """Writes the directions away from what is nearest, or with the sign -1 those to it, of the
+    """Writes the directions away from what is nearest, or with the sign -1 towards it, for the
     cells that aren't it themselves."""
     np = numpy()
     columns = np.arange(nears.shape[1])

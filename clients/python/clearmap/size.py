@@ -1,4 +1,4 @@
-"""The size of a served map, found by queries: AT is answered for its cells alone."""
+"""The size of a served map, found by queries: AT is answered only for its cells."""
 from typing import List, Sequence, Union
 
 from .connection import Connection
@@ -17,8 +17,8 @@ def size_of(size: Size) -> Size:
 
 
 def check_size(connection: Connection, size: Size) -> Union[None, Refused]:
-    """Raises WrongMap where the served map has another size. One write, on a connection without a
-    pin, where the map is as expected; the server's refusal of a pin is given back."""
+    """Raises WrongMap if the served map has another size. Takes one write, on a connection without
+    a pin, if the map is as expected; returns the server's refusal of a pin."""
     width, height = size
     cells = [(width - 1, height - 1), (width, 0), (0, height)]
     pinned, *found, _ = connection.ask_all([PIN, *_asked(cells), UNPIN])
@@ -35,8 +35,8 @@ def check_size(connection: Connection, size: Size) -> Union[None, Refused]:
 
 
 def find_size(connection: Connection) -> Union[Size, Refused]:
-    """The size of the served map, by two writes of at most 64 lines an axis, on the pin that stands
-    or on one for the time between them. A refusal is given back."""
+    """The size of the served map, by two writes of at most 64 lines per axis, on the current pin or
+    on a temporary one. Returns a refusal."""
     steps = range(STEP, LARGEST_SIDE, STEP)
     pinned, *found = connection.ask_all([PIN, *_asked(_on_axes(steps, steps))])
     if isinstance(pinned, Refused) and not isinstance(pinned, AlreadyPinned):
@@ -70,7 +70,7 @@ def _are_cells(answers: Sequence[object]) -> List[bool]:
 
 
 def _counts(answers: Sequence[object]) -> List[int]:
-    """How many of the asked columns, and of the asked rows, the map has: the first so many."""
+    """How many of the asked columns, and of the asked rows, the map has: always the first ones."""
     known = _are_cells(answers)
     halves = known[: len(known) // 2], known[len(known) // 2 :]
     counts = [half.count(True) for half in halves]

@@ -21,7 +21,7 @@ def _entry(word: str) -> Entry:
 
 def read_distances(text: TextIO) -> List[List[Entry]]:
     """The table that `clearmap dist` writes, by rows: a number, with `--nearest` a Near, and None
-    where the map has no obstacle. Anything else is a `WrongAnswer`."""
+    if the map has no obstacle. Anything else is a `WrongAnswer`."""
     rows = [[_entry(word) for word in line.rstrip("\n").split(" ")] for line in text]
     if len({len(row) for row in rows}) != 1:
         raise WrongAnswer("the table has no rows, or rows of several lengths")

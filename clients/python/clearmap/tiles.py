@@ -1,4 +1,4 @@
-"""Distances up to a cap of arrays of any size, tile by tile by libclearmap."""
+"""Distances up to a cap for arrays of any size, computed tile by tile by libclearmap."""
 from __future__ import annotations
 
 import math
@@ -12,8 +12,8 @@ from .rows import fill, in_bands
 if TYPE_CHECKING:
     from .rows import Distances
 
-FARTHER = NO_OBSTACLE - 1  # what a cell tells whose nearest obstacle is farther than the cap
-LARGEST_REACH = 1024  # columns or rows that a cap may reach over
+FARTHER = NO_OBSTACLE - 1  # the value of a cell whose nearest obstacle is farther than the cap
+LARGEST_REACH = 1024  # the most columns or rows that a cap may reach over
 
 
 class _Asked(NamedTuple):
@@ -38,21 +38,21 @@ def capped_distances(
     high: Optional[float] = None,
     tile: Optional[int] = None,
 ) -> Distances:
-    """The distance of each cell of a grid of any size to its nearest obstacle, where it is at most
-    `cap`, as an array of uint32. FARTHER stands in every other cell: its nearest obstacle is
-    farther than the cap, or there is none.
+    """The distance of each cell of a grid of any size to its nearest obstacle, if it is at most
+    `cap`, as an array of uint32. Every other cell is FARTHER: its nearest obstacle is farther than
+    the cap, or there is none.
 
-    Grid, metric, edge, `threads`, `low` and `high` are as those of `distances`, but that the grid
-    may have more than 4096 rows or columns. `cap` is in the metric's unit: with `euclid2` it is a
-    square, and for what lies within r cells it is r * r. It reaches over 1024 rows at most: it is 0
-    to 1024, or with `euclid2` to 1024 * 1024.
+    Grid, metric, edge, `threads`, `low` and `high` are as those of `distances`, except that the
+    grid may have more than 4096 rows or columns. `cap` is in the metric's unit: with `euclid2` it
+    is a square, r * r for a reach of r cells. It reaches over at most 1024 rows: it is 0 to 1024,
+    or with `euclid2` to 1024 * 1024.
 
-    The grid is worked in tiles, each in a window with a margin of as many cells as the cap reaches
-    over. So all obstacles that may be told of a tile's cell lie in its window, and what is told is
-    exact. `tile` is a tile's longest side; without it a window is as large as the library takes.
-    No nearest obstacles are told.
+    The grid is computed in tiles, each in a window with a margin of as many cells as the cap
+    reaches over. So all obstacles that matter to a tile's cells are in its window, and the results
+    are exact. `tile` is a tile's longest side; without it a window is as large as the library
+    takes. Nearest obstacles aren't returned.
 
-    ValueError and TypeError for what is no grid or no cap, and MemoryError.
+    ValueError and TypeError for anything but a grid and a cap, and MemoryError.
     """
     array = flat_array(grid)
     reach = _reach_of(whole(cap), metric)
@@ -71,7 +71,7 @@ def capped_distances(
 
 
 def _reach_of(cap: int, metric: str) -> int:
-    """The most columns or rows that lie between a cell and an obstacle within the cap."""
+    """The most columns or rows between a cell and an obstacle within the cap."""
     most = LARGEST_REACH**2 if metric == EUCLID2 else LARGEST_REACH
     if not 0 <= cap <= most:
         raise ValueError(f"a cap of {cap}, where 0 to {most} are taken by this metric")
@@ -79,7 +79,7 @@ def _reach_of(cap: int, metric: str) -> int:
 
 
 def _spans(length: int, side: int) -> Iterator[Tuple[int, int]]:
-    """A length cut into parts of at most this side, which are as good as equal."""
+    """A length cut into nearly equal parts of at most this side."""
     count = -(-length // side)
     ends = [length * part // count for part in range(count + 1)]
     return zip(ends, ends[1:])
@@ -90,8 +90,8 @@ def _work_tile(
 ) -> None:
     """Writes the answers of a tile's cells.
 
-    With a wall the sides of the window that lie within the grid have a frame too. It is farther
-    than the cap from each cell of the tile, so it changes nothing that is told."""
+    With a wall, the sides of the window inside the grid have a frame too. It is farther than the
+    cap from each cell of the tile, so it changes no result."""
     np = numpy()
     x0, y0, x1, y1 = tile
     left, top = max(x0 - asked.reach, 0), max(y0 - asked.reach, 0)

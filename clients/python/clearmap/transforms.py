@@ -23,14 +23,14 @@ def distance_transform_edt(
 ) -> Any:
     """scipy.ndimage.distance_transform_edt of an array of 2 dimensions: the Euclidean distance of
     each nonzero cell to the nearest zero, as float64, and with `return_indices` the row and the
-    column of that zero, as int32 of the shape (2, rows, columns). Both where both are asked for.
+    column of that zero, as int32 of the shape (2, rows, columns). Both if both are asked for.
 
-    It differs from scipy's so: where several zeros are nearest, another one may be told. An array
-    without a zero is a ValueError, where scipy answers the distance to a cell that isn't there.
-    `sampling` is one size above 0, or two that are the same: two sizes are a ValueError. A distance
-    is the root times the size, which differs from scipy's in the last digits. Arrays for the
-    answers aren't taken. A masked array is a TypeError, and sides over 4096 a ValueError. `threads`
-    share the rows.
+    Differences from scipy's: if several zeros are nearest, it may return another one. An array
+    without a zero is a ValueError, where scipy returns the distance to a cell that isn't there.
+    `sampling` is one size above 0, or two equal ones: two different sizes are a ValueError. A
+    distance is the root times the size, which differs from scipy's in the last digits. It takes no
+    arrays for the results. A masked array is a TypeError, and sides over 4096 are a ValueError.
+    `threads` share the rows.
     """
     size = _size_of(sampling)
 
@@ -53,8 +53,8 @@ def distance_transform_cdt(
 ) -> Any:
     """scipy.ndimage.distance_transform_cdt of an array of 2 dimensions: the steps of each nonzero
     cell to the nearest zero, as int32. `metric` is chessboard, or taxicab by any of scipy's names;
-    one of its own is a ValueError. Else as `distance_transform_edt`; scipy answers -1 for an array
-    without a zero, which is a ValueError here.
+    a metric of one's own is a ValueError. Otherwise as `distance_transform_edt`; scipy returns -1
+    for an array without a zero, which is a ValueError here.
     """
     name = CHAMFERS.get(metric) if isinstance(metric, str) else None
     if name is None:
@@ -124,9 +124,9 @@ def _transformed(
 
 
 def _room(shape: Tuple[int, int], found: Any, indices: bool) -> Any:
-    """Memory for what the library answers of some rows. Where the answer of a cell takes as many
-    bytes as its distance in the end, it is the memory of these: each piece of rows is copied before
-    it is written over."""
+    """Memory for the library's answers for some rows. If a cell's answer takes as many bytes as its
+    final distance, it is the memory of the result: each piece of rows is copied before it is
+    overwritten."""
     np = numpy()
     if not indices:
         return np.empty(shape, np.uint32)
@@ -136,7 +136,7 @@ def _room(shape: Tuple[int, int], found: Any, indices: bool) -> Any:
 
 
 def _check_any(out: Any) -> None:
-    """Whether there is a zero: where there is one, each cell has a distance."""
+    """Whether there is a zero: if there is one, each cell has a distance."""
     first = out[0, 0] if out.dtype.names is None else out["dist"][0, 0]
     if first == NO_OBSTACLE:
         raise ValueError("the input has no zero: there is no distance to one")
@@ -150,7 +150,7 @@ def _pieces(words: Any) -> Iterator[slice]:
 
 def _split(places: Any, indices: Any) -> None:
     """Writes rows and columns of nearest zeros. The column is the lower half of a word, the row the
-    upper: to cut whole words takes half the time of two fields."""
+    upper: splitting whole words takes half the time of two fields."""
     np = numpy()
     words = places.copy()
     np.right_shift(words, 16, out=indices[0])
