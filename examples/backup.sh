@@ -1,5 +1,5 @@
 #!/usr/bin/env bash
-# Back a served map up, and serve the backup. The server keeps its state in memory alone, so this is
+# Back a served map up, and serve the backup. The server keeps its state only in memory, so this is
 # how a map outlives it.
 . "$(dirname "$0")/setup.bash"
 
@@ -16,7 +16,7 @@ sed '1,2d;$d' "$scratch/replies" > "$scratch/backup.new"
 mv "$scratch/backup.new" "$scratch/backup.pbm"
 wait "$server"
 
-# Versions and places begin at 0 again.
+# Versions and places start at 0 again.
 start_server "$scratch/backup.pbm" --connections 1
 printf 'PIN\nAT euclid2 5 5\nRECT euclid2 2 2 5 5\nQUIT\n' | clearmap ask --port "$port"
 wait "$server"

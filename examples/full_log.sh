@@ -1,6 +1,6 @@
 #!/usr/bin/env bash
-# A log with room for two entries: a checkpoint drops those that stand there, and changes go on.
-# Places go on counting.
+# A log with capacity for two entries: a checkpoint drops those in it, and changes go on. Places go
+# on counting.
 . "$(dirname "$0")/setup.bash"
 
 printf 'P1 64 64 ' > "$scratch/blank.pbm"
@@ -15,6 +15,6 @@ ask 'PAINT 0 0 1 1' 'PUBLISH' 'COLLECT' 'CHECKPOINT' 'COLLECT' 'PAINT 1 0 2 1' '
 # A pin keeps its version past a checkpoint.
 ask 'PIN' 'AT city 3 4' 'CHECKPOINT' 'AT city 3 4'
 
-# The last place counts every entry, with those that were dropped.
+# The last place counts every entry, dropped ones included.
 wait "$server"
 sed 1d "$scratch/served"

@@ -1,5 +1,5 @@
 #!/usr/bin/env bash
-# Many questions of one map: the image is read once by a server, and `ask` sends it a file of lines.
+# Many queries of one map: the image is read once by a server, and `ask` sends it a file of lines.
 . "$(dirname "$0")/setup.bash"
 
 {
@@ -11,7 +11,7 @@ start_server examples/room.pbm --connections 1
 clearmap ask --port "$port" < "$scratch/lines" > "$scratch/replies"
 wait "$server"
 
-# One reply for each line, in their order.
+# One reply per line, in order.
 [ "$(wc -l < "$scratch/replies")" = "$(wc -l < "$scratch/lines")" ]
 [ "$(grep -c -v '^OK ' "$scratch/replies")" = 1 ]
 paste -d: "$scratch/lines" "$scratch/replies" | sed -n '100,103p'

@@ -1,7 +1,8 @@
 #!/usr/bin/env bash
 # A plan of OMPL's RRT* over a served map: from the one room through a door to the other, for a
-# robot of 0.1 m radius; PATH confirms its clearance. Needs g++: g++ pkg-config Needs the header:
-# ompl/geometric/planners/rrt/RRTstar.h
+# robot of 0.1 m radius; PATH confirms its clearance.
+# Needs g++: g++ pkg-config
+# Needs the header: ompl/geometric/planners/rrt/RRTstar.h
 . "$(dirname "$0")/setup.bash"
 
 # 3 by 2 m, 0.05 m a cell: walls round it, and one across it with a door of 0.6 m near the top.

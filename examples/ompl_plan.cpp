@@ -2,8 +2,9 @@
 // RADIUS FROM_X FROM_Y TO_X TO_Y, all but the size in metres. A state and a motion are valid where
 // a pinned CLEAROF says that a round robot has room, and the plan's clearance is what is made
 // large. It prints each point of the plan with its clearance, and then that of the whole plan as
-// PATH answers it. Build: g++ -std=c++17 -I clients/cpp $(pkg-config --cflags ompl) -o ompl_plan
-// examples/ompl_plan.cpp -lompl
+// PATH answers it.
+// Build: g++ -std=c++17 -I clients/cpp $(pkg-config --cflags ompl) -o ompl_plan
+//     examples/ompl_plan.cpp -lompl
 #include <clearmap.hpp>
 #include <ompl/base/objectives/MinimaxObjective.h>
 #include <ompl/base/spaces/RealVectorStateSpace.h>
@@ -44,7 +45,7 @@ struct Valid : ob::StateValidityChecker {
     double clearance(const ob::State* state) const override { return map.clearance(state, state); }
 };
 
-/// A motion is asked as one path, and not as many states.
+/// A motion is one query of a path, not many of states.
 struct ValidMotion : ob::MotionValidator {
     Map map;
     ValidMotion(const ob::SpaceInformationPtr& space, Map map) : MotionValidator(space), map(map) {}
@@ -57,7 +58,7 @@ struct ValidMotion : ob::MotionValidator {
     }
 };
 
-/// A plan costs as much as its tightest motion comes near: the clearance with its sign turned.
+/// The cost of a plan is its clearance at the tightest motion, negated.
 struct Clearance : ob::MinimaxObjective {
     Map map;
     Clearance(const ob::SpaceInformationPtr& space, Map map) : MinimaxObjective(space), map(map) {}

@@ -42,7 +42,7 @@ struct World {
         return frame.staircase({point(from), point(to)});
     }
 
-    /// Whether the robot has room at a state: a look-up.
+    /// Whether the robot has clearance at a state: a look-up.
     bool clear(const ob::State* state) const {
         auto cell = frame.cell(point(state).x, point(state).y);
         return cell && field.distance(*cell) >= needed;
@@ -68,7 +68,7 @@ struct Valid : ob::StateValidityChecker {
     double clearance(const ob::State* state) const override { return world.clearance(state); }
 };
 
-/// A motion is asked as one path, and not as many states.
+/// A motion is one query of a path, not many of states.
 struct ValidMotion : ob::MotionValidator {
     const World& world;
     ValidMotion(const ob::SpaceInformationPtr& space, const World& shared)
@@ -85,7 +85,7 @@ struct ValidMotion : ob::MotionValidator {
     }
 };
 
-/// A plan costs as much as its tightest motion comes near: the clearance with its sign turned.
+/// The cost of a plan is its clearance at the tightest motion, negated.
 struct Clearance : ob::MinimaxObjective {
     const World& world;
     Clearance(const ob::SpaceInformationPtr& space, const World& shared)

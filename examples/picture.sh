@@ -1,6 +1,7 @@
 #!/usr/bin/env bash
 # Distances as a colour picture: the walls are blue, and the cells that are farthest from a wall are
-# red. Needs netpbm: pamfile pgmtoppm ppmhist pnmenlarge pnmtopng
+# red.
+# Needs netpbm: pamfile pgmtoppm ppmhist pnmenlarge pnmtopng
 . "$(dirname "$0")/setup.bash"
 
 clearmap dist < examples/room.pbm | bin/distances_to_pgm > "$scratch/room.pgm"
@@ -12,5 +13,5 @@ pamfile "$scratch/room.ppm" | sed 's/.*://'
 # that is named, and else is dropped.
 ppmhist -noheader "$scratch/room.ppm"
 
-# What is no table of distances isn't drawn.
+# Anything but a table of distances isn't drawn.
 printf 'P1\n3 1\n00\n' | { clearmap dist || true; } | bin/distances_to_pgm || echo "status $?"

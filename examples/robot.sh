@@ -1,6 +1,8 @@
 #!/usr/bin/env bash
 # A robot's map from its P5 file to a picture of its distances, and the clearance of a plan in
-# metres from a running server, by Python and by C++. Needs netpbm: pgmtoppm pnmtopng Needs g++: g++
+# metres from a running server, by Python and by C++.
+# Needs netpbm: pgmtoppm pnmtopng
+# Needs g++: g++
 . "$(dirname "$0")/setup.bash"
 
 # A map of 2 by 1 m, 0.05 m a cell, as map_saver writes it: walls round it, a pillar, and an unknown

@@ -1,6 +1,7 @@
 #!/usr/bin/env bash
 # A robot's server and a desk that share no network: a link of socat leads to the server's loopback,
-# is lost and comes back, and another server takes over. Needs socat: socat ip unshare nsenter pkill
+# is lost and comes back, and another server takes over.
+# Needs socat: socat ip unshare nsenter pkill
 . "$(dirname "$0")/setup.bash"
 
 # The robot is a network of its own, with a loopback of its own, where the system lets us make one;

@@ -171,7 +171,7 @@ class Definitions(unittest.TestCase):
         self.assertEqual(by_metres._outline, by_cells._outline)
 
     def test_borders(self):
-        """around the map all is free, or all are obstacles, near the map and far from it."""
+        """Around the map all is free, or all are obstacles, near the map and far from it."""
         blank = np.zeros((8, 10), bool)
         square = clearmap.Footprint(SQUARE)
         asked = [(5, 4, 0), (1, 1, 0), (9, 7, 0), (0.99, 4, 0), (9.01, 4, 0), (5, 0.9, 0),

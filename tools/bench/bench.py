@@ -1,6 +1,7 @@
 #!/usr/bin/env python3
-"""Measures `clearmap dist` next to scipy's exact distance transform, on the same maps and with the
-same text at the end.
+"""Measures `clearmap dist` next to scipy's exact distance transform, on the same maps.
+
+Both write the same text at the end.
 
 Six maps (one obstacle; 0.1, 1 and 20 per cent of the cells at random; obstacles alone; a floor plan
 of rooms with doors) in several sizes, each with a fixed seed, are written as raw PBM. For each map
@@ -12,7 +13,7 @@ map.
 
 Printed is a Markdown table: the least and the median time of each program and of its processors,
 how many times as fast `dist` is as the script (the least of each), and the time of four workers
-next to that of one. The program has to be built before.
+next to that of one. Build the program first.
 """
 import argparse
 import datetime
@@ -127,8 +128,8 @@ def processor_seconds():
 
 
 def timed(command, source, target):
-    """The seconds of one run, its processor's, and those that the command tells of its own work, if
-    it does."""
+    """The seconds of one run, its processor seconds, and those that the command reports of its own
+    work, if any."""
     with open(source, "rb") as given, open(target, "wb") as taken:
         start, used = time.perf_counter(), processor_seconds()
         run = subprocess.run(command, stdin=given, stdout=taken, stderr=subprocess.PIPE)
@@ -165,7 +166,7 @@ def cell(times):
 
 
 def ratios(times):
-    """How many times as fast `dist` is as the script, and the time of four workers next to that of
+    """How many times faster `dist` is than the script, and the time of four workers next to that of
     one."""
     return f"{min(times['scipy']) / min(times['dist']):.1f} | {min(times['dist --workers 4']) / min(times['dist']):.2f}"
 
@@ -182,8 +183,7 @@ def first_line(command):
 
 
 def ask_for_huge_pages():
-    """Has the programs that are run from now on ask for huge pages, where the C library gives them
-    large memory."""
+    """Makes programs run from now on ask for huge pages for large allocations."""
     os.environ["GLIBC_TUNABLES"] = "glibc.malloc.hugetlb=1"
 
 

@@ -2,8 +2,8 @@
 # Debian's own python3, as its packages python3-numpy and python3-scipy are for that one alone.
 """Compares what three programs wrote for one map: `check.py MAP DIST NEAREST OTHER`.
 
-The distances have to be the same in all three, and each cell that NEAREST names an obstacle of the
-map at that distance.
+The distances must be the same in all three, and each cell that NEAREST names must be an obstacle of
+the map at that distance.
 """
 import sys
 

@@ -1,13 +1,14 @@
 #!/usr/bin/env python3
-"""Measures how often a second planners of `clearmap serve` pin, ask and unpin over loopback, next
-to one that paints and publishes.
+"""Measures how often planners of `clearmap serve` pin, ask and unpin next to a painter.
+
+All over loopback, in cycles a second.
 
 The map is a floor plan of 4096 by 4096 cells. Each planner has a connection of its own, and waits
 for each reply, or sends the lines of five cycles at once and waits for their replies. Printed is a
 Markdown table: the cycles a second of all planners, and percentiles of a cycle, or of five, in
 microseconds.
 
-The program has to be built before; `rustc` builds the clients (`cycles.rs`).
+Build the program first; `rustc` builds the clients (`cycles.rs`).
 """
 import argparse
 import pathlib

@@ -4,8 +4,8 @@
 //!     cycles PORT SIDE PLANNERS SECONDS BATCH
 //!
 //! Each planner is a thread with a connection: `PIN`, `AT euclid2` of a random cell, `UNPIN`. With
-//! a BATCH of 0 each line is sent once the reply before is there, else the lines of so many cycles
-//! are sent in one write, and then their replies are read. The publisher paints or clears a cell,
+//! a BATCH of 0 each line is sent after the reply before, otherwise the lines of BATCH cycles are
+//! sent in one write, and then their replies are read. The publisher paints or clears a cell,
 //! publishes and collects every millisecond; where old pins leave no slot the publish is refused.
 //! Printed: the cycles a second of all planners, the 50th and 99th percentile of a cycle or a batch
 //! in microseconds, and how many versions were published.
@@ -59,7 +59,7 @@ impl Client {
 }
 
 /// A planner: its connection, the cells that it asks, and the newest version that it has pinned.
-/// The versions that it pins never go down.
+/// The versions that it pins never decrease.
 struct Planner {
     client: Client,
     side: usize,

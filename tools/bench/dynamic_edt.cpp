@@ -89,7 +89,7 @@ static void compare(DynamicEDT3D& theirs, const clearmap::Field& ours, int side)
                 differing, most);
 }
 
-/// Cells to look up, and what their distances add up to, so that no look-up is left out.
+/// Cells to look up, and the sum of their distances, so that no look-up is optimized away.
 struct LookUps {
     std::vector<clearmap::Cell> cells = std::vector<clearmap::Cell>(1000);
     volatile double sum = 0;

@@ -8,7 +8,7 @@ the server's work, and from then on to when the first and the last follower have
 the bytes that one more follower receives for it, where the cells lie anywhere, and where they lie
 at the corner of four tiles of a map whose cells are random, half of them obstacles.
 
-The program and the library have to be built before. Needs redis-server and python3-redis.
+Build the program and the library first. Needs redis-server and python3-redis.
 """
 import argparse
 import os

@@ -8,7 +8,7 @@ can have no more clients than workers, so it is asked by 1 and 8. Redis has 1,00
 Printed is a Markdown table: requests a second, percentiles of a write's latency in microseconds,
 and the gateway's resident memory.
 
-The program and the library have to be built before; `rustc` builds the load generator (`load.rs`).
+Build the program and the library first; `rustc` builds the load generator (`load.rs`).
 """
 import argparse
 import pathlib
@@ -47,7 +47,7 @@ def best(rounds, *what):
 
 
 def redis_told(words):
-    """The last line of redis-benchmark, once the server is there; nothing where it hangs."""
+    """The last line of redis-benchmark, once the server is there; nothing if it hangs."""
     for _ in range(20):
         try:
             run = subprocess.run(words, capture_output=True, text=True, timeout=60)
@@ -60,7 +60,7 @@ def redis_told(words):
 
 
 def redis(requests):
-    """What redis-benchmark tells of GET by 1,000 connections, of which each asks."""
+    """What redis-benchmark reports of GET by 1,000 connections, each of which asks."""
     if not (shutil.which("redis-server") and shutil.which("redis-benchmark")):
         return print("Redis left out: it isn't installed")
     with tempfile.TemporaryDirectory() as folder:

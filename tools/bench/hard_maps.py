@@ -1,5 +1,5 @@
-"""Maps that are hard for their density: what a row phase or a column phase that fits the other maps
-badly would be slow on."""
+"""Maps that are hard because of their density: slow for a row phase or a column phase that only
+fits the other maps."""
 
 
 def rows_of(draw_row):
@@ -14,7 +14,7 @@ def rows_of(draw_row):
 
 
 def share(rng, cells, percent):
-    """So many per cent of these cells."""
+    """This percentage of these cells."""
     return rng.sample(cells, len(cells) * percent // 100)
 
 
@@ -35,12 +35,12 @@ def lattice(apart):
 
 
 def with_margin(percent, margin):
-    """So many per cent at random, and a free margin at the right."""
+    """This percentage at random, and a free margin at the right."""
     return rows_of(lambda y, side, rng: share(rng, range(side - margin), percent))
 
 
 def with_yard(percent, yard):
-    """So many per cent at random, and a free strip in the middle."""
+    """This percentage at random, and a free strip in the middle."""
     return rows_of(lambda y, side, rng: share(rng, [x for x in range(side) if abs(2 * x - side) >= yard], percent))
 
 

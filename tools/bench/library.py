@@ -77,7 +77,7 @@ def scipy_calls(free: Any) -> Calls:
 
 
 def compare(calls: Calls) -> None:
-    """Ends the run where two that are exact don't agree."""
+    """Ends the run if two exact ones don't agree."""
     squares = calls["euclid2"]()
     pairs = {
         "L2": lambda: np.rint(calls["L2"]().astype("f8") ** 2) - squares,

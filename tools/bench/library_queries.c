@@ -56,7 +56,7 @@ static void fill_walk(uint32_t side, clearmap_cell *points) {
     }
 }
 
-/* A number that tells one answer from another. */
+/* A number that distinguishes answers. */
 static uint64_t sum_of(clearmap_found found) {
     if (found.near.dist == CLEARMAP_NO_OBSTACLE) return 1;
     return found.near.dist + 3ull * found.cell.x + 5ull * found.cell.y

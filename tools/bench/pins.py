@@ -1,6 +1,7 @@
 #!/usr/bin/env python3
-"""Measures how many pins a second a store's sessions make next to one that publishes, and LMDB's
-read transactions next to one that commits.
+"""Measures pins a second of a store next to a publisher, and LMDB's reads next to a writer.
+
+LMDB's read transactions pin and reset next to one thread that commits.
 
 A program over `session` (`pins/main.rt.in`) is proved and built in a scratch copy of the crates,
 one over LMDB (`pins/lmdb_pins.cpp`) by g++; LMDB's headers are Debian's liblmdb-dev. A third, by

@@ -16,7 +16,7 @@ ghosts-measure g a = record { store = a.blank }
 
 
 def crates_below(names, lines):
-    """The crates and those that they stand on, in the order of crates.txt."""
+    """The crates and those they depend on, in the order of crates.txt."""
     needs = {line.split(":")[0].strip(): line.split(":")[1].split() for line in lines if ":" in line}
     wanted, found = list(names), set()
     while wanted:
@@ -28,7 +28,7 @@ def crates_below(names, lines):
 
 
 def without_edge(text):
-    """The program for crates in which each border is open, and no obstacle lies outside."""
+    """The program for crates in which each edge is open, and no obstacle is outside."""
     text = text.replace(".unsigned_abs()", "")
     text = re.sub(r"\n *(let edge = .*;|edge: Edge(::Open)?,)", "", text)
     return text.replace("edge, ", "").replace("Edge, ", "").replace("walled = ", "let _ = ").replace("let mut let _", "let _")

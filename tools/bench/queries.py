@@ -1,6 +1,7 @@
 #!/usr/bin/env python3
-"""Measures queries, and the reading and writing of images, at 4096 by 4096, on the six maps of
-`bench.py`.
+"""Measures queries, and reading and writing images, on the six maps of `bench.py`.
+
+The maps have 4096 by 4096 cells.
 
 In a copy of the crates that are wanted, a program (`queries/main.rt.in`) is proved and built that
 times each kind of query inside one process. Next to it stands a twin in Rust of the very same

@@ -1,21 +1,20 @@
 #!/usr/bin/env python3
-"""Measures the rows of nearest obstacles inside one process, and the table that keeps only where
-these are, by each metric and with 1, 2 and 4 workers, on the maps of `bench.py`, next to OpenCV's
-distance transforms on one thread.
+"""Measures rows and tables of nearest obstacles in one process, next to OpenCV's transforms.
 
-Each map is worked by the program and by OpenCV in turn, and the least time of all rounds counts.
+By each metric and with 1, 2 and 4 workers, on the maps of `bench.py`; the table keeps only where
+the nearest obstacles are. OpenCV runs on one thread.
+
+Each map is computed by the program and by OpenCV in turn, and the least time of all rounds counts.
 Printed are Markdown tables: milliseconds and the ratio to OpenCV's time for each map, then the
 ratios' geometric means and largest values next to the aims, and how the time a cell grows from the
-smallest to the largest maps. The sums of the answers have to be the same for each number of workers
+smallest to the largest maps. The sums of the answers must be the same for each number of workers
 and for the table. With `--before CLONE` the one-worker times of another clone of this repository
-stand next to them.
+are next to them.
 
-With `--wall` each time where the border is open stands next to the same where it is a wall, in
-place of OpenCV's.
+With `--wall` each time with an open edge is next to that with a wall, in place of OpenCV's.
 
-With `--hard` the maps are those of `hard_maps.py` besides, without OpenCV, and each map's
-nanoseconds a cell stand next to the most that one of the others takes: no map should take over 2.5
-times as much.
+With `--hard` the maps of `hard_maps.py` are measured too, without OpenCV, and each map's
+nanoseconds per cell are next to the most of the others: no map should take over 2.5 times as much.
 
 OpenCV is Debian's `python3-opencv`.
 """
@@ -34,8 +33,8 @@ from program import HERE, ROOT, build
 USES = ["field", "pbm", "bits", "metric"]
 METRICS = ("euclid2", "city", "chess")
 KINDS = ("", "-table")
-# The largest mean and the largest ratio that are aimed at, by kind, metric and whether the map has
-# 512 cells a side.
+# The largest mean and the largest ratio aimed at, by kind, metric and whether the map has 512 cells
+# a side.
 AIMS = {
     ("", "euclid2", False): (0.30, 0.40),
     ("", "euclid2", True): (0.40, 0.60),
@@ -48,7 +47,7 @@ AIMS = {
 
 
 def without(text, start, end):
-    """The text without what stands from one mark to before another."""
+    """The text without the part from one mark up to another."""
     first = text.index(start)
     return text[:first] + text[text.index(end, first) :]
 
@@ -61,14 +60,14 @@ def without_table(text):
 
 
 def alone(text):
-    """The program for crates that know no workers."""
+    """The program for crates without workers."""
     text = text.replace("use field::{Workers, rows, rows_with};", "use field::rows;").replace("for count in [1, 2, 4]", "for count in [1]")
     start, end = text.index("    let nears = match Workers"), text.index("    match nears {")
     return text[:start] + "    let _ = count;\n    let nears = rows::<M>(alloc, bitmap, edge, 0, height);\n" + text[end:]
 
 
 def without_batches(text):
-    """The program for crates that know no batches."""
+    """The program for crates without batches."""
     return text.replace("&Batch::new(bitmap, edge, 0, height)", "bitmap, edge, 0, height").replace("Batch, ", "")
 
 
@@ -94,7 +93,7 @@ def opencv(source):
 
 
 def least(runs):
-    """The least time of each name, and its answers, which have to be the same in all runs."""
+    """The least time of each name, and its answers, which must be the same in all runs."""
     together = {}
     for run in runs:
         for name, (taken, answers) in run.items():
@@ -141,7 +140,7 @@ def print_map(name, side, metric, now, peer, old):
 
 
 def print_walls(program, sides, rounds, source):
-    """The times where the border is a wall, next to those where it is open, on maps with obstacles."""
+    """The times with a wall, next to those with an open edge, on maps with obstacles."""
     print("| Map | Cells a side | Metric | rows, open, ms | rows, wall, ms | ratio | table, open, ms | table, wall, ms | ratio (aim: 1.1) |")
     print("|" + "---|" * 9)
     for side in sides:

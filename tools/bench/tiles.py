@@ -1,6 +1,5 @@
 #!/usr/bin/env python3
-"""Measures the commands of a store on maps of 512 by 512 and of 4096 by 4096 cells, inside one
-process.
+"""Measures the commands of a store on maps of 512 and of 4096 cells a side, in one process.
 
 In a copy of the crates up to `session` a program (`tiles/main.rt.in`) is proved and built that
 paints squares of 64 by 64 cells, stamps bitmaps of 256 by 256, publishes a draft with one changed

@@ -2,9 +2,9 @@
 """Measures `clearmap dist` with 1, 2 and 4 workers, on a quiet machine or next to busy programs.
 
 The maps are some of `bench.py`; all programs read from and write to files in memory, in turn, round
-by round. With `--load N` so many programs that do nothing but count run all the while. Printed is a
+by round. With `--load N` N programs that do nothing but count run all the while. Printed is a
 Markdown table: the median of one worker in milliseconds, and the medians of the others next to it.
-The program has to be built before.
+Build the program first.
 """
 import argparse
 import contextlib
@@ -23,7 +23,7 @@ KINDS = ("one obstacle", "0.1 % at random", "20 % at random", "floor plan")
 
 @contextlib.contextmanager
 def busy(count):
-    """So many programs that keep a processor busy, for as long as the block takes."""
+    """This many programs that keep a processor busy, for as long as the block runs."""
     running = [subprocess.Popen([sys.executable, "-c", "while True: pass"]) for _ in range(count)]
     try:
         yield
@@ -34,7 +34,7 @@ def busy(count):
 
 
 def medians(program, source, folder, rounds):
-    """The median seconds of each number of workers. Their texts have to be the same."""
+    """The median seconds of each number of workers. Their texts must be the same."""
     times = {workers: [] for workers in WORKERS}
     for _ in range(rounds):
         for workers in WORKERS:

@@ -1,11 +1,11 @@
 #!/usr/bin/env python3
-"""Tries clients of the built server beside one another: a slow or a leaving one could hold up or
-deceive the others.
+"""Tries clients of the built server in parallel: a slow or a leaving one could hold up or deceive
+the others.
 
 - Half of a stamp's bytes hold up no painter, and no planner.
-- A pin is left before its BYE goes out: a collect after it keeps the newest version alone.
+- A pin is left before its BYE goes out: a collect after it keeps only the newest version.
 - The last reply before a connection's end arrives, however the client ends it.
-- A refused command line that is long is told whole.
+- A long command line that is refused is reported in full.
 """
 import pathlib
 import subprocess
@@ -20,7 +20,7 @@ MAP = blank(64, 64)
 
 
 def half_a_stamp(server):
-    """A painter and a planner are answered while another client's stamp has only half come."""
+    """A painter and a planner are answered while another client's stamp is only half sent."""
     slow, painter, planner = (Line(server.port) for _ in range(3))
     body = b"P1\n2 2\n1001"
     slow.send(b"STAMP 0 0 %d\n" % len(body) + body[:5])
@@ -63,7 +63,7 @@ def last_replies(server):
 
 
 def long_words():
-    """The whole of a long name is told."""
+    """A long name is reported in full."""
     name = "x" * 100_000
     run = subprocess.run([PROGRAM, "dist", f"--metric={name}"], capture_output=True, timeout=60)
     wanted = f"clearmap: --metric is one of euclid2, city and chess, not '{name}'\n".encode()

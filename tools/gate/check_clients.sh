@@ -1,9 +1,9 @@
 #!/bin/bash
 # Runs the tests of the clients against the built program; CLEARMAP names another one. Loopback
 # only, and nothing is left. Each test file and each server has a time limit. Needs python3, and for
-# the client in C++ a compiler, as Debian's g++. What isn't installed is left out with a word. With
-# the argument `long` the client in C++ has 10,000 calls interrupted, 10,000 made under signals and
-# 100,000 by eight threads: ten minutes next to other work.
+# the client in C++ a compiler, as Debian's g++. What isn't installed is skipped, with a message.
+# With the argument `long` the client in C++ has 10,000 calls interrupted, 10,000 made under signals
+# and 100,000 by eight threads: ten minutes next to other work.
 set -u
 long=${1:-}
 cd "$(dirname "$0")/../.." || exit 1

@@ -2,9 +2,9 @@
 # Runs each transcript of examples/ with the built program (or that of CLEARMAP), and compares what
 # it prints with the file next to it. With --write it writes those files instead: look at what
 # changed before you commit it. Each has a minute. A transcript that says "# Needs netpbm: TOOL .."
-# or "# Needs the header: HEADER" is left out, and counted, where one of these isn't installed, and
-# one that says "# Needs the library: FILE" where that isn't built (make lib), or "# Needs the
-# modules: MODULE, .." where no python3 has them.
+# or "# Needs the header: HEADER" is skipped, and counted, if one of these isn't installed, and one
+# that says "# Needs the library: FILE" where that isn't built (make lib), or "# Needs the modules:
+# MODULE, .." where no python3 has them.
 set -u
 cd "$(dirname "$0")/../.." || exit 1
 program=${CLEARMAP:-$PWD/crates/clearmap/out/clearmap}

@@ -1,8 +1,8 @@
 #!/bin/sh
 # Tries clearmap-publish and followers through Redis: servers of the built program, a Redis of
 # Debian's, 200 followers, and the loss of each of them. CLEARMAP names another program. Loopback,
-# and where this user may make them three networks of this machine; nothing is left. Leaves all out
-# with a word where redis-server, python3-redis, numpy or the library isn't there.
+# and where this user may make them three networks of this machine; nothing is left. Skips
+# everything, with a message, if redis-server, python3-redis, numpy or the library is missing.
 set -u
 cd "$(dirname "$0")/../.." || exit 1
 CLEARMAP=${CLEARMAP:-$PWD/crates/clearmap/out/clearmap}
@@ -28,7 +28,7 @@ for test in $tests; do
     eval "$test=$!"
     running="$running $!"
 done
-told() { # told TEST STATUS: says how it ended, and what it wrote where it failed
+told() { # told TEST STATUS: says how it ended, and what it wrote if it failed
     [ "$2" = 0 ] || { failed=1; cat "$scratch/$1"; }
     echo "test_$1.py: $(sed -n 's/^Ran \([0-9]* tests*\).*/\1/p' "$scratch/$1")," \
         "$(tail -n 1 "$scratch/$1")"

@@ -1,7 +1,7 @@
 #!/bin/sh
 # Tries the gateway before servers of the built program: its tests, and the model and the busy
 # clients, which ask through it what they ask a server. CLEARMAP names another program. Loopback
-# only, and nothing is left. Leaves all out with a word where numpy or the library isn't there.
+# only, and nothing is left. Skips everything, with a message, if numpy or the library is missing.
 set -u
 cd "$(dirname "$0")/../.." || exit 1
 built=${CLEARMAP:-$PWD/crates/clearmap/out/clearmap}
@@ -18,7 +18,7 @@ trap 'rm -rf "$scratch"' EXIT
 trap 'exit 1' INT TERM
 failed=0
 
-try() { # try COMMAND ..: says how it ended, and what it wrote where it failed
+try() { # try COMMAND ..: says how it ended, and what it wrote if it failed
     timeout 300 "$@" > "$scratch/log" 2>&1 || { failed=1; cat "$scratch/log"; }
     shift
     echo "$*: $(tail -n 1 "$scratch/log")"

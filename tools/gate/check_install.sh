@@ -1,7 +1,7 @@
 #!/bin/sh
 # Installs what is built into a scratch folder, and tries it there: the program, the pages of the
 # manual, completion, the unit, the clients, the scripts, and the wrapper ./clearmap through a
-# symbolic link and without rt. Leaves out, with a word, what isn't installed here. What may wait
+# symbolic link and without rt. Skips, with a message, what isn't installed here. Whatever may wait
 # has a time limit.
 set -u
 cd "$(dirname "$0")/../.." || exit 1
@@ -51,7 +51,7 @@ expect 'through a link, without rt' "$(printf "$room" | PATH=$scratch "$scratch/
 expect 'its status' "$?" 2
 
 # The wrapper's first run, with an rt of two crates that takes its time: what is being proved is
-# told on a terminal alone.
+# shown only on a terminal.
 mkdir -p "$scratch/fresh/bin" "$scratch/fresh/crates/low" "$scratch/fresh/crates/clearmap"
 cp clearmap "$scratch/fresh/"
 printf 'low:\nclearmap: low\n' > "$scratch/fresh/crates.txt"
@@ -87,7 +87,7 @@ expect 'a run without a proof' "$(PATH=$scratch/fresh/bin:$PATH timeout 60 "$scr
 expect 'what it says of itself' "$(PATH=$scratch/fresh/bin:$PATH timeout 60 "$scratch/fresh/clearmap" --unproved one 2>&1 > /dev/null)" \
     'clearmap: --unproved: nothing is proved of what runs now'
 
-# A checkout of somebody else: what is built runs, and what isn't is told at once.
+# A checkout of somebody else: what is built runs, and what isn't is reported at once.
 theirs=$scratch/theirs
 as_other='setpriv --reuid=65534 --regid=65534 --clear-groups'
 if [ "$(id -u)" = 0 ] && $as_other true 2> /dev/null; then

@@ -34,7 +34,7 @@ rows = (format(int.from_bytes(raster[512 * y : 512 * y + 512], "big"), "04096b")
 sys.stdout.write("P1 4096 4096\n" + "\n".join(rows) + "\n")
 PYTHON
 
-# The table by a rule of its own: of each cell the lesser of its distances to the two obstacles.
+# The table by an independent rule: for each cell the lesser of its distances to the two obstacles.
 python3 - > "$room/wanted" << 'PYTHON'
 import sys
 squares = [n * n for n in range(4097)]
@@ -131,7 +131,7 @@ expect 'the longest walk' "$(clearmap dist --query "PATH chess$(printf ' 4095 0 
 expect 'threads of dist by one worker' "$(threads 1 --workers 1)" 1
 expect 'threads of dist by four workers, while one more writes' "$(threads 5 --workers 4)" 5
 
-# How many instructions a server takes that answers so many queries of one pin, each near an
+# How many instructions a server takes to answer this many queries of one pin, each near an
 # obstacle.
 instructions() { # instructions COUNT
     timeout 300 python3 - "$program" "$room/raw" "$1" << 'PYTHON'

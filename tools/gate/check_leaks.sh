@@ -1,7 +1,7 @@
 #!/bin/bash
-# Runs the built program (or that of CLEARMAP) under valgrind, which finds what is never given back:
-# the arena, the shared words and the log of a server among it, as no contract does. Loopback only.
-# Left out with a word where there is no valgrind.
+# Runs the built program (or that of CLEARMAP) under valgrind, which finds what is never freed: the
+# arena, the shared words and the log of a server among it, as no contract does. Loopback only.
+# Skipped, with a message, without valgrind.
 set -u
 cd "$(dirname "$0")/../.." || exit 1
 program=$(realpath "${CLEARMAP:-crates/clearmap/out/clearmap}")
@@ -43,8 +43,8 @@ printf 'OPEN 130 70 20 3 2 10\nC PAINT 0 0 70 1\nK 1\nC PUBLISH\nK 200\nC COLLEC
 image | watched setting serve --connections 1 --blocks 1 > /dev/null; judge 'a refused setting' $? 1 setting
 image | watched full serve --connections 1 > /dev/full; judge 'a server that can tell no port' $? 1 full
 
-# A server in whose store there is each kind of what is to be given back: own tiles, retired ones,
-# old versions, a log with a stamp, and a pin that is never left.
+# A server whose store has one of each kind to be freed: own tiles, retired ones, old versions, a
+# log with a stamp, and a pin that is never left.
 (watch serve serve --connections 3 --versions 3) < "$room/map" > "$room/said" &
 server=$!
 for _ in $(seq 600); do

@@ -1,9 +1,9 @@
 #!/bin/sh
 # Builds libclearmap where it has to, and tries it from C and C++: the header against the source,
 # what the shared library shows, the tests (also under valgrind, the sanitizers and, for ARM, qemu),
-# and the programs of docs/use/LIBRARY.md. Leaves out, with a word, what isn't installed here. MAPS
-# is how many random maps. The C++ test asks servers of the built program too; CLEARMAP names
-# another one. Footprints are tried on cases that the model in Python has answered.
+# and the programs of docs/use/LIBRARY.md. Skips, with a message, what isn't installed here. MAPS is
+# how many random maps. The C++ test asks servers of the built program too; CLEARMAP names another
+# one. Footprints are tried on cases that the model in Python has answered.
 set -u
 cd "$(dirname "$0")/../.." || exit 1
 library=$PWD/crates/libclearmap/out
@@ -15,13 +15,13 @@ trap 'exit 1' INT TERM
 export PYTHONDONTWRITEBYTECODE=1
 failed=0
 
-wants() { # wants TOOL WHAT: whether the tool is there; else a word of what is left out
+wants() { # wants TOOL WHAT: whether the tool is there; otherwise says what is skipped
     command -v "$1" > /dev/null && return
     echo "$2 left out: there is no $1"
     return 1
 }
 
-try() { # try WHAT COMMAND ..: says how it ended, and what it wrote where it failed
+try() { # try WHAT COMMAND ..: says how it ended, and what it wrote if it failed
     what=$1
     shift
     if timeout 600 "$@" > "$scratch/log" 2>&1; then

@@ -116,7 +116,7 @@ def lines(numbers, answers):
 
 
 def long_path(size):
-    """A line of so many bytes that asks of cell (0, 0): each number has 1 to 10 digits."""
+    """A line of this many bytes that asks for cell (0, 0): each number has 1 to 10 digits."""
     text = "PATH chess 0 0"
     while size - len(text) > 44:
         text += " 0000000000 0000000000"

@@ -1,7 +1,7 @@
 #!/bin/sh
-# Tries what others get of clearmap, each in a folder of its own and without rt: all of it by
-# `make install`, the packages for Debian, unpacked, and the package for Python by pip, in a fresh
-# environment. The program and the library have to be built. Leaves out, with a word, what isn't
+# Tries what others get of clearmap, each in a folder of its own and without rt: all of it by `make
+# install`, the packages for Debian, unpacked, and the package for Python by pip, in a fresh
+# environment. The program and the library have to be built. Skips, with a message, what isn't
 # installed here.
 set -u
 cd "$(dirname "$0")/../.." || exit 1
@@ -12,7 +12,7 @@ trap 'exit 1' INT TERM
 export PYTHONDONTWRITEBYTECODE=1 PIP_NO_INDEX=1 PIP_DISABLE_PIP_VERSION_CHECK=1
 wrong=0
 
-wants() { # wants TOOL WHAT: whether the tool is there; else a word of what is left out
+wants() { # wants TOOL WHAT: whether the tool is there; otherwise says what is skipped
     command -v "$1" > /dev/null && return
     echo "$2 left out: there is no $1"
     return 1

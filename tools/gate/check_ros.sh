@@ -2,7 +2,7 @@
 # Runs the tests of tools/ros against the built program; CLEARMAP names another one, and
 # CLEARMAP_LIBRARY another library. Loopback only, and nothing is left. Needs python3; numpy for
 # costmaps, python3-pil for images other than PGM, and for the node of ROS 1 a master and its
-# packages. What isn't installed is left out with a word.
+# packages. What isn't installed is skipped, with a message.
 set -u
 cd "$(dirname "$0")/../.." || exit 1
 CLEARMAP=${CLEARMAP:-$PWD/crates/clearmap/out/clearmap}

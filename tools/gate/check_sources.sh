@@ -1,7 +1,7 @@
 #!/bin/sh
-# Looks for what no contract sees: code that forgets what it should give back, by whatever name it
-# was imported (tests may, to leave a session out), and code that says that it is out of memory
-# though no growth was refused.
+# Looks for what no contract sees: code that forgets what it should free, by whatever name it was
+# imported (tests may, to leave a session out), and code that reports out of memory though no
+# allocation was refused.
 set -u
 cd "$(dirname "$0")/../.." || exit 1
 found=$(find crates -name out -prune -o -path '*_tests' -prune -o -path '*/src/*.rt' -print | xargs grep -nwE 'ManuallyDrop|forget|leak' | grep -vE '^[^:]*:[0-9]+: *//')

@@ -34,7 +34,7 @@ no_others() {
     done
 }
 
-# A server of the worked map with these flags, with at most so many descriptors where `descriptors`
+# A server of the worked map with these flags, with at most that many descriptors if `descriptors`
 # is set: its port comes into `port`, its process into `server`, and what it prints into the file
 # `said`.
 serve() {
@@ -51,7 +51,7 @@ serve() {
     return 1
 }
 
-# What the server has said, once it has ended, without the line that tells the port.
+# What the server has said, once it has ended, without the line that has the port.
 ended() {
     wait "$server"
     status=$?
@@ -81,7 +81,7 @@ check_dist() {
     text=$(cd / && image | clearmap dist | head -n 1); expect 'another folder' $? 0 "$text" '0 1 4'
 }
 
-# Where there is no memory for an image, it is told by one whole line.
+# If there is no memory for an image, one whole line says so.
 check_memory() {
     (printf 'P4\n4096 4096\n'; head -c $((512 * 4096)) /dev/zero) > "$room/blank"
     (ulimit -v 40000 && clearmap dist) < "$room/blank" > "$room/said"
@@ -151,9 +151,9 @@ check_ask() {
     ended; expect 'a server of six clients, to which two others sent nothing' "$status" 0 "$text" 'SERVED 6 3'
 }
 
-# Where no descriptor is left nothing can be accepted: such a connection counts, and the server
-# waits before it tries again, twice as long each time, so that two seconds have room for eight of
-# twenty. It has four for itself.
+# With no descriptor left nothing can be accepted: such a connection counts, and the server waits
+# before it tries again, twice as long each time, so that eight of twenty fit in two seconds. It has
+# four for itself.
 check_descriptors() {
     descriptors=4
     serve --connections 20; expect 'a server that may have no connection' $? 0 '' ''

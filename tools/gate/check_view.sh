@@ -1,8 +1,9 @@
 #!/bin/sh
 # Runs the tests of clearmap-view against the built program; CLEARMAP names another one, and
 # CLEARMAP_LIBRARY another library. Loopback only, and nothing is left. Needs aiohttp and numpy for
-# one python3, and leaves all out with a word where there is none. The page is tried where Selenium,
-# Chromium and its driver are installed, and its screenshots are read where python3-pil is.
+# one python3, and skips everything, with a message, if there is none. The page is tried where
+# Selenium, Chromium and its driver are installed, and its screenshots are read where python3-pil
+# is.
 set -u
 cd "$(dirname "$0")/../.." || exit 1
 CLEARMAP=${CLEARMAP:-$PWD/crates/clearmap/out/clearmap}

@@ -1,6 +1,6 @@
 #!/usr/bin/env python3
-"""Tells the processor minutes that a running gate takes, by crate, and its slowest edits. It isn't
-in the gate.
+"""Reports the processor minutes of a running gate, by crate, and its slowest edits. It isn't in the
+gate.
 
     tools/gate/gate_minutes.py CLONE
 

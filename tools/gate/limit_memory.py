@@ -1,5 +1,5 @@
-"""What check_limits.py tries of a server that may take so much memory and no more: the log keeps
-each stamp's image until a checkpoint."""
+"""What check_limits.py tries of a server with a memory limit: the log keeps each stamp's image
+until a checkpoint."""
 import os
 import pathlib
 import resource

@@ -107,7 +107,7 @@ class Line:
         return self.reply()
 
     def take(self, count):
-        """The next bytes, so many."""
+        """The next `count` bytes."""
         while len(self.come) < count:
             if not self.more():
                 break
@@ -142,7 +142,7 @@ class Line:
         return self.come
 
     def reverts(self, first, count):
-        """Sends so many REVERTs, and returns how many had the next place."""
+        """Sends this many REVERTs, and returns how many had the next place."""
         good = 0
         for start in range(first, first + count, BATCH):
             places = range(start, min(start + BATCH, first + count))
@@ -152,7 +152,7 @@ class Line:
         return good
 
     def pushed(self, data, times):
-        """Whether data is taken so many times, and the connection then ended in order."""
+        """Whether data is accepted this many times, and the connection then ended in order."""
         try:
             for _ in range(times):
                 self.socket.sendall(data)

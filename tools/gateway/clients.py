@@ -1,4 +1,5 @@
-"""A client of the gateway: its lines are done one after another, each when the one before is."""
+"""A client of the gateway: its lines are done one after another, each when the one before is done.
+"""
 import asyncio
 from typing import Dict, List, Optional
 
@@ -176,7 +177,7 @@ class Client(Stream):
         }[line.verb]()
 
     async def _change(self, sent: bytes) -> bytes:
-        """A change, by a connection that is lent for it."""
+        """A change, on a connection lent for it."""
         reply = await self._desk.server.ask(sent)
         if sent == b"PUBLISH\n" and reply.startswith(b"OK "):
             self._desk.versions.saw(int(reply.split()[2]))

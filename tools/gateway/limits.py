@@ -16,14 +16,14 @@ MAPS = 4  # maps that are kept of versions which nobody holds any more
 
 
 class Room:
-    """Room for so many bytes: who finds too little waits for those before it."""
+    """Room for this many bytes: a request that finds too little waits for those before it."""
 
     def __init__(self, size: int) -> None:
         self._left = size
         self._waiting: Deque[Tuple[int, "asyncio.Future[None]"]] = deque()
 
     async def take(self, count: int) -> None:
-        """Takes so many bytes, at most the whole room."""
+        """Takes this many bytes, at most all of the room."""
         if not self._waiting and count <= self._left:
             self._left -= count
             return

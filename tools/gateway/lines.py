@@ -49,7 +49,7 @@ def read_line(line: bytes) -> Line:
 
 
 def _stamp(line: bytes, words: Sequence[bytes]) -> Line:
-    """A stamp's line, after which so many bytes come."""
+    """A stamp's line, which counts the bytes after it."""
     numbers: Optional[List[int]] = numbers_of(words)
     if numbers is None or len(numbers) != 3:
         return Line(reply=BAD)
@@ -59,8 +59,8 @@ def _stamp(line: bytes, words: Sequence[bytes]) -> Line:
 
 
 def next_cells(pending: bytearray, most: int) -> List[Tuple[bytes, ...]]:
-    """Takes the AT lines that come next, so many at most: the words of each. Most lines are such,
-    and to look for nothing else in them takes a third of the time."""
+    """Takes up to this many AT lines that come next: the words of each. Most lines are such, and
+    looking for nothing else in them takes a third of the time."""
     cells: List[Tuple[bytes, ...]] = []
     end = 0
     while len(cells) < most:

@@ -92,7 +92,7 @@ class Link(asyncio.Protocol):
         return line
 
     async def _take(self, count: Optional[int]) -> bytes:
-        """The next bytes, so many, or a line."""
+        """The next `count` bytes, or a line."""
         waits: "asyncio.Future[bytes]" = asyncio.get_running_loop().create_future()
         self._wanted, self._waits = count, waits
         self._settle()

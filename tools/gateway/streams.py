@@ -87,7 +87,7 @@ class Stream(asyncio.BufferedProtocol):
             self._transport.pause_reading() if pauses else self._transport.resume_reading()
 
     async def _counted(self, count: int) -> bytearray:
-        """The next bytes that the client sends, so many."""
+        """The next `count` bytes that the client sends."""
         body = bytearray()
         while True:
             part = self._pending[: count - len(body)]

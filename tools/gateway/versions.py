@@ -49,10 +49,10 @@ class Versions:
     # ---- pins
 
     async def pin(self) -> Held:
-        """Holds the version that is the newest now for one client more. The server is asked after
-        the client's line has come, so no answer that anybody has had is newer. Where as many other
-        versions are held as may be, this waits until one is left, no longer than the patience:
-        then it is a TimeoutError. Said where the server refuses it."""
+        """Holds the currently newest version for one more client. The server is asked after the
+        client's line has come, so no earlier answer to anybody is newer. If as many other versions
+        are held as may be, this waits until one is left, no longer than the patience: then it
+        raises TimeoutError. Said if the server refuses it."""
         while True:
             left = self._left
             held = await self._tried()
@@ -68,7 +68,7 @@ class Versions:
         return version
 
     async def leave(self, held: Held) -> None:
-        """Leaves it for one client; the server is told when it was the last."""
+        """Leaves it for one client; the last one unpins it on the server."""
         held.users -= 1
         if held.users:
             return
@@ -83,8 +83,8 @@ class Versions:
         self._left = asyncio.Event()
 
     async def _tried(self) -> Optional[Held]:
-        """Pins on a connection, which is given back where somebody holds that version already. None
-        where no connection is left to hold it: the last one is for changes."""
+        """Pins on a connection, which is returned if somebody holds that version already. None if
+        no connection is left to hold it: the last one is for changes."""
         link = await self._server.take()
         version = await self._pinned_on(link)
         held = self._held.get(version)
@@ -99,7 +99,7 @@ class Versions:
 
     async def _pinned_on(self, link: Link) -> int:
         """The version that is pinned on this connection now. It isn't older than what the server
-        had told before."""
+        had reported before."""
         least = self.newest
         reply = await link.ask(b"PIN\n")
         if not reply.startswith(b"OK "):
@@ -112,7 +112,7 @@ class Versions:
         return version
 
     async def _unpin(self, link: Link) -> None:
-        """Leaves a pin, and gives its connection back."""
+        """Unpins, and returns the connection."""
         reply = await link.ask(b"UNPIN\n")
         if not reply.startswith(b"OK "):
             raise link.fail(f"the server answers {reply!r} to UNPIN")

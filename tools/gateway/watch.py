@@ -1,4 +1,4 @@
-"""Clients that are told of each new version."""
+"""Clients that are notified of each new version."""
 import asyncio
 from typing import Dict, Optional, Protocol
 
@@ -16,8 +16,8 @@ class Told(Protocol):
 
 
 class Watchers:
-    """Those who watch, with the number that each was told last. The server is asked while there is
-    one."""
+    """Those who watch, with the number that each was notified of last. The server is asked while
+    there is one."""
 
     def __init__(self, versions: Versions) -> None:
         self._versions = versions
@@ -25,13 +25,13 @@ class Watchers:
         self._task: "Optional[asyncio.Task[None]]" = None
 
     def add(self, watcher: Told, version: int) -> None:
-        """From now on it is told of what is newer than this."""
+        """From now on it is notified of what is newer than this."""
         self._told[watcher] = version
         if self._task is None:
             self._task = asyncio.get_running_loop().create_task(self._look())
 
     def remove(self, watcher: Told) -> None:
-        """It is told nothing any more."""
+        """It is no longer notified."""
         self._told.pop(watcher, None)
 
     def tell(self, version: int) -> None:

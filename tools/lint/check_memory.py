@@ -1,12 +1,12 @@
 #!/usr/bin/env python3
-"""Looks that being out of memory is never made up: each `Memory` comes from a refused growth.
+"""Checks that being out of memory is never made up: each `Memory` comes from a refused allocation.
 
 A value that says so is made in a `From` of the toolchain's `AllocError` or `AllocFailed`, and
 reaches callers by `?` and by arms whose pattern already names it. The status of the library for C
 that says so (`MEMORY`) stands on an arm for an error. Any other expression that makes one is
 listed, and the status is 1. Tests may make them.
 
-What that doesn't show: that a growth was needed, or that it wasn't larger than it had to be.
+What that doesn't show: that an allocation was needed, or that it wasn't larger than it had to be.
 """
 import pathlib
 import re

@@ -1,10 +1,16 @@
-/* A library that is put before the C library, and refuses requests for memory of the program
- * itself: LD_PRELOAD=./refuse.so  REFUSE_AT=N     the N-th request, counted from 1, is refused
- * REFUSE_FROM=N   the N-th and each later one REFUSE_ALL=1    the C library's own requests count
- * too, as those of a thread's start REFUSE_TELL=1   a line for each request that is met
- * REFUSE_LOG=FILE where the lines go: 'REQUEST <number> <bytes>' and 'REFUSED <number> <bytes>'  A
- * request is a malloc, a calloc, or a realloc that makes or enlarges. Others aren't told apart by
- * size. Needs the GNU C library:  cc -O2 -shared -fPIC -o refuse.so refuse.c */
+/* A library that is loaded before the C library, and refuses the program's own requests for memory:
+ * LD_PRELOAD=./refuse.so
+ *
+ *   REFUSE_AT=N     the N-th request, counted from 1, is refused
+ *   REFUSE_FROM=N   the N-th and each later one
+ *   REFUSE_ALL=1    the C library's own requests count too, as those of a thread's start
+ *   REFUSE_TELL=1   a line for each request that is met
+ *   REFUSE_LOG=FILE where the lines go: 'REQUEST <number> <bytes>' and 'REFUSED <number> <bytes>'
+ *
+ * A request is a malloc, a calloc, or a realloc that allocates or enlarges; one that shrinks counts
+ * too, since sizes aren't compared. Needs the GNU C library:
+ *
+ *   cc -O2 -shared -fPIC -o refuse.so refuse.c */
 #define _GNU_SOURCE
 #include <errno.h>
 #include <fcntl.h>
@@ -17,7 +23,8 @@
 
 extern void *__libc_malloc(size_t), *__libc_calloc(size_t, size_t), *__libc_realloc(void *, size_t);
 
-/* The program's own part of memory: only calls that return there count, so that the numbers don't move with the C library's version. */
+/* The program's own part of memory: only calls that return there count, so that the numbers don't
+ * depend on the C library's version. */
 static uintptr_t low, high;
 static unsigned long at, from;
 static int all, telling, ready, out = -1;

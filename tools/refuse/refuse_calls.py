@@ -1,25 +1,25 @@
 """Refuses each request for memory of the tests of `want_tests` in turn, test by test, and counts
 for each call how many it met.
 
-A test tells on standard output where a call begins, and whether it met want of memory (`memory:`)
-or answered (`answer:`). The refused requests are told there too, so that each stands in the call
-that made it.
+A test reports on standard output where a call starts, and whether it ran out of memory (`memory:`)
+or answered (`answer:`). The refused requests are reported there too, so that each appears in the
+call that made it.
 """
 import collections
 import re
 
 from refusing import Wrong, sweep
 
-# Calls that ask for memory: each has to meet a refusal, and to answer want of memory exactly where
-# it met one.
+# Calls that ask for memory: each must meet a refusal, and must report out of memory exactly if it
+# met one.
 COMMANDS = [f"{owner}::{name}" for owner in ("Session", "Pinned") for name in ("paint", "stamp", "publish", "revert", "collect")]
 ASKING = [
     "Blank::of", "Store::open", "proto::pool", "proto::pool's stream", "proto::serve_stream", *COMMANDS, "Session::pin",
     "field::rows", "field::rows_with of 1 worker", "field::rows_with of 2 workers", "field::rows_with of 16 workers",
     "pbm::read_image", "pbm::read_source", "pbm::write_plain", "pbm::write_raw",
 ]
-# Commands that are refused for blocks: they may ask for room before they are judged, and answer the
-# same with it and without.
+# Commands that are refused for blocks: they may ask for memory before they are judged, and answer
+# the same with and without it.
 JUDGED = ["Session::paint of too many tiles", "Pinned::paint of too many tiles"]
 # Calls that take no memory: each is made, and meets no request.
 FREE = [
@@ -27,11 +27,11 @@ FREE = [
     "Pinned::at", "Pinned::least_in", "Pinned::along", "Pinned::clear_of", "Pinned::bitmap", "Pinned::unpin", "Pinned::learn", "Session::learn",
     "Store::close", "Arena::take", "Arena::give", "epoch::kept_after", "envelope::row",
 ]
-# Calls that start threads. Where a start finds no memory, which is less than this many bytes, the
-# calling thread works, and the call answers.
+# Calls that start threads. If a start finds no memory for less than this many bytes, the calling
+# thread does the work, and the call answers.
 THREADED = ["proto::pool", "field::rows_with of 2 workers", "field::rows_with of 16 workers"]
 START = 64
-# One call may tell its end under another name: a stream that a pool serves asks for memory of its
+# One call may report its end under another name: a stream that a pool serves asks for memory of its
 # own.
 ENDS_AS = {"proto::pool's stream": "proto::pool"}
 ALL = ASKING + JUDGED + FREE
@@ -46,8 +46,8 @@ class Calls:
         self.refused = collections.Counter()
 
     def read(self, text):
-        """Reads what a run told, and answers what was wrong. Requests outside calls are those of
-        the test's own values."""
+        """Reads what a run reported, and returns what was wrong. Requests outside calls are those
+        of the test's own values."""
         wrong, inside, requests, refused = [], None, 0, []
         for line in text.decode(errors="replace").splitlines():
             word, _, rest = line.strip().partition(" ")

@@ -1,6 +1,5 @@
 #!/usr/bin/env python3
-"""Refuses each request for memory in turn, of the built tests of `want_tests` and of the built
-program, and looks at what is answered.
+"""Refuses each request for memory in turn, of `want_tests` and of the built program.
 
 A library that is compiled from refuse.c is put before the C library: it refuses the N-th request,
 for N from 1 until several runs met none. Of the program the N-th and all later ones are refused

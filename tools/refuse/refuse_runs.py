@@ -2,8 +2,8 @@
 one connection, and `ask`.
 
 A run with one request refused answers as it does with all its memory (where a growth by a hint is
-made again smaller), or tells want of memory once, by the line `ERR 5 Memory`: alone and with status
-1, or in the place of one reply, and then all others are what they are without that line. Where the
+made again smaller), or reports out of memory once, by the line `ERR 5 Memory`: on its own and with
+status 1, or in place of one reply, and then all others are what they are without that line. If the
 N-th request and each later one are refused, the same holds, and there may be several.
 """
 import socket
@@ -68,7 +68,7 @@ class Runs:
         self.whole = {}
 
     def is_ample(self):
-        """Whether no request of the last run was refused: then none may be answered by want of
+        """Whether no request of the last run was refused: then none may be answered with out of
         memory."""
         return not self.refuser.refused()
 

@@ -1,8 +1,8 @@
-"""What a costmap and a picture of distances are made of: the distances of one version, by rows from
+"""What costmaps and pictures of distances are made of: the distances of one version, by rows from
 the top, and a robot's radii. Needs numpy, no ROS; nothing here is proved.
 
 A costmap has the values that ROS's costmap_2d publishes: 100 in an obstacle, 99 where the robot's
-middle may not be, then less and less, 0 beyond the inflation radius, and -1 in unknown cells.
+centre may not be, then less and less, 0 beyond the inflation radius, and -1 in unknown cells.
 """
 import array
 import math
@@ -56,8 +56,8 @@ class Inflation:
         return robot, inflated, scaling
 
     def values(self, resolution: Fraction) -> "Values":
-        """The value of a cell for each square of its distance in cells, which is taken from middle
-        to middle; the last one is for all that are farther."""
+        """The value of a cell for each square of its distance in cells, which is taken from centre
+        to centre; the last one is for all that are farther."""
         robot, inflated, scaling = self.numbers()
         cells = math.ceil(inflated / resolution)
         if cells > LARGEST_RADIUS:
@@ -70,7 +70,7 @@ class Inflation:
 
 
 def falling(beyond: "NDArray[numpy.float64]", scaling: float) -> "Values":
-    """What costmap_2d publishes so many metres beyond the robot's radius."""
+    """What costmap_2d publishes this many metres beyond the robot's radius."""
     costs = (LARGEST_COST * numpy.exp(-scaling * numpy.maximum(beyond, 0))).astype(numpy.int64)
     values: "Values" = numpy.where(costs > 0, 1 + 97 * (costs - 1) // 251, 0).astype(numpy.int8)
     return values
@@ -120,7 +120,7 @@ def from_below(values: "Values") -> "array.array[int]":
 
 
 def step_of(size: Tuple[int, int], most: int) -> int:
-    """Of how many columns and rows one is taken, so that there are so many points at most."""
+    """The step in columns and rows that leaves at most this many points."""
     step = 1
     while math.prod(-(-side // step) for side in size) > most:
         step += 1
@@ -128,7 +128,7 @@ def step_of(size: Tuple[int, int], most: int) -> int:
 
 
 def cloud(squares: "Squares", frame: Frame, most: int) -> bytes:
-    """The middles of free cells in metres, each with its distance from middle to middle: x, y, z
+    """The centres of free cells in metres, each with its distance from centre to centre: x, y, z
     and intensity in four bytes each, the low one first. Of a large map each second, third .. column
     and row is taken, so that there are `most` points at most. None where there is no obstacle."""
     step = step_of(frame.size, most)

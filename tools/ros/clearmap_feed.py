@@ -22,7 +22,7 @@ CONNECTIONS = "1000000"
 
 @dataclass(frozen=True)
 class Clearance:
-    """What a plan's tightest cell is, in metres: from middle to middle, free in any case, and where
+    """What a plan's tightest cell is, in metres: from centre to centre, free in any case, and where
     the two middles are."""
 
     version: int

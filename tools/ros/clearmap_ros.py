@@ -44,7 +44,7 @@ def exact(number: Number) -> Fraction:
     if isinstance(number, Fraction):
         return number
     word = str(number).strip()
-    if len(word) > LONGEST_NUMBER or "_" in word or re.search(r"[eE][+-]?0*[1-9]\d{3}", word):  # a fraction of so many digits would take for ever
+    if len(word) > LONGEST_NUMBER or "_" in word or re.search(r"[eE][+-]?0*[1-9]\d{3}", word):  # else it takes forever
         raise RosError(f"'{word[:40]}' is no number of a map")
     try:
         return Fraction(word)
@@ -252,8 +252,8 @@ def gray_of(image: "Image.Image") -> Gray:
 
 
 def value_of(share: Fraction, settings: Settings) -> int:
-    """What map_server publishes in the modes `scale` and `raw` for a sample which is so much of the
-    whole dark, or with `negate` bright: 0 to 100, or in `raw` any byte."""
+    """What map_server publishes in the modes `scale` and `raw` for a sample with this share of
+    dark, or with `negate` of bright: 0 to 100, or in `raw` any byte."""
     if settings.mode == "raw":
         return math.floor(255 * (1 - share))
     if share > settings.occupied_thresh:
@@ -279,11 +279,11 @@ def is_obstacle(share: Fraction, opaque: int, settings: Settings, unknown_is_fre
 
 
 def obstacles(image: Gray, settings: Settings, unknown_is_free: bool = False) -> List[List[bool]]:
-    """Which cells are obstacles, by rows from the top. A sample is occupied by so much as it is
-    dark, or with `negate` bright, of the whole.
+    """Which cells are obstacles, by rows from the top. A sample is occupied by its share of dark,
+    or with `negate` of bright.
 
-    Above `occupied_thresh` it is occupied, below `free_thresh` free, and else unknown, which is an
-    obstacle too unless it is asked otherwise.
+    Above `occupied_thresh` it is occupied, below `free_thresh` free, and otherwise unknown, which
+    is an obstacle too unless asked otherwise.
     """
     opaque = image.opaque or bytes([1]) * len(image.samples)
 
@@ -338,21 +338,21 @@ class Frame:
         return math.floor(u), self.height - 1 - math.floor(t)
 
     def centre(self, cell: Cell) -> Tuple[float, float]:
-        """The middle of a cell, in metres."""
+        """The centre of a cell, in metres."""
         x, y = cell
         if not (0 <= x < self.width and 0 <= y < self.height):
             raise RosError(f"the cell ({x}, {y}) isn't on the map")
         return self.middle(cell)
 
     def middle(self, cell: Cell) -> Tuple[float, float]:
-        """The middle of a cell, in metres, also of one that lies around the map: an obstacle where
+        """The centre of a cell, in metres, also of one that lies around the map: an obstacle where
         the border is a wall."""
         x, y = cell
         half = Fraction(1, 2)
         return float(self.origin_x + (x + half) * self.resolution), float(self.origin_y + (self.height - 1 - y + half) * self.resolution)
 
     def metres(self, square: int) -> float:
-        """A `euclid2` distance, which is a square in cells, in metres from middle to middle;
+        """A `euclid2` distance, which is a square in cells, in metres from centre to centre;
         rounded down."""
         return float_below(root_below(square) * self.resolution)
 

@@ -99,7 +99,7 @@ class ClearmapNode(Node):  # type: ignore[misc]
         self.clearances.publish(Float64(data=metres))
 
     def clearance(self, message: Any) -> float:
-        """Metres from the plan's tightest cell to its nearest obstacle, from middle to middle."""
+        """Metres from the plan's tightest cell to its nearest obstacle, from centre to centre."""
         place, frame_id = self.feed.place, message.header.frame_id
         if place is not None and frame_id != place.frame_id:
             raise RosError(f"it is in the frame '{frame_id}', and the map in '{place.frame_id}'")

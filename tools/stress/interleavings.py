@@ -1,6 +1,7 @@
 #!/usr/bin/env python3
-"""Every interleaving of two readers with a publish, a checkpoint and a collect, through `clearmap
-steps`, against a plain model.
+"""Runs every order of two readers, a publish, a checkpoint and a collect against a plain model.
+
+Each order is one run of `clearmap steps`.
 
 The first reader announces, loads, announces what it holds exactly, and looks and leaves; the second
 one announces, loads, looks and leaves. The keeper publishes a painted cell (its stores as one lump,

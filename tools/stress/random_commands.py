@@ -146,7 +146,7 @@ def ended(world, connections):
 
 
 def a_map(rng, count):
-    """Runs so many commands on one map. Gives how many replies were wrong."""
+    """Runs this many commands on one map. Returns how many replies were wrong."""
     width, height = rng.choice(SIDES), rng.choice(SIDES)
     tiles = ((width + 63) // 64) * ((height + 63) // 64)
     setting = {"blocks": tiles + rng.choice((0, 1, 2, 3, tiles, 3 * tiles)), "versions": rng.randrange(2, 6), "log": rng.choice((6, count // 12, count + 10))}

@@ -1,6 +1,6 @@
 #!/usr/bin/env python3
-"""Is to a script what the program is, but that `serve` answers through a gateway: for CLEARMAP of
-the scripts and models that ask a server. BUILT names the program; LINKS is the gateway's, 15.
+"""Acts as the program, except that `serve` answers through a gateway: for CLEARMAP in the scripts
+and models that ask a server. BUILT names the program; LINKS is the gateway's, 15.
 
     CLEARMAP=tools/stress/served_by_gateway.py tools/stress/random_commands.py 4000
 """
@@ -41,7 +41,7 @@ def started(own, flags):
 
 
 async def run(options, count):
-    """A gateway that ends once so many clients were served."""
+    """A gateway that ends after this many clients."""
     served = asyncio.Semaphore(0)
 
     class Counted(clients.Client):

@@ -5,10 +5,10 @@ entries is nearly full, and watches its memory.
 One painter paints and clears rectangles of a map of 1024 by 1024, publishes and collects,
 sixty-four lines a write; a planner has a new pin for each round and asks it. Each reply has to be
 an OK with the next place. Each round ends in a checkpoint, after which the server's resident memory
-is read from /proc: it may not be over that of the third round by more than 1 MB. Linux alone.
-Prints a line for each tenth of the rounds.
+is read from /proc: it may not be over that of the third round by more than 1 MB. Linux only. Prints
+a line for each tenth of the rounds.
 
-    tools/stress/soak.py [COMMANDS]        10,000,000 where nothing is said, which takes some minutes
+    tools/stress/soak.py [COMMANDS]        10,000,000 by default, which takes some minutes
 """
 import pathlib
 import random

@@ -167,8 +167,8 @@ class World:
         return [min(kept), len(gone)]
 
     def stays(self, version):
-        """Newest is kept, and what a word of the scan asks for: an odd one its version and those
-        after it, an even one its version alone."""
+        """The newest is kept, and what a word of the scan asks for: an odd one its version and
+        those after it, an even one exactly its version."""
         if version is None:
             return False
         asked = any(word // 2 <= version if word % 2 else word // 2 - 1 == version for word in self.scanned if word)

@@ -5,9 +5,9 @@
 
 An alarm comes at a random moment of a call and raises there. The same client is asked again: it has
 to answer rightly, or to say that its connection is lost. The same is done at each step of the
-interpreter, or each so many, of one call of each kind. Eight threads ask one client and one pin at
-once, while a painter publishes and one of them renews the pin. Needs the built program, which
-CLEARMAP names. Status 1 where an answer is wrong.
+interpreter, or every STRIDE steps, of one call of each kind. Eight threads ask one client and one
+pin at once, while a painter publishes and one of them renews the pin. Needs the built program,
+which CLEARMAP names. Status 1 where an answer is wrong.
 """
 import argparse
 import math
@@ -180,7 +180,7 @@ def cut_off(call, delay):
 
 
 class Interrupted:
-    """One client that is interrupted and asked again, until so many interrupts have come."""
+    """One client that is interrupted and asked again, until this many interrupts have come."""
 
     def __init__(self, painter, rng):
         self.painter, self.rng = painter, rng
@@ -232,8 +232,8 @@ class Interrupted:
 
 
 def interrupts(count, seed=1):
-    """Interrupts calls so many times. How many answers were right, how many connections were lost,
-    and the wrong answers."""
+    """Interrupts calls this many times. How many answers were right, how many connections were
+    lost, and the wrong answers."""
     rng = random.Random(seed)
     old = signal.signal(signal.SIGALRM, ring)
     try:
@@ -337,8 +337,8 @@ def cut_at(call, step, client, pin):
 
 
 def each_step(stride, seed=1):
-    """Cuts a call of each kind off at each so many of its steps, and asks again. How many were cut
-    off, and the wrong answers."""
+    """Cuts a call of each kind off at every `stride`-th of its steps, and asks again. How many were
+    cut off, and the wrong answers."""
     cuts, wrong = 0, []
     with Painter(random.Random(seed)) as painter:
         wanted = painter.versions[0].at(5, 3, "city")
@@ -360,8 +360,8 @@ def each_step(stride, seed=1):
 
 
 def calls_of_threads(calls, seed=1):
-    """Asks so many questions from eight threads. How many answers were right, and the wrong
-    ones."""
+    """Asks this many questions from eight threads. How many answers were right, and the wrong ones.
+    """
     with Painter(random.Random(seed)) as painter:
         sharing = Sharing(painter, calls, seed)
         sharing.run()

@@ -15,7 +15,7 @@ Command = Callable[[clearmap.Client], str]
 
 
 def counted(count: int, what: str) -> str:
-    """So many of something."""
+    """A number of something."""
     return f"1 {what}" if count == 1 else f"{count} {what}s"
 
 

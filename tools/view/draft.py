@@ -72,7 +72,7 @@ class Draft:
         return None if drawn is None else [(it.rect, it.command == "paint") for it in drawn]
 
     def found(self, version: int, cells: int) -> None:
-        """So many cells of a version that was published from here were changed by others."""
+        """This many cells of a version that was published from here were changed by others."""
         with self._lock:
             if cells and version in self._sent:
                 count = "1 cell" if cells == 1 else f"{cells} cells"

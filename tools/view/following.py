@@ -129,7 +129,7 @@ class Following:
             await self.pause(spent)
 
     async def pause(self, spent: float) -> None:
-        """Waits until the next look. Where each takes a connection they come rarely, but what is
+        """Waits until the next look. If each takes a connection they come rarely, but what is
         asked, changed or opened meanwhile ends the wait."""
         until = time.monotonic() + max(SLOW_PAUSE, SHARE * spent)
         opened = self.listeners

@@ -1,5 +1,5 @@
-"""The page's own web server: what a browser gets. It knows requests of its own loopback address
-alone."""
+"""The page's own web server: what a browser gets. It serves only requests to its own loopback
+address."""
 import asyncio
 import json
 import pathlib

@@ -32,9 +32,9 @@ class Footprint:
     (3, 4) to (4, 5) and (3.5, 4.5) its centre, whatever `resolution` is; and how far the points are
     turned, in radians, from x towards y.
 
-    A pose hits an obstacle where the inside of the polygon meets an obstacle's square: to touch it
-    from outside is no hit. around the map all is free with the edge `open`, and with `wall` all are
-    obstacles. So each pose has an answer, on the map or off it.
+    A pose hits an obstacle if the inside of the polygon meets an obstacle's square: touching it
+    from outside isn't a hit. Around the map, all cells are free with the edge `open`, and obstacles
+    with `wall`. So each pose has an answer, on the map or off it.
 
     The answer is exact for the polygon whose corners lie on whole steps of 1/65536 of a cell: the
     points, the pose and the turned corners are rounded to these, and the cosine and the sine to

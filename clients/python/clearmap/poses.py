@@ -36,8 +36,8 @@ def flat(x: object, y: object, theta: object) -> List[Any]:
 
 
 def by_table(held: Held, circles: Tuple[float, float], each: Each, out: Any) -> Any:
-    """Writes the answers that the distances of the poses' cells tell, by the inner and the outer
-    circle, and returns the numbers of the other poses."""
+    """Writes the answers that follow from the distances of the poses' cells, by the inner and the
+    outer circle, and returns the indices of the other poses."""
     np = numpy()
     (inner, outer), (x, y, _) = circles, each
     width, height = held.size

@@ -1,7 +1,7 @@
 // Counts and times renewals and resets of LMDB's read transactions, which pin and let go of its
 // newest snapshot, next to one thread that commits.
 //   lmdb_pins FOLDER READERS SECONDS
-// For so many seconds each reader counts them, and for as many it times each. A line for each
+// For SECONDS seconds each reader counts them, and for as many it times each. A line for each
 // reader: its renewals a second, and the 50th, 99th and 99.99th percentile in nanoseconds. A commit
 // is made every 50 microseconds.
 #include <lmdb.h>

@@ -1,4 +1,4 @@
-// The types that the loops stand on, in Rust: what `queries.py` puts in front of the loops of
+// The types that the loops need, in Rust: `queries.py` puts them in front of the loops of
 // `clearance` and `pbm`.
 #![allow(dead_code, unused_mut, unused_variables)]
 use std::time::Instant;

@@ -29,7 +29,7 @@ export function colourAt(part) {
   return mix(ANCHORS[below], ANCHORS[below + 1], place - below);
 }
 
-/** How far the scale is faded for so many pixels a cell: not at all where a cell has one. */
+/** How far the scale is faded for this many pixels per cell: not at all if a cell has one. */
 export const fading = (pixels) => Math.min(Math.max(Math.log2(1 / pixels) / 2, 0), 1) * FADED;
 
 /** The scale's colours, from near to its end. */

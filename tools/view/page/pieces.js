@@ -18,7 +18,7 @@ export class Picture {
     return [Math.ceil(this.width / 2 ** level), Math.ceil(this.height / 2 ** level)];
   }
 
-  /** The level whose numbers are at most as large as the screen's pixels, for so many a cell. */
+  /** The level whose numbers are at most as large as the screen's pixels, this many per cell. */
   level(scale) {
     return Math.min(Math.max(Math.floor(Math.log2(1 / scale)), 0), this.levels - 1);
   }

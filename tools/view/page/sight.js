@@ -41,12 +41,12 @@ export class Sight {
     this.fitted = false;
   }
 
-  /** The place in cells that is in the middle. */
+  /** The place in cells at the centre. */
   get centre() {
     return [this.left + this.width / this.scale / 2, this.top + this.height / this.scale / 2];
   }
 
-  /** Puts a place into the middle, with so many pixels a cell. */
+  /** Centres a place, with this many pixels per cell. */
   show([x, y], scale) {
     this.scale = Math.min(Math.max(scale, this.whole() / 4), CLOSEST);
     this.left = x - this.width / this.scale / 2;
