@@ -38,7 +38,7 @@ shown_number 𝓛 κ d b o = qed 𝓛 (‵ (hidden_shr C.the_row κ d b o) ∷ [
     unhide ! $ fsplit ! $ fsplit ! $ move ! (1 ∷ []) $ fsplit ! $ keep ! (0 ∷ []) $ done !
 
 module _ {M : Type 1} {𝓤 : Ura M} {𝓛 : Logic 𝓤} {K : Type 0} {Γ : List (Item 𝓤)} {G : Goal 𝓤 𝓛.H} where
-  -- a `u32` that a `&` refers to is looked at: [the word; the way back]
+  -- a `u32` that a `&` refers to is read: [the word; the way back]
   pub half_in : K → Soaks G → {κ : Lft} {q : Share} (n b at : ℕ)
       → ((q' : Share) → n < 2 ^ 32 → Seq K 𝓛 (‵ (fat q' (ty_int w32) b at (vint w32 n)) ∷ Shut 𝓛 κ q (part_at u32 q' n b at) ∷ Γ) G) → Seq K 𝓛 (‵ (hidden_shr u32 κ n b at) ∷ ‵ (flft κ q) ∷ Γ) G
   half_in t z n b at k =

@@ -35,7 +35,7 @@ IsBanded-where cells test bands next bitmap before kept come = λ a b obstacle.
       | inr here ↦ here
     ]
 
--- the same of tiles
+-- tiles stay marked where each keeps its mark, and those with new obstacles have one
 AreTiled-where : (cells : Cells) (test : ℕ → ℕ → Bool) (tiles next : List ℕ) → IsBitmap cells → AreTiled cells tiles
     → ((band k : ℕ) → k < 64 → bit_at (get_or tiles band 0) k ≡ 1 → bit_at (get_or next band 0) k ≡ 1)
     → ((a b : ℕ) → a < cells.width → test a b ≡ true → IsObstacle cells a b ⊎ (bit_at (get_or next (b / 64) 0) (a / 64) ≡ 1))
@@ -63,7 +63,7 @@ AreTiled-with_cell cells x y index black tiles next bitmap before index_is kept 
       | inr old ↦ inl old
     ])
 
--- a word that is written
+-- a word that is written leaves each obstacle in a marked tile
 pub AreTiled-with_word : (cells : Cells) (y index word : ℕ) (tiles next : List ℕ) → IsBitmap cells → AreTiled cells tiles
     → ((band k : ℕ) → k < 64 → bit_at (get_or tiles band 0) k ≡ 1 → bit_at (get_or next band 0) k ≡ 1)
     → ((i : ℕ) → bit_at word i ≡ 1 → bit_at (get_or next (y / 64) 0) index ≡ 1)
@@ -78,7 +78,7 @@ AreTiled-with_word cells y index word tiles next bitmap before kept here = AreTi
       | inr old ↦ inl old
     ])
 
--- a row that is written
+-- a row that is written leaves each obstacle in a marked tile
 pub AreTiled-with_row : (cells : Cells) (y across : ℕ) (words tiles next : List ℕ) → IsBitmap cells → AreTiled cells tiles → across ≡ words_across cells.width
     → ((band k : ℕ) → k < 64 → bit_at (get_or tiles band 0) k ≡ 1 → bit_at (get_or next band 0) k ≡ 1)
     → ((k i : ℕ) → k < across → bit_at (get_or words k 0) i ≡ 1 → bit_at (get_or next (y / 64) 0) k ≡ 1)
@@ -122,7 +122,7 @@ IsBanded-with_cell cells x y black bands next bitmap before kept here = IsBanded
       | inr old ↦ inl old
     ])
 
--- a word that is written
+-- a word that is written leaves each obstacle in a marked band
 pub IsBanded-with_word : (cells : Cells) (y index word : ℕ) (bands next : ℕ) → IsBitmap cells → IsBanded cells bands
     → ((band : ℕ) → band < 64 → bit_at bands band ≡ 1 → bit_at next band ≡ 1)
     → ((i : ℕ) → i < 64 → 64 * index + i < cells.width → bit_at word i ≡ 1 → bit_at next (y / 64) ≡ 1)
@@ -137,7 +137,7 @@ IsBanded-with_word cells y index word bands next bitmap before kept here = IsBan
       | inr old ↦ inl old
     ])
 
--- a row that is written
+-- a row that is written leaves each obstacle in a marked band
 pub IsBanded-with_row : (cells : Cells) (y : ℕ) (words : List ℕ) (bands next : ℕ) → IsBitmap cells → IsBanded cells bands → words_across cells.width ≤ length words
     → ((band : ℕ) → band < 64 → bit_at bands band ≡ 1 → bit_at next band ≡ 1)
     → ((k i : ℕ) → k < length words → bit_at (get_or words k 0) i ≡ 1 → bit_at next (y / 64) ≡ 1)

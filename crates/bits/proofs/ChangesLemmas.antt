@@ -71,7 +71,7 @@ changes-self cells =
     sum_by-zero (λ x. one (differs (has cells x y) (has cells x y))) 0 cells.width (λ x lo hi.
     ap one (differs-self (has cells x y))))
 
--- a sum of so many terms, each with a bound
+-- a sum of this many terms, each with a bound
 sum_by-le_range : (f : ℕ → ℕ) (most a n : ℕ) → ((j : ℕ) → f j ≤ most) → sum_by f (range_with_len a n) ≤ n * most
 sum_by-le_range f most a zero few = omega arith
 sum_by-le_range f most a (suc n) few =

@@ -285,7 +285,7 @@ framed_map Wall cells bitmap =
       inside = λ x y obstacle. let inside = wall_inside cells x y obstacle in record { column = inside.0; row = inside.1 };
     }
 
--- a map with its border has two columns and two rows more where the border is a wall
+-- a map with its frame has two columns and two rows more if there is a wall
 pub framed_size : (edge : Edge) (cells : Cells) → ((framed edge cells).width ≡ cells.width + 2 * shift edge) × ((framed edge cells).height ≡ cells.height + 2 * shift edge)
 framed_size Open cells = (omega arith, omega arith)
 framed_size Wall cells = (omega arith, omega arith)

@@ -31,7 +31,7 @@ left_low : (n s j : ℕ) → j < s → j < 64 → bit_at (n * 2 ^ s % 2 ^ 64) j 
 left_low n s j low h =
     bit_at-rest (n * 2 ^ s) 64 j h ∙ (ap (λ (m : ℕ). bit_at m j) (let plain : n * 2 ^ s ≡ n * 2 ^ s + 0 = omega arith in plain) ∙ (bit_at_cat_low n s 0 j low ∙ bit_at-zero j))
 
--- the bits of a word that is shifted to the left lie so much higher
+-- the bits of a word shifted to the left are that much higher
 pub left_high : (n s j : ℕ) → s ≤ j → j < 64 → bit_at (n * 2 ^ s % 2 ^ 64) j ≡ bit_at n (j - s)
 left_high n s j high h =
     bit_at-rest (n * 2 ^ s) 64 j h

@@ -8,7 +8,7 @@ use Rattle.bits.specs.TileWords.{is_bit}
 use Rattle.bits.specs.Writes.{with_row, with_word}
 use Rattle.bits.proofs.CellsLemmas.{cells_where-same, cells_where-has, has-cells_where}
 
--- the bitmap once so many words of the row are written
+-- the bitmap once this many words of the row are written
 abbrev pub row_front : Cells → ℕ → List ℕ → ℕ → Cells
 row_front cells y words n = cells_where cells.width cells.height (λ a b. if b == y && nat_lt (a / 64) n then is_bit (get_or words (a / 64) 0) (a % 64) else has cells a b)
 

@@ -62,7 +62,7 @@ row_gap-passed cells rect gap next bitmap some is a b obstacle near =
       ]
     ]
 
--- rows that are passed over have no obstacle that could lower the least
+-- rows that are skipped have no obstacle that could lower the least
 pub IsLeastWithin-passed : (distance : ℕ → ℕ → ℕ) (cells : Cells) (rect : Rect) (gap next limit least : ℕ) → IsBitmap cells → 0 < gap
     → IsNextGap (λ b. (a : ℕ) × IsObstacle cells a b) rect.y0 (rect.y1 - 1) gap next
     → IsLeastWithin distance (IsObstacle cells) rect gap limit least → IsLeastWithin distance (IsObstacle cells) rect next limit least

@@ -24,11 +24,11 @@ IsFarFromLines distance lines line a b = (k x y : ℕ) → lines.first ≤ k →
 abbrev pub AreLinesLive : (ℕ → ℕ → ℕ) → Cells → Lines → ℕ → ℕ → Type 0
 AreLinesLive distance cells lines line bands = (a b : ℕ) → IsObstacle cells a b → IsMarkedRow bands b ⊎ IsFarFromLines distance lines line a b
 
--- so it is with all bands that may have an obstacle
+-- with all bands that may have an obstacle, each obstacle is in a marked one
 pub AreLinesLive-banded : (distance : ℕ → ℕ → ℕ) (cells : Cells) (lines : Lines) (line bands : ℕ) → IsBanded cells bands → AreLinesLive distance cells lines line bands
 AreLinesLive-banded distance cells lines line bands banded = λ a b obstacle. inl (banded a b obstacle)
 
--- and with some bands left out, once the rows that lie nearer have been looked at
+-- with some bands left out, obstacles stay marked or far, once nearer rows have been searched
 pub AreLinesLive-thinned : (distance : ℕ → ℕ → ℕ) → Grows distance → StaysNearer distance → (cells : Cells) (lines : Lines) (rect : Rect) (gap end line next bands left : ℕ)
     → IsBitmap cells → IsRectOf lines line rect → next ≤ line → IsFirstAmong distance cells lines (λ b. row_gap rect b < gap) end next
     → AreLinesLive distance cells lines line bands → IsThinned distance cells rect gap lines.limit bands left → AreLinesLive distance cells lines next left

@@ -1,4 +1,4 @@
--- The first line of a strip that has an obstacle near, as more obstacles are looked at.
+-- The first line of a strip that has an obstacle near, as more obstacles are searched.
 use Rattle.std.proofs.Common.{◌≡◌, ℕ, ℤ, pos, negsuc, ◌+◌, ◌-◌, ◌<◌, ◌≤◌, ◌⊎◌, max, inl, inr, subst, arith}
 use Rattle.std.specs.Int.{abs_diff}
 use Rattle.std.proofs.lemmas.Bool.{cases_lt}
@@ -33,7 +33,7 @@ near_more : (distance : ℕ → ℕ → ℕ) (Fewer More : ℤ → ℤ → Type 
 near_more distance Fewer More strip limit k more near =
     record { x = near.x; y = near.y; on_line = near.on_line; a = near.a; b = near.b; obstacle = more near.a near.b near.obstacle; nearer = near.nearer }
 
--- what is first among the obstacles of a row is so as far as this row has been looked at
+-- what is first among the obstacles of a row is so as far as this row has been searched
 pub IsFirstAmong-row : (distance : ℕ → ℕ → ℕ) (cells : Cells) (lines : Lines) (y end line : ℕ) → IsFirstBefore distance (IsPart cells (Row y)) lines end line
     → IsFirstAmong distance cells lines (λ b. b ≡ y) end line
 IsFirstAmong-row distance cells lines y end line is = record {
@@ -210,7 +210,7 @@ open_before distance cells lines IsRow end line all is k from before x y (pos a)
 open_before distance cells lines IsRow end line all is k from before x y (pos a) (negsuc b) on_line none = absurd none
 open_before distance cells lines IsRow end line all is k from before x y (negsuc a) b on_line none = absurd none
 
--- once all rows have been looked at, this is the first line that has an obstacle near
+-- once all rows have been searched, this is the first line that has an obstacle near
 pub IsFirstBefore-all : (distance : ℕ → ℕ → ℕ) (cells : Cells) (lines : Lines) (IsRow : ℕ → Type 0) (end line : ℕ) → ((a b : ℕ) → IsObstacle cells a b → IsRow b)
     → IsFirstAmong distance cells lines IsRow end line → IsFirstBefore distance (IsBlocked cells Open) lines end line
 IsFirstBefore-all distance cells lines IsRow end line all is = record {

@@ -1,4 +1,4 @@
--- The nearest obstacle of a cell, as more obstacles are looked at.
+-- The nearest obstacle of a cell, as more obstacles are searched.
 use Rattle.std.proofs.Common.{◌≡◌, ℕ, ◌+◌, ◌-◌, ◌^◌, ◌<◌, ◌≤◌, ◌⊎◌, inl, inr, List, length, get_or, Option, Some, None, refl, sym, ap, subst, ◌∙◌, arith}
 use Rattle.std.specs.Int.{abs_diff}
 use Rattle.std.proofs.lemmas.Bool.{cases_lt}
@@ -19,7 +19,7 @@ use Rattle.clearance.proofs.RowSearches.{mark_within}
 use Rattle.clearance.proofs.TileRows.{AreBandsLive}
 use Rattle.clearance.proofs.Searches.{marked_obstacle, obstacle_marked, obstacle_within, unmarked_row}
 
--- the obstacles that have been looked at, said otherwise
+-- the obstacles that have been searched, said otherwise
 pub IsNearAmong-same : (distance : ℕ → ℕ → ℕ) (Obstacle IsSeen IsNext : ℕ → ℕ → Type 0) (x y : ℕ) (best : Option Found)
     → ((a b : ℕ) → Obstacle a b → IsSeen a b → IsNext a b) → ((a b : ℕ) → Obstacle a b → IsNext a b → IsSeen a b)
     → IsNearAmong distance Obstacle IsSeen x y best → IsNearAmong distance Obstacle IsNext x y best
@@ -48,7 +48,7 @@ IsNearAmong-far distance Obstacle IsSeen IsNext x y (Some near) there back is = 
   ];
 }
 
--- once all obstacles have been looked at, the best is the nearest
+-- once all obstacles have been searched, the best is the nearest
 IsNearAmong-all : (distance : ℕ → ℕ → ℕ) (Obstacle IsSeen : ℕ → ℕ → Type 0) (x y : ℕ) (best : Option Found)
     → ((a b : ℕ) → Obstacle a b → IsSeen a b) → IsNearAmong distance Obstacle IsSeen x y best → IsNearCell distance Obstacle x y best
 IsNearAmong-all distance Obstacle IsSeen x y None all none = λ a b obstacle. none a b (obstacle, all a b obstacle)
@@ -62,7 +62,7 @@ IsNearAmong-all distance Obstacle IsSeen x y (Some near) all is = record {
 abbrev key_at : (ℕ → ℕ → ℕ) → ℕ → ℕ → Found → Key
 key_at distance x y near = key_of distance x y near.cell.x near.cell.y
 
--- seen from the row y, this row is looked at no later than another
+-- seen from the row y, this row is searched no later than another
 abbrev pub IsNoLater : ℕ → ℕ → ℕ → Type 0
 IsNoLater y row b = (abs_diff y b < abs_diff y row) ⊎ ((abs_diff y b ≡ abs_diff y row) × (b ≤ row))
 
@@ -91,7 +91,7 @@ behind_at_most distance x y one other one_is other_is behind = elim (cases_lt ot
   ]
 ]
 
--- one obstacle more, in a row that isn't before those that have been looked at
+-- one obstacle more, in a row that isn't before those that have been searched
 IsNearAmong-more : (distance : ℕ → ℕ → ℕ) (Obstacle IsSeen IsNext : ℕ → ℕ → Type 0) (x y : ℕ) (best : Option Found) (next better : Found)
     → Obstacle next.cell.x next.cell.y → IsNext next.cell.x next.cell.y → next.dist ≡ distance_between distance x y next.cell.x next.cell.y
     → ((a b : ℕ) → IsSeen a b → IsNext a b)
@@ -189,7 +189,7 @@ IsNearAmong-right_none distance cells x y row gap limit words best bitmap is_row
     ])
     before
 
--- the last obstacle of the row before those that have been looked at
+-- the last obstacle of the row before those that have been searched
 pub IsNearAmong-left : (distance : ℕ → ℕ → ℕ) (cells : Cells) (x y row gap limit dist column end : ℕ) (words : List ℕ) (best : Option Found) (better : Found)
     → IsBitmap cells → end ≤ x → IsRowOf cells row words → gap ≡ abs_diff y row
     → IsLastMark distance words end x gap limit column → dist ≡ distance (x - column) gap
@@ -224,7 +224,7 @@ IsNearAmong-left distance cells x y row gap limit dist column end words best bet
     ])
     is before
 
--- where no obstacle before those that have been looked at is near, the best stays, and the row is done
+-- where no obstacle before those that have been searched is near, the best stays, and the row is done
 pub IsNearAmong-left_none : (distance : ℕ → ℕ → ℕ) (cells : Cells) (x y row gap limit end : ℕ) (words : List ℕ) (best : Option Found)
     → IsBitmap cells → end ≤ x → IsRowOf cells row words → gap ≡ abs_diff y row → limit ≡ limit_of best
     → IsLastNearer distance words end x gap limit None
@@ -262,7 +262,7 @@ IsNearAmong-blank distance cells x y row words best bitmap is_row blank =
           absurd (unmarked_row words a blank (obstacle_marked cells row words a bitmap is_row obstacle_here))
     ])
 
--- where there is no other row so many rows away, those of that many rows have been looked at
+-- where no other row is this many rows away, those up to this many rows away have been searched
 pub IsNearAmong-no_below : (distance : ℕ → ℕ → ℕ) (cells : Cells) (x y gap : ℕ) (best : Option Found) → IsBitmap cells → (gap ≡ 0) ⊎ (cells.height ≤ y + gap)
     → IsNearAmong distance (IsObstacle cells) (IsWithinOrAbove y gap) x y best → IsNearAmong distance (IsObstacle cells) (IsWithin y (gap + 1)) x y best
 IsNearAmong-no_below distance cells x y gap best bitmap none =
@@ -293,7 +293,7 @@ IsNear-beyond distance grows stays cells x y gap best bitmap column row low smal
     ])
     before)
 
--- once as many rows have been looked at as the bitmap has, the best is the nearest
+-- once as many rows have been searched as the bitmap has, the best is the nearest
 pub IsNear-all : (distance : ℕ → ℕ → ℕ) (cells : Cells) (x y gap : ℕ) (best : Option Found) → IsBitmap cells → y < cells.height → cells.height ≤ gap
     → IsNearAmong distance (IsObstacle cells) (IsWithin y gap) x y best → IsNearCell distance (IsObstacle cells) x y best
 IsNear-all distance cells x y gap best bitmap row ended =

@@ -1,4 +1,4 @@
--- The least distance of a rectangle's cells, as more rows are looked at.
+-- The least distance of a rectangle's cells, as more rows are searched.
 use Rattle.std.proofs.Common.{◌≡◌, ℕ, ℤ, pos, negsuc, ◌+◌, ◌-◌, ◌*◌, ◌/◌, ◌%◌, ◌^◌, ◌<◌, ◌≤◌, ◌⊎◌, min, max, inl, inr, Bool, true, false, cond, List, length, get_or, refl, sym, ap, subst, ◌∙◌, arith}
 use Rattle.std.specs.Int.{abs_diff, bit_at}
 use Rattle.std.proofs.lemmas.Bool.{cases_lt}
@@ -214,7 +214,7 @@ IsLeastAmong-far distance grows stays cells rect IsRow IsNext gap limit least bi
   reached = before.reached;
 }
 
--- once all rows have been looked at, the least is that of the rectangle's cells
+-- once all rows have been searched, the least is that of the rectangle's cells
 pub IsLeastBelow-all : (distance : ℕ → ℕ → ℕ) → Grows distance → StaysNearer distance → (cells : Cells) (rect : Rect) (IsRow : ℕ → Type 0) (limit least : ℕ)
     → IsBitmap cells → ((a b : ℕ) → IsObstacle cells a b → IsRow b)
     → IsLeastAmong distance (IsObstacle cells) rect IsRow limit least → IsLeastInBits distance (IsObstacle cells) rect limit least
@@ -298,7 +298,7 @@ IsLeastBelow-row distance grows stays cells rect y gap limit least bitmap gap_is
           };
     }
 
--- before any row has been looked at the least is the limit
+-- before any row has been searched the least is the limit
 pub IsLeastAmong-none : (distance : ℕ → ℕ → ℕ) (Obstacle : ℕ → ℕ → Type 0) (rect : Rect) (IsRow : ℕ → Type 0) (limit : ℕ)
     → ((b : ℕ) → IsRow b → ⊥) → IsLeastAmong distance Obstacle rect IsRow limit limit
 IsLeastAmong-none distance Obstacle rect IsRow limit none = record {
@@ -311,7 +311,7 @@ IsLeastAmong-none distance Obstacle rect IsRow limit none = record {
 pub row_within : (cells : Cells) → IsBitmap cells → (a b : ℕ) → IsObstacle cells a b → b < 4096
 row_within cells bitmap a b obstacle = let last = (obstacle_within cells bitmap a b obstacle).3 in omega arith
 
--- the two rows so many rows away, above and below, as far as there are such rows
+-- the two rows this many rows away, above and below, if there are such rows
 pub IsLeastWithin-more : (distance : ℕ → ℕ → ℕ) (cells : Cells) (rect : Rect) (gap limit least above below : ℕ) → IsBitmap cells → 0 < gap → rect.y1 ≤ cells.height
     → (gap ≤ rect.y0 → IsLoweredBy distance (IsObstacle cells) rect (rect.y0 - gap) gap least above) → (rect.y0 < gap → above ≡ least)
     → (rect.y1 - 1 + gap < cells.height → IsLoweredBy distance (IsObstacle cells) rect (rect.y1 - 1 + gap) gap above below) → (cells.height ≤ rect.y1 - 1 + gap → below ≡ above)

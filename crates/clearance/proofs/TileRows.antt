@@ -57,15 +57,15 @@ IsThinned-more distance cells rect gap least bands middle left one other = λ a 
   | inr far ↦ inr far
 ]
 
--- each obstacle that lies so many rows outside of the rectangle or more is in a band that is marked, or as far as the least
+-- each obstacle at least this many rows outside the rectangle is in a marked band, or as far as the least
 abbrev pub AreBandsLive : (ℕ → ℕ → ℕ) → Cells → Rect → ℕ → ℕ → ℕ → Type 0
 AreBandsLive distance cells rect gap least bands = (a b : ℕ) → IsObstacle cells a b → gap ≤ row_gap rect b → IsMarkedRow bands b ⊎ IsFar (rect_distance distance rect a b) least
 
--- so it is with all bands that may have an obstacle
+-- with all bands that may have an obstacle, each obstacle outside is in a marked one
 pub AreBandsLive-banded : (distance : ℕ → ℕ → ℕ) (cells : Cells) (rect : Rect) (gap least bands : ℕ) → IsBanded cells bands → AreBandsLive distance cells rect gap least bands
 AreBandsLive-banded distance cells rect gap least bands banded = λ a b obstacle away. inl (banded a b obstacle)
 
--- with rows farther away, for a lesser least, and with some bands left out
+-- bands stay live for rows farther away and a lesser least, with some bands left out
 pub AreBandsLive-thinned : (distance : ℕ → ℕ → ℕ) (cells : Cells) (rect : Rect) (gap least bands next lower left : ℕ) → gap ≤ next → lower ≤ least
     → AreBandsLive distance cells rect gap least bands → IsThinned distance cells rect next lower bands left → AreBandsLive distance cells rect next lower left
 AreBandsLive-thinned distance cells rect gap least bands next lower left order less live thinned = λ a b obstacle away. elim (live a b obstacle (omega arith)) [
@@ -73,7 +73,7 @@ AreBandsLive-thinned distance cells rect gap least bands next lower left order l
   | inr far ↦ inr (IsFar-lower (rect_distance distance rect a b) least lower less far)
 ]
 
--- with rows farther away
+-- bands stay live for rows farther away
 pub AreBandsLive-later : (distance : ℕ → ℕ → ℕ) (cells : Cells) (rect : Rect) (gap least bands next : ℕ) → gap ≤ next → AreBandsLive distance cells rect gap least bands → AreBandsLive distance cells rect next least bands
 AreBandsLive-later distance cells rect gap least bands next order live = λ a b obstacle away. live a b obstacle (omega arith)
 
@@ -86,7 +86,7 @@ marked_passed bands rect gap next b some within is away near marked =
       | inr down ↦ let passed = is.below b marked (omega arith) (omega arith) in absurd (omega arith)
     ]
 
--- rows that are passed over have no obstacle that could lower the least
+-- rows skipped for their bands have no obstacle that could lower the least
 pub IsLeastWithin-live : (distance : ℕ → ℕ → ℕ) (cells : Cells) (rect : Rect) (gap next limit least bands : ℕ) → IsBitmap cells → 0 < gap
     → IsNextGap (IsMarkedRow bands) rect.y0 (rect.y1 - 1) gap next → AreBandsLive distance cells rect gap least bands
     → IsLeastWithin distance (IsObstacle cells) rect gap limit least → IsLeastWithin distance (IsObstacle cells) rect next limit least

@@ -69,7 +69,7 @@ met_none cells x y away above below none = λ b near other.
       ]
     ]
 
--- where the row so far above has no obstacle, an entry is right one row farther once the row as far below is looked at
+-- where the row so far above has no obstacle, an entry is right one row farther once the row as far below is searched
 next_below : (cells : Cells) (x y away mid new : ℕ) → IsMap cells → y < cells.height → mid ≡ 65535 → IsNearestWithin cells x y away None
     → (away ≤ y → has cells x (y - away) ≡ false)
     → (y + away < cells.height → new ≡ first_marked (has cells x (y + away)) (y + away) mid) → (cells.height ≤ y + away → new ≡ mid)
@@ -85,7 +85,7 @@ next_below cells x y away mid new map row none was free below below_not false is
     let still : new ≡ 65535 = elim (cases_lt (y + away) cells.height) [ inl within ↦ below within ∙ (first_marked-free (has cells x (y + away)) (y + away) mid is ∙ none) | inr out ↦ below_not out ∙ none ] in
     rw (row_of-none new still) (met_none cells x y away free (λ b place other. let there : has cells x (y + away) ≡ true = rw (sym place) other in absurd (cc)) was)
 
--- where the row so far above is in the map, an entry is right one row farther once both rows so far away are looked at
+-- where the row so far above is in the map, an entry is right one row farther once both rows so far away are searched
 next_within : (cells : Cells) (x y away old mid new : ℕ) → IsMap cells → y < cells.height → old ≡ 65535 → away ≤ y → IsNearestWithin cells x y away None
     → mid ≡ first_marked (has cells x (y - away)) (y - away) old
     → (y + away < cells.height → new ≡ first_marked (has cells x (y + away)) (y + away) mid) → (cells.height ≤ y + away → new ≡ mid)
@@ -100,7 +100,7 @@ next_within cells x y away old mid new map row none within was above below below
 next_within cells x y away old mid new map row none within was above below below_not false is =
     next_below cells x y away mid new map row (above ∙ (first_marked-free (has cells x (y - away)) (y - away) old is ∙ none)) was (λ _. is) below below_not (has cells x (y + away)) refl
 
--- an entry that stood for no row is right one row farther once the two rows so far away have been looked at
+-- an entry that stood for no row is right one row farther once the two rows so far away have been searched
 next_none : (cells : Cells) (x y away old mid new : ℕ) → IsMap cells → y < cells.height → old ≡ 65535 → IsNearestWithin cells x y away None
     → (away ≤ y → mid ≡ first_marked (has cells x (y - away)) (y - away) old) → (y < away → mid ≡ old)
     → (y + away < cells.height → new ≡ first_marked (has cells x (y + away)) (y + away) mid) → (cells.height ≤ y + away → new ≡ mid)
@@ -111,7 +111,7 @@ next_none cells x y away old mid new map row none was above above_not below belo
       | inr within ↦ next_within cells x y away old mid new map row none within was (above within) below below_not (has cells x (y - away)) refl
     ]
 
--- an entry is right one row farther once the two rows so far away have been looked at
+-- an entry is right one row farther once the two rows so far away have been searched
 IsNearestWithin-next : (cells : Cells) (x y away old mid new : ℕ) → IsMap cells → y < cells.height → IsNearestWithin cells x y away (row_of old)
     → (away ≤ y → mid ≡ first_marked (has cells x (y - away)) (y - away) old) → (y < away → mid ≡ old)
     → (y + away < cells.height → new ≡ first_marked (has cells x (y + away)) (y + away) mid) → (cells.height ≤ y + away → new ≡ mid)
@@ -126,7 +126,7 @@ IsNearestWithin-next cells x y away old mid new map row was above above_not belo
       | inl none ↦ next_none cells x y away old mid new map row none (rw (row_of-none old none) at was) above above_not below below_not
     ]
 
--- before any row has been looked at, every column is missing
+-- before any row has been searched, every column is missing
 pub IsSeen-none : (cells : Cells) (y : ℕ) (masks entries : List ℕ) → cells.width ≤ 4096 → masks ≡ replicate 64 18446744073709551615 → entries ≡ replicate cells.width 65535
     → IsSeen cells y 0 masks entries
 IsSeen-none cells y masks entries few all none =
@@ -144,7 +144,7 @@ IsSeen-none cells y masks entries few all none =
       nearest = λ x column. rw (row_of-none (get_or entries x 0) (empty x column)) (λ b near black. absurd (omega arith));
     }
 
--- the entries of a row are right one row farther once the two rows so far away have been looked at
+-- the entries of a row are right one row farther once the two rows so far away have been searched
 pub IsSeen-next : (cells : Cells) (y away : ℕ) (masks new_masks old mid new : List ℕ) → IsMap cells → y < cells.height → IsSeen cells y away masks old
     → length mid ≡ length old → length new ≡ length mid → length new_masks ≡ length masks → AreMissing new_masks new
     → (away ≤ y → (x : ℕ) → x < cells.width → get_or mid x 0 ≡ first_marked (has cells x (y - away)) (y - away) (get_or old x 0)) → (y < away → mid ≡ old)
@@ -160,12 +160,12 @@ IsSeen-next cells y away masks new_masks old mid new map row seen mid_len new_le
       (λ within. below within x column) (λ out. ap (λ (xs : List ℕ). get_or xs x 0) (below_not out));
 }
 
--- once all rows have been looked at, the nearest of all is known
+-- once all rows have been searched, the nearest of all is known
 nearest_of_all : (cells : Cells) (x y away : ℕ) (row : Option ℕ) → IsMap cells → y < cells.height → cells.height ≤ away → IsNearestWithin cells x y away row → IsNearestRow cells x y row
 nearest_of_all cells x y away None map within all none = λ b black. let inside = map.inside x b black in let row = inside.row in none b (omega arith) black
 nearest_of_all cells x y away (Some row) map within all nearest = nearest
 
--- once all rows have been looked at, the entries are the row of the table
+-- once all rows have been searched, the entries are the row of the table
 pub IsRowOfTable-seen : (cells : Cells) (y away : ℕ) (masks entries : List ℕ) → IsMap cells → y < cells.height → cells.height ≤ away → IsSeen cells y away masks entries → IsRowOfTable cells y entries
 IsRowOfTable-seen cells y away masks entries map within all seen = record {
   as_many = seen.as_many;

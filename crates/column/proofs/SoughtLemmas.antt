@@ -28,7 +28,7 @@ pub record IsSought (cells : Cells) (Is : ℕ → Option ℕ → Type 0) (masks 
   pub missing : AreMissing masks line
   pub each : (x : ℕ) → x < cells.width → Is x (row_of (get_or line x 0))
 
--- before any row has been looked at, the line has no entries and the masks have every column
+-- before any row has been searched, the line has no entries and the masks have every column
 pub IsSought-none : (cells : Cells) (Is : ℕ → Option ℕ → Type 0) (masks line : List ℕ) → cells.width ≤ 4096 → length masks ≡ 64 → masks ≡ replicate 64 18446744073709551615 → line ≡ replicate cells.width 65535
     → ((x : ℕ) → Is x None) → IsSought cells Is masks line
 IsSought-none cells Is masks line few room all empty none =
@@ -42,7 +42,7 @@ IsSought-none cells Is masks line few room all empty none =
           rw (row_of-none (get_or line x 0) entry) (none x);
     }
 
--- an entry tells what is known of its column once one row more has been looked at
+-- an entry tells what is known of its column once one row more has been searched
 next_entry : (cells : Cells) (Is Next : ℕ → Option ℕ → Type 0) (x y entry : ℕ) → y < 65535
     → (has cells x y ≡ true → Is x None → Next x (Some y)) → (has cells x y ≡ false → Is x None → Next x None) → ((row : ℕ) → Is x (Some row) → Next x (Some row))
     → Is x (row_of entry) → (black : Bool) → has cells x y ≡ black → Next x (row_of (first_marked (has cells x y) y entry))
@@ -61,7 +61,7 @@ next_entry cells Is Next x y entry small met free kept was black is =
         let still : first_marked (has cells x y) y entry ≡ 65535 = first_marked-free (has cells x y) y entry is ∙ none in
         rw (row_of-none (first_marked (has cells x y) y entry) still) (free is was)
 
--- a line tells what is known of each column once one row more has been looked at
+-- a line tells what is known of each column once one row more has been searched
 IsSought-next : (cells : Cells) (Is Next : ℕ → Option ℕ → Type 0) (y : ℕ) (masks new_masks old new : List ℕ) → IsMap cells → y < cells.height
     → ((x : ℕ) → has cells x y ≡ true → Is x None → Next x (Some y)) → ((x : ℕ) → has cells x y ≡ false → Is x None → Next x None) → ((x row : ℕ) → Is x (Some row) → Next x (Some row))
     → IsSought cells Is masks old → length new ≡ length old → length new_masks ≡ length masks → AreMissing new_masks new
@@ -75,7 +75,7 @@ IsSought-next cells Is Next y masks new_masks old new map within met free kept w
       each = λ x column. rw (marks x column) (next_entry cells Is Next x y (get_or old x 0) (omega (arith, few, within)) (met x) (free x) (kept x) (was.each x column) (has cells x y) refl);
     }
 
--- a line that is sought downwards to row y is sought to the row after it, once row y has been looked at
+-- a line that is sought downwards to row y is sought to the row after it, once row y has been searched
 pub IsSought-down : (cells : Cells) (from y : ℕ) (masks new_masks old new : List ℕ) → IsMap cells → from ≤ y → y < cells.height
     → IsSought cells (IsRowFromTo cells from y) masks old → length new ≡ length old → length new_masks ≡ length masks → AreMissing new_masks new
     → ((x : ℕ) → x < cells.width → get_or new x 0 ≡ first_marked (has cells x y) y (get_or old x 0)) → IsSought cells (IsRowFromTo cells from (y + 1)) new_masks new
@@ -85,7 +85,7 @@ IsSought-down cells from y masks new_masks old new map order within was len mask
     (λ x is none b low high black. elim (cases_eq b y) [ inl here ↦ absurd (cc) | inr apart ↦ none b low (omega arith) black ])
     (λ x row kept. kept) was len masks_len missing marks
 
--- a line that is sought upwards to the row after row y is sought to row y, once row y has been looked at
+-- a line that is sought upwards to the row after row y is sought to row y, once row y has been searched
 pub IsSought-up : (cells : Cells) (y to : ℕ) (masks new_masks old new : List ℕ) → IsMap cells → y < to → to ≤ cells.height
     → IsSought cells (IsRowToBefore cells (y + 1) to) masks old → length new ≡ length old → length new_masks ≡ length masks → AreMissing new_masks new
     → ((x : ℕ) → x < cells.width → get_or new x 0 ≡ first_marked (has cells x y) y (get_or old x 0)) → IsSought cells (IsRowToBefore cells y to) new_masks new
@@ -95,11 +95,11 @@ IsSought-up cells y to masks new_masks old new map order within was len masks_le
     (λ x is none b low high black. elim (cases_eq b y) [ inl here ↦ absurd (cc) | inr apart ↦ none b (omega arith) high black ])
     (λ x row kept. kept) was len masks_len missing marks
 
--- what is known of a column is all, where all rows from one on have been looked at
+-- what is known of a column is all, where all rows from one on have been searched
 all_from : (cells : Cells) (from to x : ℕ) (row : Option ℕ) → IsMap cells → cells.height ≤ to → IsRowFromTo cells from to x row → IsRowFrom cells x from row
 all_from cells from to x None map all none = λ b low black. let inside = map.inside x b black in let row = inside.row in none b low (omega (arith, row, all)) black
 all_from cells from to x (Some row) map all found = found
 
--- once all rows from one on have been looked at, the line is that of the obstacles from there on
+-- once all rows from one on have been searched, the line is that of the obstacles from there on
 pub IsLineFrom-all : (cells : Cells) (from to : ℕ) (masks line : List ℕ) → IsMap cells → cells.height ≤ to → IsSought cells (IsRowFromTo cells from to) masks line → IsLineFrom cells from line
 IsLineFrom-all cells from to masks line map all sought = record { as_many = sought.as_many; each = λ x column. all_from cells from to x (row_of (get_or line x 0)) map all (sought.each x column) }

@@ -70,9 +70,8 @@ impl Columns {
     }
 }
 
-/// Whether the batch has so many rows, or a column's nearest obstacle is so far from its first row,
-/// that searching outwards from each row costs more than carrying lines. `entries` is a buffer for
-/// a row.
+/// Whether carrying lines costs less than searching outwards from each row: for many rows, or if a
+/// column's nearest obstacle is far from the first one. `entries` is a buffer for a row.
 fn is_worth_a_walk(batch: &Batch<'_>, entries: &mut [u16]) -> bool
     requires { length entries.old ≡ batch.now.bitmap.now.width + 2 * shift batch.now.edge }
     ensures len { length entries.new ≡ length entries.old }

@@ -29,12 +29,12 @@ use Rattle.desk.proofs.HoldDraw.{judged_none}
 pub accepted : (z : StoreId) (k : KeeperView) (h : Holding) (c : Command) (j : Judged) → CanCarry z k h → IsJudged h c j → refused z.base.setting (story z.base (entries k.log)) c ≡ None
 accepted z k h c j able judged = sym (judged_none h c j judged z.base (entries k.log) able.told)
 
--- a command that the keeper has taken in hand is in hand
+-- a command that the keeper has taken is current
 pub taken_in_hand : (z : StoreId) (k u : KeeperView) (h : Holding) (by : ℕ) (c : Command) → CanCarry z k h → u ≡ with_command k by c → IsInHand z u h by c
 taken_in_hand z k u h by c able is =
     subst (λ (q : KeeperView). IsInHand z q h by c) (sym is) record { keeper_is = ap (λ (q : KeeperView). with_command q by c) able.keeper_is; told = able.told }
 
--- a keeper with a command in hand has it as its task, of which no step is done
+-- a keeper with a current command has it as its task, of which no step is done
 pub has_task : (z : StoreId) (k : KeeperView) (h : Holding) (by : ℕ) (c : Command) → IsInHand z k h by c → k ≡ with_task k (task_of by c 0 [])
 has_task z k h by c hand = hand.keeper_is ∙ sym (ap (λ (q : KeeperView). with_task q (task_of by c 0 [])) hand.keeper_is)
 
@@ -70,7 +70,7 @@ worked_at_once z k h new by c d reply hand is once done =
     no_scan s Collect reply one = absurd one
     no_scan s Checkpoint reply one = tt
 
--- a paint or a stamp has one step
+-- a paint or a stamp is of one step
 pub drawn_once : (c : Command) → IsDraw c → IsOneStep c
 drawn_once (Paint r black) draws = tt
 drawn_once (Stamp x y b) draws = tt
@@ -111,7 +111,7 @@ slot_told z k u h new by c reply hand worked t there =
     slot_after : Base → List Entry → ℕ
     slot_after base log = get_or (story base log).slots (newest (story base log)) 0
 
--- a command that was in hand and worked is carried out once it is committed
+-- a current command that was worked is carried out once it is committed
 pub carried : (z : StoreId) (k q u l : KeeperView) (h new : Holding) (by : ℕ) (c : Command) (reply : Reply) → q ≡ with_command k by c → IsWorked z q h by c reply u new
     → ((t : Task) → u.task ≡ Some t → l ≡ committed z.base u t) → IsCarried k h by c reply l new
 carried z k q u l h new by c reply order worked step =

@@ -36,12 +36,12 @@ use Rattle.desk.specs.Carries.{CanCarry, IsCarried, KeepsScanned, signed}
 use Rattle.desk.proofs.ScanSteps.{kept_replied}
 use Rattle.desk.specs.Desks.{DeskView, story_told, base_place, kept_part, entries_kept_after, IsDesk, IsSteady, IsByScan, IsAccepted, IsWhy, IsCommandRefused, IsApplied}
 
--- a desk refuses a command where the log does, or for want of memory
+-- a desk refuses a command if the log does, or when out of memory
 why_is : (z : StoreId) (d : DeskView) (h : Holding) (c : Command) (refusal : Refusal) → IsToldByLog z.base (entries d.log) h → Refuses h c refusal → IsWhy z d c refusal
 why_is z d h c refusal told (inl judged) = inl (sym (judged z.base (entries d.log) told))
 why_is z d h c refusal told (inr judged) = inr (sym (judged.0 z.base (entries d.log) told), judged.1, judged.2)
 
--- a reader that holds steady has, once it has met the keeper, seen its log, and counts so many entries more
+-- a reader that holds steady has, once it has met the keeper, seen its log, and counts this many entries more
 met_steady : (z : Base) (k : KeeperView) (x : ReaderView) (more : ℕ) → IsSteady x → unmet_by x.number k.unmet ≡ more → met_by z k x ≡ record x { seen = k.log; made = x.made + more }
 met_steady z k x more steady count = λ i. record x { seen = k.log; made = x.made + count i; holds = hold_stays x (newest (story z (entries k.log))) steady i }
 
@@ -178,7 +178,7 @@ accepted_is z d now k h by c reply after new x seen y done steady by_is now_is k
     same_number : (a b : ℕ) → b ≡ a → ◌≡◌ {A = ℕ} (cond (a == b) 1 0) 1
     same_number a b is = grind (arith, nat_tests)
 
--- a command that takes no room is refused for want of a place alone
+-- a command that takes no capacity is refused only if no place is left
 only_places : (z : StoreId) (d new : DeskView) (x y : ReaderView) (c : Command) (refusal : Refusal) → takes_room c ≡ false → IsCommandRefused z d x c refusal new y → refusal ≡ PlacesUsed
 unfolding refused
 only_places z d new x y (Paint r black) refusal none back = absurd (cc)

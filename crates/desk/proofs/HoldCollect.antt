@@ -79,7 +79,7 @@ holds_collected k s m old new place f freed kept_now tidy holds choice sweeps ho
   room_is = ap (λ (g : Tiled). g.room) sweeps.others ∙ holds.room_is;
 }
 
--- a collect gives back so many blocks as fewer are in use after it
+-- a collect frees as many blocks as fewer are in use after it
 freed_told : (k : Base) (s : Story) (m : Blocks) (old new : Holding) (freed : ℕ) (kept_now : Kept) → IsTidy k s m → Holds k s m old → IsChoice s kept_now
     → Sweeps (members kept_now.slots) old.grid old.arena.free freed new.grid new.arena.free → freed + inuse (with_kept s kept_now) ≡ inuse s
 unfolding kept

@@ -35,7 +35,7 @@ use Rattle.desk.specs.Judging.{IsJudged}
 use Rattle.desk.specs.Holdings.{summary_of, Holds, IsToldByLog, Judges, Does}
 use Rattle.desk.proofs.HoldLemmas.{tidy_told, told_more, holds_draft}
 
--- a paint or a stamp needs so many blocks by the grid as by the log
+-- a paint or a stamp needs as many blocks by the grid as by the log
 needed_is : (k : Base) (s : Story) (m : Blocks) (h : Holding) (c : Command) → IsTidy k s m → Holds k s m h → needed_by h.grid c ≡ needed s c
 unfolding needed
 needed_is k s m h c tidy holds =

@@ -67,7 +67,7 @@ kept_replied z log h new reply kept tells does is =
     let after = (does z log tells).1 in
     sym (after.holds.summary.ledger_is.kept_is ∙ ap (λ (s : Story). s.kept) (story-push z log e)) ∙ is
 
--- where the ledger doesn't refuse the command in hand, one version more can be counted
+-- where the ledger doesn't refuse the current command, one version more can be counted
 pub few_versions : (z : Base) (k : KeeperView) (h : Holding) (c : Command) → IsToldByLog z (entries k.log) h → refused_by_ledger h.ledger c ≡ None → newest (story z (entries k.log)) + 1 < 2 ^ 32
 few_versions z k h c tells judged =
     let left = place_of_ledger h.ledger c judged in

@@ -33,7 +33,7 @@ answered options unread before after cells (Ok status) old new has (text, answer
     record { bytes = has.bytes; text = text; all = has.all; answer = inl (answer has.bytes has.taken has.reads); written = whole }
 answered options unread before after cells (Err fault) old new has whole counts same = absurd (omega (arith, counts))
 
--- where a write failed, a beginning of the answer is written, and the status is 1
+-- where a write failed, a prefix of the answer is written, and the status is 1
 pub begun : (options : DistOptions) (unread before after : Option (List ℕ)) (cells : Cells) (written : Result ℕ WriteFault) (old new : ℕ)
     → HasImage unread cells
     → OnErr written (BeginsToAnswerMap options cells before after)
@@ -66,7 +66,7 @@ fault_in_part options unread before after fault (Ok status) old new has front co
 fault_in_part options unread before after fault (Err failed) old new has front counts other =
     (record { bytes = has.bytes; text = image_text fault ++ 10 ∷ []; status = 1; all = has.all; answer = inl (fault_answered options unread fault 1 has refl); written = front }, refl)
 
--- the line of want of memory, written whole, is an answer of `dist` to all bytes of any reader
+-- the line for out of memory, written whole, is an answer of `dist` to all bytes of any reader
 pub memory_whole : (options : DistOptions) (unread before after : Option (List ℕ)) (written : Result ℕ WriteFault) (old new : ℕ) → IfOk written (λ status. status ≡ 1)
     → OnOk written (Appends before (image_text faults.Memory ++ 10 ∷ []) after) → Counts old written new → new ≡ old → AnswersImage options unread before after (result_unwrap_or written 1)
 memory_whole options unread before after (Ok status) old new one whole counts same = record {
@@ -78,7 +78,7 @@ memory_whole options unread before after (Ok status) old new one whole counts sa
 }
 memory_whole options unread before after (Err fault) old new one whole counts same = absurd (omega (arith, counts))
 
--- the line of want of memory, written in part, begins an answer of `dist` to all bytes of any reader
+-- the line for out of memory, written in part, begins an answer of `dist` to all bytes of any reader
 pub memory_in_part : (options : DistOptions) (unread before after : Option (List ℕ)) (written : Result ℕ WriteFault) (old new : ℕ) → OnErr written (AppendsFront before (image_text faults.Memory ++ 10 ∷ []) after)
     → Counts old written new → new ≢ old → BeginsToAnswerImage options unread before after × (result_unwrap_or written 1 ≡ 1)
 memory_in_part options unread before after (Ok status) old new front counts other = absurd (other counts)
@@ -108,7 +108,7 @@ pub map_wanting_whole : (options : DistOptions) (cells : Cells) (refusal : Refus
 map_wanting_whole options cells refusal before after (Ok status) none one whole = (refusal_text refusal ++ 10 ∷ [], map_wants_memory options cells refusal status none one, whole)
 map_wanting_whole options cells refusal before after (Err failed) none one whole = tt
 
--- where that line is written in part, a beginning of an answer is
+-- where that line is written in part, a prefix of an answer is
 pub map_wanting_front : (options : DistOptions) (cells : Cells) (refusal : Refusal) (before after : Option (List ℕ)) (written : Result ℕ WriteFault)
     → refusal ≡ refusals.Memory → OnErr written (AppendsFront before (refusal_text refusal ++ 10 ∷ []) after)
     → OnErr written (BeginsToAnswerMap options cells before after)

@@ -166,7 +166,7 @@ flags_are_known rows texts matches (takes, inr (inr (inl serve))) found met thes
 flags_are_known rows texts matches (takes, inr (inr (inr ask))) found met these unknown =
     let same : Some (codes "dist") ≡ Some (codes "ask") = sym met ∙ named_so (codes "ask") ask.1.0 texts matches found ask.1.1 in cc
 
--- words to be taken that aren't `dist` or `steps` are refused for want of memory alone, where other refusals mean that no options match
+-- words to be taken that aren't `dist` or `steps` are refused only when out of memory, where other refusals mean that no options match
 pub command_is_named : (texts : List (List ℕ)) (matches : ArgMatches) (result : Result Options Fault) → AreTaken texts → HasMatchesOf program_app texts matches → (subcommand_name_of matches ≡ Some (codes "dist") → ⊥)
     → (subcommand_name_of matches ≡ Some (codes "steps") → ⊥) → OnErr result (AreNoMatch matches) → IfErr result (λ fault. fault ≡ Memory)
 command_is_named texts matches result (takes, inl dist) found no_dist no_steps none = absurd (no_dist (named_so (codes "dist") dist.rows texts matches found dist.named))
@@ -175,7 +175,7 @@ command_is_named texts matches (Ok options) (takes, inr (inr named)) found no_di
 command_is_named texts matches (Err fault) (takes, inr (inr (inl serve))) found no_dist no_steps none = absurd (none (Serve serve.0) (serve.1.0, (found program_is_simple).1 ∙ serve.1.1, serve.1.2))
 command_is_named texts matches (Err fault) (takes, inr (inr (inr ask))) found no_dist no_steps none = absurd (none (Ask ask.0) (ask.1.0, (found program_is_simple).1 ∙ ask.1.1, ask.1.2))
 
--- a result is what the words say where its options are theirs, and words to be taken are refused for want of memory alone
+-- a result is what the words say where its options are theirs, and words to be taken are refused only when out of memory
 pub said_so : (words : List (List ℕ)) (result : Result Options Fault) → IfOk result (AreOptions words) → (AreTaken words → IfErr result (λ fault. fault ≡ Memory)) → IsSaidBy words result
 said_so words (Ok options) are refused = are
 said_so words (Err fault) are refused = refused

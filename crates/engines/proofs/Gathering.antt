@@ -30,7 +30,7 @@ pub Gathers-taken : (unread left : Option (List ℕ)) (before after : List ℕ) 
 Gathers-taken unread left before after empty all =
     let same : after ≡ all.bytes = all.after_is ∙ ap (λ t. t ++ all.bytes) empty in rw same all.taken
 
--- where nothing is written, a beginning of any bytes is
+-- where nothing is written, a prefix of any bytes is
 front_nothing : (held : Option (List ℕ)) (bytes : List ℕ) → AppendsFront held bytes held
 front_nothing held bytes = record { front = []; back = bytes; whole = refl; appended = Appends-nothing held }
 
@@ -38,11 +38,11 @@ front_nothing held bytes = record { front = []; back = bytes; whole = refl; appe
 pub PassesOn-nothing : (unread held : Option (List ℕ)) → PassesOn unread unread held held
 PassesOn-nothing unread held = record { bytes = []; taken = Takes-nothing unread; written = Appends-nothing held }
 
--- where bytes were read and nothing was written, a beginning of what was read was written
+-- where bytes were read and nothing was written, a prefix of what was read was written
 pub PassesFront-read : (unread left held : Option (List ℕ)) → ((bytes : List ℕ) × Takes unread bytes left) → PassesFront unread left held held
 PassesFront-read unread left held (bytes, taken) = record { bytes = bytes; taken = taken; written = front_nothing held bytes }
 
--- where all that was read was written, a beginning of it was
+-- where all that was read was written, a prefix of it was
 pub PassesFront-whole : (unread left before after : Option (List ℕ)) → PassesOn unread left before after → PassesFront unread left before after
 PassesFront-whole unread left before after whole = record { bytes = whole.bytes; taken = whole.taken; written = AppendsFront-whole before after whole.bytes whole.written }
 
@@ -54,7 +54,7 @@ PassesOn-both unread between left before middle after one two = record {
   written = Appends-more before middle after one.bytes two.bytes one.written two.written;
 }
 
--- a part that is written whole, and a beginning of the next, are a beginning of what was read in both
+-- a part that is written whole, and a prefix of the next, are a prefix of what was read in both
 pub PassesFront-both : (unread between left before middle after : Option (List ℕ)) → PassesOn unread between before middle → PassesFront between left middle after → PassesFront unread left before after
 PassesFront-both unread between left before middle after one two = record {
   bytes = one.bytes ++ two.bytes;
@@ -68,7 +68,7 @@ end_line sound stops.Standard other calm = absurd (other refl)
 end_line sound stops.Net other calm = inl refl
 end_line sound stops.Memory other calm = inr (refl, calm (λ e. absurd cc))
 
--- a beginning of what was read, and then the line that tells why it ended, end a run of `ask` early
+-- a prefix of what was read, and then the line that tells why it ended, end a run of `ask` early
 pub EndsEarly-line : (sound : Type 0) (unread left before middle after : Option (List ℕ)) (stop : Stop) → stop ≢ stops.Standard → (stop ≢ stops.Net → sound) → PassesFront unread left before middle → Appends middle (stop_text stop) after
     → EndsEarly sound unread left before after
 EndsEarly-line sound unread left before middle after stop other calm part last = record {
@@ -82,7 +82,7 @@ EndsEarly-line sound unread left before middle after stop other calm part last =
   written = Appends-more before middle after part.written.front (stop_text stop) part.written.appended last;
 }
 
--- a beginning of what was read, and then a beginning of such a line, break a run of `ask` off
+-- a prefix of what was read, and then a prefix of such a line, break a run of `ask` off
 BreaksOff-line : (sound : Type 0) (unread left before middle after : Option (List ℕ)) (line : List ℕ) → IsEndLine sound line → PassesFront unread left before middle → AppendsFront middle line after → BreaksOff sound unread left before after
 BreaksOff-line sound unread left before middle after line is part last = record {
   bytes = part.bytes;
@@ -95,7 +95,7 @@ BreaksOff-line sound unread left before middle after line is part last = record 
   written = front_second before middle after part.written.front line part.written.appended last;
 }
 
--- a beginning of what was read, and then a beginning of what a run tells that stops, break a run of `ask` off
+-- a prefix of what was read, and then a prefix of what a run tells that stops, break a run of `ask` off
 pub BreaksOff-stop : (sound : Type 0) (unread left before middle after : Option (List ℕ)) (stop : Stop) → (stop ≢ stops.Net → sound) → PassesFront unread left before middle → AppendsFront middle (stop_text stop) after
     → BreaksOff sound unread left before after
 BreaksOff-stop sound unread left before middle after stops.Standard calm part last = BreaksOff-line sound unread left before middle after net_text (inl refl) part (front_first middle after [] net_text last)

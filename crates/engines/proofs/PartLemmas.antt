@@ -28,7 +28,7 @@ rows_between-join nearest width nears from middle to above below =
     let on : from + (middle - from) ≡ middle = omega arith in
     rw (both, rows_text-append nearest width from (middle - from) (to - middle) nears, on) refl
 
--- a beginning of the lines in the middle, after all those above them, is a beginning of all
+-- a prefix of the lines in the middle, after all those above them, is a prefix of all
 AppendsFront-rows : (nearest : Bool) (width : ℕ) (nears : List (Option Near)) (from middle next to : ℕ) (before between after : Option (List ℕ)) → from ≤ middle → middle ≤ next → next ≤ to
     → Appends before (rows_between nearest width nears from middle) between → AppendsFront between (rows_between nearest width nears middle next) after
     → AppendsFront before (rows_between nearest width nears from to) after
@@ -47,7 +47,7 @@ Appends-part nearest width height nears rows from k text before between after ab
     (Appends-more before between after (rows_between nearest width nears (min height from) (min height (from + rows * k))) (rows_between nearest width nears (min height (from + rows * k)) (min height (from + rows * k + rows))) above
     (rw is at here))
 
--- where the lines of some parts are written, and then a beginning of the next, a beginning of all parts is
+-- where the lines of some parts are written, and then a prefix of the next, a prefix of all parts is
 pub AppendsFront-part : (nearest : Bool) (width height : ℕ) (nears : List (Option Near)) (rows from k count : ℕ) (text : List ℕ) (before between after : Option (List ℕ)) → k < count
     → Appends before (rows_between nearest width nears (min height from) (min height (from + rows * k))) between
     → text ≡ rows_between nearest width nears (min height (from + rows * k)) (min height (from + rows * k + rows)) → AppendsFront between text after
@@ -65,7 +65,7 @@ Appends-parts nearest table rows from count before between after above here =
     rw (rows_between-join nearest table.width table.nears 0 (min table.height from) (min table.height (from + rows * count)) (omega arith) (omega arith))
     (Appends-more before between after (rows_between nearest table.width table.nears 0 (min table.height from)) (rows_between nearest table.width table.nears (min table.height from) (min table.height (from + rows * count))) above here)
 
--- a beginning of the lines of some parts, after those of the rows above, is a beginning of the table
+-- a prefix of the lines of some parts, after those of the rows above, is a prefix of the table
 pub AppendsFront-parts : (nearest : Bool) (table : TableView) (rows from count : ℕ) (before between after : Option (List ℕ))
     → Appends before (rows_between nearest table.width table.nears 0 (min table.height from)) between → AppendsFront between (parts_text nearest table rows from count) after
     → AppendsFront before (table_text nearest table.width table.height table.nears) after

@@ -4,7 +4,7 @@ use Rattle.std.proofs.lemmas.List.{append-nil}
 use Rattle.metric.specs.Stream.{Appends, AppendsFront}
 use Rattle.metric.proofs.Appending.{AppendsFront-more}
 
--- a beginning of the first text is a beginning of both
+-- a prefix of the first text is a prefix of both
 pub front_first : (before after : Option (List ℕ)) (first second : List ℕ) → AppendsFront before first after → AppendsFront before (first ++ second) after
 front_first before after first second part = record {
   front = part.front;
@@ -13,6 +13,6 @@ front_first before after first second part = record {
   appended = part.appended;
 }
 
--- the first text, and a beginning of the second, are a beginning of both
+-- the first text, and a prefix of the second, are a prefix of both
 pub front_second : (before between after : Option (List ℕ)) (first second : List ℕ) → Appends before first between → AppendsFront between second after → AppendsFront before (first ++ second) after
 front_second before between after first second one two = rw (← append-nil second) (AppendsFront-more before between after first second [] one two)

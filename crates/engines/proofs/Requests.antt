@@ -40,7 +40,7 @@ pub ended_unended : (unread between left : Option (List ℕ)) (before middle aft
 ended_unended unread between left before middle after one part (same, all) =
     (subst (λ (t : List ℕ). PutsUnended before t) (sym same) part, GathersAll-both unread between left before middle after one all)
 
--- where a byte is put after so many, one byte more is put
+-- where a byte is put after this many, one more byte is put
 pub PutsCount-more : (count : ℕ) (before middle after : List ℕ) (byte : ℕ) → PutsCount count before middle → after ≡ middle ++ byte ∷ [] → PutsCount (count + 1) before after
 PutsCount-more count before middle after byte part is = record {
   part = part.part ++ byte ∷ [];
@@ -48,7 +48,7 @@ PutsCount-more count before middle after byte part is = record {
   after_is = is ∙ (ap (λ t. t ++ byte ∷ []) part.after_is ∙ append_assoc before part.part (byte ∷ []));
 }
 
--- where a stream ends before so many bytes, fewer bytes are in the buffer, and none is left
+-- where a stream ends before this many bytes, the buffer has fewer, and none is left
 pub ended_fewer : (count so_far : ℕ) (unread between left : Option (List ℕ)) (before middle after : List ℕ) → so_far < count → Gathers unread before middle between → PutsCount so_far before middle
     → (after ≡ middle) × GathersAll between middle after left → PutsFewer count before after × GathersAll unread before after left
 ended_fewer count so_far unread between left before middle after few one part (same, all) =

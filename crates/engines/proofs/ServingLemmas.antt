@@ -37,7 +37,7 @@ told_setting (Some field) map other result back refusal failed_before failed_aft
     let same : refusal ≡ BadSetting field = ap (refusal_back refusal) (sym is ∙ limits) in
     (subst (λ (r : Refusal). WritesOnly (refusal_text r ++ 10 ∷ []) failed_before failed_after before after) same (written_alone _ failed_before failed_after before after written counts whole front), one)
 
--- where the setting is good the refusal is want of memory
+-- with a valid setting the refusal is out of memory
 pub memory_alone : {A B : Type 0} (found : Option Field) (result : Result A (B × Refusal)) (other : Field → Type 0) (back : B) (refusal : Refusal) → MatchOption found (IfErr result (λ back. back.1 ≡ Memory)) other
     → result ≡ Err (back, refusal) → found ≡ None → refusal ≡ Memory
 memory_alone None (Ok value) other back refusal limits is none = absurd (cc)
@@ -50,24 +50,24 @@ unserved_whole : (port connections : ℕ) (before after : Option (List ℕ)) (te
 unserved_whole port connections before after text (Ok status) why one whole = record { text = text; text_is = inr (why, one); written = whole }
 unserved_whole port connections before after text (Err fault) why one whole = tt
 
--- where a beginning of why nothing is served was written, a beginning of what `serve` tells was
+-- where a prefix of why nothing is served was written, a prefix of what `serve` tells was
 unserved_front : (port connections : ℕ) (before after : Option (List ℕ)) (text : List ℕ) (written : Result ℕ WriteFault) → IsUnserved port text → OnErr written (AppendsFront before text after)
     → OnErr written (BeginsServed port connections before after)
 unserved_front port connections before after text (Ok status) why front = tt
 unserved_front port connections before after text (Err fault) why front = record { text = text; status = 1; text_is = inr (why, refl); written = front }
 
--- where want of memory was written with nothing before it, all that `serve` tells was written
+-- where the line for out of memory was written with nothing before it, all that `serve` tells was written
 pub lacking_whole : (port connections : ℕ) (before after : Option (List ℕ)) (refusal : Refusal) (written : Result ℕ WriteFault) → refusal ≡ Memory → IfOk written (λ status. status ≡ 1)
     → OnOk written (Appends before (refusal_text refusal ++ 10 ∷ []) after) → IfOk written (WritesServed port connections before after)
 lacking_whole port connections before after refusal written is one whole =
     unserved_whole port connections before after (refusal_text refusal ++ 10 ∷ []) written (inl (ap (λ r. refusal_text r ++ 10 ∷ []) is)) one whole
 
--- where a beginning of want of memory was written with nothing before it, a beginning of what `serve` tells was
+-- where a prefix of the line for out of memory was written with nothing before it, a prefix of what `serve` tells was
 pub lacking_front : (port connections : ℕ) (before after : Option (List ℕ)) (refusal : Refusal) (written : Result ℕ WriteFault) → refusal ≡ Memory → OnErr written (AppendsFront before (refusal_text refusal ++ 10 ∷ []) after)
     → OnErr written (BeginsServed port connections before after)
 lacking_front port connections before after refusal written is front = unserved_front port connections before after (refusal_text refusal ++ 10 ∷ []) written (inl (ap (λ r. refusal_text r ++ 10 ∷ []) is)) front
 
--- where the port and then want of memory were written, all that `serve` tells was written
+-- where the port and then the line for out of memory were written, all that `serve` tells was written
 pub stopped_whole : (port connections : ℕ) (before between after : Option (List ℕ)) (refusal : Refusal) (written : Result ℕ WriteFault) → refusal ≡ Memory → Appends before (listening_text port) between → IfOk written (λ status. status ≡ 1)
     → OnOk written (Appends between (refusal_text refusal ++ 10 ∷ []) after) → IfOk written (WritesServed port connections before after)
 stopped_whole port connections before between after refusal (Ok status) is first one whole = record {
@@ -77,7 +77,7 @@ stopped_whole port connections before between after refusal (Ok status) is first
 }
 stopped_whole port connections before between after refusal (Err fault) is first one whole = tt
 
--- where the port and then a beginning of want of memory were written, a beginning of what `serve` tells was
+-- where the port and then a prefix of the line for out of memory were written, a prefix of what `serve` tells was
 pub stopped_front : (port connections : ℕ) (before between after : Option (List ℕ)) (refusal : Refusal) (written : Result ℕ WriteFault) → refusal ≡ Memory → Appends before (listening_text port) between
     → OnErr written (AppendsFront between (refusal_text refusal ++ 10 ∷ []) after) → OnErr written (BeginsServed port connections before after)
 stopped_front port connections before between after refusal (Ok status) is first front = tt
@@ -98,7 +98,7 @@ served_whole port connections log before between after (Ok status) first done wh
 }
 served_whole port connections log before between after (Err fault) first done whole = tt
 
--- where a beginning of how many were served was written after the port, a beginning of what `serve` tells was
+-- where a prefix of how many were served was written after the port, a prefix of what `serve` tells was
 pub served_front : (port connections log : ℕ) (before between after : Option (List ℕ)) (written : Result ℕ WriteFault) → Appends before (listening_text port) between → OnErr written (AppendsFront between (served_text connections log) after)
     → OnErr written (BeginsServed port connections before after)
 served_front port connections log before between after (Ok status) first front = tt
@@ -109,7 +109,7 @@ served_front port connections log before between after (Err fault) first front =
   written = front_second before between after (listening_text port) (served_text connections log) first front;
 }
 
--- where a beginning of the port's line was written alone, a beginning of what `serve` tells was
+-- where a prefix of the port's line was written alone, a prefix of what `serve` tells was
 pub port_front : (port connections : ℕ) (before after : Option (List ℕ)) → AppendsFront before (listening_text port) after → BeginsServed port connections before after
 port_front port connections before after front = record {
   text = listening_text port ++ served_text connections 0;

@@ -14,7 +14,7 @@ use Rattle.field.specs.Bands.{AreAnswers, HasRoom, row_behind}
 use Rattle.field.specs.Rows.{AreNears}
 use Rattle.column.proofs.Places.{place_above}
 
--- a line that is put behind a list, once the list was filled up, follows the list
+-- a line that is put after a list, once the list was filled up, follows the list
 pub put_behind : {T : Type 0} (old fill room line rest : List T) (start n k len : ℕ) → room ≡ take n old ++ fill → start ≡ length old → start ≤ n → len ≡ start + length line
     → take len (put_mid start k room line ++ rest) ≡ old ++ line
 put_behind {T} old fill room line rest start n k len filled start_is few all =
@@ -45,7 +45,7 @@ rows_more Is nothing width from y before after ordered filled here others x b co
       rw same (here x column)
 ]
 
--- the same, where that row's line is put in its place
+-- a further row holds where its line is put in its place
 pub rows_put : {T : Type 0} (Is : ℕ → ℕ → T → Type 0) (nothing : T) (width from y start wide : ℕ) (before line : List T) → from ≤ y → start ≡ (y - from) * width → wide ≡ width → start + wide ≤ length before → length line ≡ width
     → ((x b : ℕ) → x < width → from ≤ b → b < y → Is x b (slice_index_or before ((b - from) * width + x) nothing))
     → ((x : ℕ) → x < width → Is x y (slice_index_or line x nothing))
@@ -150,7 +150,7 @@ pub on_ok_both : {T E P Q R : Type 0} (result : Result T E) → (P → Q → R) 
 on_ok_both (Ok value) both first second = both first second
 on_ok_both (Err error) both first second = first
 
--- the beginning of a list that was written over is what was written
+-- the front of a list that was overwritten is what was written
 pub written_over : {T : Type 0} (n : ℕ) (new old : List T) → length new ≡ n → take n (new ++ drop (length new) old) ≡ new
 written_over n new old as_many = take_at new (drop (length new) old) n as_many
 

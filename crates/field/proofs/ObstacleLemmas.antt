@@ -20,7 +20,7 @@ use Rattle.field.specs.Rows.{AreNears}
 length-nears_told : (distance : ℕ → ℕ → ℕ) (table : Obstacles) → length (nears_told distance table) ≡ length table.cells
 length-nears_told distance table = length-map-range_with_len (λ k. seen_from distance (k % table.width) (table.y0 + k / table.width) (slice_index_or table.cells k None)) 0 (length table.cells)
 
--- a table tells of the cell in column x, so many rows after its first one, what it keeps there, seen from the cell
+-- a table tells of the cell in column x, this many rows after its first one, what it keeps there, seen from the cell
 told_at : (distance : ℕ → ℕ → ℕ) (table : Obstacles) (x rows : ℕ) → x < table.width → rows * table.width + x < length table.cells
     → slice_index_or (nears_told distance table) (rows * table.width + x) None ≡ seen_from distance x (table.y0 + rows) (slice_index_or table.cells (rows * table.width + x) None)
 told_at distance table x rows inside within =

@@ -41,7 +41,7 @@ row_bit cells x y inside =
     ∙ ap (λ (a : ℕ). cond (has cells a y) 1 0) (let whole : 64 * (x / 64) + x % 64
     ≡ x = omega arith in whole))
 
--- a cell of the map, once the row in hand is copied, is what it was or what it becomes
+-- a cell of the map, once the current row is copied, is what it was or what it becomes
 row_more : (b y : ℕ) (here value old : Bool) → (b ≡ y → here ≡ value) → old
     ≡ (if nat_lt b y then value else false)
     → (if b == y then here else old) ≡ (if nat_lt b (y + 1) then value else false)
@@ -112,7 +112,7 @@ cells_stored-packed cells words bitmap packed =
     ap (λ (w : ℕ). is_bit w (x % 64)) (packed y (x / 64) hy (omega arith)) ∙ row_bit cells x y hx)
     ∙ sym (cells_where-has cells bitmap)
 
--- a place in a row above lies before the row
+-- an item of a row above lies before the row
 pub place_above : (b y width x : ℕ) → b < y → x < width → b * width + x < y * width
 place_above b y width x above column = let rows : (b + 1) * width ≤ y * width = mul-le-mul_right
     width (omega arith) in omega (arith, rows)

@@ -14,7 +14,7 @@ Appends-more None between after first second one two = let told : Appends None s
 Appends-more (Some before) between after first second one two =
     let told : Appends (Some (before ++ first)) second after = subst (λ h. Appends h second after) one two in told ∙ ap Some (append_assoc before first second)
 
--- a text, and a beginning of the next, are a beginning of both and of what comes after them
+-- a text, and a prefix of the next, are a prefix of both and of what comes after them
 pub AppendsFront-more : (before between after : Option (List ℕ)) (first second later : List ℕ) → Appends before first between → AppendsFront between second after → AppendsFront before (first ++ (second ++ later)) after
 AppendsFront-more before between after first second later one two = record {
   front = first ++ two.front;
@@ -23,6 +23,6 @@ AppendsFront-more before between after first second later one two = record {
   appended = Appends-more before between after first two.front one two.appended;
 }
 
--- a whole text is a beginning of itself
+-- a whole text is a prefix of itself
 pub AppendsFront-whole : (before after : Option (List ℕ)) (text : List ℕ) → Appends before text after → AppendsFront before text after
 AppendsFront-whole before after text one = record { front = text; back = []; whole = sym (append-nil text); appended = one }

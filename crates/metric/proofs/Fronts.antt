@@ -1,4 +1,4 @@
--- A beginning of some bytes is written after others.
+-- a prefix of some bytes is written after others.
 use Rattle.std.proofs.Common.{◌≡◌, ℕ, Bool, true, false, cond, List, [], ◌++◌, Some, take, drop, refl, sym, ap, ◌∙◌}
 use Rattle.std.proofs.lemmas.List.{take-append-drop, append-nil}
 use Rattle.metric.specs.Stream.{AppendsFront}

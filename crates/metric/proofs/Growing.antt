@@ -41,7 +41,7 @@ grows_step distance stays a g column row = elim (cases_lt (distance (a + 1) g) (
   | inr grown ↦ grown
 ]
 
--- a distance doesn't fall as the column difference grows by so many columns
+-- a distance never decreases as the column difference grows by this many columns
 grows_by : (distance : ℕ → ℕ → ℕ) → StaysNearer distance → (k a g : ℕ) → a + k ≤ 4097 → g ≤ 4097 → distance a g ≤ distance (a + k) g
 grows_by distance stays zero a g column row = let same : a + 0 ≡ a = omega arith in rw same (omega arith)
 grows_by distance stays (suc k) a g column row =
@@ -50,13 +50,13 @@ grows_by distance stays (suc k) a g column row =
     let same : a + suc k ≡ (a + k) + 1 = omega arith in
     rw same (omega arith)
 
--- a distance doesn't fall as the column difference grows, up to the largest map's
+-- a distance never decreases as the column difference grows, up to the largest map's
 pub of_grows_with_dx : (distance : ℕ → ℕ → ℕ) → StaysNearer distance → (a b g : ℕ) → a ≤ b → b ≤ 4097 → g ≤ 4097 → distance a g ≤ distance b g
 of_grows_with_dx distance stays a b g order column row =
     let sum : a + (b - a) ≡ b = omega arith in
     rw sum at (grows_by distance stays (b - a) a g (omega arith) row)
 
--- a distance doesn't fall as both differences grow, up to the largest map's
+-- a distance never decreases as both differences grow, up to the largest map's
 pub of_grows : (distance : ℕ → ℕ → ℕ) → Grows distance → StaysNearer distance → (a b g h : ℕ) → a ≤ b → b ≤ 4097 → g ≤ h → h ≤ 4097 → distance a g ≤ distance b h
 of_grows distance grows stays a b g h columns column rows row =
     let across = of_grows_with_dx distance stays a b g columns column (omega arith) in

@@ -1,4 +1,4 @@
--- Where one column stops being as near as another, by the square of the straight distance.
+-- Where one column stops being as near as another, by the square of the Euclidean distance.
 use Rattle.std.proofs.Common.{◌≡◌, ℕ, ◌+◌, ◌-◌, ◌*◌, ◌/◌, ◌<◌, ◌≤◌, min, pos, inl, inr, arith}
 use Rattle.std.proofs.Math.Nat.{le-div_iff_mul-le, div-lt_iff_lt-mul}
 use Rattle.std.proofs.lemmas.Bool.{cases_lt}

@@ -126,12 +126,12 @@ fills-gap text is =
     let one : fills false (is.first ∷ is.others) ≡ true = rw is.first_is is.others_are in
     ap (fills false) is.is_text ∙ one
 
--- no missing whitespace tells want of memory
+-- no missing whitespace reports out of memory
 pub space-of_bytes : (bytes : List ℕ) → IsOfBytes (space bytes)
 space-of_bytes [] = λ e. cc
 space-of_bytes (byte ∷ rest) = cond-of_bytes (is_whitespace byte) (Ok rest) (cond (eqb byte 35) (Err BadComment) (Err MissingSpace)) tt (cond-of_bytes (eqb byte 35) (Err BadComment) (Err MissingSpace) (λ e. cc) (λ e. cc))
 
--- no rest of a gap tells want of memory
+-- no rest of a gap reports out of memory
 filling-of_bytes : (in_comment : Bool) (bytes : List ℕ) → IsOfBytes (filling in_comment bytes)
 unfolding filling
 filling-of_bytes true [] = λ e. cc
@@ -139,7 +139,7 @@ filling-of_bytes false [] = λ e. cc
 filling-of_bytes true (byte ∷ rest) = filling-of_bytes (not (is_line_end byte)) rest
 filling-of_bytes false (byte ∷ rest) = cond-of_bytes (is_whitespace byte) (filling false rest) (cond (eqb byte 35) (filling true rest) (Ok (byte ∷ rest))) (filling-of_bytes false rest) (cond-of_bytes (eqb byte 35) (filling true rest) (Ok (byte ∷ rest)) (filling-of_bytes true rest) tt)
 
--- no gap tells want of memory
+-- no gap reports out of memory
 pub gap-of_bytes : (bytes : List ℕ) → IsOfBytes (gap bytes)
 unfolding gap
 gap-of_bytes bytes = bind-of_bytes (space bytes) (filling false) (space-of_bytes bytes) (filling-of_bytes false)

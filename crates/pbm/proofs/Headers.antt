@@ -196,7 +196,7 @@ header-again bytes found r last =
       last,
     ) refl
 
--- no magic number tells want of memory
+-- no magic number reports out of memory
 magic-of_bytes : (bytes : List ℕ) → IsOfBytes (magic bytes)
 magic-of_bytes [] = λ e. cc
 magic-of_bytes (p ∷ []) = cond-of_bytes (eqb p 80) (Err Truncated) (Err BadMagic) (λ e. cc) (λ e. cc)
@@ -204,12 +204,12 @@ magic-of_bytes (p ∷ second ∷ rest) =
     cond-of_bytes (eqb p 80 && eqb second 49) (Ok (Plain, rest)) (cond (eqb p 80 && eqb second 52) (Ok (Raw, rest)) (Err BadMagic)) tt
     (cond-of_bytes (eqb p 80 && eqb second 52) (Ok (Raw, rest)) (Err BadMagic) tt (λ e. cc))
 
--- nothing between the height and the raster tells want of memory
+-- nothing between the height and the raster reports out of memory
 before_raster-of_bytes : (form : Form) (bytes : List ℕ) → IsOfBytes (before_raster form bytes)
 before_raster-of_bytes Plain bytes = gap-of_bytes bytes
 before_raster-of_bytes Raw bytes = space-of_bytes bytes
 
--- nothing before a raster tells want of memory
+-- nothing before a raster reports out of memory
 header-of_bytes : (bytes : List ℕ) → IsOfBytes (header bytes)
 unfolding header
 header-of_bytes bytes =

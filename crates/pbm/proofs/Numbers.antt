@@ -115,17 +115,17 @@ number-again text value byte rest is end side_is =
     let one : number_and_rest ((is.first ∷ is.others) ++ byte ∷ rest) ≡ Ok (value_from (is.first - 48) is.others, byte ∷ rest) = rw is.first_is (digits-again (is.first - 48) is.others byte rest is.others_are end long) in
     ap (λ (t : List ℕ). number_and_rest (t ++ byte ∷ rest)) is.is_text ∙ one ∙ ap (λ (v : ℕ). Ok (v, byte ∷ rest)) is.value_is
 
--- no side tells want of memory
+-- no side reports out of memory
 side-of_bytes : (value : ℕ) (rest : List ℕ) → IsOfBytes (side value rest)
 side-of_bytes value rest = cond-of_bytes (eqb value 0) (Err ZeroSize) (cond (ltb 4096 value) (Err TooLarge) (Ok (value, rest))) (λ e. cc) (cond-of_bytes (ltb 4096 value) (Err TooLarge) (Ok (value, rest)) (λ e. cc) tt)
 
--- no digits tell want of memory
+-- no digits report out of memory
 digits-of_bytes : (so_far : ℕ) (bytes : List ℕ) → IsOfBytes (digits so_far bytes)
 unfolding digits
 digits-of_bytes so_far [] = side-of_bytes so_far []
 digits-of_bytes so_far (byte ∷ rest) = cond-of_bytes (is_digit byte) (digits (10 * so_far + (byte - 48)) rest) (side so_far (byte ∷ rest)) (digits-of_bytes (10 * so_far + (byte - 48)) rest) (side-of_bytes so_far (byte ∷ rest))
 
--- no number tells want of memory
+-- no number reports out of memory
 pub number-of_bytes : (bytes : List ℕ) → IsOfBytes (number_and_rest bytes)
 unfolding number_and_rest
 number-of_bytes [] = λ e. cc

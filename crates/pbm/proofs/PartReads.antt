@@ -40,7 +40,7 @@ pixels-add (suc m) n bytes front rest read =
     let is = ok_is (first.0 ∷ others.0.0, others.0.1) (front, rest) others.2 in
     rw (next, one.1, pixels-add m n first.1 others.0.0 others.0.1 others.1) (front-cons first.0 others.0.0 (pixels n others.0.1) ∙ ap (λ (p : List Bool × List ℕ). with_front p.0 (pixels n p.1)) is)
 
--- where so many pixels have a fault, so have more
+-- where this many pixels have a fault, so have more
 pub pixels-add_fault : (m n : ℕ) (bytes : List ℕ) (fault : PbmFault) → pixels m bytes ≡ Err fault → pixels (m + n) bytes ≡ Err fault
 unfolding pixels
 pixels-add_fault zero n bytes fault read = absurd (cc)

@@ -116,7 +116,7 @@ row_front-length cells y (suc x) below =
     let more = LinesLength-more cells.width x (length (row_front cells y x)) (ends_line cells.width x) inside (before.within inside) refl in
     rw next at (subst (λ (n : ℕ). LinesLength cells.width (x + 1) n) (sym (row_front-more cells y x inside)) more)
 
--- the lines of some rows are as long as so many times one row's
+-- the lines of some rows are as long as their number times one row's
 pub rows-length : (cells : Cells) (count : ℕ) → length (flat_map (plain_digit cells) (range_with_len 0 (count * cells.width))) ≡ count * row_length cells.width
 unfolding row_front
 rows-length cells zero = let none : zero * cells.width ≡ 0 = omega arith in rw none (omega arith)

@@ -23,17 +23,17 @@ pub chosen : {A : Type 0} (b : Bool) (x y z : A) → cond b x y ≡ z → ((b �
 chosen true x y z e = inl (refl, e)
 chosen false x y z e = inr (refl, e)
 
--- a step that never tells want of memory
+-- a step that never reports out of memory
 abbrev pub IsOfBytes : {A : Type 0} → Result A PbmFault → Type 0
 IsOfBytes (Ok x) = Unit {0}
 IsOfBytes (Err fault) = fault ≢ Memory
 
--- where neither of two steps tells want of memory, both together don't
+-- where neither of two steps reports out of memory, both together don't
 pub bind-of_bytes : {A B : Type 0} (r : Result A PbmFault) (f : A → Result B PbmFault) → IsOfBytes r → ((x : A) → IsOfBytes (f x)) → IsOfBytes (r >>= f)
 bind-of_bytes (Ok x) f h k = k x
 bind-of_bytes (Err d) f h k = h
 
--- where neither of two steps tells want of memory, a test between them doesn't
+-- where neither of two steps reports out of memory, a test between them doesn't
 pub cond-of_bytes : {A : Type 0} (b : Bool) (x y : Result A PbmFault) → IsOfBytes x → IsOfBytes y → IsOfBytes (cond b x y)
 cond-of_bytes true x y h k = h
 cond-of_bytes false x y h k = k

@@ -135,7 +135,7 @@ image-so rest left before after form width height blank cells is front met =
     (λ all others read end. (end.0, rw read end.1))
     front (subst (λ (b : Cells). Meets left after (λ all. (others : List ℕ) × (raster form b.width b.height all ≡ Ok (cells, others)))) is met)
 
--- a fault of the bytes isn't want of memory, so they stop with it
+-- a fault of the bytes isn't out of memory, so they stop with it
 IsStopped-fault : (bytes : List ℕ) (fault : PbmFault) → fault ≢ Memory → image bytes ≡ Err fault → IsStopped bytes fault
 IsStopped-fault bytes fault real e = record { first = λ other. e; memory = λ none. absurd (real none) }
 

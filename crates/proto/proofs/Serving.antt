@@ -132,7 +132,7 @@ unsaid_moved w1 w2 w3 bytes text read written =
       writes = (let e = written.writes in let f = read.writes in omega arith);
     }
 
--- nothing is written where so many reads failed after the last bytes
+-- nothing is written where this many reads failed after the last bytes
 silent : (end : End) (faults : ℕ) (w1 w2 : Wire) (bytes : List ℕ) → HasRead faults w1 bytes w2 → Appends w1.held [] w2.held × (w2.failed_writes ≡ w1.failed_writes + 0)
 silent end faults w1 w2 bytes read =
     (subst (λ h. Appends w1.held [] h) (sym read.held) (Appends-nothing w1.held), (let e = read.writes in omega arith))
@@ -222,7 +222,7 @@ counted_cut store end w1 w2 w3 heard a hears most short =
     cut_ended store end w1 w3 _ a (inr part)
     (subst (λ t. IsCutOff end w1 t w3) (append_assoc hears.line (10 ∷ []) short.bytes) (cut_on end w1 w2 w3 (hears.line ++ 10 ∷ []) short.bytes hears.read short.cut))
 
--- want of memory for the points of a query is answered as the query may be
+-- out of memory for the points of a query is answered as the query may be
 points_refused : (store : StoreId) (query : QueryView) (pin : Option ℕ) (old : CallerValue) (answer : Answer) (new : CallerValue) → old.pin ≡ pin → SaysPoints (saids.asked query)
     → IsRefusedAs (with_pin (is_some pin) Memory) old answer new
     → (elim pin as (λ _. Type 0) [ None ↦ IsRefusedAs NotPinned old answer new | Some version ↦ IsQueryAnswer store query old answer new ])

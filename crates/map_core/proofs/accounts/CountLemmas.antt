@@ -18,7 +18,7 @@ sum_by-add f g h a (suc n) each =
     let first = each a (omega arith) (omega arith) in
     omega (arith, sum_by-cons h a (range_with_len (a + 1) n), sum_by-cons f a (range_with_len (a + 1) n), sum_by-cons g a (range_with_len (a + 1) n), rest, first)
 
--- a sum of so many ones is their number
+-- a sum of ones is their number
 pub sum_by-ones : (f : ℕ → ℕ) (a n : ℕ) → ((k : ℕ) → f k ≡ 1) → sum_by f (range_with_len a n) ≡ n
 sum_by-ones f a zero each = refl
 sum_by-ones f a (suc n) each = omega (arith, sum_by-cons f a (range_with_len (a + 1) n), sum_by-ones f (a + 1) n each, each a)

@@ -1,4 +1,4 @@
--- A collect frees the retired blocks that it gives back, and no other; its reply is an answer.
+-- A collect frees just the retired blocks that no kept version maps; its reply is an answer.
 use Rattle.std.proofs.Common.{◌≡◌, ℕ, ◌+◌, not, List, length, map, refl, arith}
 use Rattle.std.specs.Prelude.{None, filter}
 use Rattle.map_core.specs.declared.command.Command.{Command}
@@ -16,7 +16,7 @@ use Rattle.map_core.proofs.invariants.TidyCollect.{IsChoice, IsTidy-keeping}
 use Rattle.map_core.proofs.invariants.TidyDraft.{free_is}
 use Rattle.map_core.proofs.accounts.TimesLemmas.{length-given_back, length-blocks_of}
 
--- the blocks that are given back are those that are no longer in use
+-- the blocks that are freed are those that are no longer in use
 pub freed_is : (k : Base) (s : Story) (m : Blocks) → IsTidy k s m → (kept_now : Kept) → IsChoice s kept_now
     → length (filter (λ r. not (is_used (kept (with_kept s kept_now)) r)) m.retired) + inuse (with_kept s kept_now) ≡ inuse s
 freed_is k s m tidy kept_now choice =

@@ -1,4 +1,4 @@
--- The draft's own blocks are given back, position by position.
+-- The draft's own blocks are freed, position by position.
 use Rattle.std.proofs.Common.{◌≡◌, ℕ, zero, suc, ◌+◌, ◌<◌, ◌≤◌, List, [], ◌∷◌, ◌++◌, not, length, take, drop, get_or, set, replicate, refl, ap, sym, ◌∙◌, arith}
 use Rattle.std.specs.Prelude.{Option, Some, None, filter}
 use Rattle.map_core.specs.declared.blocks.RetiredBlock.{RetiredBlock}
@@ -12,13 +12,13 @@ cleared zero own = own
 cleared (suc i) [] = []
 cleared (suc i) (o ∷ own) = None ∷ cleared i own
 
--- the draft's own blocks at the positions before the i-th are given back
+-- the draft's own blocks at the positions before the i-th are freed
 pub record IsGivenBack (own : List (Option ℕ)) (free : List ℕ) (room i : ℕ) (own_now : List (Option ℕ)) (free_now : List ℕ) : Type 0 where
   pub own_is : own_now ≡ cleared i own
   pub free_is : given_back (own_list (drop i own)) free_now ≡ given_back (own_list own) free
   pub fits : length free_now + length (own_list (drop i own)) ≤ room
 
--- no own block has been given back at the start
+-- no own block has been freed at the start
 pub given_first : (own : List (Option ℕ)) (free : List ℕ) (room : ℕ) → length free + length (own_list own) ≤ room → IsGivenBack own free room 0 own free
 given_first own free room fits = record { own_is = refl; free_is = refl; fits = fits }
 
@@ -39,7 +39,7 @@ pub cleared-all : (own : List (Option ℕ)) → cleared (length own) own ≡ rep
 cleared-all [] = refl
 cleared-all (o ∷ own) = ap (λ (os : List (Option ℕ)). None ∷ os) (cleared-all own)
 
--- the block of the next position is given back
+-- the block of the next position is freed
 pub given_some : (own : List (Option ℕ)) (free : List ℕ) (room i : ℕ) (own_now : List (Option ℕ)) (free_now : List ℕ) (o : Option ℕ) (b : ℕ) → IsGivenBack own free room i own_now free_now
     → i < length own → get_or own_now i o ≡ Some b → IsGivenBack own free room (i + 1) (set own_now i None) (b ∷ free_now)
 given_some own free room i own_now free_now o b given h is =
@@ -83,7 +83,7 @@ cleared_back n own now lent rest is same long =
     let size = ap length now_is ∙ length-replicate (length own) None in
     ap (λ (k : ℕ). take k (now ++ rest)) (long ∙ sym size) ∙ (take-append_seam now rest ∙ now_is)
 
--- the retired blocks before the i-th that no kept version maps are given back
+-- the retired blocks before the i-th that no kept version maps are freed
 pub record IsSwept (versions : List ℕ) (retired : List RetiredBlock) (free : List ℕ) (room i : ℕ) (free_now : List ℕ) : Type 0 where
   pub free_is : given_back (blocks_of (filter (λ r. not (is_used versions r)) (drop i retired))) free_now ≡ given_back (blocks_of (filter (λ r. not (is_used versions r)) retired)) free
   pub fits : length free_now + length (drop i retired) ≤ room

@@ -1,4 +1,4 @@
--- What a beginning of a legal log says of the blocks of its versions, the log says too.
+-- What a prefix of a legal log says of the blocks of its versions, the log says too.
 use Rattle.std.proofs.Common.{◌≡◌, ℕ, ◌≤◌, List, [], ◌∷◌, ◌++◌, refl, ap, sym, ◌∙◌, subst, arith}
 use Rattle.map_core.specs.declared.command.Entry.{Entry}
 use Rattle.map_core.specs.declared.setting.Setting.{Setting}
@@ -33,7 +33,7 @@ directory-after k s m (e ∷ es) few tidy legal v h =
     directory-after k (told s e.command e.reply) (moved s e.command e.reply m) es few (IsTidy-told k s m e.command e.reply few tidy legal.0) legal.1 v (omega arith)
     ∙ directory_stays k s m e.command e.reply tidy.shape v h
 
--- a beginning of a legal log tells the same blocks for each version that it has
+-- a prefix of a legal log tells the same blocks for each version that it has
 pub directory-beginning : (k : Base) (seen log : List Entry) → IsReady k → IsLegal k.setting k.opening log → IsBeginning seen log → (v : ℕ) → v ≤ newest (story k seen)
     → directory_of (blocks k log) v ≡ directory_of (blocks k seen) v
 unfolding story blocks

@@ -9,7 +9,7 @@ use Rattle.map_core.specs.Drawing.{tile_differs, differing}
 use Rattle.map_core.specs.Story.{trues, new_ones}
 use Rattle.map_core.specs.Blocks.{own_after}
 
--- so many blocks are taken
+-- this many blocks are taken
 abbrev pub taken : List Bool → List (Option ℕ) → ℕ
 taken ts own = trues (new_ones ts (map is_some own))
 

@@ -26,12 +26,12 @@ times-at n [] i d h is = absurd (omega arith)
 times-at n (x ∷ xs) zero d h is = grind (arith, nat_tests)
 times-at n (x ∷ xs) (suc i) d h is = let rest = times-at n xs i d (omega arith) is in omega arith
 
--- a block given back stands in the free list as often as before, and once more
+-- a block freed stands in the free list as often as before, and once more
 pub times-given_back : (n : ℕ) (bs free : List ℕ) → times n (given_back bs free) ≡ times n bs + times n free
 times-given_back n [] free = omega arith
 times-given_back n (b ∷ bs) free = omega (arith, times-given_back n bs (b ∷ free))
 
--- the free list grows by the blocks that are given back
+-- the free list grows by the blocks that are freed
 pub length-given_back : (bs free : List ℕ) → length (given_back bs free) ≡ length bs + length free
 length-given_back [] free = omega arith
 length-given_back (b ∷ bs) free = omega (arith, length-given_back bs (b ∷ free))

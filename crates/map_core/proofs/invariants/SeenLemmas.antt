@@ -112,7 +112,7 @@ stay-order w c (Some h) o is = absurd (cc)
 stay-order w c None o is =
     ap (λ (a : Outcome). a.state.readers) (sym (same_outcome _ o is)) ∙ stay-ordered w c (refused w.base.setting (story_of w) c)
 
--- a step of the command in hand that isn't its last leaves the readers
+-- a step of the current command that isn't its last leaves the readers
 stay-step : (w : State) (h : Hand) (c : Command) → (step_before w h c).state.readers ≡ w.readers
 stay-step w h (Paint r black) = refl
 stay-step w h (Stamp x y b) = refl

@@ -1,4 +1,4 @@
--- What holds after a legal log holds after one more collect: the blocks that no kept version uses are given back.
+-- What holds after a legal log holds after one more collect: the blocks that no kept version uses are freed.
 use Rattle.std.proofs.Common.{◌≡◌, ℕ, ◌+◌, ◌<◌, ◌≤◌, ◌⊎◌, Bool, true, not, List, ◌++◌, length, get_or, refl, sym, ◌∙◌, arith}
 use Rattle.std.specs.Prelude.{filter}
 use mathlib.Core.Logic.{inl, inr}

@@ -78,7 +78,7 @@ needed_is w hand steps standings u room consistent copy new c n same is count =
     ∙ (ap (λ (b : Cells). trues (new_ones (differing s.draft b) (map is_some u.own))) new_is
     ∙ ap (λ (os : List Bool). trues (new_ones (differing s.draft (drawn s.draft c)) os)) changed))
 
--- a command for which too few blocks are free is refused for want of blocks
+-- a command for which too few blocks are free is refused as `BlocksFull`
 pub blocks_refused : (g : Setting) (s : Story) (c : Command) (n free : ℕ) → n ≡ needed s c → free + inuse s ≡ g.blocks → free < n
     → Some (BlocksFull n free) ≡ refused_blocks g s c
 blocks_refused g s c n free n_is free_is few =
@@ -86,7 +86,7 @@ blocks_refused g s c n free n_is free_is few =
     let test : nat_lt (g.blocks - inuse s) (needed s c) ≡ true = grind (arith, nat_tests) in
     ap (λ (m : ℕ). Some (BlocksFull m free)) n_is ∙ (ap (λ (f : ℕ). Some (BlocksFull (needed s c) f)) free_now ∙ sym (rw test))
 
--- a command for which enough blocks are free isn't refused for want of blocks
+-- a command for which enough blocks are free isn't refused for too few free blocks
 pub blocks_enough : (g : Setting) (s : Story) (c : Command) (n free : ℕ) → n ≡ needed s c → free + inuse s ≡ g.blocks → n ≤ free → None ≡ refused_blocks g s c
 blocks_enough g s c n free n_is free_is enough =
     let test : nat_lt (g.blocks - inuse s) (needed s c) ≡ false = grind (arith, nat_tests) in
@@ -103,7 +103,7 @@ judged_first w v hand steps standings u room same consistent c refusal by =
     subst (λ (x : State). Some refusal ≡ refused x.base.setting (story_of x) c) same
     (sym (refused_first v.base (story_of v) u.ledger consistent.summary.ledger_is (tidy_of v consistent.whole).draft c refusal by))
 
--- a paint or a stamp that the ledger doesn't refuse is refused for want of blocks alone
+-- a paint or a stamp that the ledger doesn't refuse is refused only for too few free blocks
 pub judged_draw : (w v : State) (hand : Option Command) (steps : ℕ) (standings : List Standing) (u : Summary) (room : Room) → v ≡ w → IsConsistent v hand steps standings u room → (c : Command)
     → refused_by_ledger u.ledger c ≡ None → draws c ≡ true → refused_blocks w.base.setting (story_of w) c ≡ refused w.base.setting (story_of w) c
 judged_draw w v hand steps standings u room same consistent c by is =

@@ -35,7 +35,7 @@ from_after kept newest seen a v there low h = IsIn-after kept newest seen v h (s
     up_to : (a v : ℕ) → a ≤ v → nat_le a v ≡ true
     up_to a v low = grind (arith, nat_tests)
 
--- so many versions pass a test
+-- this many versions pass a test
 abbrev pub count_where : (ℕ → Bool) → List ℕ → ℕ
 count_where test [] = 0
 count_where test (zero ∷ slots) = count_where test slots

@@ -42,7 +42,7 @@ balanced k log l ready legal is =
     let base_is = is.base_is in
     record { newest_in = omega arith; base_in = omega arith; few_slots = omega arith; small = omega arith }
 
--- the first refusal is the same where want of blocks is tested after all other tests
+-- the first refusal is the same where free blocks are tested after everything else
 in_turn : (inside inside_now full full_now used used_now : Bool) (slots blocks_short : Option Refusal) → inside ≡ inside_now → full ≡ full_now → used ≡ used_now
     → (if inside then (if full then Some LogFull else (if used then Some PlacesUsed else first_refusal slots blocks_short)) else Some OutOfRange)
     ≡ first_refusal (if inside_now then (if full_now then Some LogFull else (if used_now then Some PlacesUsed else slots)) else Some OutOfRange) blocks_short
@@ -78,7 +78,7 @@ slots_are k s l is =
     ap (λ (g : Setting). nat_le g.versions (length (members s.kept.slots))) (sym is.setting_is)
     ∙ ap (λ (kept_now : Kept). nat_le l.setting.versions (length (members kept_now.slots))) (sym is.kept_is)
 
--- a command is refused by the ledger, or for want of blocks
+-- a command is refused by the ledger, or for too few free blocks
 refused_in_turn : (k : Base) (s : Story) (l : Ledger) → IsLedger k s l → IsOfMap k s.draft → (c : Command) → refused k.setting s c ≡ first_refusal (refused_by_ledger l c) (refused_draw_blocks k.setting s c)
 unfolding refused refused_by_ledger kept_log
 refused_in_turn k s l is of_map (Paint r black) =
@@ -101,11 +101,11 @@ refused_in_turn k s l is of_map Checkpoint = in_turn true true false false _ _ N
 pub refused_first : (k : Base) (s : Story) (l : Ledger) → IsLedger k s l → IsOfMap k s.draft → (c : Command) (refusal : Refusal) → refused_by_ledger l c ≡ Some refusal → refused k.setting s c ≡ Some refusal
 refused_first k s l is of_map c refusal by = refused_in_turn k s l is of_map c ∙ ap (λ (o : Option Refusal). first_refusal o (refused_draw_blocks k.setting s c)) by
 
--- a command that the ledger doesn't refuse is refused for want of blocks alone, or isn't refused
+-- a command that the ledger doesn't refuse is refused only for too few free blocks, or isn't refused
 pub refused_next : (k : Base) (s : Story) (l : Ledger) → IsLedger k s l → IsOfMap k s.draft → (c : Command) → refused_by_ledger l c ≡ None → refused k.setting s c ≡ refused_draw_blocks k.setting s c
 refused_next k s l is of_map c by = refused_in_turn k s l is of_map c ∙ ap (λ (o : Option Refusal). first_refusal o (refused_draw_blocks k.setting s c)) by
 
--- a paint or a stamp is refused for want of blocks as it is
+-- a paint or a stamp is refused for too few free blocks as it is
 pub refused_for_draw : (g : Setting) (s : Story) (c : Command) → draws c ≡ true → refused_draw_blocks g s c ≡ refused_blocks g s c
 refused_for_draw g s (Paint r black) is = refl
 refused_for_draw g s (Stamp x y b) is = refl
@@ -114,7 +114,7 @@ refused_for_draw g s Revert is = absurd (cc)
 refused_for_draw g s Collect is = absurd (cc)
 refused_for_draw g s Checkpoint is = absurd (cc)
 
--- a command that is no paint and no stamp isn't refused for want of blocks
+-- a command that is no paint and no stamp isn't refused for too few free blocks
 pub refused_for_none : (g : Setting) (s : Story) (c : Command) → draws c ≡ false → refused_draw_blocks g s c ≡ None
 refused_for_none g s (Paint r black) is = absurd (cc)
 refused_for_none g s (Stamp x y b) is = absurd (cc)

@@ -1,4 +1,4 @@
--- How a story grows with its log: places, the newest version, and what a beginning of a log tells.
+-- How a story grows with its log: places, the newest version, and what a prefix of a log tells.
 use Rattle.std.proofs.Common.{◌≡◌, ℕ, ◌+◌, ◌<◌, ◌≤◌, length, Bool, true, false, if◌then◌else◌, List, [], ◌∷◌, ◌++◌, get_or, refl, ap, sym, ◌∙◌, arith}
 use Rattle.std.specs.Prelude.{Option, Some, None, nat_le}
 use Rattle.std.proofs.lemmas.Bool.Decides.{nat_tests}
@@ -87,7 +87,7 @@ after-append : (s : Story) (log more : List Entry) → after s (log ++ more) ≡
 after-append s [] more = refl
 after-append s (e ∷ es) more = after-append (told s e.command e.reply) es more
 
--- newest of a beginning of a log is at most newest of the log
+-- newest of a prefix of a log is at most newest of the log
 pub newest-beginning : (k : Base) (seen log : List Entry) → IsBeginning seen log → newest (story k seen) ≤ newest (story k log)
 unfolding story
 newest-beginning k seen log h =
@@ -114,7 +114,7 @@ published-after s (e ∷ es) v within =
     let rest = published-after (told s e.command e.reply) es v one.1 in
     (rest.0 ∙ one.0, rest.1)
 
--- a beginning of a log tells the same bitmap for each version that it has
+-- a prefix of a log tells the same bitmap for each version that it has
 pub bitmap-beginning : (k : Base) (seen log : List Entry) → IsBeginning seen log → (v : ℕ) → v ≤ newest (story k seen) → bitmap_of (story k log) v ≡ bitmap_of (story k seen) v
 unfolding story newest opened
 bitmap-beginning k seen log h v within =
@@ -157,7 +157,7 @@ slots-after : (s : Story) (log : List Entry) (v : ℕ) → v < length s.slots �
 slots-after s [] v within = refl
 slots-after s (e ∷ es) v within = let one = slots-told s e.command e.reply v within in slots-after (told s e.command e.reply) es v one.1 ∙ one.0
 
--- a beginning of a log tells the same slot of each version that it has
+-- a prefix of a log tells the same slot of each version that it has
 pub slot-beginning : (k : Base) (seen log : List Entry) → IsBeginning seen log → (v : ℕ) → v ≤ newest (story k seen) → slot_of k (story k log) v ≡ slot_of k (story k seen) v
 unfolding story newest opened slot_of
 slot-beginning k seen log h v within =
@@ -171,11 +171,11 @@ slot-beginning k seen log h v within =
     first_published : (k : Base) → 0 < length (opened k.opening).published
     first_published k = omega arith
 
--- a log is a beginning of itself
+-- a log is a prefix of itself
 pub beginning_itself : (log : List Entry) → IsBeginning log log
 beginning_itself log = record { rest = []; whole = append-nil log }
 
--- a beginning of a log is one of the log with one more entry
+-- a prefix of a log is one of the log with one more entry
 pub beginning-push : (seen log : List Entry) (e : Entry) → IsBeginning seen log → IsBeginning seen (log ++ e ∷ [])
 beginning-push seen log e h = record { rest = h.rest ++ e ∷ []; whole = sym (append_assoc seen h.rest (e ∷ [])) ∙ ap (λ (l : List Entry). l ++ e ∷ []) h.whole }
 

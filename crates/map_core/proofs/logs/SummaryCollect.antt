@@ -20,7 +20,7 @@ use Rattle.map_core.proofs.accounts.FreedLemmas.{freed_is}
 use Rattle.map_core.proofs.invariants.TidyCollect.{IsChoice, collected_story}
 use Rattle.map_core.proofs.accounts.TimesLemmas.{length-filter}
 
--- what is kept is right once the blocks that no kept version maps are given back
+-- what is kept is right once the blocks that no kept version maps are freed
 pub summary_swept : (k : Base) (s : Story) (m : Blocks) (u : Summary) (ledger : Ledger) (place f freed : ℕ) (kept_now : Kept) (free : List ℕ) (retired : List RetiredBlock) → IsSummary k s m u
     → IsLedger k (told s Collect (Collected place f freed kept_now)) ledger
     → retired ≡ filter (is_used (members kept_now.slots)) u.retired → free ≡ given_back (blocks_of (filter (λ r. not (is_used (members kept_now.slots) r)) u.retired)) u.free
@@ -47,7 +47,7 @@ summary_collect k s m u ledger reply place f freed kept_now free retired keeps s
     subst (λ (r : Reply). IsSummary k (told s Collect r) (moved s Collect r m) record u { ledger = ledger; free = free; retired = retired }) (sym said)
     (summary_swept k s m u ledger place f freed kept_now free retired keeps (subst (λ (r : Reply). IsLedger k (told s Collect r) ledger) said entered) retired_is free_is)
 
--- a collect gives back as many blocks as are in use fewer after it
+-- after a collect as many blocks fewer are in use as it frees
 pub freed_collect : (k : Base) (s : Story) (m : Blocks) (u : Summary) (kept_now : Kept) (freed : ℕ) (retired : List RetiredBlock) → IsTidy k s m → IsSummary k s m u → IsChoice s kept_now
     → retired ≡ filter (is_used (members kept_now.slots)) u.retired → freed ≡ length u.retired - length retired → freed ≡ inuse s - inuse (with_kept s kept_now)
 unfolding kept

@@ -53,7 +53,7 @@ last_answers : State → List (List Event) → List (Option StepReply)
 last_answers w [] = []
 last_answers w (es ∷ groups) = (last_of w es None).0 ∷ last_answers (last_of w es None).1 groups
 
--- these events give a command and take so many steps of it
+-- these events give a command and take this many steps of it
 whole : Command → ℕ → List Event
 whole c n = Order c ∷ replicate n Keep
 

@@ -109,7 +109,7 @@ consistent_commit g b words log hand done new_done steps new_steps scanned new_s
       roomy = record { log = tt; scanned = omega arith; free = omega arith; retired = omega arith; scratch = scratch };
     }
 
--- the last step is to be done of the command that is in hand
+-- the last step is to be done of the current command
 pub last_known : (w v : State) (c : Command) (hand : Option Command) (done : ℕ) (scanned : List ℕ) → v ≡ w → v.keeper.hand ≡ hand_of hand done scanned → IsLastOf w c
     → (hand ≡ Some c) × (steps_before v.base (blocks_of_state v) c ≤ done)
 last_known w v c hand done scanned same is last =
@@ -160,7 +160,7 @@ pub reply_checkpoint : (k : Base) (s : Story) (l : Ledger) (scanned : List ℕ) 
 unfolding reply_of
 reply_checkpoint k s l scanned reply is said = said ∙ ap (λ (n : ℕ). Checkpointed (n + 1)) is.places_is
 
--- a place is left for the command in hand
+-- a place is left for the current command
 pub place_in_hand : (w : State) (hand : Option Command) (steps : ℕ) (standings : List Standing) (u : Summary) (room : Room) → IsConsistent w hand steps standings u room → (c : Command) (done : ℕ) (scanned : List ℕ)
     → w.keeper.hand ≡ hand_of hand done scanned → hand ≡ Some c → HasPlace u.ledger
 place_in_hand w hand steps standings u room consistent c done scanned is found =
@@ -171,7 +171,7 @@ place_in_hand w hand steps standings u room consistent c done scanned is found =
     let places = consistent.summary.ledger_is.places_is in
     omega arith
 
--- while a command is in hand, the version after newest fits in 32 bits
+-- while there is a current command, the version after newest fits in 32 bits
 pub version_in_hand : (w : State) (hand : Option Command) (steps : ℕ) (standings : List Standing) (u : Summary) (room : Room) → IsConsistent w hand steps standings u room → (c : Command) (done : ℕ) (scanned : List ℕ)
     → w.keeper.hand ≡ hand_of hand done scanned → hand ≡ Some c → newest (story_of w) + 1 < 2 ^ 32
 version_in_hand w hand steps standings u room consistent c done scanned is found =

@@ -118,7 +118,7 @@ does-order w c None o whole is =
     same_outcome : (a o : Outcome) → ◌≡◌ {A = Option Outcome} (Some a) (Some o) → a ≡ o
     same_outcome a o is = cc
 
--- a step of the command in hand that isn't its last keeps what holds of a world
+-- a step of the current command that isn't its last keeps what holds of a world
 keeps-step : (w : State) (h : Hand) (c : Command) → IsWhole (in_hand w (Some h)) → h.command ≡ c → h.done < steps_before w.base (blocks_of_state w) c
     → Keeps (in_hand w (Some h)) (step_before w h c)
 unfolding steps_before
@@ -129,7 +129,7 @@ keeps-step w h Revert whole is more = absurd (omega arith)
 keeps-step w h Collect whole is more = keeps-scan w h whole is more
 keeps-step w h Checkpoint whole is more = absurd (omega arith)
 
--- the next step of the command in hand keeps what holds of a world
+-- the next step of the current command keeps what holds of a world
 keeps-next : (w : State) (h : Hand) (o : Outcome) → IsWhole (in_hand w (Some h))
     → (if nat_lt h.done (steps_before w.base (blocks_of_state w) h.command) then Some (step_before w h h.command) else Some (commit w h)) ≡ Some o → Keeps (in_hand w (Some h)) o
 keeps-next w h o whole is =

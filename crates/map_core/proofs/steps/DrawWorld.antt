@@ -40,7 +40,7 @@ pub record IsKnownDraw (v : State) (hand : Option Command) (c : Command) (done :
   pub draws : IsDraw c
   pub last : (hand ≡ Some c) × (steps_before v.base (blocks_of_state v) c ≤ done)
 
--- the command in hand draws
+-- the current command draws
 pub drawing_known : (w v : State) (hand : Option Command) (c : Command) (done : ℕ) (scanned : List ℕ) → v ≡ w → v.keeper.hand ≡ hand_of hand done scanned → IsDrawing w → hand ≡ Some c → IsKnownDraw v hand c done
 drawing_known w v hand c done scanned same is drawing found =
     let there : ◌≡◌ {A = Option Hand} (Some record { command = c; done = done; scanned = scanned }) (Some drawing.hand) =
@@ -67,7 +67,7 @@ inside_accepted g s Revert accepted = refl
 inside_accepted g s Collect accepted = refl
 inside_accepted g s Checkpoint accepted = refl
 
--- a command in hand lies in the map
+-- a current command lies in the map
 pub hand_inside : (w : State) (hand : Option Command) (steps : ℕ) (standings : List Standing) (u : Summary) (room : Room) → IsConsistent w hand steps standings u room → (c : Command) (done : ℕ) (scanned : List ℕ) (copy : Cells)
     → w.keeper.hand ≡ hand_of hand done scanned → hand ≡ Some c → copy ≡ u.draft → is_inside copy c ≡ true
 hand_inside w hand steps standings u room consistent c done scanned copy is found same =

@@ -55,7 +55,7 @@ pub does_load : (w : State) (r : ℕ) (x : Reader) → slice_get w.readers r ≡
 unfolding does load
 does_load w r x there = ap (load w r) there
 
--- an order that is accepted puts the command in hand
+-- an order that is accepted makes the command current
 pub does_order : (w : State) (c : Command) → w.keeper.hand ≡ None → refused w.base.setting (story_of w) c ≡ None
     → does w (Order c) ≡ Some record { state = record w { keeper = record { log = w.keeper.log; hand = Some record { command = c; done = 0; scanned = [] } } }; answer = says.Ordered (steps_before w.base (blocks_of_state w) c + 1); stored = None }
 unfolding does order

@@ -1,4 +1,4 @@
--- The steps of a command in hand, on a world by its parts.
+-- The steps of a current command, on a world by its parts.
 use Rattle.std.proofs.Common.{◌≡◌, ℕ, ◌+◌, ◌<◌, ◌≤◌, true, List, [], ◌∷◌, ◌++◌, length, get_or, set, refl, ap, subst, sym, ◌∙◌, arith}
 use Rattle.std.specs.Prelude.{Option, Some, None, IfSome, nat_lt}
 use Rattle.std.proofs.lemmas.Bool.Decides.{nat_tests}
@@ -21,11 +21,11 @@ use Rattle.map_core.specs.Consistent.{hand_of, state_of, Room, IsConsistent, IsS
 use Rattle.map_core.specs.Sound.{InHand}
 use Rattle.map_core.proofs.steps.DoesLemmas.{does-keeps}
 
--- one command in hand is the other
+-- one current command is the other
 pub that_hand : (a b : Hand) → ◌≡◌ {A = Option Hand} (Some a) (Some b) → a ≡ b
 that_hand a b is = cc
 
--- a step is to be done of the command that is in hand
+-- a step is to be done of the current command
 pub hand_known : (w v : State) (c : Command) (hand : Option Command) (done : ℕ) (scanned : List ℕ) → v ≡ w → v.keeper.hand ≡ hand_of hand done scanned → IsStepOf w c
     → (hand ≡ Some c) × (done < steps_before v.base (blocks_of_state v) c)
 hand_known w v c hand done scanned same is step =
@@ -122,11 +122,11 @@ write_does g b words log hand done scanned standings place word is more place_is
     below : (a b : ℕ) → a < b → nat_lt a b ≡ true
     below a b h = grind (arith, nat_tests)
 
--- the command in hand is the one that was read in two steps
+-- the current command is the one that was read in two steps
 pub some_is : (hand : Option Command) (d c : Command) → hand ≡ Some d → d ≡ c → hand ≡ Some c
 some_is hand d c some same = some ∙ ap (λ (e : Command). Some e) same
 
--- a step of the command in hand is to be done that isn't its last, by the count that is kept
+-- a step of the current command is to be done that isn't its last, by the count that is kept
 pub step_of : (w v : State) (c : Command) (hand : Option Command) (done steps : ℕ) (scanned : List ℕ) (standings : List Standing) (u : Summary) (room : Room) → v ≡ w → v.keeper.hand ≡ hand_of hand done scanned → IsConsistent v hand steps standings u room
     → hand ≡ Some c → done < steps → IsStepOf w c
 step_of w v c hand done steps scanned standings u room same is consistent some more =
@@ -134,7 +134,7 @@ step_of w v c hand done steps scanned standings u room same is consistent some m
     subst (λ (x : State). IsStepOf x c) same
     record { hand = record { command = c; done = done; scanned = scanned }; there = is ∙ ap (λ (h : Option Command). hand_of h done scanned) some; command = refl; more = omega arith }
 
--- the last step of the command in hand is to be done
+-- the last step of the current command is to be done
 pub last_of : (w v : State) (c : Command) (hand : Option Command) (done steps : ℕ) (scanned : List ℕ) (standings : List Standing) (u : Summary) (room : Room) → v ≡ w → v.keeper.hand ≡ hand_of hand done scanned → IsConsistent v hand steps standings u room
     → hand ≡ Some c → steps ≤ done → IsLastOf w c
 last_of w v c hand done steps scanned standings u room same is consistent some all =
@@ -156,12 +156,12 @@ checkpoint_of w v hand done scanned same is some =
     subst (λ (x : State). IsLastOf x Checkpoint) same
     record { hand = record { command = Checkpoint; done = done; scanned = scanned }; there = is ∙ ap (λ (h : Option Command). hand_of h done scanned) some; command = refl; all = omega arith }
 
--- a paint or a stamp is in hand
+-- the current command is a paint or a stamp
 pub drawing_of : (w v : State) (c : Command) (hand : Option Command) (done : ℕ) (scanned : List ℕ) → v ≡ w → v.keeper.hand ≡ hand_of hand done scanned → hand ≡ Some c → IsDraw c → IsDrawing w
 drawing_of w v c hand done scanned same is some draws =
     subst IsDrawing same record { hand = record { command = c; done = done; scanned = scanned }; there = is ∙ ap (λ (h : Option Command). hand_of h done scanned) some; draws = draws }
 
--- no step is to be done where no command is in hand
+-- no step is to be done where there is no current command
 pub no_step : (w v : State) (hand : Option Command) (done : ℕ) (scanned : List ℕ) → v ≡ w → v.keeper.hand ≡ hand_of hand done scanned → hand ≡ None → does w Keep ≡ None
 unfolding does keep
 no_step w v hand done scanned same is none =

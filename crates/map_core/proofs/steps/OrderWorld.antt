@@ -23,7 +23,7 @@ use Rattle.map_core.proofs.invariants.SafeLemmas.{IsSafe-whole}
 use Rattle.map_core.proofs.invariants.SeenLemmas.{seen_stays}
 use Rattle.map_core.proofs.steps.StepLemmas.{nothing_stored, keeps-order, in_hand, tidy_of}
 
--- an order isn't enabled while a command is in hand
+-- an order isn't enabled while there is a current command
 order_again : (w : State) (c : Command) (h : Hand) → w.keeper.hand ≡ Some h → does w (Order c) ≡ None
 unfolding does order
 order_again w c h is = ap (order w c) is
@@ -34,7 +34,7 @@ pub order_refused : (w : State) (c : Command) (refusal : Refusal) → w.keeper.h
 unfolding does order
 order_refused w c refusal free is = ap (order w c) free ∙ ap (λ (o : Option Refusal). Some (ordered w c o)) (sym is)
 
--- an order that is accepted puts the command in hand, and answers how many steps it has
+-- an order that is accepted makes the command current, and answers how many steps it has
 order_accepted : (w : State) (c : Command) (steps : ℕ) → w.keeper.hand ≡ None → None ≡ refused w.base.setting (story_of w) c → steps ≡ steps_before w.base (blocks_of_state w) c
     → does w (Order c) ≡ Some record { state = in_hand w (Some record { command = c; done = 0; scanned = [] }); answer = says.Ordered (steps + 1); stored = None }
 unfolding does order
@@ -82,12 +82,12 @@ steps_few w whole Revert = omega arith
 steps_few w whole Collect = let few = whole.ready.few_sessions in omega arith
 steps_few w whole Checkpoint = omega arith
 
--- a world in which a command is in hand takes no order
+-- a world with a current command takes no order
 pub order_busy : (w v : State) (c : Command) (hand : Option Command) (done : ℕ) (scanned : List ℕ) → v ≡ w → v.keeper.hand ≡ hand_of hand done scanned → is_some hand ≡ true → does w (Order c) ≡ None
 order_busy w v c None done scanned same is some = absurd (cc)
 order_busy w v c (Some t) done scanned same is some = order_again w c _ (sym (ap (λ (x : State). x.keeper.hand) same) ∙ is)
 
--- where what is kept has no command in hand, the world has none
+-- where what is kept has no current command, the world has none
 pub hand_free : (w v : State) (hand : Option Command) (done : ℕ) (scanned : List ℕ) → v ≡ w → v.keeper.hand ≡ hand_of hand done scanned → is_some hand ≡ false → w.keeper.hand ≡ None
 hand_free w v None done scanned same is none = sym (ap (λ (x : State). x.keeper.hand) same) ∙ is
 hand_free w v (Some t) done scanned same is none = absurd (cc)
@@ -109,7 +109,7 @@ consistent_order w hand steps standings u room consistent c copy steps_now log_r
       roomy = record { log = room_is; scanned = omega arith; free = roomy.free; retired = roomy.retired; scratch = roomy.scratch };
     }
 
--- an order that is accepted puts a copy of the command in hand, safely
+-- an order that is accepted makes a copy of the command current, safely
 order_done : (w : State) (c copy : Command) (steps : ℕ) → IsWhole w → w.keeper.hand ≡ None → None ≡ refused w.base.setting (story_of w) c → copy ≡ c → steps ≡ steps_before w.base (blocks_of_state w) c
     → SafeStep w (Order c) (Ok (says.Ordered (steps + 1))) (in_hand w (Some record { command = copy; done = 0; scanned = [] }))
 order_done w c copy steps whole free accepted same count =
@@ -124,7 +124,7 @@ starved_still w v c same whole free is = subst (λ (x : State). SafeStep w (Orde
 pub under_name : (P : State → Type 0) (w v : State) → v ≡ w → P w → P v
 under_name P w v same h = subst P (sym same) h
 
--- an order that is accepted puts a copy of the command in hand, in a world under another name
+-- an order that is accepted makes a copy of the command current, in a world under another name
 pub order_named : (w v : State) (c copy : Command) (steps : ℕ) → v ≡ w → IsWhole w → w.keeper.hand ≡ None → None ≡ refused w.base.setting (story_of w) c → copy ≡ c
     → steps ≡ steps_before v.base (blocks_of_state v) c
     → SafeStep w (Order c) (Ok (says.Ordered (steps + 1))) (in_hand v (Some record { command = copy; done = 0; scanned = [] }))

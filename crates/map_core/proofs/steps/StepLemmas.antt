@@ -133,7 +133,7 @@ keeps-load w r x whole there =
           ];
     }
 
--- the world has this command in hand, and is otherwise as it was
+-- the world has this current command, and is otherwise as it was
 abbrev pub in_hand : State → Option Hand → State
 in_hand w hand = record w { keeper = record { log = w.keeper.log; hand = hand } }
 

@@ -59,7 +59,7 @@ safe_done w e o whole is =
     let seen = does-grows w e o whole is in
     record { stored = o.stored; step = inl is; safe = IsSafe-whole o.state keeps.whole; spares = keeps.spares; grows = seen.0; sees = seen.1 }
 
--- what is kept stays right where the log and the command in hand stay and one reader's place is written
+-- what is kept stays right where the log and the current command stay and one reader's place is written
 pub consistent_reader : (w : State) (hand : Option Command) (steps : ℕ) (standings : List Standing) (u : Summary) (room : Room) (e : Event) (words : List ℕ) (readers : List Reader) (answer : StepReply) (stored : Option ℕ) (r : ℕ) (p : Standing)
     → IsConsistent w hand steps standings u room → does w e ≡ Some record { state = record w { words = words; readers = readers }; answer = answer; stored = stored }
     → IsStanding w.base w.keeper.log p → IsConsistent record w { words = words; readers = readers } hand steps (set standings r p) u room
@@ -160,13 +160,13 @@ now_room_published l new balanced left room is =
     let low = first_free-le l.kept.slots in
     subst (λ (q : Ledger). HasNowRoom q) (sym is) record { place = omega arith; version = omega arith; slot = omega arith }
 
--- the command in hand was accepted
+-- the current command was accepted
 pub accepted_in : (w : State) (h : Hand) (c : Command) → IsWhole w → w.keeper.hand ≡ Some h → h.command ≡ c → refused w.base.setting (story_of w) c ≡ None
 accepted_in w h c whole there is =
     let inhand : InHand w.base (story_of w) (blocks_of_state w) w.words h = subst (λ (o : Option Hand). IfSome o (InHand w.base (story_of w) (blocks_of_state w) w.words)) there whole.keeper.hand in
     subst (λ (d : Command). refused w.base.setting (story_of w) d ≡ None) is inhand.accepted
 
--- the room of the log doesn't matter where no command is in hand
+-- the room of the log doesn't matter where there is no current command
 pub consistent_log_room : (w : State) (hand : Option Command) (steps : ℕ) (standings : List Standing) (u : Summary) (room : Room) → IsConsistent w hand steps standings u room → w.keeper.hand ≡ None → (log : ℕ)
     → IsConsistent w hand steps standings u record room { log = log }
 consistent_log_room w hand steps standings u room consistent none log = record {

@@ -9,15 +9,15 @@ use Rattle.map_core.proofs.accounts.TimesLemmas.{times-append}
 use Rattle.shelf.specs.declared.store_entry.StoreEntry.{StoreEntry}
 use Rattle.shelf.specs.Roles.{entries, made_by}
 
--- a seat's log is a beginning of itself
+-- a seat's log is a prefix of itself
 pub prefix-itself : (log : List StoreEntry) → IsPrefix log log
 prefix-itself log = ([], append-nil log)
 
--- a beginning of a log is also a beginning of the log with one more entry
+-- a prefix of a log is also a prefix of the log with one more entry
 pub prefix-push : (seen log : List StoreEntry) (e : StoreEntry) → IsPrefix seen log → IsPrefix seen (log ++ e ∷ [])
 prefix-push seen log e p = (p.0 ++ e ∷ [], sym (append_assoc seen p.0 (e ∷ [])) ∙ ap (λ (l : List StoreEntry). l ++ e ∷ []) p.1)
 
--- a beginning of a log, without its callers, is a beginning of the log without callers
+-- a prefix of a log, without its callers, is a prefix of the log without callers
 pub prefix-entries : (seen log : List StoreEntry) → IsPrefix seen log → IsBeginning (entries seen) (entries log)
 prefix-entries seen log p = record { rest = entries p.0; whole = sym (map-append (λ (e : StoreEntry). e.entry) seen p.0) ∙ ap entries p.1 }
 

@@ -32,7 +32,7 @@ keeper_role old new k was is =
 pub keeper_now : (old new : Me Request Role) (k : KeeperView) → new ≡ (keeping k, old.1) → keeper_in new.0 ≡ k
 keeper_now old new k is = ap (λ (m : Me Request Role). keeper_in m.0) is
 
--- once a command is in hand, what the keeper's seat keeps is what its view says, with a flag for a publish
+-- once there is a current command, what the keeper's seat keeps is what its view says, with a flag for a publish
 pub says_ordered : (z : Base) (k : KeeperView) (place version slot : ℕ) (publishes unmet : Bool) (a : Request) → KeeperSays z k place version slot publishes unmet
     → refused z.setting (story z (entries k.log)) a.command ≡ None → KeeperSays z (with_command k a.by a.command) place version slot (is_publish a.command) unmet
 says_ordered z k place version slot publishes unmet a says accepted =
@@ -46,7 +46,7 @@ says_ordered z k place version slot publishes unmet a says accepted =
       unmet_is = says.unmet_is;
     }
 
--- once more is done of the command in hand, what the keeper's seat keeps is still what its view says
+-- once more is done of the current command, what the keeper's seat keeps is still what its view says
 pub says_on : (z : Base) (k : KeeperView) (place version slot : ℕ) (publishes unmet : Bool) (t u : Task) → KeeperSays z k place version slot publishes unmet → k.task ≡ Some t → t.hand.command ≡ u.hand.command
     → KeeperSays z (record k { task = Some u }) place version slot publishes unmet
 says_on z k place version slot publishes unmet t u says task same =

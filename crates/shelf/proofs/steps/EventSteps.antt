@@ -109,7 +109,7 @@ scan_event z s r id t at task collect more =
     (λ q below none. seated_set s.views id (keeping r.k) (keeping u) (r.seats.owner q) (HasReader q) at (λ e. absurd e) (r.seats.seated q below none)) tt (mine.0, refl)
     (λ x else f. fits-task z r.k r.readers u.task x f) (λ seen p. p)))
 
--- the keeper's store of NOW, which commits the command in hand, is the core's event Keep
+-- the keeper's store of NOW, which commits the current command, is the core's event Keep
 commit_event : (z : Base) (s : State Request Role) (r : Agrees z s) (id : ℕ) (may : MayCommit z r.k) → get_elem? s.views id ≡ some (keeping r.k)
     → IsEvent z s r (after_step s now_at (now_of (story z (entries (committed z r.k may.task).log))) id (keeping (committed z r.k may.task))) Keep (says.Committed (signed_of z r.k may.task).entry.reply)
 commit_event z s r id may at =

@@ -31,11 +31,11 @@ pub keeper_knows : (z : Base) (s : State Request Role) (r : Agrees z s) (id : �
     → (id ≡ r.seats.keeper) × (k ≡ r.k)
 keeper_knows z s r id v k at role = subst (Knows z r.k r.readers r.seats.keeper r.seats.owner id) role (r.seats.each_seat id v at)
 
--- a reader fits the keeper whatever command this has in hand
+-- a reader fits the keeper whatever command this has
 pub fits-task : (z : Base) (k : KeeperView) (readers : List Reader) (task : Option Task) (x : ReaderView) → Fits z k readers x → Fits z record k { task = task } readers x
 fits-task z k readers task x f = record { dealt = f.dealt; here = f.here; there = f.there; began = f.began; held = f.held; all_seen = f.all_seen; counted = f.counted }
 
--- the rule holds still where the command in hand becomes another, or more of it is done
+-- the rule holds still where the current command becomes another, or more of it is done
 task_moves : (z : Base) (s : State Request Role) (r : Agrees z s) (id : ℕ) (words : List ℕ) (l : KeeperView) (task : Option Task) → get_elem? s.views id ≡ some (keeping l) → id ≡ r.seats.keeper
     → IsWhole (core_of z words record r.k { task = task } r.readers)
     → Agrees z record { words = words; homes = s.homes; views = set s.views id (keeping record r.k { task = task }) }
@@ -48,7 +48,7 @@ task_moves z s r id words l task at here whole = record {
       tt (here, refl) (λ x else f. fits-task z r.k r.readers task x f) (λ seen p. p);
 }
 
--- the core's state is whole with the command in hand that the keeper's view has
+-- the core's state is whole with the current command that the keeper's view has
 whole_in_hand : (z : Base) (words : List ℕ) (k : KeeperView) (readers : List Reader) (t : Task) → k.task ≡ Some t → IsWhole (core_of z words k readers)
     → IsWhole (in_hand (core_of z words k readers) (Some t.hand))
 whole_in_hand z words k readers t is whole = subst (λ (o : Option Task). IsWhole (in_hand (core_of z words k readers) (option_map (λ u. u.hand) o))) is whole
@@ -165,7 +165,7 @@ whole-committed z words k readers t word whole task all is =
     subst (λ (q : ℕ × List Entry). IsWhole record { base = z; words = set words now_at q.0; keeper = record { log = q.1; hand = None }; readers = readers }) (λ j. (sym now j, sym grown j))
     (keeps-commit (core_of z words k readers) t.hand (whole_in_hand z words k readers t task whole) all).whole
 
--- the keeper's store of NOW, which commits the command in hand, keeps the rule
+-- the keeper's store of NOW, which commits the current command, keeps the rule
 pub commits_it : (z : Base) (slots id word : ℕ) (me : Me Request Role) (k : KeeperView) → me.0 ≡ keeping k → (may : MayCommit z k)
     → word ≡ now_of (story z (entries (committed z k may.task).log))
     → Allows (Agrees z) slots id me now_at (λ _. word) (λ _. commits z (step slots now_at word 0 none) me word)

@@ -45,7 +45,7 @@ next_position z k0 k by p at word n slot is count inside slot_is place value =
     (place ∙ (ap (λ (i : ℕ). map_at z i p) slot_is ∙ sym (ap (λ (w : Write). w.at) same)))
     (value ∙ sym (ap (λ (w : Write). w.word) same))
 
--- a position with an own block has it at the place that own blocks before it count, also with the publish in hand
+-- a position with an own block has it at the place that own blocks before it count, also with the current publish
 pub is_own : (z : Base) (k0 k : KeeperView) (by n : ℕ) (own : List (Option ℕ)) (p j b : ℕ) → k ≡ writing k0 by n → own ≡ (blocks z (entries k0.log)).own → j ≡ length (own_list (take p own))
     → get_or own p None ≡ Some b → IsOwn z k j b p
 is_own z k0 k by n own p j b is own_is count there =

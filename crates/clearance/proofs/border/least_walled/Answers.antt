@@ -1,4 +1,4 @@
--- The frame's distances lower the limit, and the map's own obstacles are looked at below it.
+-- The frame's distances lower the limit, and the map's own obstacles are searched below it.
 use Rattle.clearance.proofs.Borders.{IsLeastBelow-wall}
 use Rattle.clearance.proofs.border.least_walled.Goals as goal
 

@@ -1,4 +1,4 @@
--- Where the border is a wall the nearest is that of the map with its frame.
+-- With a wall the nearest is that of the map with its frame.
 use Rattle.clearance.proofs.border.nearest_spot.Goals as goal
 
 pub returns-in-Wall-clause-near : goal.returns-in-Wall-clause-near

@@ -1,4 +1,4 @@
--- The obstacles less than so many rows away have been looked at.
+-- The obstacles less than this many rows away have been searched.
 use Rattle.std.proofs.Common.{◌≡◌, ◌-◌, ◌≤◌}
 use Rattle.clearance.specs.Nearest.{IsSought, IsWithin, limit_of}
 use Rattle.clearance.proofs.TileRows.{AreBandsLive}

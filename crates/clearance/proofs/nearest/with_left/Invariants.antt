@@ -1,4 +1,4 @@
--- The row's obstacles from this column on have been looked at.
+-- The row's obstacles from this column on have been searched.
 use Rattle.std.proofs.Common.{◌≡◌, ◌≤◌}
 use Rattle.clearance.specs.Nearest.{IsSought, IsSeenInRow}
 use Rattle.clearance.proofs.nearest.with_left.Given as goal

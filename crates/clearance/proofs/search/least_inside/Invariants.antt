@@ -1,4 +1,4 @@
--- The rectangle's rows above this one have been looked at.
+-- The rectangle's rows above this one have been searched.
 use Rattle.std.proofs.Common.{◌≡◌, ◌≤◌, ◌<◌}
 use Rattle.bits.specs.Cells.{IsObstacle}
 use Rattle.clearance.specs.Search.{IsLeastAmong}

@@ -1,4 +1,4 @@
--- The rows are looked at outwards.
+-- The rows are searched outwards.
 use Rattle.std.proofs.Common.{◌≡◌, ◌+◌, ◌-◌, ◌%◌, ◌∙◌, ℕ, ap, refl, arith}
 use Rattle.std.proofs.Math.ListN.{replicate}
 use Rattle.column.specs.Capped.{capped}

@@ -1,4 +1,4 @@
--- The rows less than so many rows away have been looked at.
+-- The rows less than this many rows away have been searched.
 use Rattle.std.proofs.Common.{◌≡◌, ◌+◌, ◌*◌, length}
 use Rattle.metric.specs.Edge.{shift}
 use Rattle.bits.specs.Cells.{IsBitmap}

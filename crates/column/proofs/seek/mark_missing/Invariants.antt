@@ -1,4 +1,4 @@
--- The columns of the words so far are looked at, and the others are as they were.
+-- The columns of the words so far are searched, and the others are as they were.
 use Rattle.std.proofs.Common.{◌≡◌, ℕ, ◌*◌, ◌<◌, ◌≤◌, get_or, length}
 use Rattle.column.specs.Marks.{AreMissing, is_marked, first_marked}
 use Rattle.column.proofs.seek.mark_missing.Given as goal

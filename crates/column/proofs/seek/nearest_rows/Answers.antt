@@ -1,4 +1,4 @@
--- The map's own columns are looked at, and the frame's are set.
+-- The map's own columns are searched, and the frame's are set.
 use Rattle.std.proofs.Common.{◌≡◌, ◌≤◌, ◌∙◌, length, arith, rules}
 use Rattle.metric.specs.Edge.{shift}
 use Rattle.column.proofs.Caps.{IsRowOfTable-framed, written_inside}

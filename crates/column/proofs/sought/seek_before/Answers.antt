@@ -1,4 +1,4 @@
--- The rows are looked at upwards.
+-- The rows are searched upwards.
 use Rattle.std.proofs.Common.{ℕ, ◌+◌, ◌-◌, ◌≡◌, ◌∙◌, ap, arith, refl}
 use Rattle.std.proofs.Math.ListN.{replicate}
 use Rattle.column.specs.Capped.{capped}

@@ -1,4 +1,4 @@
--- The rows are looked at downwards.
+-- The rows are searched downwards.
 use Rattle.std.proofs.Common.{ℕ, ◌∙◌, ap, arith, refl}
 use Rattle.std.proofs.Math.ListN.{replicate}
 use Rattle.column.specs.Capped.{capped}

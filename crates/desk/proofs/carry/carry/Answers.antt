@@ -1,4 +1,4 @@
--- A command is taken in hand, worked and committed.
+-- A command is taken, worked and committed.
 use Rattle.desk.proofs.CarryLemmas.{accepted, carried, may_commit, slot_told, taken_in_hand}
 use Rattle.desk.proofs.carry.carry.Goals as goal
 use Rattle.shelf.specs.Roles.{KeeperView}

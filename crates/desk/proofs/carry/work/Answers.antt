@@ -1,4 +1,4 @@
--- A command in hand of one step is worked once what it does is done.
+-- A current command of one step is worked once what it does is done.
 use Rattle.std.proofs.Common.{refl}
 use Rattle.desk.proofs.CarryLemmas.{drawn_once, worked_at_once}
 use Rattle.desk.proofs.HoldOpen.{can_answer}

@@ -1,4 +1,4 @@
--- Another request and its reply follow those of the lines before; where a call fails, a beginning of them has passed.
+-- Another request and its reply follow those of the lines before; where a call fails, a prefix of them has passed.
 use Rattle.std.proofs.Common.{◌∙◌, rules}
 use Rattle.std.proofs.lemmas.Result.{err_from_is_err_and}
 use Rattle.engines.proofs.Gathering.{PassesOn-both, PassesFront-both}

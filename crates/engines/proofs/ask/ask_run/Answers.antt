@@ -1,4 +1,4 @@
--- A run that ends early has written a beginning of what the server said, and then why it ends.
+-- A run that ends early has written a prefix of what the server said, and then why it ends.
 use Rattle.std.proofs.Common.{refl, rules}
 use Rattle.engines.proofs.Gathering.{BreaksOff-stop, EndsEarly-line}
 use Rattle.engines.proofs.Talks.{Converses-done, Converses-stop}

@@ -1,4 +1,4 @@
--- Words that the program takes are refused only for want of memory, since the program that was built is the one of the rules.
+-- Words that the program takes are refused only when out of memory, since the program that was built is the one of the rules.
 use Rattle.std.proofs.Common.{◌≡◌, true, subst, IfErr}
 use Rattle.clap.specs.Words.{kind_of, takes}
 use Rattle.clap.specs.Simple.{App}

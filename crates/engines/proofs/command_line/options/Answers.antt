@@ -1,4 +1,4 @@
--- What the words ask is read from the matches of `clap`, and words that `clap` takes are refused only for want of memory.
+-- What the words ask is read from the matches of `clap`, and words that `clap` takes are refused only when out of memory.
 use Rattle.std.proofs.Common.{ap, refl, ◌∙◌}
 use Rattle.std.proofs.lemmas.Bool.{false≢true}
 use Rattle.std.proofs.lemmas.Result.{err_from_is_err_and}

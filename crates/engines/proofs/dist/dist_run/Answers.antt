@@ -1,4 +1,4 @@
--- What is written is the answer to the image that was read, or a beginning of it where a write failed; a fault, or want of memory, is an answer too.
+-- What is written is the answer to the image that was read, or a prefix of it where a write failed; a fault, or out of memory, is an answer too.
 use Rattle.std.proofs.Common.{◌++◌, ◌∷◌, [], OnOk, OnErr}
 use Rattle.metric.specs.Refusal.{image_text}
 use Rattle.metric.specs.Stream.{Appends, AppendsFront}

@@ -1,4 +1,4 @@
--- A write that failed leaves a beginning of the answer: a reply's text, or the line of a fault.
+-- A write that failed leaves a prefix of the answer: a reply's text, or the line of a fault.
 use Rattle.std.proofs.lemmas.Result.{on_err_weaker}
 use Rattle.engines.proofs.Answering.{asked_of_reply, map_wanting_front, map_wanting_whole}
 use Rattle.engines.proofs.dist.write_answer.Goals as goal

@@ -1,4 +1,4 @@
--- A write that failed leaves a beginning of the answer: a table's lines, or the line of want of memory.
+-- A write that failed leaves a prefix of the answer: a table's lines, or the line for out of memory.
 use Rattle.std.proofs.lemmas.Result.{on_err_weaker}
 use Rattle.engines.specs.dist.Table.{table_text}
 use Rattle.engines.proofs.Answering.{asked_of_table, map_wanting_front, map_wanting_whole}

@@ -1,4 +1,4 @@
--- A refused store is told in one line: its setting's first field that is out of its limits, or else want of memory.
+-- A refused store is told in one line: its setting's first field that is out of its limits, or else out of memory.
 use Rattle.engines.proofs.ServingLemmas.{lacking_front, lacking_whole, memory_alone, told_setting}
 use Rattle.engines.proofs.serve.serve_at.Goals as goal
 

@@ -1,4 +1,4 @@
--- Where there is no memory for the sessions, the line of want of memory is written, or a beginning of it.
+-- Where there is no memory for the sessions, the line for out of memory is written, or a prefix of it.
 use Rattle.engines.proofs.ServingLemmas.{lacking_front}
 use Rattle.engines.proofs.serve.serve_blank.Goals as goal
 

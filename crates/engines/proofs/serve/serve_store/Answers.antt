@@ -1,4 +1,4 @@
--- What is written is the port and then the counts, or a line that says why nothing is served. A write that fails leaves a beginning of it.
+-- What is written is the port and then the counts, or a line that says why nothing is served. A write that fails leaves a prefix of it.
 use Rattle.std.proofs.Common.{◌∙◌, List, ℕ, OnOk, OnErr, subst}
 use Rattle.metric.specs.Stream.{Appends, AppendsFront}
 use Rattle.engines.proofs.ServingLemmas.{lacking_front, port_front, served_front, served_whole, stopped_front, stopped_whole}

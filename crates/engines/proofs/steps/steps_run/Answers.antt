@@ -1,4 +1,4 @@
--- Where memory is wanting its line is the whole answer, or a beginning of that line is written where the write failed.
+-- Where memory is wanting its line is the whole answer, or a prefix of that line is written where the write failed.
 use Rattle.engines.proofs.StepAnswering.{memory_answered, memory_told_in_part}
 use Rattle.engines.proofs.steps.steps_run.Goals as goal
 

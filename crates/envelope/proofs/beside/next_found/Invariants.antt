@@ -1,4 +1,4 @@
--- The cells that are looked at lie further right, at growing distances.
+-- The cells that are searched lie further right, at growing distances.
 use Rattle.std.proofs.Common.{◌-◌, ◌<◌, ◌≤◌, length}
 use Rattle.envelope.proofs.beside.next_found.Given as goal
 

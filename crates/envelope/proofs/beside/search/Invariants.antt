@@ -1,4 +1,4 @@
--- The places less than k columns away have been looked at.
+-- The places less than k columns away have been searched.
 use Rattle.std.proofs.Common.{◌-◌, ◌+◌, ◌≤◌}
 use Rattle.envelope.specs.Beside.{AreBestNear}
 use Rattle.envelope.proofs.beside.search.Given as goal

@@ -1,4 +1,4 @@
--- The column in hand counts only where it has an obstacle.
+-- The current column counts only if it has an obstacle.
 use Rattle.std.proofs.Common.{inl, inr, arith}
 use Rattle.std.proofs.lemmas.Bool.{cases_lt}
 use Rattle.envelope.proofs.scan.are_many_far.Goals as goal

@@ -1,4 +1,4 @@
--- The row in hand stands after those so far.
+-- The current row comes after those so far.
 use Rattle.std.proofs.Common.{◌≡◌, ◌+◌, ◌∙◌, length, arith, rules}
 use Rattle.field.proofs.BandLemmas.{put_behind}
 use Rattle.field.proofs.RowLemmas.{AreAnswers-more}

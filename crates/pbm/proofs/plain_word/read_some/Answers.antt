@@ -1,4 +1,4 @@
--- So many of the digits as are wanted.
+-- As many of the digits as are wanted.
 use Rattle.std.proofs.Common.{◌≡◌, ◌-◌, take, drop, length, arith, length-drop}
 use Rattle.std.proofs.lemmas.List.{take_all}
 use Rattle.pbm.proofs.Digits.{AreSomeRead-digits}

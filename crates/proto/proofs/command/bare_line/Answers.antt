@@ -1,4 +1,4 @@
--- A line that takes no argument says nothing where an argument is left.
+-- A line that takes no argument says nothing if an argument is left.
 use Rattle.std.proofs.Common.{sym}
 use Rattle.proto.specs.Said.{said_by}
 use Rattle.proto.proofs.Alone.{alone-left}

@@ -1,4 +1,4 @@
--- So many readers are dealt, by number, and there is room for the others.
+-- This many readers are dealt, by number, and there is capacity for the others.
 use Rattle.std.proofs.Common.{◌≡◌, ◌≤◌, [], vec_capacity}
 use Rattle.std.specs.Arc.{arc_value}
 use Rattle.shelf.specs.Roles.{keeping, resting}

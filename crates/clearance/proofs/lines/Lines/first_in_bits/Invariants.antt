@@ -1,4 +1,4 @@
--- The rows less than so many rows away from the lines that are left have been looked at.
+-- The rows less than `gap` rows away from the remaining lines have been searched.
 use Rattle.std.proofs.Common.{◌≡◌, ◌-◌, ◌<◌, ◌≤◌}
 use Rattle.clearance.specs.Lines.{IsFirstAmong, IsRectOf}
 use Rattle.clearance.specs.Search.{row_gap}

@@ -1,4 +1,4 @@
--- The rows of the lines before this one have been looked at.
+-- The rows of the lines before this one have been searched.
 use Rattle.std.proofs.Common.{◌≡◌}
 use Rattle.clearance.specs.Lines.{IsFirstAmong, IsLineRow, IsRectOf}
 use Rattle.clearance.proofs.lines.Lines.first_inside.Given as goal

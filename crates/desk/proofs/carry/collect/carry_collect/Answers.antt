@@ -1,4 +1,4 @@
--- A collect in hand is worked: each call finds what it needs, and the log and the grid agree after them.
+-- A current collect is worked: each call finds what it needs, and the log and the grid agree after them.
 use Rattle.std.proofs.Common.{ap, ◌∙◌}
 use Rattle.map_core.specs.declared.command.Command.TheVariants.{Collect}
 use Rattle.map_core.specs.declared.setting.Setting.{Setting}

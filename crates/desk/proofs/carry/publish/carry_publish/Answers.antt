@@ -1,4 +1,4 @@
--- A publish in hand is worked: each call finds what it needs, and what is held is answered after them.
+-- A current publish is worked: each call finds what it needs, and what is held is answered after them.
 use Rattle.std.proofs.Common.{refl}
 use Rattle.map_core.specs.declared.command.Command.TheVariants.{Publish}
 use Rattle.desk.proofs.CarryLemmas.{has_task}

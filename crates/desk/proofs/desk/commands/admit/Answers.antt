@@ -1,4 +1,4 @@
--- Want of memory comes after the other refusals.
+-- Out of memory comes after all other refusals.
 use Rattle.std.proofs.Common.{refl, sym, ◌∙◌}
 use Rattle.std.proofs.lemmas.Result.{err_from_is_err_and}
 use mathlib.Core.Logic.{inr}

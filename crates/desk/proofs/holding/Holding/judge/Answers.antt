@@ -1,4 +1,4 @@
--- A command is refused by the ledger, or judged for want of blocks.
+-- A command is refused by the ledger, or judged for free blocks.
 use Rattle.std.proofs.Common.{sym, ◌∙◌}
 use Rattle.desk.proofs.HoldDraw.{judged_why}
 use Rattle.desk.proofs.holding.Holding.judge.Goals as goal

@@ -1,4 +1,4 @@
--- A command is judged for want of blocks, by its kind.
+-- A command is judged for free blocks, by its kind.
 use Rattle.std.proofs.lemmas.Result.{err_from_is_err_and}
 use Rattle.desk.proofs.HoldDraw.{drawing_why}
 use Rattle.desk.proofs.holding.Holding.judge_blocks.Goals as goal

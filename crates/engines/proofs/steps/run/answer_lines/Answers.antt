@@ -1,4 +1,4 @@
--- Another line is done and its answer is written after those before it; where its write fails, a beginning of them is.
+-- Another line is done and its answer is written after those before it; where its write fails, a prefix of them is.
 use Rattle.std.proofs.Common.{refl, ◌∙◌}
 use Rattle.std.proofs.lemmas.Result.{err_from_is_err_and}
 use Rattle.engines.proofs.Hearing.{IsHeard-nothing, IsHeard-more, IsHeard-part}

@@ -1,4 +1,4 @@
--- So many steps were done, of which the last has this answer.
+-- This many steps were done, of which the last has this answer.
 use Rattle.engines.specs.steps.Steps.{Keeps}
 use Rattle.engines.proofs.steps.run.keep.Given as goal
 

@@ -1,4 +1,4 @@
--- A write that failed leaves a beginning of the answer: the line of a refusal, or the answers of the world that was opened.
+-- A write that failed leaves a prefix of the answer: the line of a refusal, or the answers of the world that was opened.
 use Rattle.std.proofs.Common.{ap, Err}
 use Rattle.std.proofs.lemmas.Result.{on_err_weaker}
 use Rattle.engines.specs.steps.Opening.{opened_by}

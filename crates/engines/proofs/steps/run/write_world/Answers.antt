@@ -1,4 +1,4 @@
--- The first answer is written and then those to the lines; a write that fails leaves a beginning of them.
+-- The first answer is written and then those to the lines; a write that fails leaves a prefix of them.
 use Rattle.std.proofs.Common.{◌∙◌}
 use Rattle.std.proofs.lemmas.Result.{err_from_is_err_and}
 use Rattle.engines.proofs.Telling.{told_whole, told_in_part, told_first, told_all}

@@ -1,4 +1,4 @@
--- Where a write fails, a beginning of the line is written: some of the title, or all of it and some of the name.
+-- Where a write fails, a prefix of the line is written: some of the title, or all of it and some of the name.
 use Rattle.std.proofs.lemmas.Result.{err_from_is_err_and, on_err_weaker}
 use Rattle.engines.proofs.RefusalLines.{front_first, front_second}
 use Rattle.engines.proofs.streams.output.write_named.Goals as goal

@@ -1,4 +1,4 @@
--- Where a write fails, a beginning of the two texts is written: some of the first, or all of it and some of the second.
+-- Where a write fails, a prefix of the two texts is written: some of the first, or all of it and some of the second.
 use Rattle.std.proofs.lemmas.Result.{err_from_is_err_and, on_err_weaker}
 use Rattle.engines.proofs.RefusalLines.{front_first, front_second}
 use Rattle.engines.proofs.streams.output.write_pair.Goals as goal

@@ -1,4 +1,4 @@
--- Where the flush fails the whole line is written, and that is a beginning of itself.
+-- Where the flush fails the whole line is written, and that is a prefix of itself.
 use Rattle.std.proofs.Common.{ap, sym, ◌∙◌, ◌≡◌, ◌++◌}
 use Rattle.std.proofs.lemmas.Result.{err_from_is_err_and}
 use Rattle.metric.specs.Refusal.{refusal_text}

@@ -1,4 +1,4 @@
--- A write that is made to fail leaves a beginning of the bytes: the first half of them, or none.
+-- A write that is made to fail leaves a prefix of the bytes: the first half of them, or none.
 use Rattle.std.proofs.Common.{◌/◌, length, is_ok}
 use Rattle.metric.proofs.Fronts.{AppendsFront-tried}
 use Rattle.metric.proofs.memory.MemorySinkSink.write_all.Goals as goal

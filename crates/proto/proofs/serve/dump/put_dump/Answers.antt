@@ -1,4 +1,4 @@
--- What was written before a failed write is a beginning of the reply line and the image together.
+-- What was written before a failed write is a prefix of the reply line and the image together.
 use Rattle.std.proofs.lemmas.Result.{err_from_is_err_and}
 use Rattle.pbm.specs.declared.header.Form.TheVariants.{Plain}
 use Rattle.pbm.specs.Writing.{front_text, plain_text}

@@ -1,4 +1,4 @@
--- A fresh desk is let go: all blocks come back.
+-- A fresh desk is dropped: all blocks come back.
 use Rattle.desk.proofs.HoldOpen.{all_back}
 use Rattle.desk.proofs.desk.fresh.FreshDesk.discard.Goals as goal
 

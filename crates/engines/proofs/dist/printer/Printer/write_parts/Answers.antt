@@ -1,4 +1,4 @@
--- Each part's text follows that of the parts before it; where its write fails, a beginning of all of them is written.
+-- Each part's text follows that of the parts before it; where its write fails, a prefix of all of them is written.
 use Rattle.std.proofs.Common.{◌≡◌, ◌+◌, ◌-◌, ◌*◌, ◌∙◌, refl, min, arith}
 use Rattle.std.proofs.lemmas.Result.{err_from_is_err_and}
 use Rattle.metric.proofs.Appending.{Appends-nothing}

@@ -1,4 +1,4 @@
--- The rows of the table begin with row 0, and no distance is the number for none.
+-- The rows of the table start with row 0, and no distance is the number for none.
 use Rattle.std.proofs.Common.{List, Option, subst}
 use Rattle.metric.specs.declared.near.Near.{Near}
 use Rattle.field.specs.Obstacles.{AreMeasured}

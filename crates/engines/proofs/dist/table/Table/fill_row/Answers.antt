@@ -1,4 +1,4 @@
--- The rows of the table begin with row 0.
+-- The rows of the table start with row 0.
 use Rattle.std.proofs.Common.{◌∙◌}
 use Rattle.engines.proofs.MeasuredLines.{row_of_table}
 use Rattle.engines.proofs.dist.table.Table.fill_row.Goals as goal
