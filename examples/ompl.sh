@@ -5,7 +5,7 @@
 # Needs the header: ompl/geometric/planners/rrt/RRTstar.h
 . "$(dirname "$0")/setup.bash"
 
-# 3 by 2 m, 0.05 m a cell: walls round it, and one across it with a door of 0.6 m near the top.
+# 3 by 2 m, 0.05 m a cell: walls around it, and one across it with a door of 0.6 m near the top.
 {
     printf 'P1\n60 40\n'
     for y in $(seq 0 39); do

@@ -5,8 +5,8 @@
 # Needs g++: g++
 . "$(dirname "$0")/setup.bash"
 
-# A map of 2 by 1 m, 0.05 m a cell, as map_saver writes it: walls round it, a pillar, and an unknown
-# corner.
+# A map of 2 by 1 m, 0.05 m a cell, as map_saver writes it: walls around it, a pillar, and an
+# unknown corner.
 awk 'BEGIN { printf "P5\n# CREATOR: map_saver.cpp 0.050 m/pix\n40 20\n255\n" }' > "$scratch/map.pgm"
 for y in $(seq 0 19); do
     for x in $(seq 0 39); do

@@ -449,7 +449,7 @@ static void try_pack_statuses(void) {
     CHECK(strcmp(clearmap_version(), CLEARMAP_VERSION) == 0);
 }
 
-/* ---- Want of memory -------------------------------------------------------------------------- */
+/* ---- Out of memory --------------------------------------------------------------------------- */
 
 static uint32_t rows_call(int which, clearmap_near *nears, uint32_t *distances) {
     static const clearmap_bytes by = {3, 2, 3, 1, 1};

@@ -126,7 +126,7 @@ static void gone_together(int maps) {
     }
 }
 
-/// The obstacle at (150, 150) goes with its neighbours. The first window round its 15 by 15 cells
+/// The obstacle at (150, 150) goes with its neighbours. The first window around its 15 by 15 cells
 /// has the columns and rows 128 to 172: one nearest obstacle is a step outside of it, and the
 /// other, inside, is farther, or as near and goes second. The last is in the second window: some
 /// cells know of it, and some don't.

@@ -72,7 +72,7 @@ static bool covers(const std::vector<detail::Corner>& corners, int x, int y) {
     return true;
 }
 
-/// Whether a covered cell is an obstacle, among the cells of the map and 40 round it.
+/// Whether a covered cell is an obstacle, among the cells of the map and 40 around it.
 static bool model_hits(const Map& map, const std::vector<Point>& points, const At& pose) {
     const std::vector<detail::Corner> corners = corners_at(points, pose);
     const Size size = map.size();

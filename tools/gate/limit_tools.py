@@ -94,7 +94,7 @@ class Line:
         return bool(data)
 
     def reply(self):
-        """The next reply line; nothing where the connection ends before it."""
+        """The next reply line; none if the connection ends before it."""
         while b"\n" not in self.come:
             if not self.more():
                 return None

@@ -26,7 +26,7 @@ ALLOWED = {
     # `Region::new` answers None where its one request is refused, and nowhere else: it is proved by
     # hand.
     ("arena/src/arena.rt", "return Err(Refusal::Memory);"),
-    # Both ask for the reason as a condition: an error of std's of that kind, and a refusal for
+    # Both require the reason: an error of std's of that kind, and a refusal for
     # that.
     ("metric/src/refusal.rt", "Refusal::Memory"),
     ("metric/src/fault.rt", "PbmFault::Memory"),

@@ -27,9 +27,13 @@ PLAINER = {
     r"beg(ins?|an|un|inning) with": "start with",
     r"whence|thereof|hitherto|therein": "say it in other words",
     r"spare[sd]?": "save, do without",
-    r"want of (memory|room|blocks)": "out of memory, no room, too few blocks",
+    r"want of (memory|room|blocks|an? \w+)": "out of memory, a full log, too few free blocks",
     r"so (many|much)": "how many it is, or that many",
     r"seldom": "rarely",
+    r"near at hand": "in cache",
+    r"conditions?(?=:)": "say what it requires",
+    r"loopback alone": "only on loopback",
+    r"nothing where": "none if",
 }
 SCRIPTS = (".py", ".sh", ".cpp", ".hpp", ".c", ".rs", ".rt.in", ".js", ".html", ".bash", ".service", "Makefile", "/run", "clearmap", "_to_pgm", "more_edits")
 MOST_WORDS = 45
@@ -39,7 +43,7 @@ VERBS = (
     "stands stand lies lie comes come ends end begins begin starts start takes take makes make shows show means mean goes go needs need reads read writes write tells tell equals equal adds add "
     "lets let sees see knows know finds find counts count changes change becomes become follows follow agrees agree belongs fits fit moves move grows grow loses lose brings bring covers "
     "splits turns turn computes proves decides differs differ answers answer maps refuses accepts wants want fails fail reaches reach falls fall rises loads load stores store draws draw "
-    "returns return contains contain spells spell looks look drops drop asks ask works work puts put passes pass joins join sets set ranges bounds bound exceeds costs extends keeps meets meet"
+    "returns return contains contain spells spell looks look drops drop asks ask works work puts put passes pass joins join sets set ranges bounds bound exceeds costs extends keeps meets meet report reports"
 ).split()
 
 

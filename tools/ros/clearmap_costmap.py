@@ -155,7 +155,7 @@ def squares_of(pinned: clearmap.Pinned, program: str) -> "Squares":
 
 
 def by_runs(pinned: clearmap.Pinned, program: str) -> "Squares":
-    """The same by the program. A dump doesn't say whether the border is a wall: the server is asked
+    """The same by the program. A dump doesn't say whether the edge is a wall: the server is asked
     about a cell of the border whose answer tells it."""
     image = pinned.dump()
     found = by_program(program, image, clearmap.EUCLID2, clearmap.OPEN)
@@ -167,9 +167,9 @@ def by_runs(pinned: clearmap.Pinned, program: str) -> "Squares":
 
 
 def telling(squares: "Squares") -> Optional[Tuple[int, int]]:
-    """A cell of the border that has another distance where the border is a wall, which is then 1.
-    None where there is no such cell; then no other cell has another distance either, as what is
-    next to a cell of the border isn't farther than the frame from any cell."""
+    """A cell of the border that has another distance with a wall, which is then 1. None if there is
+    no such cell; then no other cell has another distance either, as what is next to a cell of the
+    border isn't farther than the frame from any cell."""
     border = numpy.zeros(squares.shape, bool)
     border[[0, -1]] = border[:, [0, -1]] = True
     rows, columns = numpy.nonzero(border & (squares > 1))

@@ -55,7 +55,7 @@ class Follower:
         self._wanted.set()
 
     def stop(self) -> None:
-        """Ends the looks; one that is being made is let go on."""
+        """Ends the looks; a look in progress may finish."""
         self._is_ended = True
         self._wanted.set()
 

@@ -345,8 +345,8 @@ class Frame:
         return self.middle(cell)
 
     def middle(self, cell: Cell) -> Tuple[float, float]:
-        """The centre of a cell, in metres, also of one that lies around the map: an obstacle where
-        the border is a wall."""
+        """The centre of a cell, in metres, also of one that lies around the map: an obstacle if the
+        edge is a wall."""
         x, y = cell
         half = Fraction(1, 2)
         return float(self.origin_x + (x + half) * self.resolution), float(self.origin_y + (self.height - 1 - y + half) * self.resolution)

@@ -64,7 +64,7 @@ class Following(unittest.TestCase):
 
     def test_versions(self):
         """Each version is shown once; of several between two looks, the newest. Random maps agree
-        with a search, also where the border is a wall."""
+        with a search, also with a wall."""
         draw = random.Random(14)
         for turn in range(6):
             self.shown.clear()

@@ -101,7 +101,7 @@ def differing(before: "Cells", drawn: Iterable[Tuple[Sequence[int], bool]], afte
 
 def telling_cell(bits: "Cells") -> Optional[Tuple[int, int]]:
     """A cell on the border of a map all of whose neighbours are free: its nearest obstacle is one
-    step away by `chess` just where the border is a wall. None where there is no such cell; then no
+    step away by `chess` exactly if the edge is a wall. None where there is no such cell; then no
     cell of the border is farther than that from an obstacle anyway."""
     height, width = bits.shape
     sides = (

@@ -25,7 +25,7 @@ NO_ROOM = (215, 25, 28)
 
 
 def house():
-    """A map's samples as map_saver writes them: walls round it, one in the middle with a door, and
+    """A map's samples as map_saver writes them: walls around it, one in the middle with a door, and
     a corner that isn't known."""
     samples = numpy.full((HEIGHT, WIDTH), 254, numpy.uint8)
     samples[0] = samples[-1] = samples[:, 0] = samples[:, -1] = 0

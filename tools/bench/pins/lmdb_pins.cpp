@@ -1,4 +1,4 @@
-// Counts and times renewals and resets of LMDB's read transactions, which pin and let go of its
+// Counts and times renewals and resets of LMDB's read transactions, which pin and release its
 // newest snapshot, next to one thread that commits.
 //   lmdb_pins FOLDER READERS SECONDS
 // For SECONDS seconds each reader counts them, and for as many it times each. A line for each

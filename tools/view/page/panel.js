@@ -13,7 +13,7 @@ export function say(text, refused = false) {
   timer = setTimeout(() => { by("said").hidden = true; }, after);
 }
 
-/** Says what is being waited for; nothing where the text is empty. */
+/** Says what is being waited for; nothing if the text is empty. */
 export function wait(text) {
   by("busy").textContent = text;
   by("busy").hidden = !text;
