@@ -203,7 +203,7 @@ uint32_t clearmap_bits_at(const uint64_t *words, size_t words_length, const clea
 
 /*
  * Writes the first cell with the least distance in columns x0 to x1 - 1 of rows y0 to y1 - 1, in
- * row-major order, and its nearest obstacle; none where the map has no obstacle.
+ * row-major order, and its nearest obstacle; none if the map has no obstacle.
  * Status: SIZE, STRIDE, LENGTH, METRIC, EDGE, OUTSIDE.
  */
 uint32_t clearmap_bytes_rect(const uint8_t *bytes, size_t bytes_length, const clearmap_bytes *map,
@@ -214,8 +214,8 @@ uint32_t clearmap_bits_rect(const uint64_t *words, size_t words_length, const cl
                             uint32_t y1, clearmap_found *found);
 
 /*
- * Writes the first cell with the least distance along a path, and its nearest obstacle; none where
- * the map has no obstacle. A path is 1 to 1000 points, each in the row or the column of the point
+ * Writes the first cell with the least distance along a path, and its nearest obstacle; none if the
+ * map has no obstacle. A path is 1 to 1000 points, each in the row or the column of the point
  * before it; its cells are the first point, and then those after each point up to the next.
  * Status: SIZE, STRIDE, LENGTH, METRIC, EDGE, POINTS, OUTSIDE, CROOKED.
  */
@@ -228,7 +228,7 @@ uint32_t clearmap_bits_path(const uint64_t *words, size_t words_length, const cl
 
 /*
  * Writes the first cell along a path whose distance is below d, in the unit of the metric, and its
- * nearest obstacle; none where the path is clear.
+ * nearest obstacle; none if the path is clear.
  * Status: that of a path.
  */
 uint32_t clearmap_bytes_clear_of(const uint8_t *bytes, size_t bytes_length,

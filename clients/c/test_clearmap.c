@@ -5,7 +5,7 @@
  *     test_clearmap [MAPS]      how many random maps, 40 if it is left out; with over 5 also the
  *                               largest map
  *
- * Linked with -Wl,--wrap=malloc. Its last line has counts; its status is 1 where one is wrong.
+ * Linked with -Wl,--wrap=malloc. Its last line has counts; its status is 1 if one is wrong.
  */
 #define _POSIX_C_SOURCE 200112L
 #include "clearmap.h"

@@ -1,5 +1,5 @@
 #!/usr/bin/env python3
-"""Writes the package's wheel, with the only the standard library, so that nothing is fetched.
+"""Writes the package's wheel, with only the standard library, so that nothing is fetched.
 
     build_wheel.py FOLDER
 

@@ -72,7 +72,7 @@ def box_of(corners):
 
 
 def model_hits(grid, edge, points, resolution, pose):
-    """Whether a covered cell is an obstacle, or lies around the grid where the edge is a wall."""
+    """Whether a covered cell is an obstacle, or is around the grid if the edge is a wall."""
     height, width = grid.shape
     corners = corners_at(points, resolution, pose)
     x0, y0, x1, y1 = box_of(corners)

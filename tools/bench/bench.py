@@ -3,7 +3,7 @@
 
 Both write the same text at the end.
 
-Six maps (one obstacle; 0.1, 1 and 20 per cent of the cells at random; obstacles alone; a floor plan
+Six maps (one obstacle; 0.1, 1 and 20 per cent of the cells at random; obstacles only; a floor plan
 of rooms with doors) in several sizes, each with a fixed seed, are written as raw PBM. For each map
 the programs run in turn, round by round: `dist`, `dist --workers 4`, `dist --nearest`, and
 `scipy_dist.py`, which reads the same file and writes the same lines. All read from and write to

@@ -1,5 +1,5 @@
 #!/usr/bin/python3
-# Debian's own python3, as its packages python3-numpy and python3-scipy are for that one alone.
+# Debian's own python3, as its packages python3-numpy and python3-scipy are only for that one.
 """Compares what three programs wrote for one map: `check.py MAP DIST NEAREST OTHER`.
 
 The distances must be the same in all three, and each cell that NEAREST names must be an obstacle of

@@ -1,11 +1,11 @@
 #!/usr/bin/env python3
 """Measures how often planners of `clearmap serve` pin, ask and unpin next to a painter.
 
-All over loopback, in cycles a second.
+All over loopback, in cycles per second.
 
 The map is a floor plan of 4096 by 4096 cells. Each planner has a connection of its own, and waits
 for each reply, or sends the lines of five cycles at once and waits for their replies. Printed is a
-Markdown table: the cycles a second of all planners, and percentiles of a cycle, or of five, in
+Markdown table: the cycles per second of all planners, and percentiles of a cycle, or of five, in
 microseconds.
 
 Build the program first; `rustc` builds the clients (`cycles.rs`).

@@ -7,8 +7,8 @@
 //! a BATCH of 0 each line is sent after the reply before, otherwise the lines of BATCH cycles are
 //! sent in one write, and then their replies are read. The publisher paints or clears a cell,
 //! publishes and collects every millisecond; where old pins leave no slot the publish is refused.
-//! Printed: the cycles a second of all planners, the 50th and 99th percentile of a cycle or a batch
-//! in microseconds, and how many versions were published.
+//! Printed: the cycles per second of all planners, the 50th and 99th percentile of a cycle or a
+//! batch in microseconds, and how many versions were published.
 mod random;
 
 use random::below;

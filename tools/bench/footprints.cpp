@@ -1,7 +1,7 @@
-// Footprints by clearmap_footprint.hpp: nanoseconds a pose on a map and on a field, next to a look
-// at each covered cell, row by row in bytes, and at each obstacle in the polygon's box whether its
-// middle lies in the polygon, which isn't exact. The answers of the first three are compared. The
-// least of some rounds, one thread, 100,000 poses drawn at random.
+// Footprints by clearmap_footprint.hpp: nanoseconds per pose on a map and on a field, next to a
+// look at each covered cell, row by row in bytes, and at each obstacle in the polygon's box whether
+// its middle lies in the polygon, which isn't exact. The answers of the first three are compared.
+// The least of some rounds, one thread, 100,000 poses drawn at random.
 //     footprints IMAGE ROUNDS     a PBM image, as of a floor plan
 // Build: g++ -std=c++17 -O2 -pthread -I clients/c -I clients/cpp -o footprints
 //     tools/bench/footprints.cpp crates/libclearmap/out/libclearmap.a
@@ -87,7 +87,7 @@ struct Baseline {
     }
 };
 
-/// A way to ask, its answers, and nanoseconds a pose, the least of the rounds so far.
+/// A way to ask, its answers, and nanoseconds per pose, the least of the rounds so far.
 struct Way {
     std::function<bool(const Pose&)> hits;
     std::vector<char> told = {};

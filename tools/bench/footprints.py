@@ -1,6 +1,6 @@
 #!/usr/bin/python3
 """Times footprints: builds footprints.cpp and runs it, and the client in Python on the same maps, a
-floor plan and random cells of 1024 by 1024. Needs g++, numpy and the built library. Nanoseconds a
+floor plan and random cells of 1024 by 1024. Needs g++, numpy and the built library. Nanoseconds per
 pose, the least of some rounds; of `hits_many` 100,000 poses in a call."""
 import argparse
 import pathlib

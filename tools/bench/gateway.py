@@ -5,7 +5,7 @@ A floor plan is served with 16 workers, and a gateway has 8 of them. 950 clients
 the gateway and idle; half of them have a pin. Then 1 and 50 connections ask, one line or 16 at a
 time, and each reply is compared with what `clearmap dist --nearest` writes of the cell; a server
 can have no more clients than workers, so it is asked by 1 and 8. Redis has 1,000 connections.
-Printed is a Markdown table: requests a second, percentiles of a write's latency in microseconds,
+Printed is a Markdown table: requests per second, percentiles of a write's latency in microseconds,
 and the gateway's resident memory.
 
 Build the program and the library first; `rustc` builds the load generator (`load.rs`).
@@ -27,7 +27,7 @@ IDLE = 950
 
 
 def asked(load, port, connections, depth, requests, table):
-    """Requests a second and two percentiles; every reply is right."""
+    """Requests per second and two percentiles; every reply is right."""
     counts = (connections, depth, max(depth, requests // connections))
     words = [str(word) for word in (load, port, *counts, table)]
     told = subprocess.run(words, check=True, capture_output=True, text=True).stdout.split()

@@ -4,7 +4,7 @@
 //!     load PORT CONNECTIONS LINES_A_WRITE REQUESTS_A_CONNECTION TABLE|get
 //!
 //! TABLE is what `clearmap dist --nearest` writes of the served map: each reply is compared with
-//! it. A connection is a thread. Printed: requests a second of all connections, the 50th and 99th
+//! it. A connection is a thread. Printed: requests per second of all connections, the 50th and 99th
 //! percentile of a write's latency in microseconds, how many replies came, and how many of them
 //! were wrong.
 mod random;

@@ -1,6 +1,6 @@
 #!/usr/bin/env python3
 """Times OpenCV's distance transforms of one raw PBM on one thread: a line for each metric, with
-nanoseconds a map, the least of several rounds."""
+nanoseconds per map, the least of several rounds."""
 import sys
 import time
 

@@ -1,5 +1,5 @@
 #!/usr/bin/env python3
-"""Measures pins a second of a store next to a publisher, and LMDB's reads next to a writer.
+"""Measures pins per second of a store next to a publisher, and LMDB's reads next to a writer.
 
 LMDB's read transactions pin and reset next to one thread that commits.
 
@@ -7,9 +7,9 @@ A program over `session` (`pins/main.rt.in`) is proved and built in a scratch co
 one over LMDB (`pins/lmdb_pins.cpp`) by g++; LMDB's headers are Debian's liblmdb-dev. A third, by
 rustc, makes the loads and stores of a pin and nothing else (`pins/words.rs`). They run in turn, in
 several rounds, with one reader and with three. The best round of each is printed as a Markdown
-table: pins a second of all readers together, and percentiles of the slowest reader in nanoseconds,
-among which reading the clock is counted; and the microseconds of a pin's first query, and cycles of
-a pin, a query and an unpin a second, on a floor plan of 4096 by 4096 cells.
+table: pins per second of all readers together, and percentiles of the slowest reader in
+nanoseconds, among which reading the clock is counted; and the microseconds of a pin's first query,
+and cycles of a pin, a query and an unpin a second, on a floor plan of 4096 by 4096 cells.
 """
 import argparse
 import pathlib
@@ -44,12 +44,12 @@ def figures(words):
 
 
 def together(readers):
-    """All readers' pins a second, and the slowest reader's percentiles."""
+    """All readers' pins per second, and the slowest reader's percentiles."""
     return [sum(reader[0] for reader in readers), *(max(reader[place] for reader in readers) for place in (1, 2, 3))]
 
 
 def best(rounds):
-    """The most pins a second, and the least of each percentile."""
+    """The most pins per second, and the least of each percentile."""
     return [max(each[0] for each in rounds), *(min(each[place] for each in rounds) for place in (1, 2, 3))]
 
 

@@ -169,7 +169,7 @@ def hard_map(make):
 
 
 def print_hard(programs, sides, rounds, source):
-    """Nanoseconds a cell of the table on hard maps, next to the most that one of the other maps
+    """Nanoseconds per cell of the table on hard maps, next to the most that one of the other maps
     takes."""
     print("| Map | Cells a side | Metric | " + " | ".join(f"{name}, ns a cell | next to the worst" for name in programs) + " |")
     print("|" + "---|" * (3 + 2 * len(programs)))

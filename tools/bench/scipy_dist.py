@@ -1,5 +1,5 @@
 #!/usr/bin/python3
-# Debian's own python3, as its packages python3-numpy and python3-scipy are for that one alone.
+# Debian's own python3, as its packages python3-numpy and python3-scipy are only for that one.
 """Reads a raw PBM image from standard input and writes the squared distances of its cells, as
 `clearmap dist` does.
 

@@ -97,7 +97,7 @@ def say(text: object) -> None:
 
 
 def main() -> int:
-    """Status 1 where another publisher is live, or something isn't installed."""
+    """Status 1 if another publisher is live, or something isn't installed."""
     options = parser().parse_args()
     try:
         from clearmap.fetching import connected

@@ -48,7 +48,7 @@ class Asking:
             before = version
 
     def ask(self):
-        """One answer of any follower, where it has a version."""
+        """One answer of any follower, if it has a version."""
         try:
             version = self.random.choice(self.followers).version
         except clearmap.NoVersion:

@@ -1,5 +1,5 @@
 #!/usr/bin/env python3
-"""Is clearmap-publish, but that it is killed at one of the writes to Redis: for the tests.
+"""Acts as clearmap-publish, but is killed at one of the writes to Redis: for the tests.
 
     killed_at.py COUNT OPTION ..
 

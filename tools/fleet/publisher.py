@@ -1,4 +1,4 @@
-"""Brings Redis up to date with a server, and goes on where one of them is lost."""
+"""Brings Redis up to date with a server, and goes on if one of them is lost."""
 import argparse
 import threading
 import time
@@ -15,14 +15,14 @@ SAME = 10.0  # seconds within which another reason is taken as a part of what wa
 
 
 class Trouble:
-    """Says one line when something goes wrong, and one when it is well again. Where it goes wrong
-    in another way at once, as it does where something ends, that is a part of the same."""
+    """Prints one line when something goes wrong, and one when all is well again. If it goes wrong
+    in another way at once, as when something ends, that counts as the same trouble."""
 
     def __init__(self, say: Callable[[object], None], well: str) -> None:
         self._say, self._well, self._said, self._at = say, well, "", 0.0
 
     def tell(self, why: object) -> None:
-        """It goes wrong, for this reason."""
+        """Something is wrong, for this reason."""
         line = str(why) or type(why).__name__
         is_new = not self._said or line != self._said and time.monotonic() > self._at + SAME
         if is_new:
@@ -57,11 +57,11 @@ class Publisher:
         self._kept_at = 0.0
 
     def end(self, *_: object) -> None:
-        """Ends it after what is in hand. A signal's handler may call it."""
+        """Ends it after the current step. A signal's handler may call it."""
         self._is_ended = True
 
     def run(self) -> None:
-        """Goes on until it is ended. Taken where another one is live."""
+        """Goes on until it is ended. Taken if another one is live."""
         threading.Thread(target=self._beat, daemon=True).start()
         try:
             while not self._is_ended:
@@ -72,13 +72,13 @@ class Publisher:
             self._leave()
 
     def _rest(self, seconds: float) -> None:
-        """Waits so long, or until it is ended."""
+        """Waits this long, or until it is ended."""
         until = time.monotonic() + seconds
         while not self._is_ended and (left := until - time.monotonic()) > 0:
             time.sleep(min(left, 0.1))
 
     def _beat(self) -> None:
-        """Keeps the lease while a copy takes its time. What goes wrong is found by what is next."""
+        """Keeps the lease while a copy takes its time. The next step finds what goes wrong."""
         while not self._is_ended:
             time.sleep(AGAIN)
             with suppress(LeaseLost, redis().RedisError, OSError):
@@ -86,8 +86,8 @@ class Publisher:
                     self._store.keep(False)
 
     def _look(self) -> Optional[Seen]:
-        """The server's newest version, with a copy of it where it isn't shown yet; None where the
-        server isn't there."""
+        """The server's newest version, with a copy of it if it isn't shown yet; None if the server
+        isn't there."""
         try:
             seen = self._source.look()
             if seen != self._shown and (self._copy is None or self._copy.seen != seen):
@@ -146,7 +146,7 @@ class Publisher:
         return False
 
     def _leave(self) -> None:
-        """Gives the lease up, where Redis is there."""
+        """Gives the lease up, if Redis is there."""
         with suppress(redis().RedisError, OSError):
             if self._has_lease:
                 self._store.leave()

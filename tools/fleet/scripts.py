@@ -1,10 +1,11 @@
-"""What the publisher does in Redis at once, or not at all: scripts that Redis runs.
+"""What the publisher does in Redis atomically: scripts that Redis runs.
 
-Each looks first that the lease is the publisher's own: one that was held up, and whose lease
-another has taken meanwhile, changes nothing. What may be refused is read before the first write.
+Each first checks that the lease is the publisher's own: a publisher that was held up, and whose
+lease another has taken meanwhile, changes nothing. What may be refused is read before the first
+write.
 """
 
-# KEYS lease; ARGV token, milliseconds. Takes the lease, or tells whose it is, and how long.
+# KEYS lease; ARGV token, milliseconds. Takes the lease, or returns whose it is, and for how long.
 TAKE = """
 local holder = redis.call('GET', KEYS[1])
 if holder and holder ~= ARGV[1] then return {holder, redis.call('PTTL', KEYS[1])} end

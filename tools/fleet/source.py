@@ -27,7 +27,7 @@ class Copy:
 
 class Source:
     """Looks at a server, or at a gateway to it. A look or a copy raises a ClearmapError, and the
-    next one reconnects where the connection was lost."""
+    next one reconnects if the connection was lost."""
 
     def __init__(self, port: int) -> None:
         self._port = port
@@ -40,8 +40,8 @@ class Source:
             return Seen(self._run, pinned.version)
 
     def copy(self) -> Copy:
-        """The newest version, copied. Where its cells don't tell the edge, no answer of its map
-        depends on it, and it is told as open."""
+        """The newest version, copied. If its cells don't show the edge, no answer of its map
+        depends on it, and it is reported as open."""
         with self._pinned() as pinned:
             return Copy(Seen(self._run, pinned.version), pinned.map(untold=OPEN))
 

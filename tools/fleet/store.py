@@ -19,7 +19,7 @@ class LeaseLost(Exception):
 
 
 class Stored(NamedTuple):
-    """What stands in Redis: the greatest order, the tiles that are there, those that each version
+    """The contents of Redis: the greatest order, the tiles that are there, those that each version
     names, by its order, and the time, in microseconds."""
 
     newest: int
@@ -48,7 +48,7 @@ class Store:
     # ---- the lease
 
     def take(self) -> Optional[Tuple[str, float]]:
-        """Takes the lease. Where it is another's: whose, and for how many seconds more."""
+        """Takes the lease. If it is another's, returns whose, and for how many more seconds."""
         held = self._run(scripts.TAKE, [self._keys.lease], [int(1000 * LEASE)])
         if not held:
             self.doubt()
@@ -58,8 +58,8 @@ class Store:
         return held[0].decode("utf-8", "replace").rpartition(":")[0], held[1] / 1000
 
     def keep(self, is_newest: bool) -> bool:
-        """Keeps the lease; LeaseLost where it isn't one's own any more. With `is_newest` followers
-        are told that what was published last is still the server's newest. False where Redis shows
+        """Keeps the lease; LeaseLost if it isn't one's own any more. With `is_newest` followers
+        learn that what was published last is still the server's newest. False if Redis shows
         another version, or not all of it, as one that has lost its last writes does."""
         keys = self._keys
         names = [keys.lease, keys.seen, keys.newest, keys.versions, keys.tiles]
@@ -74,11 +74,11 @@ class Store:
         self._run(scripts.LEAVE, [self._keys.lease], [])
 
     def doubt(self) -> None:
-        """From now on it isn't known what Redis holds: the next version writes all its tiles."""
+        """From now on it is unknown what Redis holds: the next version writes all its tiles."""
         self._is_sure = False
 
     def _run(self, script: str, keys: List[str], words: List[object]) -> Any:
-        """Runs a script, which is told the token first."""
+        """Runs a script, with the token as its first argument."""
         return self._redis.eval(script, len(keys), *keys, self._token, *words)
 
     # ---- versions
@@ -100,8 +100,8 @@ class Store:
         return record
 
     def _stored(self) -> Stored:
-        """What stands in Redis, which nobody else writes who has no lease. A record that is none
-        names no tiles."""
+        """The contents of Redis, which nobody writes without the lease. A damaged record names no
+        tiles."""
         keys = self._keys
         asked = self._redis.pipeline(transaction=False)  # which is answered without memory too
         asked.get(keys.newest).hkeys(keys.tiles).hgetall(keys.versions).time()

@@ -181,7 +181,7 @@ class Servers(Publishes):
         self.assertTrue(publisher.says("there is a server again"))
 
     def test_what_is_no_server(self):
-        """What answers otherwise is told in one line, and no version comes of it."""
+        """What answers otherwise is reported in one line, and no version comes of it."""
         for replies in ([b"HTTP/1.1 400\r\n"], [b"OK 1\n", b"OK 5\nP1\n1\n", b"OK 1\n"],
                         [b"OK 0\n", b"OK 0\n"], [b"O" * 200]):  # fmt: skip
             with Answering(replies) as fake:

@@ -45,8 +45,8 @@ def free_port():
 
 class Redis:
     """A redis-server of its own, in a folder of its own, which can be killed and started again on
-    its port. What it keeps on the disk, and more, is told by flags; `user` is a name and a password
-    with an @ after them."""
+    its port. Flags say what it keeps on the disk, and more; `user` is a name and a password with an
+    @ after them."""
 
     def __init__(self, *flags, user=""):
         self.folder = tempfile.TemporaryDirectory()
@@ -66,7 +66,7 @@ class Redis:
         self.folder.cleanup()
 
     def start(self):
-        """Whether it answers soon; it ends by itself where somebody has its port."""
+        """Whether it answers soon; it ends by itself if somebody has its port."""
         words = ["redis-server", "--port", str(self.port), "--bind", "127.0.0.1"]
         words += ["--dir", self.folder.name, "--save", "", "--logfile", "log", *self.flags]
         self.process = subprocess.Popen(words, stdout=subprocess.DEVNULL)
@@ -224,7 +224,7 @@ class Direct:
 
 
 def nearest_of(image, edge="open"):
-    """What `clearmap dist` tells of each cell of an image, by rows: its nearest obstacle."""
+    """What `clearmap dist` prints for each cell of an image, by rows: its nearest obstacle."""
     words = [PROGRAM, "dist", "--nearest", "--edge", edge]
     told = subprocess.run(words, input=image, capture_output=True, check=True).stdout
     return clearmap.read_distances(told.decode().splitlines())

@@ -89,7 +89,7 @@ class Gateway:
         self._port: int = options.listen
 
     async def run(self) -> None:
-        """Goes on until it is cancelled. Where there is no server at first, it raises."""
+        """Runs until it is cancelled. Raises if there is no server at first."""
         from links import Server, ServerLost
 
         is_first = True
@@ -174,13 +174,13 @@ def as_many_as_descriptors(clients: int) -> int:
 
 
 def use_fast_loop() -> None:
-    """Takes the loop of uvloop where that is installed: replies come sooner."""
+    """Uses the loop of uvloop if that is installed: replies come sooner."""
     with contextlib.suppress(ImportError):
         importlib.import_module("uvloop").install()
 
 
 def main() -> int:
-    """Status 1 where the server isn't there, a port can't be had, or something isn't installed."""
+    """Status 1 if the server isn't there, a port can't be had, or something isn't installed."""
     options = parser().parse_args()
     try:
         from clearmap.library import library, numpy

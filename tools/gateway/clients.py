@@ -60,8 +60,8 @@ class Client(Stream):
     # ---- lines
 
     def buffer_updated(self, count: int) -> None:
-        """One query of a cell, of a map that is there, is answered at once where nothing else is to
-        be done: a planner's usual line."""
+        """Answers one query of a cell, on a map that is there, at once if nothing else is to be
+        done: a planner's usual line."""
         area = None if self._held is None else self._held.map
         if area is not None and self._is_at_rest():
             cell = AT.fullmatch(INPUT, 0, count)
@@ -111,7 +111,7 @@ class Client(Stream):
         return [at_reply(area, *cell) for cell in next_cells(self._pending, TURN)]
 
     def _reply_now(self, line: Line) -> Optional[bytes]:
-        """The reply to a line for which nobody has to be asked; None where somebody has."""
+        """The reply to a line that needs nobody else; None if it does."""
         if line.reply:
             self._is_over = line.ends
             return line.reply
@@ -139,7 +139,7 @@ class Client(Stream):
     # ---- lines that take time
 
     async def _do(self, line: Line, silently: bool = False) -> None:
-        """Does a line, and those after it. Where the server is lost, so is the client: nobody knows
+        """Does a line, and those after it. If the server is lost, so is the client: nobody knows
         what it would have answered."""
         try:
             reply = await self._reply(line)
@@ -163,7 +163,7 @@ class Client(Stream):
         self._held, self._is_over = None, True
 
     async def _reply(self, line: Line) -> bytes:
-        """The reply to a line; b"" where it was written by now."""
+        """The reply to a line; b"" if it was written by now."""
         if line.asked is not None:
             return await asyncio.to_thread(answered, line.asked, await self._map())
         if line.sent:
@@ -193,7 +193,8 @@ class Client(Stream):
         return b"OK %d\n" % self._held.version
 
     async def _unpin(self) -> bytes:
-        """UNPIN. The server is told before the client is, so that no collect sees the pin later."""
+        """UNPIN. The server unpins before the client hears, so that no collect sees the pin later.
+        """
         held, self._held = self._held, None
         assert held is not None
         await self._desk.versions.leave(held)

@@ -22,7 +22,7 @@ AT = re.compile(rb"AT (euclid2|city|chess) ([0-9]{1,10}) ([0-9]{1,10})\r?\n")
 
 class Line(NamedTuple):
     """What a line says: its command, and of a query what it asks, of a stamp how many bytes it
-    counts, of a change the line itself. Where it is refused by its form, `reply` is all."""
+    counts, of a change the line itself. If its form is refused, only `reply` matters."""
 
     verb: bytes = b""
     reply: bytes = b""
@@ -74,7 +74,7 @@ def next_cells(pending: bytearray, most: int) -> List[Tuple[bytes, ...]]:
 
 
 def next_line(pending: bytearray) -> Optional[Line]:
-    """Takes the next line from what a client has sent; None where it isn't whole."""
+    """Takes the next line from what a client has sent; None if it isn't whole."""
     end = pending.find(b"\n", 0, LONGEST_LINE + 1)
     if end < 0:
         return Line(reply=TOO_LONG, ends=True) if len(pending) > LONGEST_LINE else None

@@ -51,7 +51,7 @@ class Link(asyncio.Protocol):
         return reply
 
     async def dump(self) -> Tuple[bytes, bytes]:
-        """The reply line of a DUMP and its image; none where it was refused."""
+        """The reply line of a DUMP and its image; none if it was refused."""
         self._begin(b"DUMP\n")
         reply, text = await self._line(), b""
         if reply.startswith(b"OK "):
@@ -115,9 +115,9 @@ class Link(asyncio.Protocol):
 
 
 class Server:
-    """The connections to one run of a server. They are made before any is used, and none later:
-    where all answer then, one server has them all, and its versions have one meaning. Where one is
-    lost, all are closed."""
+    """The connections to one run of a server. They are made before any is used, and none later: if
+    all answer then, one server has them all, and its versions have one meaning. If one is lost, all
+    are closed."""
 
     def __init__(self) -> None:
         self.lost: "asyncio.Future[str]" = asyncio.get_running_loop().create_future()
@@ -126,7 +126,7 @@ class Server:
         self._waiting: "Deque[asyncio.Future[Link]]" = deque()
 
     async def open(self, port: int, count: int) -> None:
-        """Makes the connections. ServerLost where there is no server, or it ends."""
+        """Makes the connections. ServerLost if there is no server, or it ends."""
         loop = asyncio.get_running_loop()
         for _ in range(count):
             try:
@@ -151,7 +151,7 @@ class Server:
                 turn.set_exception(ServerLost(why))
 
     async def take(self) -> Link:
-        """A connection that nobody else has, until it is given back."""
+        """A connection that nobody else has, until it is returned."""
         if self.lost.done():
             raise ServerLost(self.lost.result())
         if self._free:
@@ -161,7 +161,7 @@ class Server:
         return await turn
 
     def give(self, link: Link) -> None:
-        """Gives a connection back, in step and without a pin."""
+        """Returns a connection, in step and without a pin."""
         if self._waiting and not self.lost.done():
             self._waiting.popleft().set_result(link)
         else:

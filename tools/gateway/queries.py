@@ -21,7 +21,7 @@ class Answer(NamedTuple):
 
 
 def numbers_of(words: Sequence[bytes]) -> Optional[List[int]]:
-    """Words as numbers; None where one is none."""
+    """Words as numbers; None if one is none."""
     if not all(map(NUMBER.fullmatch, words)):
         return None
     numbers = list(map(int, words))
@@ -56,7 +56,7 @@ def is_long_path(points: List[Tuple[int, int]]) -> bool:
     return sum(steps) >= SHORT
 
 
-# ---- each kind of query; None where its arguments have another form
+# ---- each kind of query; None if its arguments have another form
 
 
 def at(words: Sequence[bytes]) -> Optional[Answer]:
@@ -105,7 +105,7 @@ KINDS = {b"AT": at, b"RECT": rect, b"PATH": path, b"CLEAROF": clear_of}
 
 
 def asked_of(verb: bytes, words: Sequence[bytes]) -> Optional[Answer]:
-    """What answers a query; None where its arguments have another form."""
+    """What answers a query; None if its arguments have another form."""
     if not words or words[0] not in METRICS:
         return None
     return KINDS[verb](words)

@@ -78,7 +78,7 @@ class Stream(asyncio.BufferedProtocol):
             self._transport.write(text)
 
     def _regulate(self) -> None:
-        """Stops reading where enough waits to be done."""
+        """Stops reading if enough waits to be done."""
         pauses = len(self._pending) > UNREAD and not self._is_over
         if pauses == self._is_paused or self._transport.is_closing() or self._is_last:
             return

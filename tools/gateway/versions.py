@@ -121,7 +121,7 @@ class Versions:
     # ---- copies
 
     async def map_of(self, held: Held) -> Map:
-        """The map of a held version, by one DUMP. Said where that is refused."""
+        """The map of a held version, by one DUMP. Said if that is refused."""
         async with held.lock:
             if held.map is None:
                 held.map = self._kept[held.version] = await self._copied(held)
@@ -141,8 +141,8 @@ class Versions:
             return maps[self._edge or OPEN]
 
     async def _told_edge(self, held: Held, maps: Dict[str, Map]) -> Optional[str]:
-        """The server's edge, which its answer for a cell tells; None where no cell of this version
-        tells it, and then no reply depends on it."""
+        """The server's edge, which its answer for a cell shows; None if no cell of this version
+        shows it, and then no reply depends on it."""
         asked: Optional[Tuple[Tuple[int, int], str]] = await asyncio.to_thread(telling, maps)
         if asked is None:
             return None

@@ -5,7 +5,7 @@ from typing import Dict, Optional, Protocol
 from links import ServerLost
 from versions import Said, Versions
 
-EVERY = 0.05  # seconds between two looks at the server, which tells nobody of a publish
+EVERY = 0.05  # seconds between two looks at the server, which notifies nobody of a publish
 
 
 class Told(Protocol):
@@ -53,7 +53,7 @@ class Watchers:
             self._task = None
 
     async def _newest(self) -> int:
-        """The newest version; 0, which is no news, where the server has no memory for a pin."""
+        """The newest version; 0, which is no news, if the server has no memory for a pin."""
         try:
             return await self._versions.newest_now()
         except Said:

@@ -23,7 +23,7 @@ REFUSED_GROWTH = re.compile(r"\bAllocError\b(?!>)|\bAllocFailed\s*\{")
 
 # The other places, each with why it is no invention.
 ALLOWED = {
-    # `Region::new` answers None where its one request is refused, and nowhere else: it is proved by
+    # `Region::new` answers None if its one request is refused, and nowhere else: it is proved by
     # hand.
     ("arena/src/arena.rt", "return Err(Refusal::Memory);"),
     # Both require the reason: an error of std's of that kind, and a refusal for

@@ -4,7 +4,7 @@ its clauses and the definitions of this repository that they cite, by their file
 
     tools/lint/make_clauses.py [--check]
 
-With --check it writes nothing, and its status is 1 where the page isn't what the sources say.
+With --check it writes nothing, and its status is 1 if the page isn't what the sources say.
 """
 import pathlib
 import re

@@ -9,7 +9,7 @@ may write.
 A signal, a run that isn't done in a minute, another text than wanted, a call that met no refusal
 though it asks for memory, a command that met two requests and a call that met one though it takes
 no memory are wrong. Prints tables of how many requests were refused, and a line for each thing that
-is wrong; the status is 1 where there is one.
+is wrong; the status is 1 if there is one.
 
     tools/refuse/refuse_each_request.py [--only WORD] [--calls | --runs | --all]       a minute; wants a C compiler, the built program and the built tests:
                                                                                 rt run -- --version in crates/clearmap, rt test in crates/want_tests

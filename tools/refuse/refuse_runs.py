@@ -48,7 +48,7 @@ def converse(port, sent):
 
 
 def replies_to(lines, got):
-    """The replies to these lines, each with the bytes that it counts; none where they don't fit."""
+    """The replies to these lines, each with the bytes that it counts; none if they don't fit."""
     replies = []
     for line in lines:
         reply, end, got = got.partition(b"\n")

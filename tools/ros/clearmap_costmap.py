@@ -84,8 +84,8 @@ class Unknown:
     are_free: bool = False
 
     def mark(self, values: "Values") -> None:
-        """Puts -1 to unknown cells, where they still are what they were made. A free one keeps a
-        value of 99 and more, as in costmap_2d."""
+        """Sets unknown cells to -1, if they still are what they were made. A free one keeps a value
+        of 99 or more, as in costmap_2d."""
         untouched = values < INSCRIBED if self.are_free else values == OBSTACLE
         values[self.cells & untouched] = UNKNOWN
 
@@ -130,7 +130,7 @@ def step_of(size: Tuple[int, int], most: int) -> int:
 def cloud(squares: "Squares", frame: Frame, most: int) -> bytes:
     """The centres of free cells in metres, each with its distance from centre to centre: x, y, z
     and intensity in four bytes each, the low one first. Of a large map each second, third .. column
-    and row is taken, so that there are `most` points at most. None where there is no obstacle."""
+    and row is taken, so that there are `most` points at most. None if there is no obstacle."""
     step = step_of(frame.size, most)
     taken = squares[::step, ::step]
     rows, columns = numpy.nonzero((taken > 0) & (taken < clearmap.NO_OBSTACLE))
@@ -147,7 +147,7 @@ def cloud(squares: "Squares", frame: Frame, most: int) -> bytes:
 
 def squares_of(pinned: clearmap.Pinned, program: str) -> "Squares":
     """The `euclid2` distances of a pinned version: by one DUMP and the library in this process, or
-    where there is none by a run of `clearmap dist`."""
+    without it by a run of `clearmap dist`."""
     try:
         return pinned.distances(threads=THREADS)
     except ImportError:
@@ -156,7 +156,7 @@ def squares_of(pinned: clearmap.Pinned, program: str) -> "Squares":
 
 def by_runs(pinned: clearmap.Pinned, program: str) -> "Squares":
     """The same by the program. A dump doesn't say whether the edge is a wall: the server is asked
-    about a cell of the border whose answer tells it."""
+    about a cell of the border whose answer shows it."""
     image = pinned.dump()
     found = by_program(program, image, clearmap.EUCLID2, clearmap.OPEN)
     cell = telling(found)

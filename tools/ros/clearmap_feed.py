@@ -23,7 +23,7 @@ CONNECTIONS = "1000000"
 @dataclass(frozen=True)
 class Clearance:
     """What a plan's tightest cell is, in metres: from centre to centre, free in any case, and where
-    the two middles are."""
+    the two centres are."""
 
     version: int
     metres: float
@@ -34,8 +34,8 @@ class Clearance:
 
 @dataclass(frozen=True)
 class Newest(Generic[T]):
-    """What was found of a version, and where its map lies. Versions of one connection alone can be
-    compared, as another server counts from 0 again."""
+    """What was found of a version, and where its map lies. Only versions of one connection can be
+    compared, since another server counts from 0 again."""
 
     connection: int
     version: int
@@ -77,8 +77,8 @@ class Feed:
                 self._server = None
 
     def keep(self, grid: grids.Grid, place: Place) -> None:
-        """Takes a map that isn't put: a server that was given has it, with what painters did, and
-        one of the node's own is started with it, and anew where it ended."""
+        """Takes a map that isn't put: a given server has it, with what painters did, and a server
+        of the node's own is started with it, and restarted if it ended."""
         with self._lock:
             self._kept, self.place = grid, place
 
@@ -106,14 +106,14 @@ class Feed:
     def newest(
         self, known: Optional[Newest[T]], find: Callable[[clearmap.Pinned], T]
     ) -> Optional[Newest[T]]:
-        """What is found of the newest version, unless it is known and lies where it lay; None where
-        it is, or where no map has come yet."""
+        """What is found of the newest version, unless that is known and its map lies as before;
+        then, or if no map has come yet, None."""
         with self._lock:
             return self._tried(lambda: self._newer(known, self.place, find))
 
     def clearance(self, plan: Sequence[Point]) -> Clearance:
-        """How far a plan in metres keeps from the obstacles of the newest version; infinite where
-        it has none."""
+        """How far a plan in metres keeps from the obstacles of the newest version; infinite if it
+        has none."""
         with self._lock:
             if self.frame is None:
                 raise RosError("no map has come yet")
@@ -129,8 +129,8 @@ class Feed:
     # the server
 
     def _tried(self, call: Callable[[], T]) -> T:
-        """What a call gives. Where the server has gone since the last one, the call is made once
-        more with a fresh connection."""
+        """The result of a call. If the server has gone since the last one, repeats the call once
+        with a fresh connection."""
         fresh = self._client is None
         try:
             return call()
@@ -215,8 +215,7 @@ class Feed:
 
     @staticmethod
     def _with_room(client: clearmap.Client, call: Callable[[], T]) -> T:
-        """What a command gives; where versions or blocks are full, it is given once more after a
-        collect."""
+        """The result of a command; if slots or blocks are full, repeats it once after a collect."""
         try:
             return call()
         except (clearmap.VersionsFull, clearmap.BlocksFull):

@@ -28,8 +28,8 @@ def pause_of(frequency: object) -> float:
 
 class Follower:
     """Looks for a newer version again and again, and shows each that it finds once: the newest is
-    found, and others between two looks aren't. A server that is lost is told in one line, and what
-    was shown stays; it is looked for again, as is one whose map has another size."""
+    found, and others between two looks aren't. A lost server is reported in one line, and what was
+    shown stays; it is looked for again, as is one whose map has another size."""
 
     def __init__(
         self,

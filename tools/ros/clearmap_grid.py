@@ -2,8 +2,8 @@
 Only the standard library, and no ROS. Nothing here is proved.
 
 A grid of `nav_msgs/OccupancyGrid` counts its cells from the lower left, y upwards: 0 to 100 is how
-likely a cell is occupied, and -1 is unknown. Here it becomes one byte a cell, by rows from the top,
-as clearmap counts them: 1 is an obstacle.
+likely a cell is occupied, and -1 is unknown. Here it becomes one byte per cell, by rows from the
+top, as clearmap counts them: 1 is an obstacle.
 """
 import array
 import math
@@ -44,8 +44,8 @@ def decimal_of(single: float) -> Fraction:
 
 @dataclass(frozen=True)
 class Reading:
-    """Which values are obstacles: those above `occupied_thresh`, and all but those below
-    `free_thresh` where unknown cells aren't free."""
+    """Which values are obstacles: those above `occupied_thresh`, and if unknown cells aren't free,
+    all but those below `free_thresh`."""
 
     occupied_thresh: Number = "0.65"
     free_thresh: Number = "0.196"
@@ -114,8 +114,8 @@ class Grid:
         return self.width, self.height
 
     def changed(self, newer: "Grid") -> Optional[Area]:
-        """The least rectangle that has each cell that another grid of the same size has otherwise;
-        None where there is none."""
+        """The least rectangle that contains each cell that differs from another grid of the same
+        size; None if there is none."""
         width = self.width
         pairs = [(self.row(y, 0, width), newer.row(y, 0, width)) for y in range(self.height)]
         rows = [y for y, (old, new) in enumerate(pairs) if old != new]
@@ -158,8 +158,8 @@ class Grid:
 
 @dataclass(frozen=True)
 class Place:
-    """Where a map lies, in which frame, and which of its cells it doesn't know: those that have 1.
-    None where it knows all."""
+    """Where a map lies, in which frame, and which of its cells are unknown: those that have 1. None
+    if all are known."""
 
     frame: Frame
     frame_id: str = ""
@@ -198,7 +198,7 @@ def read_place(yaml: str, frame_id: str, unknown_is_free: bool) -> Tuple[Grid, P
 
 
 def cells_of_map(known: Map, unknown_is_free: bool) -> bytes:
-    """The cells of a yaml's map; where it has samples of one byte, by what each value becomes."""
+    """The cells of a yaml's map; if its samples are bytes, by what each value becomes."""
     image = known.image
     if image.opaque or not isinstance(image.samples, bytes):
         return bytes(chain.from_iterable(obstacles(image, known.settings, unknown_is_free)))
@@ -208,8 +208,8 @@ def cells_of_map(known: Map, unknown_is_free: bool) -> bytes:
 
 
 def frame_of(width: int, height: int, resolution: float, origin: Tuple[float, float], turn: Tuple[float, float, float]) -> Frame:
-    """Where a message's map lies: metres a cell, the lower left corner, and the x, y and z of its
-    quaternion, which have to be 0."""
+    """Where a message's map lies: metres per cell, the lower left corner, and the x, y and z of its
+    quaternion, which must be 0."""
     if not (1 <= width <= LARGEST_SIDE and 1 <= height <= LARGEST_SIDE):
         raise RosError(f"the map has {width} by {height} cells, and clearmap has 1 to {LARGEST_SIDE} a side")
     if not 0 < resolution < math.inf:

@@ -1,5 +1,5 @@
-"""Messages of a served version, for a node of ROS 1 or of ROS 2, whose classes differ in how a time
-is made alone. No ROS is imported, and nothing here is proved.
+"""Messages of a served version, for a node of ROS 1 or of ROS 2, whose classes differ only in how a
+time is made. No ROS is imported, and nothing here is proved.
 
 All messages of a version have one stamp. A map tells in `info.map_load_time` which version it is
 of, as whole seconds: `header.seq` is counted by rospy, and ROS 2 has none.

@@ -135,7 +135,7 @@ class Node:
         return self.feed.place.frame_id if self.feed.place is not None else ""
 
     def port(self) -> int:
-        """The port that is told; 0 where a server is to be started."""
+        """The given port; 0 to start a server."""
         port = self.rospy.get_param("~port", 0)
         if not isinstance(port, int) or not 0 <= port <= 65535:
             raise RosError(f"'{port}' is no port: 1 to 65535, or 0 for a server of the node's own")
@@ -205,7 +205,7 @@ class Node:
         self.markers.publish(self.mark(found))
 
     def mark(self, found: object) -> object:
-        """A ball at the tightest cell, two cells wide; none where there is no such cell."""
+        """A ball at the tightest cell, two cells wide; none if there is no such cell."""
         marker = self.marker()
         marker.header.frame_id, marker.header.stamp, marker.ns = self.frame_id, self.rospy.Time.now(), "clearmap"
         marker.type, marker.action = self.marker.SPHERE, self.marker.DELETE
@@ -219,7 +219,7 @@ class Node:
 
 
 def main() -> int:
-    """Runs until the master, or a signal, ends it. Status 1 where something isn't installed, or a
+    """Runs until the master, or a signal, ends it. Status 1 if something isn't installed, or a
     parameter is refused, with one line on standard error."""
     parser().parse_args([word for word in sys.argv[1:] if ":=" not in word])
     try:

@@ -96,7 +96,7 @@ def yaml_values(text: str) -> Dict[str, Union[str, List[str]]]:
 
 @dataclass(frozen=True)
 class Settings:
-    """What `map.yaml` says: metres a cell, where the lower left corner is, and which samples are
+    """What `map.yaml` says: metres per cell, where the lower left corner is, and which samples are
     occupied and free."""
 
     image: str
@@ -144,8 +144,8 @@ def read_settings(text: str) -> Settings:
 
 @dataclass(frozen=True)
 class Gray:
-    """An image: its samples by rows from the top, each from 0 to `most`. `opaque` has 0 where one
-    can be seen through, and is empty where none can."""
+    """An image: its samples by rows from the top, each from 0 to `most`. `opaque` has 0 where a
+    sample is transparent, and is empty if none is."""
 
     width: int
     height: int
@@ -311,7 +311,7 @@ def pbm(rows: Sequence[Sequence[bool]]) -> bytes:
 
 @dataclass(frozen=True)
 class Frame:
-    """Where a map lies: its size in cells, metres a cell, and the lower left corner in metres."""
+    """Where a map lies: its size in cells, metres per cell, and the lower left corner in metres."""
 
     width: int
     height: int
@@ -357,8 +357,8 @@ class Frame:
         return float_below(root_below(square) * self.resolution)
 
     def free_metres(self, square: int) -> float:
-        """How far any point of the asked cell is at least from any point of an obstacle, in metres,
-        where its `euclid2` distance is this; rounded down."""
+        """The least distance of any point of the queried cell from any point of an obstacle, in
+        metres, given its `euclid2` distance; rounded down."""
         diagonal = Fraction(math.isqrt(2 * 10**18) + 1, 10**9)
         return float_below(max(Fraction(0), root_below(square) - diagonal) * self.resolution)
 
@@ -432,7 +432,7 @@ def least_whole(holds_from: Fraction, root_two_times: Fraction) -> int:
 def clear_distance(radius: Number, resolution: Number, metric: str = "euclid2", whole_cells: bool = True) -> int:
     """The least `d` of CLEAROF for a round robot of this radius, both in metres.
 
-    With `whole_cells`, which is the safe reading, the robot's middle may be anywhere in its cell
+    With `whole_cells`, which is the safe reading, the robot's centre may be anywhere in its cell
     and the obstacle anywhere in its own. Without it both are in the middle of their cells, as
     costmaps inflate, and a robot may come nearer than its radius by up to sqrt 2 cells.
     """
@@ -462,7 +462,7 @@ class Map:
 
 
 def read_map(path: Union[str, pathlib.Path]) -> Map:
-    """The map that a `map.yaml` names; its image stands next to it, where its path isn't absolute."""
+    """The map that a `map.yaml` names; its image is next to it, unless its path is absolute."""
     yaml = pathlib.Path(path)
     try:
         settings = read_settings(yaml.read_text(encoding="utf-8"))
@@ -527,8 +527,8 @@ def parser() -> argparse.ArgumentParser:
 
 
 def main() -> int:
-    """Runs a command. Status 1 where the map or a number is refused, with one line on standard
-    error."""
+    """Runs a command. Status 1 if the map or a number is refused, with one line on standard error.
+    """
     options = parser().parse_args()
     try:
         if options.command == "pbm":

@@ -1,5 +1,5 @@
 #!/usr/bin/env python3
-"""A node of ROS 2, tried with stand-ins for rclpy alone: it never ran with ROS 2 itself.
+"""A node of ROS 2, tried only with stand-ins for rclpy: it never ran with ROS 2 itself.
 
     clearmap_ros2_node.py --ros-args -p yaml:=map.yaml -p port:=7400 -r plan:=/plan
 
@@ -90,7 +90,7 @@ class ClearmapNode(Node):  # type: ignore[misc]
         self.get_logger().info(said)
 
     def take_plan(self, message: Any) -> None:
-        """Answers a plan's clearance; NaN where it isn't taken."""
+        """Answers a plan's clearance; NaN if it isn't taken."""
         metres = math.nan
         try:
             metres = self.clearance(message)
@@ -113,7 +113,7 @@ class ClearmapNode(Node):  # type: ignore[misc]
 
 
 def main() -> int:
-    """Runs until a signal ends it. Status 1 where a parameter is refused."""
+    """Runs until a signal ends it. Status 1 if a parameter is refused."""
     rclpy.init(args=sys.argv)
     try:
         node = ClearmapNode()

@@ -172,7 +172,7 @@ class Node2(unittest.TestCase):
         self.until(lambda: "the costmap stays at version 1" in node.said[-1])
 
     def plan(self, frame, frame_id, *cells):
-        """A path through the middles of cells."""
+        """A path through the centres of cells."""
         poses = []
         for cell in cells:
             x, y = frame.centre(cell)

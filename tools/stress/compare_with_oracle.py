@@ -1,5 +1,5 @@
 #!/usr/bin/python3
-# Debian's own python3, as its packages python3-numpy and python3-scipy are for that one alone.
+# Debian's own python3, as its packages python3-numpy and python3-scipy are only for that one.
 """Compares the built program with a plain minimum written here, on random small maps.
 
 Maps of all small sizes and densities, in both forms of PBM with comments and odd whitespace, every
@@ -39,7 +39,7 @@ def nearest(cells, distance, x, y):
 
 
 def frame(width, height):
-    """The cells around a map, which are obstacles where its border is a wall."""
+    """The cells around a map, which are obstacles if its edge is a wall."""
     columns, rows = range(-1, width + 1), range(-1, height + 1)
     return {(x, y) for x in columns for y in (-1, height)} | {(x, y) for x in (-1, width) for y in rows}
 
@@ -169,7 +169,7 @@ def damaged(rng, image):
 
 
 def numbers(words):
-    """The numbers that these words spell; None where one isn't a number of a line."""
+    """The numbers that these words spell; None if one isn't a number of a line."""
     for word in words:
         if not (word.isdigit() and len(word) <= 10 and int(word) < 2**32):
             return None
@@ -288,7 +288,7 @@ def wanted(image, metric, walled, tell, line):
 
 
 def scipy_disagrees(image):
-    """Whether scipy's Euclidean transform differs from the plain minimum; None where it can't be
+    """Whether scipy's Euclidean transform differs from the plain minimum; None if it can't be
     asked."""
     try:
         import numpy

@@ -53,7 +53,7 @@ def lines_of(order):
 
 
 def disagreement(order):
-    """What the program and the model disagree on in this order; None where they agree."""
+    """What the program and the model disagree on in this order; None if they agree."""
     lines = lines_of(order)
     world = World(*SETTING)
     wanted = [f"OPENED {world.tiles}"] + [world.answer(line) for line in lines]

@@ -137,8 +137,8 @@ def one(rng, world, connections):
 
 
 def ended(world, connections):
-    """The requests after which the newest version's blocks alone are in use, each with what came
-    and what the model says."""
+    """The requests after which only the newest version's blocks are in use, each with what came and
+    what the model says."""
     for session in (0, 1):
         yield "UNPIN", connections[session].ask(b"UNPIN\n"), world.unpin(session)
     for name in ("CHECKPOINT", "REVERT", "COLLECT", "PUBLISH", "COLLECT"):

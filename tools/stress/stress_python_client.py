@@ -7,7 +7,7 @@ An alarm comes at a random moment of a call and raises there. The same client is
 to answer rightly, or to say that its connection is lost. The same is done at each step of the
 interpreter, or every STRIDE steps, of one call of each kind. Eight threads ask one client and one
 pin at once, while a painter publishes and one of them renews the pin. Needs the built program,
-which CLEARMAP names. Status 1 where an answer is wrong.
+which CLEARMAP names. Status 1 if an answer is wrong.
 """
 import argparse
 import math
@@ -298,7 +298,7 @@ class Cutter:
         self.left = step
 
     def enter(self, frame, *_):
-        """Traces the client's functions alone."""
+        """Traces only the client's functions."""
         if not frame.f_code.co_filename.startswith(self.HOME):
             return None
         frame.f_trace_opcodes = True

@@ -37,7 +37,7 @@ def way(corners: Sequence[Cell], metric: str, needed: Optional[int]) -> Callable
 
 
 def cells_of(corners: Sequence[Cell]) -> List[Cell]:
-    """All cells of a path that is told by its corners."""
+    """All cells of a path that is given by its corners."""
     cells = [corners[0]]
     for (x0, y0), (x1, y1) in zip(corners, corners[1:]):
         steps = max(abs(x1 - x0), abs(y1 - y0))
@@ -55,8 +55,8 @@ class Asking:
     # ---- words
 
     def length(self, distance: int, metric: str) -> str:
-        """A distance in cells or steps, and in metres where they are known; metres are rounded
-        down."""
+        """A distance in cells or steps, and in metres if they are known; metres are rounded down.
+        """
         if distance == 0:
             return "in an obstacle"
         frame = self.following.frame_of(self.following.newest())
@@ -69,7 +69,7 @@ class Asking:
         return f"{words}, {math.floor(1000 * cells * frame.resolution) / 1000:.3f} m"
 
     def place(self, cell: Cell) -> str:
-        """A cell, and its middle in metres where they are known."""
+        """A cell, and its centre in metres if they are known."""
         frame = self.following.frame_of(self.following.newest())
         metres = " ({:.3f} m, {:.3f} m)".format(*frame.centre(cell)) if frame else ""
         return f"cell {cell[0]}, {cell[1]}{metres}"
@@ -113,7 +113,7 @@ class Asking:
         return web.json_response(told)
 
     def corners(self, points: List[Cell]) -> List[Cell]:
-        """The staircase from middle to middle of the clicked cells."""
+        """The staircase from centre to centre of the clicked cells."""
         shown = self.following.newest()
         half, one = Fraction(1, 2), Fraction(1)
         try:
@@ -158,8 +158,8 @@ class Asking:
         return web.json_response({"needed": needed, "cells": cells})
 
     def needed(self, radius: object, metric: str, unit: object) -> Optional[int]:
-        """The d of CLEAROF for a robot's radius, in metres where they are known and else in cells;
-        against whole cells, which is the safe one. One in another unit than is meant is refused."""
+        """The d of CLEAROF for a robot's radius, in metres if they are known, otherwise in cells;
+        against whole cells, which is the safe one. A radius in the wrong unit is refused."""
         if radius in (None, ""):
             return None
         frame = self.following.frame_of(self.following.newest())

@@ -35,7 +35,7 @@ def drawing(draft: Draft, name: str, sides: Sequence[int]) -> Command:
 
 
 def commands(draft: Draft) -> Dict[str, Command]:
-    """The commands without a rectangle. Each tells the draft its place."""
+    """The commands without a rectangle. Each passes its place to the draft."""
 
     def publish(client: clearmap.Client) -> str:
         version = client.publish()

@@ -26,8 +26,8 @@ LACKS = "isn't installed for {}: Debian has python3-aiohttp and python3-numpy"
 
 
 def program() -> Optional[str]:
-    """The program that works distances out where there is no library: the one that CLEARMAP names,
-    this repository's, the one next to an installed clearmap-view, or that on the path."""
+    """The program that computes distances without the library: the one that CLEARMAP names, this
+    repository's, the one next to an installed clearmap-view, or that on the path."""
     built = (TOP / "crates/clearmap/out/clearmap", HERE.parent.parent.parent / "bin/clearmap")
     found = [str(path) for path in built if os.access(path, os.X_OK)]
     return os.environ.get("CLEARMAP") or (found[0] if found else shutil.which("clearmap"))
@@ -106,8 +106,8 @@ def serve(options: argparse.Namespace) -> None:
 
 
 def main() -> int:
-    """Serves the page. Status 1 where a file or a port can't be had, with one line on standard
-    error."""
+    """Serves the page. Status 1 if a file or a port can't be had, with one line on standard error.
+    """
     options = parser().parse_args()
     try:
         serve(options)

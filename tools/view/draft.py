@@ -111,7 +111,7 @@ class Draft:
             return not self._alone
 
     def state(self) -> Dict[str, object]:
-        """What each page is told."""
+        """What each page is sent."""
         with self._lock:
             drawn, overtaken, found = list(self._drawn), self._overtaken, self._found
         said = "Nothing changed from here."

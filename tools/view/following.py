@@ -1,4 +1,4 @@
-"""Follows the newest version of a server: what each page shows, and what it is told."""
+"""Follows the newest version of a server: what each page shows, and what it is sent."""
 import asyncio
 import time
 from typing import Callable, Dict, List, NamedTuple, Optional, Tuple, TypeVar, Union
@@ -44,7 +44,7 @@ class Copy(NamedTuple):
 
 class Shown:
     """One version on the page, with its pictures by metric: each is made when a page first wants
-    it. `area` is the version as a map of this process, where the library is there."""
+    it. `area` is the version as a map of this process, if the library is there."""
 
     def __init__(self, serial: int, copy: Copy, here: bool) -> None:
         self.serial, self.copy = serial, copy
@@ -83,7 +83,7 @@ class Following:
         return known.frame if known is not None and fits else None
 
     def state(self) -> Dict[str, object]:
-        """What each page is told when it changes."""
+        """What each page is sent when it changes."""
         wanted = self.wanted
         told: Dict[str, object] = {"fault": self.fault, "readOnly": wanted.read_only}
         told.update(port=wanted.port, draft=self.draft.state())
@@ -93,7 +93,7 @@ class Following:
         return told
 
     def state_of(self, shown: Shown) -> Dict[str, object]:
-        """What is told of the newest version."""
+        """What is sent about the newest version."""
         frame, known = self.frame_of(shown), self.wanted.map
         told: Dict[str, object] = {"serial": shown.serial, "version": shown.version}
         told.update(width=shown.width, height=shown.height, edge=shown.edge)
@@ -146,8 +146,8 @@ class Following:
         return self.watched.stays or (self.listeners > 0 and bool(self.draft.is_drawn))
 
     async def look(self) -> None:
-        """Moves to the newest version, where it is another one, and leaves the connection where
-        nothing is asked. The first version is looked for before a page is open."""
+        """Moves to the newest version, if it is another one, and leaves the connection if nothing
+        is asked. The first version is looked for before a page is open."""
         async with self.looking:
             if self.listeners > 0 or not self.shown:
                 await self.renew()
@@ -157,7 +157,7 @@ class Following:
                 await asyncio.to_thread(self.watched.rest)
 
     async def renew(self) -> None:
-        """Moves to the newest version, and tells a server that is lost."""
+        """Moves to the newest version, and reports a lost server."""
         try:
             pinned = await asyncio.to_thread(self.watched.renew, self.draft.saw)
             if pinned != self.pinned or not self.shown:
@@ -172,8 +172,8 @@ class Following:
                 await self.tell(said)
 
     def copied(self) -> Copy:
-        """The pinned version, and whether its border is open or a wall, as it shows where its
-        neighbours are free."""
+        """The pinned version, and whether its edge is open or a wall, as cells with free neighbours
+        show."""
         image = self.watched.dump()
         known = self.shown[0].copy if self.shown else None
         bits = known.bits if known and known.image == image else picture.bits_of(image)
@@ -186,7 +186,7 @@ class Following:
         return Copy(version, image, bits, "wall" if is_wall else "open")
 
     async def take(self, copy: Copy) -> None:
-        """Shows a version, where it is another one than is shown."""
+        """Shows a version, unless it is the one shown."""
         if self.shown and self.shown[0].is_as(copy):
             return await self.tell("") if self.fault else None
         await asyncio.to_thread(self.compare, copy)
@@ -214,8 +214,8 @@ class Following:
         return self.shown[0]
 
     async def asked(self, question: Callable[[Answers], T]) -> Tuple[int, T]:
-        """A version, and what it answers: the one that is shown, in this process, or where there
-        is no library the one that the connection pins."""
+        """A version, and what it answers: the one shown, in this process, or without the library
+        the one that the connection pins."""
         self.watched.stay(AFTER_A_QUESTION)
         shown = self.newest()
         if shown.area is not None:

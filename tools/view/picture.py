@@ -1,8 +1,8 @@
 """A picture of distances, in levels of detail, which the page gets in pieces of raw numbers.
 
 A number is 0 for an obstacle, 1 for an obstacle that the yaml's image doesn't know, and else the
-distance plus 1; NO_OBSTACLE where the map has none. A level has half the columns and rows of the
-one below it, and of four cells the least number, so that a wall of one cell is still seen from far.
+distance plus 1; NO_OBSTACLE if the map has none. A level has half the columns and rows of the one
+below it, and of four cells the least number, so that a wall of one cell is still seen from far.
 """
 import zlib
 from typing import TYPE_CHECKING, Iterable, List, Optional, Sequence, Tuple
@@ -44,8 +44,8 @@ def halved(numbers: "Numbers") -> "Numbers":
 
 
 class Picture:
-    """The levels of one version by one metric. `most` is the farthest cell's distance, None where
-    the map has no obstacle. `has_unknown` says whether a cell is an obstacle that the yaml's image
+    """The levels of one version by one metric. `most` is the farthest cell's distance, None if the
+    map has no obstacle. `has_unknown` says whether a cell is an obstacle that the yaml's image
     doesn't know. `distances` are used up."""
 
     def __init__(self, distances: "Numbers", unknown: "Optional[Cells]" = None) -> None:
@@ -65,7 +65,7 @@ class Picture:
 
     def piece(self, level: int, column: int, row: int) -> bytes:
         """A piece of a level: its numbers by rows, four bytes each, the low one first, deflated. An
-        IndexError where there is none."""
+        IndexError if there is none."""
         if min(level, column, row) < 0:
             raise IndexError("a piece is counted from 0")
         across = slice(SIDE * column, SIDE * (column + 1))
@@ -101,8 +101,8 @@ def differing(before: "Cells", drawn: Iterable[Tuple[Sequence[int], bool]], afte
 
 def telling_cell(bits: "Cells") -> Optional[Tuple[int, int]]:
     """A cell on the border of a map all of whose neighbours are free: its nearest obstacle is one
-    step away by `chess` exactly if the edge is a wall. None where there is no such cell; then no
-    cell of the border is farther than that from an obstacle anyway."""
+    step away by `chess` exactly if the edge is a wall. None if there is no such cell; then no cell
+    of the border is farther than that from an obstacle anyway."""
     height, width = bits.shape
     sides = (
         (bits[:2].any(axis=0), lambda at: (at, 0)),

@@ -22,7 +22,7 @@ class TableError(Exception):
 
 
 def no_library() -> str:
-    """Why nothing can be worked out in this process; an empty text where it can be."""
+    """Why nothing can be computed in this process; an empty text if it can be."""
     try:
         clearmap.Map(numpy.zeros((1, 1), bool))
     except ImportError as fault:
@@ -70,8 +70,8 @@ def by_program(program: str, image: bytes, metric: str, edge: str) -> "Numbers":
 
 
 def read_table(table: BinaryIO, width: int, height: int) -> "Numbers":
-    """The numbers of a table of distances, read while it is being written; all are NO_OBSTACLE
-    where the map has none."""
+    """The numbers of a table of distances, read while it is being written; all are NO_OBSTACLE if
+    the map has none."""
     distances = numpy.full(width * height, clearmap.NO_OBSTACLE, numpy.uint32)
     done, rest = 0, b""
     while data := table.read(AT_ONCE):
@@ -99,7 +99,7 @@ def no_numbers(table: BinaryIO, first: bytes, none: "Numbers") -> "Numbers":
 def table_of(
     program: Optional[str], area: Optional[clearmap.Map], image: bytes, metric: str, edge: str
 ) -> "Numbers":
-    """The distances of a version: in this process where its map is here."""
+    """The distances of a version: in this process if its map is here."""
     if area is not None:
         return by_library(area, metric)
     if program is None:

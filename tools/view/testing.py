@@ -80,7 +80,7 @@ class Viewed:
         return answer.status, text
 
     def events(self):
-        """The states that the page is told, one after another."""
+        """The states sent to the page, in order."""
         connection = http.client.HTTPConnection("127.0.0.1", self.port, timeout=PATIENCE)
         connection.request("GET", "/events")
         answer = connection.getresponse()
@@ -113,7 +113,7 @@ class Viewing(unittest.TestCase):
         self.addCleanup(self.served.end)
 
     def view(self, *words):
-        """A page's server that has a version, and the first state that tells it."""
+        """A page's server that has a version, and the first state that has it."""
         viewed = Viewed(self.served.port, *words, library=self.library)
         self.addCleanup(viewed.end)
         states = viewed.events()
@@ -134,7 +134,7 @@ class WithoutLibrary:
 
 
 def browser():
-    """Headless Chromium, where it and its driver are installed."""
+    """Headless Chromium, if it and its driver are installed."""
     binary, driver = shutil.which("chromium"), shutil.which("chromedriver")
     if webdriver is None or binary is None or driver is None:
         return None
@@ -184,7 +184,7 @@ class InBrowser(unittest.TestCase):
         return self.driver.find_element(By.ID, name).text
 
     def middle(self, x, y):
-        """Where the middle of a cell is on the canvas."""
+        """Where the centre of a cell is on the canvas."""
         return self.driver.execute_script(
             "return window.clearmapView.pixel(arguments[0] + 0.5, arguments[1] + 0.5)", x, y
         )

@@ -1,5 +1,5 @@
 """A running server as `clearmap-view` sees it: one connection, whose pin follows the newest
-version, and which is left where nothing is asked. Its calls may come from any thread."""
+version, and which is left if nothing is asked. Its calls may come from any thread."""
 import contextlib
 import threading
 import time
@@ -33,7 +33,7 @@ def in_words(refusal: clearmap.Refused) -> str:
 class Watched:
     """The connection and its pin. Whatever fails drops both, and the next call connects again.
 
-    `lost` is told where the server may have ended.
+    `lost` is called if the server may have ended.
     """
 
     def __init__(
@@ -90,7 +90,7 @@ class Watched:
     def renew(self, saw: Callable[[int], None]) -> Tuple[int, int]:
         """Pins the newest version: which connection it is, counted from 1, and the version.
 
-        `saw` is told the version before another call goes on.
+        `saw` is called with the version before another call goes on.
         """
         with self._connected() as client:
             if self._pinned is not None:

@@ -32,13 +32,13 @@ def unknown_cells(image: ros.Gray, settings: ros.Settings) -> "Cells":
 
 
 def is_unknown(sample: int, seen: int, most: int, settings: ros.Settings) -> bool:
-    """Whether a sample is an obstacle for being unknown alone."""
+    """Whether a sample is an obstacle only for being unknown."""
     one = ros.Gray(1, 1, most, [sample], bytes([seen]))
     return ros.obstacles(one, settings) != ros.obstacles(one, settings, unknown_is_free=True)
 
 
 def read_yaml_map(path: str) -> YamlMap:
-    """The map that a `map.yaml` names. A RosError where it can't be taken."""
+    """The map that a `map.yaml` names. A RosError if it can't be taken."""
     found = ros.read_map(path)
     unknown = unknown_cells(found.image, found.settings)
     return YamlMap(pathlib.Path(path).stem, found.frame, unknown)

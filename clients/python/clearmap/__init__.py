@@ -12,7 +12,7 @@ all.
         painter.publish()
 
     with clearmap.Client(7400, size=(40, 20)) as planner, planner.pin() as pinned:
-        near = pinned.at(3, 4)                      # None where the map has no obstacle
+        near = pinned.at(3, 4)                      # None if the map has no obstacle
         tight = pinned.path([(0, 0), (30, 0), (30, 9)])
         free = pinned.clear_of(34, [(0, 0), (30, 0)]) is None
 

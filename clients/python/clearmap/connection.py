@@ -94,7 +94,7 @@ class Connection:
         stream = self._open()
         try:
             return stream.recv(LONGEST_REPLY, socket.MSG_PEEK) if _can_read(stream) else None
-        except (OSError, ValueError):  # the latter where it was closed by now
+        except (OSError, ValueError):  # the latter if it was closed by now
             return b""
 
     # ---- exchanges

@@ -118,7 +118,7 @@ class Follower:
         return self._ended.is_set()
 
     def _none(self, newer_than: Optional[Version] = None) -> str:
-        """What is said where there is no version."""
+        """What to say if there is no version."""
         newer = "" if newer_than is None else f" newer than {newer_than.number}"
         why = "the follower is closed" if self._is_over() else self._error
         return f"there is no version{newer} of {self._what} yet" + (f": {why}" if why else "")

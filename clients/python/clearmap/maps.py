@@ -135,7 +135,7 @@ class Map:
 
     def _asked(self, name: str, metric: str, *rest: Any) -> int:
         """The status of a call about the cells as they are now."""
-        held = self._held  # not given back before the call is done
+        held = self._held  # not freed before the call is done
         return int(_call(name)(*held.where, number_of(metric), self._edge, *rest))
 
     def at(self, x: int, y: int, metric: str = EUCLID2) -> Optional[Near]:

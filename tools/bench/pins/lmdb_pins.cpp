@@ -2,8 +2,8 @@
 // newest snapshot, next to one thread that commits.
 //   lmdb_pins FOLDER READERS SECONDS
 // For SECONDS seconds each reader counts them, and for as many it times each. A line for each
-// reader: its renewals a second, and the 50th, 99th and 99.99th percentile in nanoseconds. A commit
-// is made every 50 microseconds.
+// reader: its renewals per second, and the 50th, 99th and 99.99th percentile in nanoseconds. A
+// commit is made every 50 microseconds.
 #include <lmdb.h>
 
 #include <algorithm>

@@ -54,7 +54,7 @@ export class Sight {
     this.move(0, 0);
   }
 
-  /** The pixel of a place in cells; the middle of a cell is half a cell further. */
+  /** The pixel of a place in cells; the centre of a cell is half a cell further. */
   pixel(x, y) {
     return [(x - this.left) * this.scale, (y - this.top) * this.scale];
   }

@@ -74,7 +74,7 @@ function resize() {
 
 const asked = () => `${page.metric} ${page.radius} ${page.unit}`;
 
-/** The room that the robot needs; none where its radius is no number, which is said. */
+/** The room that the robot needs; none if its radius is no number, which is said. */
 async function room() {
   const of = asked();
   try {
