@@ -4,8 +4,8 @@
 //!
 //! Each column has a place, 128 after its number, and at this place a part: the part of its gap in
 //! a 16-bit distance. The places before the first column and after the last one, and those of
-//! columns without an obstacle, have the part for no obstacle. A column is named by its offset to
-//! the right of the 128th column to the left of the cell.
+//! columns without an obstacle, have the part for no obstacle. A column is named by its offset
+//! from 128 columns to the left of the cell.
 
 ghost use Rattle.std.specs.Prelude.{◌≡◌, ℕ, negsuc, pos, ◌+◌, ◌-◌, ◌*◌, ◌≤ℤ◌, ◌<◌, ◌≤◌, ◌⊎◌, length, slice_index, slice_index_or, Some, IfSome};
 ghost use Rattle.metric.specs.Edge.{shift, spot_of};
@@ -155,7 +155,7 @@ fn next_found<M: Metric>(
     (entries.len(), entries.len(), steps)
 }
 
-/// The column at offset `away` of the 128th column to the left of the cell in column `x`, in one of
+/// The column at offset `away` from 128 columns to the left of the cell in column `x`, in one of
 /// eight lanes.
 #[inline(always)]
 fn column_of(x: usize, away: u16x8, place: usize) -> usize
@@ -308,7 +308,7 @@ fn fill_eight<M: Metric, A: CellAnswer, B: Border>(
     }
 }
 
-/// The obstacle of the column at this offset of the 128th column to the left of the cell in column
+/// The obstacle of the column at this offset from 128 columns to the left of the cell in column
 /// `x`.
 #[inline(always)]
 fn near(entries: &[u16], edge: Edge, x: usize, best: u16, away: u16) -> Near

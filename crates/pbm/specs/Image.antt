@@ -17,7 +17,7 @@ is_whitespace byte = (byte == 9 || byte == 10) || (byte == 13 || byte == 32)
 abbrev pub is_line_end : ℕ → Bool
 is_line_end byte = byte == 10 || byte == 13
 
--- whether the text fills a gap's rest, in a comment or not: whitespace, and `#` up to a line end
+-- whether text is a gap's rest, in a comment or not: whitespace, and `#` up to and with a line end
 unfoldable pub fills : Bool → List ℕ → Bool
 fills in_comment [] = not in_comment
 fills true (byte ∷ rest) = fills (not (is_line_end byte)) rest
