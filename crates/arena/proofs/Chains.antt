@@ -61,7 +61,7 @@ count-out (out ∷ bs) (suc k) e = count-out bs k e
 count-out (bare ∷ bs) (suc k) e = count-out bs k e
 count-out (held ws ∷ bs) (suc k) e = ap suc (count-out bs k e)
 
--- one block more is in once a block that was out is in
+-- a further block is in once a block that was out is in
 count-in : (bs : List Content) (k : ℕ) (ws : List ℕ) → k < length bs → get_or bs k out ≡ out → in_count (set bs k (held ws)) ≡ suc (in_count bs)
 count-in [] k ws l e = absurd (let no : k < 0 = l in omega arith)
 count-in (out ∷ bs) zero ws l e = refl
@@ -174,7 +174,7 @@ module _ (bs : List Content) (done count : ℕ) (f : Filled bs done count) (unde
   pub next_bare : get_or bs done out ≡ bare
   next_bare = f.above done (omega arith) under
 
-  -- once the next block is filled with a link to the one after it, one block more is filled
+  -- once the next block is filled with a link to the one after it, one more block is filled
   pub one_filled : (bs' : List Content) (ws : List ℕ) (m : ℕ) → bs' ≡ set bs done (held ws) → get_or ws 0 0 ≡ suc done → m ≡ suc done → Filled bs' m count
   one_filled bs' ws m e link e' = subst (λ (cs : List Content). Filled cs m count) (sym e) (subst (λ (j : ℕ). Filled (set bs done (held ws)) j count) (sym e') (record {
     long = length-set bs done (held ws) ∙ f.long;

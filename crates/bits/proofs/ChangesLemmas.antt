@@ -108,7 +108,7 @@ changes-with_cell old now x y black width_same height_same hx hy =
     (λ a lo ha. ap (λ (now_there : Bool). one (differs (has old a b) now_there)) (there a b (omega arith) (omega arith) (λ same. apart)))) in
     omega (arith, row, rows)
 
--- a cell that had its first value, and gets another, is one change more
+-- a cell that had its first value, and gets another, is one more change
 pub changes-with_cell_more : (old now : Cells) (x y : ℕ) (black : Bool) → now.width ≡ old.width
     → now.height ≡ old.height → x < old.width → y < old.height
     → has now x y ≡ has old x y → has now x y ≢ black → changes old (with_cell now x y black) ≡ changes old now + 1

@@ -43,12 +43,12 @@ none_filled x0 y0 x1 a b value other = grind (arith, nat_tests)
 not_yet : (x0 y0 x1 y x : ℕ) (value other : Bool) → (if is_filled x0 y0 x1 y x x y then value else other) ≡ other
 not_yet x0 y0 x1 y x value other = grind (arith, nat_tests)
 
--- one cell more is filled
+-- a further cell is filled
 one_more : (x0 y0 x1 y x a b : ℕ) (here value other : Bool) → x0 ≤ x → (a ≡ x → b ≡ y → here ≡ value)
     → (if a == x && b == y then here else (if is_filled x0 y0 x1 y x a b then value else other)) ≡ (if is_filled x0 y0 x1 y (x + 1) a b then value else other)
 one_more x0 y0 x1 y x a b here value other hx same = grind (arith, nat_tests)
 
--- a row that is filled to its end is one row more
+-- a row that is filled to its end is one more row
 row_more : (x0 y0 x1 y x a b : ℕ) (value other : Bool) → y0 ≤ y → x ≡ x1
     → (if is_filled x0 y0 x1 y x a b then value else other)
     ≡ (if is_filled x0 y0 x1 (y + 1) x0 a b then value else other)
@@ -65,7 +65,7 @@ filled-none old bitmap x0 y0 x1 value =
     cells_where-has old bitmap
     ∙ cells_where-same old.width old.height (has old) (filled_cell old x0 y0 x1 y0 x0 value) (λ a b ha hb. sym (none_filled x0 y0 x1 a b (value a b) (has old a b)))
 
--- with the next cell written, one cell more is filled
+-- with the next cell written, one more cell is filled
 with_cell-filled : (old : Cells) (x0 y0 x1 y x : ℕ) (value : ℕ → ℕ → Bool) → x0 ≤ x
     → with_cell (filled old x0 y0 x1 y x value) x y (value x y) ≡ filled old x0 y0 x1 y (x + 1) value
 with_cell-filled old x0 y0 x1 y x value hx =

@@ -58,7 +58,7 @@ put_first cells k across top words at =
     ∙ cells_where-same cells.width cells.height (has cells) _ (λ a b ha hb.
     not_above b top (tile_of cells a b) k _ (has cells a b) (λ is. let parts = tile_parts cells a b k across ha at.across_is is in let top_is = at.top_is in let row = parts.0 in omega arith))
 
--- with one row more the tile is written above the next row
+-- with one more row the tile is written above the next row
 pub put_row : (cells now : Cells) (k across top : ℕ) (words : List ℕ) (y word place : ℕ) → IsAt cells k across top → now ≡ put_above cells k words y → top ≤ y → y < top + 64
     → place ≡ y - top → word ≡ get_or words place 0 → with_word now y (k % across) word ≡ put_above cells k words (y + 1)
 put_row cells now k across top words y word place at is low high place_is read =

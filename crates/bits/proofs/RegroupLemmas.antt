@@ -40,7 +40,7 @@ moved_range f s a (suc n) =
     let tail = ap (λ (k : ℕ). sum_by f (range_with_len k n)) start in
     omega (arith, tail, moved_range f s (a + 1) n, sum_by-cons f (s + a) (range_with_len (s + a + 1) n), sum_by-cons (λ j. f (s + j)) a (range_with_len (a + 1) n))
 
--- one number more adds its value to a total
+-- a further number adds its value to a total
 pub total-suc : (f : ℕ → ℕ) (n : ℕ) → total f (suc n) ≡ total f n + f n
 total-suc f n =
     let longer : suc n ≡ n + 1 = omega arith in
@@ -56,7 +56,7 @@ total_wider f n m up none =
     let whole = ap (total f) parts in
     omega (arith, whole, split_range f 0 n (m - n), sum_by-zero f (0 + n) (m - n) (λ j low high. none j (omega arith)))
 
--- a total over blocks of one size is the total of the blocks
+-- a total over blocks of the same size is the total of the blocks
 total_blocks : (f : ℕ → ℕ) (size n : ℕ) → total f (size * n) ≡ total (λ a. total (λ j. f (size * a + j)) size) n
 total_blocks f size zero = ap (total f) (let none : size * 0 ≡ 0 = omega arith in none)
 total_blocks f size (suc n) =
@@ -147,7 +147,7 @@ module _ (old new : Cells) (old_is : IsBitmap old) (new_is : IsBitmap new) (widt
       (has new (64 * ((words_across old.width * b + a) % words_across w) + j) (64 * ((words_across old.width * b + a) / words_across w) + i)))) 64) 64) width_same
       ∙ (λ i'. total (λ i. total (λ j. cell_changes old new (64 * column i' + j) (64 * row i' + i)) 64) 64)
 
-  -- the changes of two bitmaps of one size, tile by tile
+  -- the changes of two bitmaps of the same size, tile by tile
   pub changes_regrouped : changes old new ≡ changes_by_tile old new
   unfolding changes_by_tile
   changes_regrouped =

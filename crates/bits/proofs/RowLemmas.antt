@@ -16,7 +16,7 @@ row_front cells y words n = cells_where cells.width cells.height (λ a b. if b =
 none_before : (b y k : ℕ) (new old : Bool) → old ≡ (if b == y && nat_lt k 0 then new else old)
 none_before b y k new old = grind (arith, nat_tests)
 
--- a row with one word more written has the new value in that word, and what it had elsewhere
+-- a row with one more word written has the new value in that word, and what it had elsewhere
 word_more : (b y k n : ℕ) (word here old : Bool) → (k ≡ n → word ≡ here)
     → (if b == y && k == n then word else (if b == y && nat_lt k n then here else old)) ≡ (if b == y && nat_lt k (n + 1) then here else old)
 word_more b y k n word here old same = grind (arith, nat_tests)

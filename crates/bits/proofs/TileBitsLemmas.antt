@@ -156,7 +156,7 @@ next_row y0 y a b = grind (arith, nat_tests)
 last_row : (y0 y i : ℕ) (a b : ℕ) → y0 ≤ y → i ≡ y → a ≡ (if nat_le y0 i && nat_lt i (y + 1) then a else b)
 last_row y0 y i a b up here = grind (arith, nat_tests)
 
--- a choice by a range with one row more is the same at each other row
+-- a choice by a range with one more row is the same at each other row
 other_row : (y0 y i : ℕ) (a b : ℕ) → i ≢ y → (if nat_le y0 i && nat_lt i y then a else b) ≡ (if nat_le y0 i && nat_lt i (y + 1) then a else b)
 other_row y0 y i a b apart = grind (arith, nat_tests)
 
@@ -196,7 +196,7 @@ tile_filling_read : (old now : List ℕ) (x0 y0 x1 y : ℕ) (value : ℕ → ℕ
 tile_filling_read old now x0 y0 x1 y value changed so_far h =
     ap (λ (ws : List ℕ). get_or ws y 0) so_far.is ∙ (filled_words-row old x0 y0 x1 y value y h ∙ next_row y0 y _ _)
 
--- with one row more the filling has come to the next row, and has counted its changes
+-- with one more row the filling has come to the next row, and has counted its changes
 pub tile_filling_more : (old now : List ℕ) (x0 y0 x1 y : ℕ) (value : ℕ → ℕ → Bool) (changed : ℕ) (read word more : ℕ) → IsTileFilling old now x0 y0 x1 y value changed
     → y0 ≤ y → y < 64 → read ≡ get_or now y 0 → word ≡ filled_word read x0 x1 (λ j. value j y) → more ≡ bits_changed read word → more ≤ 64
     → IsTileFilling old (set now y word) x0 y0 x1 (y + 1) value (changed + more)

@@ -35,7 +35,7 @@ IsBlankRow-none cells y none = λ k within.
     ∙ same_from_bits_below 64 (word_where (λ i. has cells (64 * k + i) y) 64) 0 (word_where-lt (λ i. has cells (64 * k + i) y) 64) (omega arith)
     (λ i bit. bit_at-word_where (λ j. has cells (64 * k + j) y) 64 i bit ∙ (no_obstacle (has cells (64 * k + i) y) (none (64 * k + i)) ∙ sym (bit_at-zero i)))
 
--- the rows that may have an obstacle are passed over by no gap that the bands give
+-- the rows that may have an obstacle are skipped by no gap that the bands give
 pub IsNextGap-banded : (cells : Cells) (bands top bottom gap next : ℕ) → IsBanded cells bands → IsNextGap (IsMarkedRow bands) top bottom gap next
     → IsNextGap (λ b. (a : ℕ) × IsObstacle cells a b) top bottom gap next
 IsNextGap-banded cells bands top bottom gap next banded is = record {
@@ -45,7 +45,7 @@ IsNextGap-banded cells bands top bottom gap next banded is = record {
   below = λ b obstacle. is.below b (banded obstacle.0 b obstacle.1);
 }
 
--- an obstacle's row that comes before the next gap comes before the gap from which rows were passed over
+-- an obstacle's row that comes before the next gap comes before the gap from which rows were skipped
 pub row_gap-passed : (cells : Cells) (rect : Rect) (gap next : ℕ) → IsBitmap cells → 0 < gap → IsNextGap (λ b. (a : ℕ) × IsObstacle cells a b) rect.y0 (rect.y1 - 1) gap next
     → (a b : ℕ) → IsObstacle cells a b → row_gap rect b < next → row_gap rect b < gap
 row_gap-passed cells rect gap next bitmap some is a b obstacle near =

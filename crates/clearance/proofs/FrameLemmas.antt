@@ -188,7 +188,7 @@ frame_part right bottom a b frame =
       ]
     ]
 
--- one column more before which all are farther
+-- a further column before which all are farther
 pub before_more : (d : ℕ → ℕ → ℕ) → StaysNearer d → (x gap low middle : ℕ) → x ≤ 4097 → gap ≤ 4097 → middle ≤ x → d 0 gap < d (x - middle) gap
     → (c : ℕ) → 1 ≤ c → c < middle + 1 → d 0 gap < d (x - c) gap
 before_more d stays x gap low middle columns rows within far c some before =

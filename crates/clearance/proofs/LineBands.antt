@@ -56,7 +56,7 @@ AreLinesLive-thinned distance grows stays cells lines rect gap end line next ban
   | inr far ↦ inr (λ k x y from before on_line. far k x y from (omega arith) on_line)
 ]
 
--- rows that are passed over have no obstacle near
+-- rows that are skipped have no obstacle near
 pub IsFirstAmong-live : (distance : ℕ → ℕ → ℕ) (cells : Cells) (lines : Lines) (rect : Rect) (gap next end line bands : ℕ) → IsBitmap cells → 0 < gap
     → IsNextGap (IsMarkedRow bands) rect.y0 (rect.y1 - 1) gap next → AreLinesLive distance cells lines line bands
     → IsFirstAmong distance cells lines (λ b. row_gap rect b < gap) end line → IsFirstAmong distance cells lines (λ b. row_gap rect b < next) end line

@@ -19,7 +19,7 @@ use Rattle.clearance.proofs.RowSearches.{mark_within}
 use Rattle.clearance.proofs.TileRows.{AreBandsLive}
 use Rattle.clearance.proofs.Searches.{marked_obstacle, obstacle_marked, obstacle_within, unmarked_row}
 
--- the obstacles that have been searched, said otherwise
+-- the obstacles that have been searched, restated
 pub IsNearAmong-same : (distance : ℕ → ℕ → ℕ) (Obstacle IsSeen IsNext : ℕ → ℕ → Type 0) (x y : ℕ) (best : Option Found)
     → ((a b : ℕ) → Obstacle a b → IsSeen a b → IsNext a b) → ((a b : ℕ) → Obstacle a b → IsNext a b → IsSeen a b)
     → IsNearAmong distance Obstacle IsSeen x y best → IsNearAmong distance Obstacle IsNext x y best
@@ -309,7 +309,7 @@ limit_of-falls distance Obstacle IsSeen IsNext x y (Some best) (Some next) there
     let other = after.distance_is in
     elim (after.least best.cell.x best.cell.y (before.obstacle.0, there best.cell.x best.cell.y before.obstacle.1)).order [ inl less ↦ omega arith | inr same ↦ let equal = same.0 in omega arith ]
 
--- rows that are passed over have no obstacle that could be nearer than the best
+-- rows that are skipped have no obstacle that could be nearer than the best
 pub IsNearAmong-live : (distance : ℕ → ℕ → ℕ) (cells : Cells) (x y gap next bands : ℕ) (here : Rect) (best : Option Found) → IsBitmap cells → IsCellRect x y here → 0 < gap → gap ≤ next
     → IsNextGap (IsMarkedRow bands) y y gap next → AreBandsLive distance cells here gap (limit_of best) bands
     → IsNearAmong distance (IsObstacle cells) (IsWithin y gap) x y best → IsNearAmong distance (IsObstacle cells) (IsWithin y next) x y best

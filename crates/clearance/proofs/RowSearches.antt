@@ -44,7 +44,7 @@ mark_within words x few marked = elim (cases_lt x (64 * length words)) [
   | inr past ↦ absurd (unmarked_past words x past marked)
 ]
 
--- tiles that are passed over to the right have no mark
+-- tiles that are skipped to the right have no mark
 pub unmarked_tiles : (words : List ℕ) (start from next tiles : ℕ) → ((x : ℕ) → IsMarked words x → bit_at tiles (x / 64) ≡ 1) → ((k : ℕ) → from ≤ k → k < next → bit_at tiles k ≡ 1 → ⊥)
     → AreUnmarked words start (64 * from) → AreUnmarked words start (64 * next)
 unmarked_tiles words start from next tiles tiled none before = record {
@@ -54,7 +54,7 @@ unmarked_tiles words start from next tiles tiled none before = record {
   ];
 }
 
--- tiles that are passed over to the left have no mark
+-- tiles that are skipped to the left have no mark
 pub unmarked_tiles_below : (words : List ℕ) (after end last tiles : ℕ) → ((x : ℕ) → IsMarked words x → bit_at tiles (x / 64) ≡ 1) → ((k : ℕ) → after ≤ k → k < end → bit_at tiles k ≡ 1 → ⊥)
     → AreUnmarked words (64 * end) last → AreUnmarked words (64 * after) last
 unmarked_tiles_below words after end last tiles tiled none before = record {

@@ -156,7 +156,7 @@ IsLoweredBy-both distance cells rect y gap before right least words bitmap row o
       ];
     }
 
--- the least of some rows lowered by one row more is the least of all of them
+-- the least of some rows lowered by one more row is the least of all of them
 pub IsLeastAmong-more : (distance : ℕ → ℕ → ℕ) (Obstacle : ℕ → ℕ → Type 0) (rect : Rect) (IsRow IsNext : ℕ → Type 0) (y gap limit least next : ℕ)
     → row_gap rect y ≡ gap → ((b : ℕ) → IsNext b → IsRow b ⊎ (b ≡ y)) → IsLoweredBy distance Obstacle rect y gap least next
     → IsLeastAmong distance Obstacle rect IsRow limit least → IsLeastAmong distance Obstacle rect IsNext limit next

@@ -77,7 +77,7 @@ AreBandsLive-thinned distance cells rect gap least bands next lower left order l
 pub AreBandsLive-later : (distance : ℕ → ℕ → ℕ) (cells : Cells) (rect : Rect) (gap least bands next : ℕ) → gap ≤ next → AreBandsLive distance cells rect gap least bands → AreBandsLive distance cells rect next least bands
 AreBandsLive-later distance cells rect gap least bands next order live = λ a b obstacle away. live a b obstacle (omega arith)
 
--- a row of a marked band isn't passed over
+-- a row of a marked band isn't skipped
 pub marked_passed : (bands : ℕ) (rect : Rect) (gap next b : ℕ) → 0 < gap → b < 4096 → IsNextGap (IsMarkedRow bands) rect.y0 (rect.y1 - 1) gap next → gap ≤ row_gap rect b → row_gap rect b < next → IsMarkedRow bands b → ⊥
 marked_passed bands rect gap next b some within is away near marked =
     let rows = rect.has_cells.rows in

@@ -42,7 +42,7 @@ IsSought-none cells Is masks line few room all empty none =
           rw (row_of-none (get_or line x 0) entry) (none x);
     }
 
--- an entry tells what is known of its column once one row more has been searched
+-- an entry tells what is known of its column once one more row has been searched
 next_entry : (cells : Cells) (Is Next : ℕ → Option ℕ → Type 0) (x y entry : ℕ) → y < 65535
     → (has cells x y ≡ true → Is x None → Next x (Some y)) → (has cells x y ≡ false → Is x None → Next x None) → ((row : ℕ) → Is x (Some row) → Next x (Some row))
     → Is x (row_of entry) → (black : Bool) → has cells x y ≡ black → Next x (row_of (first_marked (has cells x y) y entry))
@@ -61,7 +61,7 @@ next_entry cells Is Next x y entry small met free kept was black is =
         let still : first_marked (has cells x y) y entry ≡ 65535 = first_marked-free (has cells x y) y entry is ∙ none in
         rw (row_of-none (first_marked (has cells x y) y entry) still) (free is was)
 
--- a line tells what is known of each column once one row more has been searched
+-- a line tells what is known of each column once one more row has been searched
 IsSought-next : (cells : Cells) (Is Next : ℕ → Option ℕ → Type 0) (y : ℕ) (masks new_masks old new : List ℕ) → IsMap cells → y < cells.height
     → ((x : ℕ) → has cells x y ≡ true → Is x None → Next x (Some y)) → ((x : ℕ) → has cells x y ≡ false → Is x None → Next x None) → ((x row : ℕ) → Is x (Some row) → Next x (Some row))
     → IsSought cells Is masks old → length new ≡ length old → length new_masks ≡ length masks → AreMissing new_masks new

@@ -70,7 +70,7 @@ IsTabled-all cells width height edge entries bitmap width_is height_is many rows
       rows = rw (tabled, width_is, height_is) rows;
     }
 
--- one row more has its entries once they are put in their place
+-- a further row has its entries once they are put in their place
 pub HasRows-more : (cells : Cells) (edge : Edge) (y : ℕ) (line old new : List ℕ) → IsRowOfTable (framed edge cells) (y + shift edge) line
     → ((x : ℕ) → x < length line → get_or new (y * (cells.width + 2 * shift edge) + x) 0 ≡ get_or line x 0)
     → ((k : ℕ) → (k < y * (cells.width + 2 * shift edge)) ⊎ (y * (cells.width + 2 * shift edge) + length line ≤ k) → get_or new k 0 ≡ get_or old k 0)

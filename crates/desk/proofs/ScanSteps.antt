@@ -32,7 +32,7 @@ use Rattle.desk.proofs.HoldLemmas.{tidy_told}
 pub seen_long : (seen : List (Option Seen)) (reader : ℕ) → reader ≤ length seen → length (map pin_word (take reader seen)) ≡ reader
 seen_long seen reader few = omega (arith, length-map (take reader seen) pin_word, length-take reader seen)
 
--- once one reader more is scanned, the words that are seen have that reader's at their end
+-- once one more reader is scanned, the words that are seen have that reader's at their end
 pub scan_grows : (seen : List (Option Seen)) (reader word : ℕ) (o : Option Seen) → reader < length seen → word ≡ pin_word o
     → map pin_word (take (reader + 1) (set seen reader o)) ≡ map pin_word (take reader seen) ++ word ∷ []
 scan_grows seen reader word o inside is =
@@ -67,7 +67,7 @@ kept_replied z log h new reply kept tells does is =
     let after = (does z log tells).1 in
     sym (after.holds.summary.ledger_is.kept_is ∙ ap (λ (s : Story). s.kept) (story-push z log e)) ∙ is
 
--- where the ledger doesn't refuse the current command, one version more can be counted
+-- where the ledger doesn't refuse the current command, one more version can be counted
 pub few_versions : (z : Base) (k : KeeperView) (h : Holding) (c : Command) → IsToldByLog z (entries k.log) h → refused_by_ledger h.ledger c ≡ None → newest (story z (entries k.log)) + 1 < 2 ^ 32
 few_versions z k h c tells judged =
     let left = place_of_ledger h.ledger c judged in

@@ -49,7 +49,7 @@ IsHeard-more start old new all left line text before now after so_far next writt
   };
 }
 
--- where one line more is done, and its answer is written in part, the lines are done in part
+-- where one more line is done, and its answer is written in part, the lines are done in part
 pub IsHeard-part : (start old new : State) (all left : List (List ℕ)) (line text : List ℕ) (before now after : Option (List ℕ))
     → IsHeard start all (line ∷ left) before now old → IsAnswerLine (step_said line) old text new → AppendsFront now text after → IsDoneInPart start all before after
 IsHeard-part start old new all left line text before now after so_far next written = record {

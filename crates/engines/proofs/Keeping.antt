@@ -10,7 +10,7 @@ use Rattle.map_core.specs.Views.{State}
 use Rattle.engines.specs.steps.Steps.{Keeps}
 use Rattle.map_core.proofs.steps.RunLemmas.{run-push}
 
--- a run of steps of the keeper, and one Keep event after it, are a run of one step more
+-- a run of steps of the keeper, and one Keep event after it, are a run of one more step
 pub Keeps-more : (count : ℕ) (old mid new : State) (first second : Result StepReply NotEnabled) → Keeps count old first mid → SafeStep mid events.Keep second new → Keeps (count + 1) old second new
 Keeps-more count old mid new first second kept step = record {
   before = kept.before ++ first ∷ [];

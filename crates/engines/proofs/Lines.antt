@@ -1,4 +1,4 @@
--- The line of a row is put together an entry at a time.
+-- The line of a row is assembled an entry at a time.
 use Rattle.std.proofs.Common.{◌≡◌, ℕ, List, [], ◌∷◌, ◌++◌, map, Bool, Option, ap, sym}
 use Rattle.std.specs.List.{join_with_byte, flat_map}
 use Rattle.std.proofs.lemmas.List.{append-nil}

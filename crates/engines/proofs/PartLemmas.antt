@@ -36,7 +36,7 @@ AppendsFront-rows nearest width nears from middle next to before between after o
     rw (rows_between-join nearest width nears from middle to one (omega arith), rows_between-join nearest width nears middle next to two three)
     (AppendsFront-more before between after (rows_between nearest width nears from middle) (rows_between nearest width nears middle next) (rows_between nearest width nears next to) above line)
 
--- where the lines of some parts are written, and then the next part's, the lines of one part more are
+-- where the lines of some parts are written, and then the next part's, the lines of one more part are
 pub Appends-part : (nearest : Bool) (width height : ℕ) (nears : List (Option Near)) (rows from k : ℕ) (text : List ℕ) (before between after : Option (List ℕ))
     → Appends before (rows_between nearest width nears (min height from) (min height (from + rows * k))) between
     → text ≡ rows_between nearest width nears (min height (from + rows * k)) (min height (from + rows * k + rows)) → Appends between text after

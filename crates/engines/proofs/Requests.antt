@@ -18,7 +18,7 @@ use Rattle.engines.proofs.Gathering.{Gathers-both, Gathers-taken}
 GathersAll-both : (unread between left : Option (List ℕ)) (before middle after : List ℕ) → Gathers unread before middle between → GathersAll between middle after left → GathersAll unread before after left
 GathersAll-both unread between left before middle after one two = record { gathered = Gathers-both _ _ _ _ _ _ one two.gathered; ended = two.ended }
 
--- bytes in which no line ends stay so with one byte more that is no LF
+-- bytes in which no line ends stay so with one more byte that is no LF
 pub PutsUnended-more : (before middle after : List ℕ) (byte : ℕ) → PutsUnended before middle → after ≡ middle ++ byte ∷ [] → byte ≢ 10 → PutsUnended before after
 PutsUnended-more before middle after byte part is other = record {
   part = part.part ++ byte ∷ [];

@@ -1,4 +1,4 @@
--- The lines of some rows are put together a row or several at a time.
+-- The lines of some rows are assembled a row or several at a time.
 use Rattle.std.proofs.Common.{◌≡◌, ℕ, ◌+◌, ◌*◌, List, [], ◌++◌, Bool, Option, refl, ap, ◌∙◌}
 use Rattle.std.specs.List.{range_with_len, slice_range, flat_map}
 use Rattle.std.proofs.lemmas.List.Concat.{flat_map-append}

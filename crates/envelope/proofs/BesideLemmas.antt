@@ -1,4 +1,4 @@
--- The best place so far, one place more, and the nearest column.
+-- The best place so far, one more place, and the nearest column.
 use Rattle.std.proofs.Common.{◌≡◌, ℕ, ◌+◌, ◌-◌, ◌<◌, ◌≤◌, ◌==◌, ◌⊎◌, min, inl, inr, List, length, slice_index, refl, sym, ◌∙◌, arith, if◌then◌else◌, true, false}
 use Rattle.std.specs.Int.{abs_diff}
 use Rattle.std.proofs.lemmas.Bool.{cases_lt, ne_eqb}
@@ -22,7 +22,7 @@ less_first a b less =
     let e : min a b ≡ a = omega arith in
     (e, rw e (ne_eqb a b (λ same. absurd (omega (arith, same, less)))))
 
--- one place more on the left: it wins where it isn't worse
+-- a further place on the left: it wins where it isn't worse
 best_left : (far : ℕ → ℕ) (place from to best away value left : ℕ) → value ≡ far from → left + place ≡ from + 128
     → IsBestIn far place (from + 1) to best away → from < to → IsBestIn far place from to (min best value) (if min best value == value then left else away)
 best_left far place from to best away value left value_is left_is known some = elim (cases_lt best value) [
@@ -61,7 +61,7 @@ best_left far place from to best away value left value_is left_is known some = e
       })
 ]
 
--- one place more on the right: it wins where it is strictly better
+-- a further place on the right: it wins where it is strictly better
 best_right : (far : ℕ → ℕ) (place from to best away value right : ℕ) → value ≡ far to → right + place ≡ to + 128
     → IsBestIn far place from to best away → IsBestIn far place from (to + 1) (min best value) (if min best value == best then away else right)
 best_right far place from to best away value right value_is right_is known = elim (cases_lt value best) [
@@ -100,7 +100,7 @@ best_right far place from to best away value right value_is right_is known = eli
       })
 ]
 
--- with one column more on both sides the best of the columns is chosen among all of them
+-- with one more column on both sides the best of the columns is chosen among all of them
 pub best_wider : (d joined : ℕ → ℕ → ℕ) (parts : List ℕ) (place k b a l r b1 a1 b2 a2 : ℕ) → 1 ≤ k → k ≤ 97 → 128 ≤ place
     → l ≡ joined (slice_index parts (place - k)) (d k 0) → r ≡ joined (slice_index parts (place + k)) (d k 0)
     → b1 ≡ min b l → a1 ≡ (if b1 == l then 128 - k else a) → b2 ≡ min b1 r → a2 ≡ (if b2 == b1 then a1 else 128 + k)

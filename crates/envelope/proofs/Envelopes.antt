@@ -135,7 +135,7 @@ cut_begin d gaps P u spans width (suc count) covered = record {
   beyond = λ x from below other p. absurd (omega arith);
 }
 
--- spans are right for the same set of columns, said otherwise
+-- spans are right for the same set of columns, restated
 envelope_equal : (d : ℕ → ℕ → ℕ) (gaps : ℕ → ℕ) (P Q : ℕ → Type 0) (spans : List Span) → ((column : ℕ) → P column → Q column) → ((column : ℕ) → Q column → P column)
     → (count end : ℕ) → IsEnvelope d gaps P spans count end → IsEnvelope d gaps Q spans count end
 envelope_equal d gaps P Q spans there back zero end envelope = envelope
@@ -152,7 +152,7 @@ envelope_equal d gaps P Q spans there back (suc count) end envelope = (
   envelope_equal d gaps P Q spans there back count (span_at spans count).start envelope.1,
 )
 
--- the spans of the row are those for the same set of columns, said otherwise
+-- the spans of the row are those for the same set of columns, restated
 pub covered_equal : (d : ℕ → ℕ → ℕ) (gaps : ℕ → ℕ) (P Q : ℕ → Type 0) (spans : List Span) (count width : ℕ) → ((column : ℕ) → P column → Q column) → ((column : ℕ) → Q column → P column)
     → IsCovered d gaps P spans count width → IsCovered d gaps Q spans count width
 covered_equal d gaps P Q spans count width there back covered = record {

@@ -6,7 +6,7 @@ use Rattle.envelope.specs.Columns.{IsBest, IsCrossing, distance_from}
 use Rattle.envelope.specs.Envelope.{IsCovered, IsCutAt, IsEnvelope, AreSpansKept, IsStart, span_at}
 use Rattle.envelope.proofs.Envelopes.{IsMore, best_new, envelope_same, envelope_stays}
 
--- one more column, the column of the last span, and the cell from which on the one is strictly nearer than the other
+-- a further column, the column of the last span, and the cell from which on the one is strictly nearer than the other
 record IsMeeting (d : ℕ → ℕ → ℕ) (gaps : ℕ → ℕ) (P : ℕ → Type 0) (u : ℕ) (spans : List Span) (width count start : ℕ) : Type 0 where
   pub few : width ≤ 4098
   pub cut : IsCutAt d gaps P spans (suc count) width u

@@ -66,7 +66,7 @@ rows_put {T} Is nothing width from y start wide before line ordered start_is wid
           rw place at (sym (get_or-drop end after (k - end) nothing) ∙ (ap (λ (l : List T). slice_index_or l (k - end) nothing) same ∙ get_or-drop end before (k - end) nothing))
     ]))
 
--- the answers of a band's rows and those of the rows after them, put together, are the answers of all these rows
+-- the answers of a band's rows and those of the rows after them, assembled, are the answers of all these rows
 pub AreAnswers-join : {T : Type 0} (told : Reading T) (nothing : T) (distance : ℕ → ℕ → ℕ) (cells : Cells) (edge : Edge) (from to end : ℕ) (own others : List T) → from ≤ to → to ≤ end
     → AreAnswers told nothing distance cells edge from to own → AreAnswers told nothing distance cells edge to end others → AreAnswers told nothing distance cells edge from end (own ++ others)
 AreAnswers-join told nothing distance cells edge from to end own others ordered within above behind = record {
@@ -90,7 +90,7 @@ AreAnswers-join told nothing distance cells edge from to end own others ordered 
 pub AreNears-answers : (distance : ℕ → ℕ → ℕ) (cells : Cells) (edge : Edge) (y0 y1 : ℕ) (nears : List (Option Near)) → AreAnswers (λ d x y near. near) None distance cells edge y0 y1 nears → AreNears distance cells edge y0 y1 nears
 AreNears-answers distance cells edge y0 y1 nears answers = record { as_many = answers.as_many; each = answers.filled.each }
 
--- the nearest obstacles of a band's rows and of the rows after them, put together, are those of all these rows
+-- the nearest obstacles of a band's rows and of the rows after them, assembled, are those of all these rows
 pub AreNears-join : (distance : ℕ → ℕ → ℕ) (cells : Cells) (edge : Edge) (from to end : ℕ) (own others : List (Option Near)) → from ≤ to → to ≤ end
     → AreNears distance cells edge from to own → AreNears distance cells edge to end others → AreNears distance cells edge from end (own ++ others)
 AreNears-join distance cells edge from to end own others ordered within above behind =

@@ -21,7 +21,7 @@ AreAnswers-row told nothing distance cells edge y row here = record {
   };
 }
 
--- the answers of some rows, with those of the next row after them, are the answers of one row more
+-- the answers of some rows, with those of the next row after them, are the answers of one more row
 pub AreAnswers-more : {T : Type 0} (told : Reading T) (nothing : T) (distance : ℕ → ℕ → ℕ) (cells : Cells) (edge : Edge) (y0 y : ℕ) (rows row : List T) → y0 ≤ y
     → AreAnswers told nothing distance cells edge y0 y rows → AreRowAnswers told nothing distance cells edge y cells.width row → AreAnswers told nothing distance cells edge y0 (y + 1) (rows ++ row)
 AreAnswers-more told nothing distance cells edge y0 y rows row ordered before here =

@@ -47,7 +47,7 @@ row_more : (b y : ℕ) (here value old : Bool) → (b ≡ y → here ≡ value) 
     → (if b == y then here else old) ≡ (if nat_lt b (y + 1) then value else false)
 row_more b y here value old is was = grind (arith, nat_tests)
 
--- a row more is copied
+-- a further row is copied
 pub rows_front-more : (cells : Cells) (y : ℕ) (words : List ℕ)
     → ((k : ℕ) → k < words_across cells.width → get_or words k 0
     ≡ get_or (words_of_row cells y) k 0)
@@ -61,7 +61,7 @@ rows_front-more cells y words read =
     (has-cells_where cells.width cells.height (λ c d. if nat_lt d y then has cells c d else false) a
     b ha hb))
 
--- a word more of a row is read
+-- a further word of a row is read
 pub words_more : (row words : List ℕ) (index word : ℕ) → index < length row → word
     ≡ get_or words index 0 → ((k : ℕ) → k < index → get_or row k 0 ≡ get_or words k 0)
     → (k : ℕ) → k < index + 1 → get_or (set row index word) k 0 ≡ get_or words k 0

@@ -61,7 +61,7 @@ word_in_bytes map bytes part y k within row count read =
     (omega arith))
     ∙ sym (word_in_row cells y k within)
 
--- a word with one bit more tells one answer more
+-- a word with one more bit tells one more answer
 pub word_where-more : (test : ℕ → Bool) (n word : ℕ) → word ≡ word_where test n
     → word + cond (test n) 1 0 * 2 ^ n ≡ word_where test (n + 1)
 unfolding word_where
@@ -73,7 +73,7 @@ pub word_where-none : (test : ℕ → Bool) → word_where test 0 ≡ 0
 unfolding word_where
 word_where-none test = refl
 
--- one bit more fits
+-- a further bit fits
 pub word_where-fits : (test : ℕ → Bool) (n word : ℕ) → n < 64 → word ≡ word_where test n
     → word + 2 ^ n < 2 ^ 64
 word_where-fits test n word few is =

@@ -17,7 +17,7 @@ right_nearer distance a g x m n right left less = record { less = rw (right, lef
 nearer_right : (distance : ℕ → ℕ → ℕ) (a g x m n : ℕ) → abs_diff x (a + 1) ≡ m → abs_diff x a ≡ n → IsRightNearer distance a g (a + 1) g x → distance m g < distance n g
 nearer_right distance a g x m n right left nearer = let less = nearer.less in rw (right, left) at less
 
--- a distance doesn't fall by one column more, where both columns can be mirrored within the largest map
+-- a distance doesn't fall by one more column, where both columns can be mirrored within the largest map
 grows_near : (distance : ℕ → ℕ → ℕ) → StaysNearer distance → (a g : ℕ) → 2 * a + 1 ≤ 4097 → g ≤ 4097 → distance a g ≤ distance (a + 1) g
 grows_near distance stays a g mirrored row = elim (cases_lt (distance (a + 1) g) (distance a g)) [
   | inl less ↦
@@ -28,7 +28,7 @@ grows_near distance stays a g mirrored row = elim (cases_lt (distance (a + 1) g)
   | inr grown ↦ grown
 ]
 
--- a distance doesn't fall by one column more
+-- a distance doesn't fall by one more column
 grows_step : (distance : ℕ → ℕ → ℕ) → StaysNearer distance → (a g : ℕ) → a < 4097 → g ≤ 4097 → distance a g ≤ distance (a + 1) g
 grows_step distance stays a g column row = elim (cases_lt (distance (a + 1) g) (distance a g)) [
   | inl less ↦

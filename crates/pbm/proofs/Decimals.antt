@@ -9,7 +9,7 @@ use Rattle.std.proofs.lemmas.List.Folds.{list_all-append}
 use Rattle.metric.specs.Digits.{is_digit, value_from}
 use Rattle.pbm.specs.Image.{IsNumber}
 
--- one digit more makes the value ten times as large, and adds the digit
+-- a further digit makes the value ten times as large, and adds the digit
 value_from-push : (so_far : ℕ) (digits : List ℕ) (digit : ℕ) → value_from so_far (digits ++ digit ∷ []) ≡ 10 * value_from so_far digits + (digit - 48)
 unfolding value_from
 value_from-push so_far [] digit = refl

@@ -31,7 +31,7 @@ record FillingRead (in_comment : Bool) (bytes rest : List ℕ) : Type 0 where
   split : bytes ≡ text ++ rest
   all_fills : fills in_comment text ≡ true
 
--- a byte more was read
+-- a further byte was read
 FillingRead-cons : (byte : ℕ) (others rest : List ℕ) (in_comment after : Bool) → ((text : List ℕ) → fills after text ≡ true → fills in_comment (byte ∷ text) ≡ true) → FillingRead after others rest → FillingRead in_comment (byte ∷ others) rest
 FillingRead-cons byte others rest in_comment after more r = record { text = byte ∷ r.text; split = ap (λ (t : List ℕ). byte ∷ t) r.split; all_fills = more r.text r.all_fills }
 

@@ -79,7 +79,7 @@ line-is cells y start n digits as_many pixels aligned within few ended =
     let last : (start + suc n ≡ start + 70) ⊎ (start + suc n ≡ cells.width) = elim ended [ inl full ↦ inl (omega (arith, full)) | inr edge ↦ inr edge ] in
     ap (digit_text (has cells ((y * cells.width + start + n) % cells.width) ((y * cells.width + start + n) / cells.width))) (ap (ends_line cells.width) column ∙ last_column cells.width start (start + suc n) aligned (omega arith) last)))
 
--- a line more of a row was added
+-- a further line of a row was added
 pub line-added : (cells : Cells) (y start end : ℕ) (digits before : List ℕ) → length digits ≡ cells.width
     → ((x : ℕ) → x < cells.width → get_or digits x 0 ≡ pixel_byte (has cells x y))
     → start % 70 ≡ 0 → start < length digits → end ≡ min (length digits) (start + 70)

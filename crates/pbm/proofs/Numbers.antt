@@ -23,7 +23,7 @@ digits-over a b (byte ∷ rest) p q =
       | false ↦ side-over a (byte ∷ rest) p ∙ sym (side-over b (byte ∷ rest) q)
     ]
 
--- a digit after a value over the longest side is passed over
+-- a digit after a value over the longest side is skipped
 pub digits-pass : (value byte : ℕ) (bytes rest : List ℕ) → bytes ≡ byte ∷ rest → is_digit byte ≡ true → 4096 < value → digits value bytes ≡ digits value rest
 unfolding digits
 digits-pass value byte bytes rest split is over =

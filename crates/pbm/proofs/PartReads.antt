@@ -67,7 +67,7 @@ IsPartRead-none count bytes bit =
     let all : count - 0 ≡ count = omega arith in
     record { front = []; size = refl; others = sym (with_front-nil (pixels (count - 0) bytes) ∙ ap (λ (n : ℕ). pixels n bytes) all); bits = λ i before. absurd (omega arith) }
 
--- one pixel more was read
+-- a further pixel was read
 IsPartRead-more : (count : ℕ) (bytes : List ℕ) (k : ℕ) (bit next : ℕ → ℕ) (rest : List ℕ) (value : Bool) (after : List ℕ) → k < count → next_pixel rest ≡ Ok (value, after)
     → ((i : ℕ) → i < k → next i ≡ bit i) → (next k == 1) ≡ value → IsPartRead count bytes k bit rest → IsPartRead count bytes (k + 1) next after
 IsPartRead-more count bytes k bit next rest value after few read kept here so_far = record {

@@ -97,7 +97,7 @@ digit_text-length black false = refl
 row_front : Cells → ℕ → ℕ → List ℕ
 row_front cells y x = flat_map (plain_digit cells) (range_with_len (y * cells.width) x)
 
--- the text of one pixel more is two bytes longer where its line ends, and otherwise one
+-- the text of one more pixel is two bytes longer where its line ends, and otherwise one
 row_front-more : (cells : Cells) (y x : ℕ) → x < cells.width → length (row_front cells y (x + 1)) ≡ length (row_front cells y x) + cond (ends_line cells.width x) 2 1
 unfolding row_front
 row_front-more cells y x within =

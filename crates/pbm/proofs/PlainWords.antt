@@ -30,7 +30,7 @@ under m n from apart = elim (cases_lt n m) [ inl more ↦ more | inr same ↦ ab
 word_within : (width height y index count : ℕ) → 64 * index < width → y < height → count ≡ min (width - 64 * index) 64 → y * width + 64 * index + count ≤ width * height
 word_within width height y index count column row count_is = let rows : width * (y + 1) ≤ width * height = mul-le-mul_left width (omega arith) in omega (arith, rows, count_is)
 
--- one word more is its cells more
+-- a further word is its cells more
 cells_of-word : (width height y index count word : ℕ) (front more : List Bool) → 64 * index < width → y < height → count ≡ min (width - 64 * index) 64
     → length front ≡ y * width + 64 * index → length more ≡ count → ((i : ℕ) → i < count → (bit_at word i == 1) ≡ get_or more i false)
     → with_word (cells_of_pixels width height front) y index word ≡ cells_of_pixels width height (front ++ more)
@@ -67,7 +67,7 @@ cells_of-word width height y index count word front more column row count_is siz
       ]
     ])
 
--- the pixels of one word more were read
+-- the pixels of one more word were read
 pub IsReadTo-word : (bytes : List ℕ) (width height y index count word : ℕ) (cells : Cells) (rest after : List ℕ) → 64 * index < width → y < height → count ≡ min (width - 64 * index) 64
     → AreBitsRead count rest word after → IsReadTo bytes width height (pixels_before width y index) cells rest → IsReadTo bytes width height (pixels_before width y (index + 1)) (with_word cells y index word) after
 IsReadTo-word bytes width height y index count word cells rest after column row count_is read so_far =

@@ -22,29 +22,29 @@ range-row across y =
     let start : 0 + y * across ≡ y * across = omega arith in
     ap (range_with_len 0) both ∙ range-append 0 (y * across) across ∙ ap (λ (k : ℕ). range_with_len 0 (y * across) ++ range_with_len k across) start
 
--- a list that has an item for each place has one row more after the next row's items
+-- a list that has an item for each place has one more row after the next row's items
 pub map-row : (f : ℕ → ℕ) (before : List ℕ) (across y : ℕ) → (before ++ map f (range_with_len 0 (y * across))) ++ map f (range_with_len (y * across) across) ≡ before ++ map f (range_with_len 0 ((y + 1) * across))
 map-row f before across y =
     append_assoc before (map f (range_with_len 0 (y * across))) (map f (range_with_len (y * across) across))
     ∙ ap (λ (t : List ℕ). before ++ t) (sym (ap (map f) (range-row across y) ∙ map-append f (range_with_len 0 (y * across)) (range_with_len (y * across) across)))
 
--- a list that has some items for each place has one row more after the next row's items
+-- a list that has some items for each place has one more row after the next row's items
 pub flat_map-row : (f : ℕ → List ℕ) (before : List ℕ) (across y : ℕ) → (before ++ flat_map f (range_with_len 0 (y * across))) ++ flat_map f (range_with_len (y * across) across) ≡ before ++ flat_map f (range_with_len 0 ((y + 1) * across))
 flat_map-row f before across y =
     append_assoc before (flat_map f (range_with_len 0 (y * across))) (flat_map f (range_with_len (y * across) across))
     ∙ ap (λ (t : List ℕ). before ++ t) (sym (ap (flat_map f) (range-row across y) ∙ flat_map-append f (range_with_len 0 (y * across)) (range_with_len (y * across) across)))
 
--- a range with one place more has its end as the last place
+-- a range with one more place has its end as the last place
 range-more : (a n : ℕ) → range_with_len a (n + 1) ≡ range_with_len a n ++ (a + n) ∷ []
 range-more a n = range-append a n 1
 
--- a list of parts with the next one added is that of one place more
+-- a list of parts with the next one added is that of one more place
 pub flat_map-more : (f : ℕ → List ℕ) (before : List ℕ) (a n : ℕ) (items : List ℕ) → items ≡ f (a + n) → (before ++ flat_map f (range_with_len a n)) ++ items ≡ before ++ flat_map f (range_with_len a (n + 1))
 flat_map-more f before a n items is =
     append_assoc before (flat_map f (range_with_len a n)) items
     ∙ ap (λ (t : List ℕ). before ++ t) (ap (λ (t : List ℕ). flat_map f (range_with_len a n) ++ t) (is ∙ sym (append-nil (f (a + n)))) ∙ sym (ap (flat_map f) (range-more a n) ∙ flat_map-append f (range_with_len a n) ((a + n) ∷ [])))
 
--- a list that has some items for each place from a row on has one row more after the next row's items
+-- a list that has some items for each place from a row on has one more row after the next row's items
 pub flat_map-row_from : (f : ℕ → List ℕ) (before : List ℕ) (across from y : ℕ) → from ≤ y → (before ++ flat_map f (range_with_len (from * across) ((y - from) * across))) ++ flat_map f (range_with_len (y * across) across) ≡ before ++ flat_map f (range_with_len (from * across) ((y + 1 - from) * across))
 flat_map-row_from f before across from y order =
     let up : from + (y - from) ≡ y = omega (arith, order) in

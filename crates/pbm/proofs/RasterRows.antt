@@ -10,7 +10,7 @@ use Rattle.bits.specs.Writes.{with_row}
 use Rattle.bits.proofs.CellsLemmas.{has-cells_where, cells_where-same}
 use Rattle.pbm.proofs.Words.{drawn_words, place-below_row}
 
--- one row more is drawn
+-- a further row is drawn
 pub drawn_row-more : (width height y : ℕ) (words : List ℕ) (test : ℕ → ℕ → Bool)
     → ((k i : ℕ) → k < words_across width → i < 64 → 64 * k + i < width → (bit_at (get_or words k 0) i == 1) ≡ test (64 * k + i) y)
     → with_row (drawn_words width height test (y * words_across width)) y words ≡ drawn_words width height test ((y + 1) * words_across width)

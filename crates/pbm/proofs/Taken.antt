@@ -35,7 +35,7 @@ ArePacked-none rest bytes width height cells blank =
 pub ArePacked-at : (rest left : Option (List ℕ)) (before after : List ℕ) (width height k n : ℕ) (cells : Cells) → k ≡ n → ArePacked rest before left after width height k cells → ArePacked rest before left after width height n cells
 ArePacked-at rest left before after width height k n cells same so_far = subst (λ m. ArePacked rest before left after width height m cells) same so_far
 
--- the pixels of one word more were taken
+-- the pixels of one more word were taken
 pub ArePacked-word : (rest between left : Option (List ℕ)) (before middle after : List ℕ) (width height y index count word : ℕ) (cells : Cells) → 64 * index < width → y < height → count ≡ min (width - 64 * index) 64
     → ArePacked rest before between middle width height (pixels_before width y index) cells → Follows between middle left after (λ all others. AreBitsRead count all word others)
     → ArePacked rest before left after width height (pixels_before width y (index + 1)) (with_word cells y index word)

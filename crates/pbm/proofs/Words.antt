@@ -19,7 +19,7 @@ bit_at-reverse_high (suc k) n front i beyond =
     let half : (front * 2 + n % 2) / 2 ≡ front = omega arith in
     bit_at-reverse_high k (n / 2) (front * 2 + n % 2) i (omega arith) ∙ (ap (bit_at (front * 2 + n % 2)) next ∙ (bit_at-suc (front * 2 + n % 2) (i - suc k) ∙ ap (λ (m : ℕ). bit_at m (i - suc k)) half))
 
--- a number whose bits are turned round has each bit at the place counted from the other end
+-- a number whose bits are reversed has each bit at the place counted from the other end
 pub bit_at-reverse_low : (k n front i : ℕ) → i < k → bit_at (reverse_bits_onto k n front) i ≡ bit_at n (k - 1 - i)
 unfolding reverse_bits_onto
 bit_at-reverse_low zero n front i within = absurd (omega arith)
@@ -78,7 +78,7 @@ small_of_eight a b c d e f g h sa sb sc sd se sf sg sh k = elim (cases_lt k 8) [
   | inr past ↦ rw (past_eight a b c d e f g h k past) (omega arith)
 ]
 
--- the word of eight bytes, each of which is turned round, has each byte's bits from the highest down
+-- the word of eight bytes, each of which is reversed, has each byte's bits from the highest down
 pub bit_at-word : (bytes : List ℕ) (a b c d e f g h word : ℕ) → word ≡ horner (a ∷ b ∷ c ∷ d ∷ e ∷ f ∷ g ∷ h ∷ [])
     → ((k : ℕ) → get_or (a ∷ b ∷ c ∷ d ∷ e ∷ f ∷ g ∷ h ∷ []) k 0 < 2 ^ 8)
     → ((k : ℕ) → k < 8 → get_or (a ∷ b ∷ c ∷ d ∷ e ∷ f ∷ g ∷ h ∷ []) k 0 ≡ reverse_bits_onto 8 (get_or bytes k 0) 0)
@@ -110,7 +110,7 @@ drawn_words-all width height n test all =
     let yes : ltb (b * words_across width + a / 64) n ≡ true = lt-ltb (b * words_across width + a / 64) n (omega (arith, below, all)) in
     rw yes refl)
 
--- one byte more has been copied
+-- a further byte has been copied
 pub copied-more : (from to : List ℕ) (start place : ℕ) → place < length to → ((k : ℕ) → k < place → get_or to k 0 ≡ get_or from (start + k) 0)
     → (k : ℕ) → k < place + 1 → get_or (set to place (get_or from (start + place) 0)) k 0 ≡ get_or from (start + k) 0
 copied-more from to start place within before k below = elim (cases_lt k place) [

@@ -33,7 +33,7 @@ HasWorked-next fresh wire store stream ends.Memory wire_after old between new wo
 HasWorked-next fresh wire store stream end wire_after old between new worked new_one served same =
     HasWorked-more fresh wire store stream old between new worked (record { is_fresh = new_one; end = end; wire_after = wire_after; served = served (search rules) })
 
--- lists whose elements are related stay so where each is turned round onto one of two lists that are related
+-- lists whose elements are related stay so where each is reversed onto one of two lists that are related
 AreRelated-onto : {A B : Type 0} (Relation : A → B → Type 0) (xs before_xs : List A) (ys before_ys : List B) →
     AreRelated Relation xs ys → AreRelated Relation before_xs before_ys → AreRelated Relation (reverse_aux xs before_xs) (reverse_aux ys before_ys)
 AreRelated-onto Relation [] before_xs [] before_ys none others = others

@@ -12,7 +12,7 @@ use Rattle.map_core.specs.Kept.{members}
 use Rattle.map_core.specs.Tidy.{IsBlockAt, IsAmongRetired}
 use Rattle.map_core.proofs.logs.KeptLemmas.{any_member, found_member}
 
--- what holds of each retired block of two lists holds of each of the lists put together
+-- what holds of each retired block of two lists holds of each of the lists assembled
 pub All-append : (P : RetiredBlock → Type 0) (rs qs : List RetiredBlock) → AllByRecursion P rs → AllByRecursion P qs → AllByRecursion P (rs ++ qs)
 All-append P [] qs a b = b
 All-append P (r ∷ rs) qs a b = (a.0, All-append P rs qs a.1 b)

@@ -58,7 +58,7 @@ one_some true None (Some b) (c ∷ free) rest need is some =
       left = λ ts os. ap (λ (fs : List ℕ). drop (taken ts os) fs) tail;
     }
 
--- once the next position has taken what it takes, one position more is done
+-- once the next position has taken what it takes, one more position is done
 taken_next : (ts : List Bool) (own : List (Option ℕ)) (free : List ℕ) (i : ℕ) (own_now own_next : List (Option ℕ)) (free_now rest : List ℕ) (t : Bool) (o x : Option ℕ) → IsTaken ts own free i own_now free_now
     → i < length ts → t ≡ get_or ts i false → o ≡ get_or own_now i o → IsOne t o x free_now rest
     → length own_next ≡ length own_now → take (i + 1) own_next ≡ take i own_now ++ x ∷ [] → drop (i + 1) own_next ≡ drop (i + 1) own_now

@@ -87,7 +87,7 @@ pub record IsCounted (old new : Cells) (own : List (Option ℕ)) (p needed : ℕ
 pub counted_first : (old new : Cells) (own : List (Option ℕ)) → length own ≡ tile_count old → IsCounted old new own 0 0
 counted_first old new own long = record { long = long; count = refl }
 
--- once the next position is counted, one position more is done
+-- once the next position is counted, one more position is done
 pub counted_next : (old new : Cells) (own : List (Option ℕ)) (p needed more : ℕ) (o : Option ℕ) → IsCounted old new own p needed → p < tile_count old → o ≡ get_or own p o
     → more ≡ cond (tile_differs old new p && not (is_some o)) 1 0 → IsCounted old new own (p + 1) (needed + more)
 counted_next old new own p needed more o so_far h read is =

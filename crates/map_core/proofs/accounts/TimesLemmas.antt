@@ -36,7 +36,7 @@ pub length-given_back : (bs free : List ℕ) → length (given_back bs free) ≡
 length-given_back [] free = omega arith
 length-given_back (b ∷ bs) free = omega (arith, length-given_back bs (b ∷ free))
 
--- the blocks of two lists of retired ones put together are those of each list
+-- the blocks of two lists of retired ones assembled are those of each list
 pub blocks_of-append : (rs qs : List RetiredBlock) → blocks_of (rs ++ qs) ≡ blocks_of rs ++ blocks_of qs
 blocks_of-append [] qs = refl
 blocks_of-append (r ∷ rs) qs = ap (λ (bs : List ℕ). r.block ∷ bs) (blocks_of-append rs qs)

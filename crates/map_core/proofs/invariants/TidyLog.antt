@@ -69,12 +69,12 @@ slots_apart k log ready legal =
     let slots = (IsTidy-legal k log ready legal).slots in
     λ i j v first second. sym (slots.own i v first) ∙ slots.own j v second
 
--- one entry more makes the next story of the story before it
+-- a further entry makes the next story of the story before it
 pub after-push : (s : Story) (log : List Entry) (e : Entry) → after s (log ++ e ∷ []) ≡ told (after s log) e.command e.reply
 after-push s [] e = refl
 after-push s (f ∷ fs) e = after-push (told s f.command f.reply) fs e
 
--- one entry more makes the next blocks of the blocks before it
+-- a further entry makes the next blocks of the blocks before it
 pub blocks_after-push : (s : Story) (m : Blocks) (log : List Entry) (e : Entry)
     → blocks_after s m (log ++ e ∷ []) ≡ moved (after s log) e.command e.reply (blocks_after s m log)
 blocks_after-push s m [] e = refl

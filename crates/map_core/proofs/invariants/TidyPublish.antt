@@ -27,7 +27,7 @@ published_story s = record s { places = s.places + 1; published = s.published ++
 abbrev pub published_blocks : Story → Blocks → Blocks
 published_blocks s m = record m { own = replicate (length m.own) None; directories = m.directories ++ mapped m.own (directory_of m (newest s)) ∷ []; retired = m.retired ++ replaced s 0 m.own (directory_of m (newest s)) }
 
--- a publish makes one version more
+-- a publish makes one more version
 pub newest-publish : (k : Base) (s : Story) (m : Blocks) → IsShaped k s m → newest (published_story s) ≡ newest s + 1
 unfolding newest
 newest-publish k s m shape = omega (arith, length-append s.published (s.draft ∷ []), shape.published)

@@ -101,7 +101,7 @@ count-asked (Some (Exact w) ∷ seen) slots exact apart =
     let both = count-or (λ v. w == v) (λ v. list_any (λ o. asks o v) seen) slots in
     omega arith
 
--- where all announcements are exact, one version more is kept at most
+-- where all announcements are exact, one more version is kept at most
 pub few_after : (kept : Kept) (newest : ℕ) (seen : List (Option Seen)) → IsApart kept → AreExact seen → length (members (kept_after kept newest seen).slots) ≤ 1 + announcements seen
 few_after kept newest seen apart exact =
     let all = members-after newest seen kept.slots in

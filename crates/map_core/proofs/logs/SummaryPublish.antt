@@ -72,7 +72,7 @@ came_published k s m tidy p before is =
     by_own None changed is = let on : suc (newest s) ≡ newest s + 1 = omega arith in is ∙ (sym (came-same (published_story s) p (newest s) changed) ∙ ap (came (published_story s) p) on)
     by_own (Some b) changed is = let on : newest s + 1 ≡ suc (newest s) = omega arith in on ∙ (sym (came-changed (published_story s) p (newest s) changed) ∙ ap (came (published_story s) p) (sym on))
 
--- a publish makes one version more, by the log
+-- a publish makes one more version, by the log
 pub newest_published : (k : Base) (s : Story) (m : Blocks) (reply : Reply) → IsShaped k s m → newest (told s Publish reply) ≡ newest s + 1
 unfolding told
 newest_published k s m reply shape = newest-publish k s m shape

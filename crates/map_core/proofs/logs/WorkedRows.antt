@@ -151,7 +151,7 @@ an_exact_announcement : answers_of (blank_world 64 64 record { blocks = 3; versi
 unfolding has rows_where changes word_where row_word drawn tile_differs touched opened kept_log newest bitmap_of kept inuse needed refused told opened_blocks directory_of is_mapped moved word_count pin_at map_at tile_at now_of pin_word slot_of next_slot story blocks does announce load look_map look_tile leave keep order confirm steps_before tile_write map_write kept_scanned seen_in reply_of answers_of blank_world last_of last_answers whole pin pin_exactly slots_of paint dot done no
 an_exact_announcement = refl
 
--- an old pin keeps its own version alone: the one after it goes, its block is taken anew, and its slot is the next version's
+-- an old pin keeps its own version alone: the one after it goes, its block is taken again, and its slot is the next version's
 an_old_pin : last_answers (blank_world 64 64 record { blocks = 3; versions = 3; sessions = 2; log = 10; edge = Open })
     (pin_exactly 0 ∷ whole (dot 0 (omega arith)) 1 ∷ whole Publish 66 ∷ whole (dot 1 (omega arith)) 1 ∷ whole Publish 66
     ∷ (Order (dot 2 (omega arith)) ∷ []) ∷ (Order Publish ∷ []) ∷ whole Collect 3 ∷ whole (dot 2 (omega arith)) 1 ∷ whole Publish 66 ∷ (LookMap 0 0 ∷ []) ∷ (LookTile 0 0 0 ∷ []) ∷ pin 1 ∷ (LookMap 1 0 ∷ []) ∷ [])

@@ -16,7 +16,7 @@ run-push old mid new [] (b ∷ answers) e a is step = absurd is
 run-push old mid new (f ∷ events) [] e a is step = absurd is
 run-push old mid new (f ∷ events) (b ∷ answers) e a is step = (is.0, is.1, run-push is.0 mid new events answers e a is.2 step)
 
--- a run of the first events of a list and the next event are a run of one event more
+-- a run of the first events of a list and the next event are a run of one more event
 pub run_next : (old mid new : State) (events : List Event) (i : ℕ) (answers : List (Result StepReply NotEnabled)) (e : Event) (a : Result StepReply NotEnabled) → IsRun old (take i events) answers mid → i < length events → e ≡ get_or events i e → SafeStep mid e a new
     → IsRun old (take (i + 1) events) (answers ++ a ∷ []) new
 run_next old mid new events i answers e a is h read step =

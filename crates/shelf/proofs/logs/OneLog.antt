@@ -16,7 +16,7 @@ none_unmet : (reader : ℕ) (unmet : Option ℕ) → unmet ≢ Some reader → u
 none_unmet reader None other = refl
 none_unmet reader (Some named) other = ap (λ (b : Bool). let one : ℕ = cond b 1 0 in one) (ne_eqb reader named (λ is. other (ap (λ (n : ℕ). Some n) (sym is))))
 
--- a reader that fits the keeper has seen a prefix of its log, and counts its own entries but for an unmet one
+-- a reader that fits the keeper has seen a prefix of its log, and counts its own entries except an unmet one
 fits-behind : (z : Base) (k : KeeperView) (readers : List Reader) (x : ReaderView) → Fits z k readers x → IsBehind k.log k.unmet x
 fits-behind z k readers x f =
     let counted : made_by x.number k.log ≡ x.made + unmet_by x.number k.unmet = f.counted in

@@ -1,4 +1,4 @@
--- A row that is passed over has no obstacle.
+-- A row that is skipped has no obstacle.
 use Rattle.std.proofs.Common.{◌<◌, ℕ, length, arith}
 use Rattle.clearance.specs.Rows.{words_of_row}
 use Rattle.clearance.proofs.RowWords.{IsRowOf-words, length-words_of_row}

@@ -1,4 +1,4 @@
--- One row more has its entries.
+-- One more row has its entries.
 use Rattle.std.proofs.Common.{◌≡◌, ◌+◌, ◌*◌, ◌∙◌, length, refl}
 use Rattle.metric.specs.Edge.{shift}
 use Rattle.bits.proofs.Framing.{framed_size}

@@ -1,4 +1,4 @@
--- One cell more is filled with what was found.
+-- One more cell is filled with what was found.
 use Rattle.std.proofs.Common.{◌≡◌, ◌+◌, ◌-◌, ◌<◌, length, Some, ◌∙◌, arith, rules}
 use Rattle.metric.specs.Edge.{shift}
 use Rattle.envelope.specs.Columns.{IsNearColumn}

@@ -1,4 +1,4 @@
--- One column more on both sides of each cell.
+-- One more column on both sides of each cell.
 use Rattle.std.proofs.Common.{◌≡◌, ◌+◌, ◌-◌, ◌∙◌, ap, ap₂, slice_index, arith}
 use Rattle.envelope.proofs.BesideLemmas.{best_wider}
 use Rattle.envelope.proofs.beside.look_aside.Goals as goal

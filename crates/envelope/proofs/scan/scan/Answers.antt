@@ -1,4 +1,4 @@
--- One place more at each end has the least of the words up to it.
+-- One more place at each end has the least of the words up to it.
 use Rattle.std.proofs.Common.{◌≡◌, ◌≢◌, ℕ, ◌+◌, ◌-◌, ◌<◌, length, slice_index, inl, inr, ◌∙◌, arith, rules, get_or-set_other, get_or-set_same}
 use Rattle.std.proofs.lemmas.Bool.{cases_lt}
 use Rattle.envelope.specs.Scans.{IsLeast}

@@ -1,4 +1,4 @@
--- One cell more is filled with what its word tells.
+-- One more cell is filled with what its word tells.
 use Rattle.std.proofs.Common.{◌≡◌, ◌+◌, ◌-◌, ◌%◌, ◌<◌, length, slice_index, Some, ◌∙◌, arith, rules}
 use Rattle.metric.specs.Edge.{shift}
 use Rattle.envelope.specs.Columns.{IsNearColumn}

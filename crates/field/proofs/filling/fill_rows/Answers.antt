@@ -1,4 +1,4 @@
--- One row more is filled.
+-- One more row is filled.
 use Rattle.std.proofs.Common.{◌≡◌, ◌-◌, ◌*◌, arith, refl, rules}
 use Rattle.metric.specs.Nearest.{IsNear}
 use Rattle.bits.specs.Edges.{IsBlocked}

@@ -1,4 +1,4 @@
--- One row more is measured.
+-- One more row is measured.
 use Rattle.std.proofs.Common.{◌≡◌, ◌-◌, ◌*◌, ◌∙◌, arith, refl, rules}
 use Rattle.bits.specs.Edges.{IsBlocked}
 use Rattle.column.proofs.Places.{row_ends}

@@ -1,4 +1,4 @@
--- A word more is written, and its bits are told.
+-- One more word is written, and its bits are told.
 use Rattle.std.proofs.Common.{◌≡◌, ◌+◌, ◌∙◌, ℕ, inl, inr, get_or, ap, sym, arith}
 use Rattle.std.specs.Int.{bit_at}
 use Rattle.std.proofs.lemmas.Bool.{cases_lt}

@@ -1,4 +1,4 @@
--- The cells of a word more are written.
+-- The cells of one more word are written.
 use Rattle.std.proofs.Common.{◌≡◌, ◌+◌, ◌-◌, ◌*◌, ◌<◌, ◌≤◌, ◌⊎◌, ◌∙◌, ℕ, Bool, inl, inr, ap, sym, get_or, if◌then◌else◌, arith}
 use Rattle.std.proofs.lemmas.Bool.{cases_lt}
 use Rattle.bits.specs.TileWords.{is_bit}

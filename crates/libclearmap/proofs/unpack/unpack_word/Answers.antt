@@ -1,4 +1,4 @@
--- A cell more is written.
+-- One more cell is written.
 use Rattle.std.proofs.Common.{◌≡◌, ◌+◌, ◌<◌, ◌≤◌, ◌⊎◌, ◌∙◌, ℕ, inl, inr, if◌then◌else◌, arith}
 use Rattle.std.proofs.lemmas.List.{length-set, get_or-set_other}
 use Rattle.bits.specs.TileWords.{is_bit}

@@ -1,4 +1,4 @@
--- A digit after a value over the longest side is passed over.
+-- A digit after a value over the longest side is skipped.
 use Rattle.std.proofs.Common.{◌∙◌, rules, arith}
 use Rattle.pbm.proofs.Numbers.{digits-pass}
 use Rattle.pbm.proofs.number.read_digits.Goals as goal

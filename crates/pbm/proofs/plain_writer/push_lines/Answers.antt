@@ -1,4 +1,4 @@
--- A line more.
+-- One more line.
 use Rattle.std.proofs.Common.{rules, ◌≡◌, ℕ, ◌+◌, ◌-◌, ◌++◌, [], ◌∷◌, ◌∙◌, List, take, drop, vec_len, ap, arith}
 use Rattle.pbm.proofs.Lines.{line-added}
 use Rattle.pbm.proofs.plain_writer.push_lines.Goals as goal

@@ -1,4 +1,4 @@
--- A row more.
+-- One more row.
 use Rattle.std.proofs.Common.{◌≡◌, ℕ, ◌+◌, ◌-◌, ◌*◌, ◌++◌, List, ◌∙◌, ap, arith}
 use Rattle.std.specs.List.{range_with_len, flat_map}
 use Rattle.pbm.specs.Writing.{plain_digit}

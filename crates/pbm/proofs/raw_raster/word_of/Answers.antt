@@ -1,4 +1,4 @@
--- Each byte is turned round, and the first of them is the lowest of the word.
+-- Each byte is reversed, and the first of them is the lowest of the word.
 use Rattle.std.proofs.Common.{◌≡◌, [], ◌∷◌, get_or, arith}
 use Rattle.std.specs.Int.{reverse_bits_onto}
 use Rattle.pbm.proofs.Words.{horner, bit_at-word, each_of_eight, small_of_eight}

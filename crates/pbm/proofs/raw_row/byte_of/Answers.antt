@@ -1,4 +1,4 @@
--- The bits are turned round.
+-- The bits are reversed.
 use Rattle.std.proofs.Common.{ℕ, ◌∙◌, ap}
 use Rattle.std.specs.Int.{bit_at}
 use Rattle.pbm.proofs.Words.{bit_at-reverse_low}

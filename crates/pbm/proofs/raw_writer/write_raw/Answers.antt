@@ -1,4 +1,4 @@
--- A row more, and in the end all of them.
+-- One more row, and in the end all of them.
 use Rattle.std.proofs.Common.{◌≡◌, ℕ, ◌*◌, List, ◌++◌, map, ◌∙◌, ap, append_assoc, arith}
 use Rattle.std.specs.List.{range_with_len}
 use Rattle.pbm.specs.declared.header.Form.TheVariants.{Raw}

@@ -1,4 +1,4 @@
--- A block more stands after what was read before.
+-- One more block stands after what was read before.
 use Rattle.std.proofs.Common.{refl, ◌∙◌}
 use Rattle.pbm.proofs.Following.{Follows-nothing, Follows-read}
 use Rattle.pbm.proofs.window.Window.fill.Goals as goal

@@ -1,4 +1,4 @@
--- A piece more was written, or its write failed.
+-- One more piece was written, or its write failed.
 use Rattle.std.proofs.Common.{◌∙◌}
 use Rattle.std.proofs.lemmas.Result.{err_from_is_err_and}
 use Rattle.proto.proofs.Dumping.{rows_on, rows_failed}

@@ -1,4 +1,4 @@
--- No row has no line, and the line of one row more follows those before it, for which there is room.
+-- No row has no line, and the line of one more row follows those before it, for which there is room.
 use Rattle.std.proofs.Common.{◌≡◌, ◌+◌, ◌-◌, ◌*◌, ◌≤◌, arith, rules, take, vec_len}
 use Rattle.std.proofs.Math.Nat.{mul-le-mul_right}
 use Rattle.std.specs.List.{slice_range}
