@@ -28,7 +28,7 @@ pub fn unpack_rows<R: Rows>(rows: &mut R, shades: Shades, bytes: &mut [u8])
     }
 }
 
-/// Writes a byte for each cell of the row `y`, from a place on.
+/// Writes one byte per cell of row `y`, from index `start` on.
 fn unpack_row<R: Rows>(rows: &mut R, y: u16, start: usize, shades: Shades, bytes: &mut [u8])
     requires row { y < (R.cells rows.old).height }
     requires room { start + (R.cells rows.old).width ≤ length bytes.old }
@@ -47,7 +47,7 @@ fn unpack_row<R: Rows>(rows: &mut R, y: u16, start: usize, shades: Shades, bytes
     }
 }
 
-/// Writes a byte for each of the first `count` bits of a word, from a place on.
+/// Writes one byte per bit of the first `count` bits of a word, from index `start` on.
 fn unpack_word(word: u64, count: usize, start: usize, shades: Shades, bytes: &mut [u8])
     requires few { count ≤ 64 }
     requires room { start + count ≤ length bytes.old }
@@ -61,7 +61,7 @@ fn unpack_word(word: u64, count: usize, start: usize, shades: Shades, bytes: &mu
     }
 }
 
-/// What is written for the cell of this bit of a word.
+/// The byte for the cell of this bit of a word.
 #[inline(always)]
 fn shade(word: u64, i: usize, shades: Shades) -> u8
     requires { i < 64 }

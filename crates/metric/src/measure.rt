@@ -1,4 +1,4 @@
-//! Distances between cells, as whole numbers.
+//! Distances between cells, as integers.
 
 ghost use Rattle.std.specs.Prelude.{◌≡◌, ℕ, ◌*◌, ◌/◌, ◌<◌, ◌≤◌, refl, slice_index, true};
 ghost use Rattle.metric.specs.Distance.{Grows, IsSum, chess, chess_grows, city, city_grows, euclid2, euclid2_grows};

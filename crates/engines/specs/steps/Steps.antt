@@ -80,7 +80,7 @@ pub record IsWorldText (start : State) (positions : ℕ) (lines : List (List ℕ
   pub answered : AreAnswered start lines answers last
   pub text_is : text ≡ written_lines ((codes "OPENED " ++ decimal positions) ∷ answers)
 
--- a world was opened so, and the text is its own
+-- a world was opened with this, and the text is its own
 pub record AreSteps (opening : OpenLine) (lines : List (List ℕ)) (text : List ℕ) (status : ℕ) : Type 0 where
   pub start : State
   pub opened : IsOpened (base_opened opening) start
