@@ -47,7 +47,7 @@ fn unpack_row<R: Rows>(rows: &mut R, y: u16, start: usize, shades: Shades, bytes
     }
 }
 
-/// Writes one byte per bit of the first `count` bits of a word, from index `start` on.
+/// Writes one byte for each of the first `count` bits of a word, from index `start` on.
 fn unpack_word(word: u64, count: usize, start: usize, shades: Shades, bytes: &mut [u8])
     requires few { count ≤ 64 }
     requires room { start + count ≤ length bytes.old }
