@@ -34,8 +34,8 @@ use Rattle.map_core.proofs.invariants.SeenLemmas.{does-grows, seen_stays, sees_n
 use Rattle.map_core.proofs.steps.StepLemmas.{nothing_stored, slice_get-set, tidy_of}
 
 -- what is found among the standings is what is kept of the reader
-pub standing_found : (xs standings : List Standing) (r : ℕ) (found o : Option Standing) → found ≡ slice_get xs r → xs ≡ standings → found ≡ o → slice_get standings r ≡ o
-standing_found xs standings r found o found_is same is = ap (λ (ys : List Standing). slice_get ys r) (sym same) ∙ (sym found_is ∙ is)
+pub standing_found : {xs standings : List Standing} (r : ℕ) {found o : Option Standing} → found ≡ slice_get xs r → xs ≡ standings → found ≡ o → slice_get standings r ≡ o
+standing_found {xs} {standings} r {found} {o} found_is same is = ap (λ (ys : List Standing). slice_get ys r) (sym same) ∙ (sym found_is ∙ is)
 
 -- a reader of a world is what is kept of it, if there is one
 pub reader_got : (log : List Entry) (standings : List Standing) (r : ℕ) (found : Option Standing) → slice_get standings r ≡ found → slice_get (map (reader_of log) standings) r ≡ option_map (reader_of log) found
