@@ -21,7 +21,7 @@ use std::alloc::Global;
 ///
 /// Refuses a cell outside the bitmap. It allocates no memory.
 pub fn at<M: Metric>(
-    alloc: Global,
+    _alloc: Global,
     bitmap: &Bitmap,
     edge: Edge,
     cell: Cell,
@@ -31,7 +31,7 @@ pub fn at<M: Metric>(
     ensures refused { IfErr result (IsRefusalFor (IsInside bitmap.now cell.x cell.y)) }
 {
     let mut rows = bitmap;
-    at_rows::<M, &Bitmap>(alloc, &mut rows, edge, cell)
+    at_rows::<M, &Bitmap>(&mut rows, edge, cell)
 }
 
 /// The least distance of the cells of the rectangle, at the first such cell in row-major order,
@@ -39,7 +39,7 @@ pub fn at<M: Metric>(
 ///
 /// Refuses a rectangle that isn't wholly within the bitmap. It allocates no memory.
 pub fn least_in<M: Metric>(
-    alloc: Global,
+    _alloc: Global,
     bitmap: &Bitmap,
     edge: Edge,
     rect: Rect,
@@ -49,7 +49,7 @@ pub fn least_in<M: Metric>(
     ensures refused { IfErr result (IsRefusalFor (LiesIn bitmap.now rect)) }
 {
     let mut rows = bitmap;
-    least_in_rows::<M, &Bitmap>(alloc, &mut rows, edge, rect)
+    least_in_rows::<M, &Bitmap>(&mut rows, edge, rect)
 }
 
 /// The least distance of the cells of a path, at the first such cell along it, with its nearest
@@ -61,7 +61,7 @@ pub fn least_in<M: Metric>(
 /// Refuses, in this order: a path of no points or over 1000, a point outside the bitmap, the first
 /// point that is in neither the row nor the column of the point before it.
 pub fn along<M: Metric>(
-    alloc: Global,
+    _alloc: Global,
     bitmap: &Bitmap,
     edge: Edge,
     points: &[Cell],
@@ -71,7 +71,7 @@ pub fn along<M: Metric>(
     ensures refused { IfErr result (IsPathRefusal bitmap.now points.now) }
 {
     let mut rows = bitmap;
-    along_rows::<M, &Bitmap>(alloc, &mut rows, edge, points)
+    along_rows::<M, &Bitmap>(&mut rows, edge, points)
 }
 
 /// `None` if each cell of a path has a distance of at least `d`, or none since there is no
@@ -80,7 +80,7 @@ pub fn along<M: Metric>(
 ///
 /// The cells of a path and the refusals are those of `along`.
 pub fn clear_of<M: Metric>(
-    alloc: Global,
+    _alloc: Global,
     bitmap: &Bitmap,
     edge: Edge,
     points: &[Cell],
@@ -91,12 +91,11 @@ pub fn clear_of<M: Metric>(
     ensures refused { IfErr result (IsPathRefusal bitmap.now points.now) }
 {
     let mut rows = bitmap;
-    clear_of_rows::<M, &Bitmap>(alloc, &mut rows, edge, points, d)
+    clear_of_rows::<M, &Bitmap>(&mut rows, edge, points, d)
 }
 
 /// As `at`, of a map that is read word by word.
 pub fn at_rows<M: Metric, R: Rows>(
-    _alloc: Global,
     rows: &mut R,
     edge: Edge,
     cell: Cell,
@@ -114,7 +113,6 @@ pub fn at_rows<M: Metric, R: Rows>(
 
 /// As `least_in`, of a map that is read word by word.
 pub fn least_in_rows<M: Metric, R: Rows>(
-    _alloc: Global,
     rows: &mut R,
     edge: Edge,
     rect: Rect,
@@ -132,7 +130,6 @@ pub fn least_in_rows<M: Metric, R: Rows>(
 
 /// As `along`, of a map that is read word by word.
 pub fn along_rows<M: Metric, R: Rows>(
-    _alloc: Global,
     rows: &mut R,
     edge: Edge,
     points: &[Cell],
@@ -148,7 +145,6 @@ pub fn along_rows<M: Metric, R: Rows>(
 
 /// As `clear_of`, of a map that is read word by word.
 pub fn clear_of_rows<M: Metric, R: Rows>(
-    _alloc: Global,
     rows: &mut R,
     edge: Edge,
     points: &[Cell],

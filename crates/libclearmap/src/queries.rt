@@ -11,29 +11,26 @@ ghost use Rattle.libclearmap.specs.Settings.{distance_numbered, edge_numbered};
 ghost use Rattle.libclearmap.specs.Statuses.{cell_status, first_wrong, path_status, rect_status, setting_status};
 
 use crate::near::{ClearmapFound, ClearmapNear, found_of, kept_of};
-use crate::setting::{along_by, at_by, clear_by, edge_of, kind_of, least_by};
+use crate::setting::{Corners, Setting, along_by, at_by, clear_by, edge_of, kind_of, least_by};
 use crate::status::{DONE, OUTSIDE, refusal_status, setting_status};
 use clearance::Rows;
 use metric::{Cell, Rect};
-use std::alloc::Global;
 
 /// Writes the nearest obstacle of cell (`x`, `y`).
 pub fn at_in<R: Rows>(
-    alloc: Global,
     rows: &mut R,
-    metric: u32,
-    edge: u32,
+    setting: Setting,
     x: u32,
     y: u32,
     near: &mut ClearmapNear,
 ) -> u32
-    ensures near { result ≡ DONE → IsNear (distance_numbered metric)
-        (IsBlocked (R.cells rows.old) (edge_numbered edge)) x y (near_kept near.new) }
-    ensures status { result ≡ first_wrong (setting_status metric edge)
+    ensures near { result ≡ DONE → IsNear (distance_numbered setting.metric)
+        (IsBlocked (R.cells rows.old) (edge_numbered setting.edge)) x y (near_kept near.new) }
+    ensures status { result ≡ first_wrong (setting_status setting.metric setting.edge)
         (cell_status (R.cells rows.old) x y) }
     ensures refused { result ≢ DONE → near.new ≡ near.old }
 {
-    let status = setting_status(metric, edge);
+    let status = setting_status(setting.metric, setting.edge);
     if status != DONE {
         return status;
     }
@@ -45,7 +42,8 @@ pub fn at_in<R: Rows>(
         x: x as u16,
         y: y as u16,
     };
-    match at_by::<R>(alloc, kind_of(metric), rows, edge_of(edge), cell) {
+    let (kind, edge) = (kind_of(setting.metric), edge_of(setting.edge));
+    match at_by::<R>(kind, rows, edge, cell) {
         Ok(found) => {
             *near = kept_of(found);
             DONE
@@ -56,27 +54,24 @@ pub fn at_in<R: Rows>(
 
 /// Writes the first cell with the least distance in a rectangle, with its nearest obstacle.
 pub fn rect_in<R: Rows>(
-    alloc: Global,
     rows: &mut R,
-    metric: u32,
-    edge: u32,
-    x0: u32,
-    y0: u32,
-    x1: u32,
-    y1: u32,
+    setting: Setting,
+    corners: Corners,
     found: &mut ClearmapFound,
 ) -> u32
-    ensures least { result ≡ DONE → IsLeastOf (distance_numbered metric)
-        (IsBlocked (R.cells rows.old) (edge_numbered edge)) (cells_of_rect x0 y0 x1 y1)
+    ensures least { result ≡ DONE → IsLeastOf (distance_numbered setting.metric)
+        (IsBlocked (R.cells rows.old) (edge_numbered setting.edge))
+        (cells_of_rect corners.x0 corners.y0 corners.x1 corners.y1)
         (found_kept found.new) }
-    ensures status { result ≡ first_wrong (setting_status metric edge)
-        (rect_status (R.cells rows.old) x0 y0 x1 y1) }
+    ensures status { result ≡ first_wrong (setting_status setting.metric setting.edge)
+        (rect_status (R.cells rows.old) corners.x0 corners.y0 corners.x1 corners.y1) }
     ensures refused { result ≢ DONE → found.new ≡ found.old }
 {
-    let status = setting_status(metric, edge);
+    let status = setting_status(setting.metric, setting.edge);
     if status != DONE {
         return status;
     }
+    let Corners { x0, y0, x1, y1 } = corners;
     let (width, height) = (u32::from(rows.width()), u32::from(rows.height()));
     if x1 <= x0 || width < x1 || y1 <= y0 || height < y1 {
         return OUTSIDE;
@@ -87,7 +82,8 @@ pub fn rect_in<R: Rows>(
         x1: x1 as u16,
         y1: y1 as u16,
     };
-    match least_by::<R>(alloc, kind_of(metric), rows, edge_of(edge), rect) {
+    let (kind, edge) = (kind_of(setting.metric), edge_of(setting.edge));
+    match least_by::<R>(kind, rows, edge, rect) {
         Ok(least) => {
             *found = found_of(least);
             DONE
@@ -98,25 +94,24 @@ pub fn rect_in<R: Rows>(
 
 /// Writes the first cell with the least distance along a path, with its nearest obstacle.
 pub fn path_in<R: Rows>(
-    alloc: Global,
     rows: &mut R,
-    metric: u32,
-    edge: u32,
+    setting: Setting,
     points: &[Cell],
     found: &mut ClearmapFound,
 ) -> u32
-    ensures least { result ≡ DONE → IsLeastOf (distance_numbered metric)
-        (IsBlocked (R.cells rows.old) (edge_numbered edge)) (cells_of_path points.now)
+    ensures least { result ≡ DONE → IsLeastOf (distance_numbered setting.metric)
+        (IsBlocked (R.cells rows.old) (edge_numbered setting.edge)) (cells_of_path points.now)
         (found_kept found.new) }
-    ensures status { result ≡ first_wrong (setting_status metric edge)
+    ensures status { result ≡ first_wrong (setting_status setting.metric setting.edge)
         (path_status (R.cells rows.old) points.now) }
     ensures refused { result ≢ DONE → found.new ≡ found.old }
 {
-    let status = setting_status(metric, edge);
+    let status = setting_status(setting.metric, setting.edge);
     if status != DONE {
         return status;
     }
-    match along_by::<R>(alloc, kind_of(metric), rows, edge_of(edge), points) {
+    let (kind, edge) = (kind_of(setting.metric), edge_of(setting.edge));
+    match along_by::<R>(kind, rows, edge, points) {
         Ok(least) => {
             *found = found_of(least);
             DONE
@@ -128,26 +123,25 @@ pub fn path_in<R: Rows>(
 /// Writes the first cell along a path that is nearer than `d` to an obstacle, with its nearest
 /// obstacle.
 pub fn clear_in<R: Rows>(
-    alloc: Global,
     rows: &mut R,
-    metric: u32,
-    edge: u32,
+    setting: Setting,
     points: &[Cell],
     d: u32,
     found: &mut ClearmapFound,
 ) -> u32
-    ensures clear { result ≡ DONE → IsClearOf (distance_numbered metric)
-        (IsBlocked (R.cells rows.old) (edge_numbered edge)) (cells_of_path points.now) d
+    ensures clear { result ≡ DONE → IsClearOf (distance_numbered setting.metric)
+        (IsBlocked (R.cells rows.old) (edge_numbered setting.edge)) (cells_of_path points.now) d
         (found_kept found.new) }
-    ensures status { result ≡ first_wrong (setting_status metric edge)
+    ensures status { result ≡ first_wrong (setting_status setting.metric setting.edge)
         (path_status (R.cells rows.old) points.now) }
     ensures refused { result ≢ DONE → found.new ≡ found.old }
 {
-    let status = setting_status(metric, edge);
+    let status = setting_status(setting.metric, setting.edge);
     if status != DONE {
         return status;
     }
-    match clear_by::<R>(alloc, kind_of(metric), rows, edge_of(edge), points, d) {
+    let (kind, edge) = (kind_of(setting.metric), edge_of(setting.edge));
+    match clear_by::<R>(kind, rows, edge, points, d) {
         Ok(first) => {
             *found = found_of(first);
             DONE

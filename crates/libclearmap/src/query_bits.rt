@@ -14,14 +14,13 @@ use crate::bit_map::BitMap;
 use crate::layout::ClearmapBits;
 use crate::near::{ClearmapFound, ClearmapNear};
 use crate::queries::{at_in, clear_in, path_in, rect_in};
+use crate::setting::{Corners, Setting};
 use crate::status::DONE;
 use metric::Cell;
-use std::alloc::Global;
 
 /// Writes the nearest obstacle of cell (`x`, `y`).
 #[unsafe(no_mangle)]
 pub extern "C" fn clearmap_bits_at(
-    alloc: Global,
     words: &[u64],
     map: &ClearmapBits,
     metric: u32,
@@ -37,8 +36,9 @@ pub extern "C" fn clearmap_bits_at(
         y)) }
     ensures refused { result ≢ DONE → near.new ≡ near.old }
 {
+    let setting = Setting { metric, edge };
     match BitMap::of(words, map) {
-        Ok(mut rows) => at_in::<BitMap<'_>>(alloc, &mut rows, metric, edge, x, y, near),
+        Ok(mut rows) => at_in::<BitMap<'_>>(&mut rows, setting, x, y, near),
         Err(status) => status,
     }
 }
@@ -47,7 +47,6 @@ pub extern "C" fn clearmap_bits_at(
 /// 1`, in row-major order, with its nearest obstacle.
 #[unsafe(no_mangle)]
 pub extern "C" fn clearmap_bits_rect(
-    alloc: Global,
     words: &[u64],
     map: &ClearmapBits,
     metric: u32,
@@ -66,10 +65,10 @@ pub extern "C" fn clearmap_bits_rect(
         y0 x1 y1)) }
     ensures refused { result ≢ DONE → found.new ≡ found.old }
 {
+    let corners = Corners { x0, y0, x1, y1 };
+    let setting = Setting { metric, edge };
     match BitMap::of(words, map) {
-        Ok(mut rows) => {
-            rect_in::<BitMap<'_>>(alloc, &mut rows, metric, edge, x0, y0, x1, y1, found)
-        }
+        Ok(mut rows) => { rect_in::<BitMap<'_>>(&mut rows, setting, corners, found) }
         Err(status) => status,
     }
 }
@@ -77,7 +76,6 @@ pub extern "C" fn clearmap_bits_rect(
 /// Writes the first cell with the least distance along a path, with its nearest obstacle.
 #[unsafe(no_mangle)]
 pub extern "C" fn clearmap_bits_path(
-    alloc: Global,
     words: &[u64],
     map: &ClearmapBits,
     metric: u32,
@@ -93,8 +91,9 @@ pub extern "C" fn clearmap_bits_path(
         points.now)) }
     ensures refused { result ≢ DONE → found.new ≡ found.old }
 {
+    let setting = Setting { metric, edge };
     match BitMap::of(words, map) {
-        Ok(mut rows) => path_in::<BitMap<'_>>(alloc, &mut rows, metric, edge, points, found),
+        Ok(mut rows) => path_in::<BitMap<'_>>(&mut rows, setting, points, found),
         Err(status) => status,
     }
 }
@@ -103,7 +102,6 @@ pub extern "C" fn clearmap_bits_path(
 /// obstacle; no cell where the path is clear.
 #[unsafe(no_mangle)]
 pub extern "C" fn clearmap_bits_clear_of(
-    alloc: Global,
     words: &[u64],
     map: &ClearmapBits,
     metric: u32,
@@ -120,8 +118,9 @@ pub extern "C" fn clearmap_bits_clear_of(
         points.now)) }
     ensures refused { result ≢ DONE → found.new ≡ found.old }
 {
+    let setting = Setting { metric, edge };
     match BitMap::of(words, map) {
-        Ok(mut rows) => clear_in::<BitMap<'_>>(alloc, &mut rows, metric, edge, points, d, found),
+        Ok(mut rows) => clear_in::<BitMap<'_>>(&mut rows, setting, points, d, found),
         Err(status) => status,
     }
 }

@@ -14,14 +14,13 @@ use crate::byte_map::ByteMap;
 use crate::layout::ClearmapBytes;
 use crate::near::{ClearmapFound, ClearmapNear};
 use crate::queries::{at_in, clear_in, path_in, rect_in};
+use crate::setting::{Corners, Setting};
 use crate::status::DONE;
 use metric::Cell;
-use std::alloc::Global;
 
 /// Writes the nearest obstacle of cell (`x`, `y`).
 #[unsafe(no_mangle)]
 pub extern "C" fn clearmap_bytes_at(
-    alloc: Global,
     bytes: &[u8],
     map: &ClearmapBytes,
     metric: u32,
@@ -38,8 +37,9 @@ pub extern "C" fn clearmap_bytes_at(
         y)) }
     ensures refused { result ≢ DONE → near.new ≡ near.old }
 {
+    let setting = Setting { metric, edge };
     match ByteMap::of(bytes, map) {
-        Ok(mut rows) => at_in::<ByteMap<'_>>(alloc, &mut rows, metric, edge, x, y, near),
+        Ok(mut rows) => at_in::<ByteMap<'_>>(&mut rows, setting, x, y, near),
         Err(status) => status,
     }
 }
@@ -48,7 +48,6 @@ pub extern "C" fn clearmap_bytes_at(
 /// 1`, in row-major order, with its nearest obstacle.
 #[unsafe(no_mangle)]
 pub extern "C" fn clearmap_bytes_rect(
-    alloc: Global,
     bytes: &[u8],
     map: &ClearmapBytes,
     metric: u32,
@@ -67,10 +66,10 @@ pub extern "C" fn clearmap_bytes_rect(
         x0 y0 x1 y1)) }
     ensures refused { result ≢ DONE → found.new ≡ found.old }
 {
+    let corners = Corners { x0, y0, x1, y1 };
+    let setting = Setting { metric, edge };
     match ByteMap::of(bytes, map) {
-        Ok(mut rows) => {
-            rect_in::<ByteMap<'_>>(alloc, &mut rows, metric, edge, x0, y0, x1, y1, found)
-        }
+        Ok(mut rows) => { rect_in::<ByteMap<'_>>(&mut rows, setting, corners, found) }
         Err(status) => status,
     }
 }
@@ -78,7 +77,6 @@ pub extern "C" fn clearmap_bytes_rect(
 /// Writes the first cell with the least distance along a path, with its nearest obstacle.
 #[unsafe(no_mangle)]
 pub extern "C" fn clearmap_bytes_path(
-    alloc: Global,
     bytes: &[u8],
     map: &ClearmapBytes,
     metric: u32,
@@ -94,8 +92,9 @@ pub extern "C" fn clearmap_bytes_path(
         points.now)) }
     ensures refused { result ≢ DONE → found.new ≡ found.old }
 {
+    let setting = Setting { metric, edge };
     match ByteMap::of(bytes, map) {
-        Ok(mut rows) => path_in::<ByteMap<'_>>(alloc, &mut rows, metric, edge, points, found),
+        Ok(mut rows) => path_in::<ByteMap<'_>>(&mut rows, setting, points, found),
         Err(status) => status,
     }
 }
@@ -104,7 +103,6 @@ pub extern "C" fn clearmap_bytes_path(
 /// obstacle; no cell where the path is clear.
 #[unsafe(no_mangle)]
 pub extern "C" fn clearmap_bytes_clear_of(
-    alloc: Global,
     bytes: &[u8],
     map: &ClearmapBytes,
     metric: u32,
@@ -121,8 +119,9 @@ pub extern "C" fn clearmap_bytes_clear_of(
         points.now)) }
     ensures refused { result ≢ DONE → found.new ≡ found.old }
 {
+    let setting = Setting { metric, edge };
     match ByteMap::of(bytes, map) {
-        Ok(mut rows) => clear_in::<ByteMap<'_>>(alloc, &mut rows, metric, edge, points, d, found),
+        Ok(mut rows) => clear_in::<ByteMap<'_>>(&mut rows, setting, points, d, found),
         Err(status) => status,
     }
 }

@@ -11,7 +11,22 @@ ghost use Rattle.libclearmap.specs.Settings.{edge_numbered, kind_numbered};
 
 use clearance::{Rows, along_rows, at_rows, clear_of_rows, least_in_rows};
 use metric::{Cell, Chess, City, Edge, Euclid2, MetricKind, Near, Rect, Refusal};
-use std::alloc::Global;
+
+/// The numbers by which a call chooses its metric and edge.
+#[derive(Clone, Copy)]
+pub struct Setting {
+    pub metric: u32,
+    pub edge: u32,
+}
+
+/// The columns `x0` to `x1 - 1` and the rows `y0` to `y1 - 1`, as a call names them.
+#[derive(Clone, Copy)]
+pub struct Corners {
+    pub x0: u32,
+    pub y0: u32,
+    pub x1: u32,
+    pub y1: u32,
+}
 
 /// The metric of this number, 0 to 2.
 pub fn kind_of(metric: u32) -> MetricKind
@@ -36,7 +51,6 @@ pub fn edge_of(edge: u32) -> Edge
 
 /// The nearest obstacle of the cell, by `at_rows` of `clearance`.
 pub fn at_by<R: Rows>(
-    alloc: Global,
     kind: MetricKind,
     rows: &mut R,
     edge: Edge,
@@ -48,15 +62,14 @@ pub fn at_by<R: Rows>(
     ensures refused { IfErr result (IsRefusalFor (IsInside (R.cells rows.old) cell.x cell.y)) }
 {
     match kind {
-        MetricKind::Euclid2 => at_rows::<Euclid2, R>(alloc, rows, edge, cell),
-        MetricKind::City => at_rows::<City, R>(alloc, rows, edge, cell),
-        MetricKind::Chess => at_rows::<Chess, R>(alloc, rows, edge, cell),
+        MetricKind::Euclid2 => at_rows::<Euclid2, R>(rows, edge, cell),
+        MetricKind::City => at_rows::<City, R>(rows, edge, cell),
+        MetricKind::Chess => at_rows::<Chess, R>(rows, edge, cell),
     }
 }
 
 /// The least distance in a rectangle, by `least_in_rows` of `clearance`.
 pub fn least_by<R: Rows>(
-    alloc: Global,
     kind: MetricKind,
     rows: &mut R,
     edge: Edge,
@@ -68,15 +81,14 @@ pub fn least_by<R: Rows>(
     ensures refused { IfErr result (IsRefusalFor (LiesIn (R.cells rows.old) rect)) }
 {
     match kind {
-        MetricKind::Euclid2 => least_in_rows::<Euclid2, R>(alloc, rows, edge, rect),
-        MetricKind::City => least_in_rows::<City, R>(alloc, rows, edge, rect),
-        MetricKind::Chess => least_in_rows::<Chess, R>(alloc, rows, edge, rect),
+        MetricKind::Euclid2 => least_in_rows::<Euclid2, R>(rows, edge, rect),
+        MetricKind::City => least_in_rows::<City, R>(rows, edge, rect),
+        MetricKind::Chess => least_in_rows::<Chess, R>(rows, edge, rect),
     }
 }
 
 /// The least distance along a path, by `along_rows` of `clearance`.
 pub fn along_by<R: Rows>(
-    alloc: Global,
     kind: MetricKind,
     rows: &mut R,
     edge: Edge,
@@ -88,15 +100,14 @@ pub fn along_by<R: Rows>(
     ensures refused { IfErr result (IsPathRefusal (R.cells rows.old) points.now) }
 {
     match kind {
-        MetricKind::Euclid2 => along_rows::<Euclid2, R>(alloc, rows, edge, points),
-        MetricKind::City => along_rows::<City, R>(alloc, rows, edge, points),
-        MetricKind::Chess => along_rows::<Chess, R>(alloc, rows, edge, points),
+        MetricKind::Euclid2 => along_rows::<Euclid2, R>(rows, edge, points),
+        MetricKind::City => along_rows::<City, R>(rows, edge, points),
+        MetricKind::Chess => along_rows::<Chess, R>(rows, edge, points),
     }
 }
 
 /// The first cell along a path that is nearer than `d`, by `clear_of_rows` of `clearance`.
 pub fn clear_by<R: Rows>(
-    alloc: Global,
     kind: MetricKind,
     rows: &mut R,
     edge: Edge,
@@ -109,8 +120,8 @@ pub fn clear_by<R: Rows>(
     ensures refused { IfErr result (IsPathRefusal (R.cells rows.old) points.now) }
 {
     match kind {
-        MetricKind::Euclid2 => clear_of_rows::<Euclid2, R>(alloc, rows, edge, points, d),
-        MetricKind::City => clear_of_rows::<City, R>(alloc, rows, edge, points, d),
-        MetricKind::Chess => clear_of_rows::<Chess, R>(alloc, rows, edge, points, d),
+        MetricKind::Euclid2 => clear_of_rows::<Euclid2, R>(rows, edge, points, d),
+        MetricKind::City => clear_of_rows::<City, R>(rows, edge, points, d),
+        MetricKind::Chess => clear_of_rows::<Chess, R>(rows, edge, points, d),
     }
 }

@@ -11,6 +11,7 @@ ghost use Rattle.libclearmap.specs.Statuses.{IsStatus, bytes_status, first_wrong
 use crate::byte_map::ByteMap;
 use crate::layout::ClearmapBytes;
 use crate::near::ClearmapNear;
+use crate::setting::Setting;
 use crate::status::DONE;
 use crate::tables::table_in;
 use std::alloc::Global;
@@ -38,8 +39,9 @@ pub extern "C" fn clearmap_bytes_distances(
         result }
     ensures refused { result ≢ DONE → distances.new ≡ distances.old }
 {
+    let setting = Setting { metric, edge };
     match ByteMap::of(bytes, map) {
-        Ok(mut rows) => table_in(alloc, &mut rows, metric, edge, y0..y1, distances),
+        Ok(mut rows) => table_in(alloc, &mut rows, setting, y0..y1, distances),
         Err(status) => status,
     }
 }
@@ -66,8 +68,9 @@ pub extern "C" fn clearmap_bytes_nearest(
         result }
     ensures refused { result ≢ DONE → nears.new ≡ nears.old }
 {
+    let setting = Setting { metric, edge };
     match ByteMap::of(bytes, map) {
-        Ok(mut rows) => table_in(alloc, &mut rows, metric, edge, y0..y1, nears),
+        Ok(mut rows) => table_in(alloc, &mut rows, setting, y0..y1, nears),
         Err(status) => status,
     }
 }

@@ -5,7 +5,7 @@ ghost use Rattle.libclearmap.specs.Settings.{distance_numbered, edge_numbered};
 ghost use Rattle.libclearmap.specs.Statuses.{IsStatus, table_status};
 
 use crate::copy::bitmap_of;
-use crate::setting::{edge_of, kind_of};
+use crate::setting::{Setting, edge_of, kind_of};
 use crate::status::{DONE, MEMORY, OUTSIDE, room_status, setting_status};
 use crate::table_cell::TableCell;
 use bits::Bitmap;
@@ -18,32 +18,31 @@ use std::ops::Range;
 pub fn table_in<T: TableCell, R: Rows>(
     alloc: Global,
     rows: &mut R,
-    metric: u32,
-    edge: u32,
+    setting: Setting,
     asked: Range<u32>,
     cells: &mut [T],
 ) -> u32
-    ensures rows { result ≡ DONE → T.are_answers (distance_numbered metric)
-        (R.cells rows.old) (edge_numbered edge) asked.start asked.end
+    ensures rows { result ≡ DONE → T.are_answers (distance_numbered setting.metric)
+        (R.cells rows.old) (edge_numbered setting.edge) asked.start asked.end
         (take ((asked.end - asked.start) * (R.cells rows.old).width) cells.new) }
     ensures rest { (k : ℕ) (other : T) → (asked.end - asked.start) * (R.cells rows.old).width ≤ k
         → slice_index_or cells.new k other ≡ slice_index_or cells.old k other }
-    ensures status { IsStatus (table_status (R.cells rows.old) metric edge asked.start
-        asked.end (length cells.old)) result }
+    ensures status { IsStatus (table_status (R.cells rows.old) setting.metric setting.edge
+        asked.start asked.end (length cells.old)) result }
     ensures refused { result ≢ DONE → cells.new ≡ cells.old }
 {
-    let bitmap = match map_of(alloc, rows, metric, edge, &asked, cells.len()) {
+    let bitmap = match map_of(alloc, rows, setting, &asked, cells.len()) {
         Ok(bitmap) => bitmap,
         Err(status) => return status,
     };
     let count = (asked.end - asked.start) as usize * usize::from(bitmap.width());
     let batch = Batch {
         bitmap: &bitmap,
-        edge: edge_of(edge),
+        edge: edge_of(setting.edge),
         y0: asked.start as u16,
         y1: asked.end as u16,
     };
-    match T::fill(alloc, kind_of(metric), &batch, &mut cells[..count]) {
+    match T::fill(alloc, kind_of(setting.metric), &batch, &mut cells[..count]) {
         Ok(()) => DONE,
         Err(_) => MEMORY,
     }
@@ -53,23 +52,22 @@ pub fn table_in<T: TableCell, R: Rows>(
 fn map_of<R: Rows>(
     alloc: Global,
     rows: &mut R,
-    metric: u32,
-    edge: u32,
+    setting: Setting,
     asked: &Range<u32>,
     count: usize,
 ) -> Result<Bitmap, u32>
     ensures map { IfOk result (λ bitmap. bitmap ≡ R.cells rows.old) }
-    ensures right { IfOk result (λ _. table_status (R.cells rows.old) metric
-        edge asked.now.start asked.now.end count ≡ DONE) }
+    ensures right { IfOk result (λ _. table_status (R.cells rows.old) setting.metric
+        setting.edge asked.now.start asked.now.end count ≡ DONE) }
     ensures order { IfOk result (λ _. asked.now.start ≤ asked.now.end) }
     ensures within { IfOk result (λ _. asked.now.end ≤ (R.cells rows.old).height) }
     ensures room { IfOk result (λ _. (asked.now.end - asked.now.start) * (R.cells rows.old).width
         ≤ count) }
     ensures wrong { IfErr result (λ status. IsStatus (table_status (R.cells rows.old)
-        metric edge asked.now.start asked.now.end count) status) }
+        setting.metric setting.edge asked.now.start asked.now.end count) status) }
     ensures some { IfErr result (λ status. status ≢ DONE) }
 {
-    let status = rows_status(rows, metric, edge, asked, count);
+    let status = rows_status(rows, setting, asked, count);
     if status != DONE {
         return Err(status);
     }
@@ -80,15 +78,15 @@ fn map_of<R: Rows>(
 }
 
 /// The status of a call for these rows of a map, memory aside.
-fn rows_status<R: Rows>(rows: &R, metric: u32, edge: u32, asked: &Range<u32>, count: usize) -> u32
-    ensures status { result ≡ table_status (R.cells rows.now) metric edge
+fn rows_status<R: Rows>(rows: &R, setting: Setting, asked: &Range<u32>, count: usize) -> u32
+    ensures status { result ≡ table_status (R.cells rows.now) setting.metric setting.edge
         asked.now.start asked.now.end count }
     ensures order { result ≡ DONE → asked.now.start ≤ asked.now.end }
     ensures within { result ≡ DONE → asked.now.end ≤ (R.cells rows.now).height }
     ensures room { result ≡ DONE → (asked.now.end - asked.now.start) * (R.cells rows.now).width
         ≤ count }
 {
-    let status = setting_status(metric, edge);
+    let status = setting_status(setting.metric, setting.edge);
     if status != DONE {
         return status;
     }

@@ -30,7 +30,7 @@ impl<Id: StoreName> Pinned<Id> {
         if self.is_read() {
             clearance::at::<M>(alloc, self.bitmap(), edge, cell)
         } else {
-            clearance::at_rows::<M, Pinned<Id>>(alloc, self, edge, cell)
+            clearance::at_rows::<M, Pinned<Id>>(self, edge, cell)
         }
     }
 
@@ -54,7 +54,7 @@ impl<Id: StoreName> Pinned<Id> {
         if self.is_read() {
             clearance::least_in::<M>(alloc, self.bitmap(), edge, rect)
         } else {
-            clearance::least_in_rows::<M, Pinned<Id>>(alloc, self, edge, rect)
+            clearance::least_in_rows::<M, Pinned<Id>>(self, edge, rect)
         }
     }
 
@@ -79,7 +79,7 @@ impl<Id: StoreName> Pinned<Id> {
         if self.is_read() {
             clearance::along::<M>(alloc, self.bitmap(), edge, points)
         } else {
-            clearance::along_rows::<M, Pinned<Id>>(alloc, self, edge, points)
+            clearance::along_rows::<M, Pinned<Id>>(self, edge, points)
         }
     }
 
@@ -102,7 +102,7 @@ impl<Id: StoreName> Pinned<Id> {
         if self.is_read() {
             clearance::clear_of::<M>(alloc, self.bitmap(), edge, points, d)
         } else {
-            clearance::clear_of_rows::<M, Pinned<Id>>(alloc, self, edge, points, d)
+            clearance::clear_of_rows::<M, Pinned<Id>>(self, edge, points, d)
         }
     }
 }
